@@ -1,0 +1,20 @@
+//! The values that every layer speaks of: names and texts, ids, error codes, property values and
+//! their types, the type and act names of the object model, and the limits of the profile.
+#![tactic(auto)]
+
+mod codes;
+mod ids;
+mod kinds;
+mod limits;
+mod names;
+mod properties;
+
+pub use codes::{Class, Code};
+pub use ids::{Id, IdError};
+pub use kinds::{Act, TypeId};
+pub use limits::{
+    BUS_DEPTH_MAX, BUS_SLOTS, GUEST_LINE_MAX, HOLD_COUNT_MAX, INPUTS_MAX, LIVE_OBJECTS_MAX,
+    MESSAGE_MAX, NESTING_MAX, NOTES_KEPT, NOTES_PER_REPLY, NOTICES_MAX, SESSIONS, TIME_MAX,
+};
+pub use names::{Chars, Name, Text};
+pub use properties::{Misfit, PropType, Val};

@@ -1,0 +1,40 @@
+//! The limits of the profile, as named numbers.
+
+/// Live objects at once; one more is refused as E43.
+pub const LIVE_OBJECTS_MAX: u64 = 4_096;
+
+/// Sessions at once, numbered from 0.
+pub const SESSIONS: u8 = 16;
+
+/// Bytes of one message; a longer one is refused as E4.
+pub const MESSAGE_MAX: u64 = 262_144;
+
+/// Nesting depth of one message; a deeper one is refused as E5.
+pub const NESTING_MAX: u64 = 64;
+
+/// Slots of a bus, numbered from 0; a number above is E28, and a full bus E30.
+pub const BUS_SLOTS: u8 = 8;
+
+/// Depth of a bus below `root.0`; a bridge whose bus would be deeper is E42.
+pub const BUS_DEPTH_MAX: u64 = 8;
+
+/// Notices that wait for the guest; one more is E44.
+pub const NOTICES_MAX: u64 = 64;
+
+/// The greatest count of holds before an explicit hold; a count above refuses the hold as E48.
+pub const HOLD_COUNT_MAX: u64 = 48;
+
+/// Notes kept for `x-query-notes`; older ones are not given.
+pub const NOTES_KEPT: u64 = 65_536;
+
+/// Notes in one reply to `x-query-notes`.
+pub const NOTES_PER_REPLY: u64 = 256;
+
+/// The greatest virtual time, in ns; a step past it is E53.
+pub const TIME_MAX: u64 = 9_223_372_036_854_775_807;
+
+/// Bytes of a guest line; a longer one is answered `no line`.
+pub const GUEST_LINE_MAX: u64 = 256;
+
+/// Inputs of one run; a run that takes so many without an end ends as its input limit.
+pub const INPUTS_MAX: u64 = 1_000_000_000;
