@@ -1,9 +1,13 @@
 -- The cause of a failure: a count that rose.
 use Rattle.std.specs.Prelude.{ℕ, ◌+◌, ◌-◌, ◌^◌, ◌<◌, ◌≤◌, ◌≡◌, min, List, length, Result, Ok, Err, OnErr}
 
+-- one more, in a count whose last value is 2^64 - 1
+abbrev pub counted : ℕ → ℕ
+counted n = min (n + 1) (2 ^ 64 - 1)
+
 -- the count rose, or stands at its last value
 abbrev pub Rose : ℕ → ℕ → Type 0
-Rose before now = min (before + 1) (2 ^ 64 - 1) ≤ now
+Rose before now = counted before ≤ now
 
 -- the count of faults has not fallen, and rose where the call failed
 pub record HasCause {T E : Type 0} (before now : ℕ) (result : Result T E) : Type 0 where

@@ -2,12 +2,18 @@
 //! takes messages. A fault comes only where a count rose.
 #![tactic(auto)]
 
+mod byte_sink;
+mod byte_source;
+mod edge;
 mod faults;
 mod hubs;
 mod inputs;
 mod sinks;
 mod sources;
 
+pub use byte_sink::ByteSink;
+pub use byte_source::ByteSource;
+pub use edge::{StdSink, StdSource};
 pub use faults::{Failed, Memory};
 pub use hubs::{Hub, Lane, NextError, SendError};
 pub use inputs::{Chunk, Input, Moment, What};
