@@ -1,5 +1,10 @@
 -- The cause of a failure: a count that rose.
 use Rattle.std.specs.Prelude.{ℕ, ◌+◌, ◌-◌, ◌^◌, ◌<◌, ◌≤◌, ◌≡◌, min, List, length, Result, Ok, Err, OnErr}
+use Rattle.qo_causes.specs.declared.faults.Failed.{Failed}
+
+-- the one fault that there is
+abbrev pub failed : Failed
+failed = record {}
 
 -- one more, in a count whose last value is 2^64 - 1
 abbrev pub counted : ℕ → ℕ
