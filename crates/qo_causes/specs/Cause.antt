@@ -1,0 +1,25 @@
+-- The cause of a failure: a count that rose.
+use Rattle.std.specs.Prelude.{ℕ, ◌+◌, ◌-◌, ◌^◌, ◌<◌, ◌≤◌, ◌≡◌, min, List, length, Result, Ok, Err, OnErr}
+use Rattle.qo_causes.specs.declared.faults.Failed.{Failed}
+
+-- the one fault that there is
+abbrev pub failed : Failed
+failed = record {}
+
+-- one more, in a count whose last value is 2^64 - 1
+abbrev pub counted : ℕ → ℕ
+counted n = min (n + 1) (2 ^ 64 - 1)
+
+-- the count rose, or stands at its last value
+abbrev pub Rose : ℕ → ℕ → Type 0
+Rose before now = counted before ≤ now
+
+-- the count of faults has not fallen, and rose where the call failed
+pub record HasCause {T E : Type 0} (before now : ℕ) (result : Result T E) : Type 0 where
+  pub later : before ≤ now
+  pub failed : OnErr result (Rose before now)
+
+-- to take nothing of a piece that is not empty is a fault too
+abbrev pub StuckRose : {E : Type 0} → ℕ → ℕ → Result ℕ E → List ℕ → Type 0
+StuckRose before now (Ok n) piece = n ≡ 0 → 0 < length piece → Rose before now
+StuckRose before now (Err e) piece = Unit {0}

@@ -1,0 +1,5 @@
+pub mod Bytes
+pub mod Cause
+pub mod Edge
+pub mod Hub
+pub mod InMemory

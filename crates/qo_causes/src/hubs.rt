@@ -1,0 +1,131 @@
+//! The hub: it gives the inputs, one at a time, and takes the messages to each lane.
+ghost use Rattle.std.specs.Prelude.{◌≡◌, ◌≤◌, ℕ, List, Option};
+ghost use Rattle.qo_causes.specs.declared.hubs.Lane.{Lane};
+ghost use Rattle.qo_causes.specs.declared.inputs.Input.{Input};
+ghost use Rattle.qo_causes.specs.Bytes.{PutsAll};
+ghost use Rattle.qo_causes.specs.Cause.{HasCause, Rose};
+ghost use Rattle.qo_causes.specs.Hub.{Asks, GoneOnly, Loses, NextGives, OnNextFailed, OnSendFailed, SameCounts, SameLanes, Sends, is_gone, line, part};
+
+use crate::faults::Failed;
+use crate::inputs::Input;
+use thiserror::Error;
+
+/// Where a message goes.
+#[derive(Clone, Copy, Debug, PartialEq, Eq)]
+pub enum Lane {
+    /// To a session, by its number, 0 to 15.
+    Session(u8),
+    /// To the guest.
+    Guest,
+}
+
+/// Why a hub gave no input.
+#[derive(Clone, Copy, Debug, PartialEq, Eq, Error)]
+pub enum NextError {
+    /// A call failed. It comes only where the count of faults of `begin` and `next` rose.
+    #[error("the hub failed")]
+    Failed,
+    /// What follows is no input: the place of its first byte, counted from 0.
+    #[error("no input at byte {0}")]
+    Bad(u64),
+    /// There was not enough memory.
+    #[error("not enough memory")]
+    Memory,
+}
+
+/// Why a message was not sent.
+#[derive(Clone, Copy, Debug, PartialEq, Eq, Error)]
+pub enum SendError {
+    /// The session of this number is lost. It comes only where the count of its losses rose.
+    #[error("session {0} is gone")]
+    Gone(u8),
+    /// A call failed. It comes only where the count of faults of `send` rose.
+    #[error("the hub failed")]
+    Failed,
+}
+
+/// The outside of a machine: it gives inputs and takes messages.
+///
+/// Its meanings are optional: a hub need not tell them. Its counts never fall, and a count that stands at
+/// its last value, 2^64 - 1, is taken as risen.
+pub trait Hub {
+    // The inputs that are left, where the hub tells them. The end is never among them.
+    ghost inputs: { Self → Option (List Input) };
+
+    // The bad place: whether the hub tells it, and whether there is one.
+    ghost bad: { Self → Option (Option ℕ) };
+
+    // The bytes that each lane got, where the hub tells them.
+    ghost got: { Self → Lane → Option (List ℕ) };
+
+    // The transcript, where the hub tells it.
+    ghost sent: { Self → Option (List ℕ) };
+
+    // The path and the number of the `begin` that answered Ok: whether the hub tells it, and whether there was one.
+    ghost asked: { Self → Option (Option (List ℕ × ℕ)) };
+
+    // How many faults of `begin` and `next` there were.
+    ghost next_faults: { Self → ℕ };
+
+    // How many faults of `send` there were.
+    ghost send_faults: { Self → ℕ };
+
+    // How often each session was lost.
+    ghost losses: { Self → ℕ → ℕ };
+
+    // What else a hub says of an earlier and a later state of its own.
+    ghost later: { Self → Self → Type 0 };
+
+    /// Begins to serve `connections` connections at `path`. It answers `Failed` only where the count of
+    /// faults of `begin` and `next` rose.
+    fn begin(&mut self, path: &str, connections: u32) -> Result<(), Failed>
+        ensures asked { Asks (asked self.old) (asked self.new) path.now connections result }
+        ensures inputs { inputs self.new ≡ inputs self.old }
+        ensures bad { bad self.new ≡ bad self.old }
+        ensures got { SameLanes (got self.old) (got self.new) }
+        ensures sent { sent self.new ≡ sent self.old }
+        ensures cause { HasCause (next_faults self.old) (next_faults self.new) result }
+        ensures send_count { send_faults self.old ≤ send_faults self.new }
+        ensures losses { SameCounts (losses self.old) (losses self.new) }
+        ensures later { later self.old self.new };
+
+    /// Gives the next input, or its end. It is not called again after the end.
+    ///
+    /// It answers `Failed` only where the count of faults of `begin` and `next` rose, and `Bad` only where
+    /// no input is left and the bad place is the one that it names. After an error the inputs left are as
+    /// before.
+    fn next(&mut self) -> Result<Input, NextError>
+        ensures given { NextGives (inputs self.old) (inputs self.new) (bad self.old) result }
+        ensures bad { bad self.new ≡ bad self.old }
+        ensures asked { asked self.new ≡ asked self.old }
+        ensures got { SameLanes (got self.old) (got self.new) }
+        ensures sent { sent self.new ≡ sent self.old }
+        ensures next_count { next_faults self.old ≤ next_faults self.new }
+        ensures cause { OnNextFailed result (Rose (next_faults self.old) (next_faults self.new)) }
+        ensures send_count { send_faults self.old ≤ send_faults self.new }
+        ensures losses { SameCounts (losses self.old) (losses self.new) }
+        ensures later { later self.old self.new };
+
+    /// Sends one message, with its line end, to a lane. After an error the lane has a front of the bytes.
+    ///
+    /// It answers `Failed` only where the count of faults of `send` rose, and `Gone` only for the session
+    /// of the lane, and where the count of its losses rose. No hub that tells a transcript answers `Gone`.
+    fn send(&mut self, lane: Lane, bytes: &[u8]) -> Result<(), SendError>
+        ensures inputs { inputs self.new ≡ inputs self.old }
+        ensures bad { bad self.new ≡ bad self.old }
+        ensures asked { asked self.new ≡ asked self.old }
+        ensures got { (l : Lane) → PutsAll (got self.old l) (got self.new l) result (part l lane bytes.now) }
+        ensures sent { Sends (sent self.old) (sent self.new) (line lane bytes.now) result }
+        ensures gone { GoneOnly lane result }
+        ensures losses { (t : ℕ) → Loses (is_gone result t) (losses self.old t) (losses self.new t) }
+        ensures send_count { send_faults self.old ≤ send_faults self.new }
+        ensures cause { OnSendFailed result (Rose (send_faults self.old) (send_faults self.new)) }
+        ensures next_count { next_faults self.old ≤ next_faults self.new }
+        ensures later { later self.old self.new };
+
+    // A state is no earlier than itself.
+    ghost now: { (a : Self) → later a a };
+
+    // What is later than a later state is later.
+    ghost after: { (a b c : Self) → later a b → later b c → later a c };
+}

@@ -1,0 +1,21 @@
+//! The outside of the machine: where bytes come from, where they go, and the hub that gives inputs and
+//! takes messages. A fault comes only where a count rose.
+#![tactic(auto)]
+
+mod byte_sink;
+mod byte_source;
+mod edge;
+mod faults;
+mod hubs;
+mod inputs;
+mod sinks;
+mod sources;
+
+pub use byte_sink::ByteSink;
+pub use byte_source::ByteSource;
+pub use edge::{StdSink, StdSource};
+pub use faults::{Failed, Memory};
+pub use hubs::{Hub, Lane, NextError, SendError};
+pub use inputs::{Chunk, Input, Moment, What};
+pub use sinks::{Sink, put_all};
+pub use sources::Source;
