@@ -1,0 +1,132 @@
+-- Worked rows: what the table of types and the opening board give, by computing.
+use Rattle.std.proofs.Common.{◌≡◌, refl, [], ◌∷◌, ◌++◌, map, codes, true, false, Some, None}
+use Rattle.qo_values.specs.declared.kinds.TypeId.TheVariants.{Object, Container, Device, SlotDevice, SlotUart, SlotBridge, SlotBus, MemoryBackend, MemoryBackendRam}
+use Rattle.qo_model.specs.Types.{Property, types, type_line, chain, is_a, slots_of, inits, finals}
+use Rattle.qo_model.specs.Opening.{opening_board}
+use Rattle.qo_model.specs.Paths.{canonical, attached, resolve_absolute, components}
+use Rattle.qo_model.specs.Listing.{listing}
+
+-- the lines of the types
+lines-of-types :
+    map type_line types
+    ≡ (codes "object - abstract -" ++ 10 ∷ [])
+    ∷ (codes "container object plain -" ++ 10 ∷ [])
+    ∷ (codes "machine object plain hotplug-handler,resettable" ++ 10 ∷ [])
+    ∷ (codes "device object abstract resettable" ++ 10 ∷ [])
+    ∷ (codes "slot-device device abstract -" ++ 10 ∷ [])
+    ∷ (codes "slot-uart slot-device plain -" ++ 10 ∷ [])
+    ∷ (codes "slot-timer slot-device plain -" ++ 10 ∷ [])
+    ∷ (codes "slot-bridge slot-device plain hotplug-handler" ++ 10 ∷ [])
+    ∷ (codes "mem-dimm device plain -" ++ 10 ∷ [])
+    ∷ (codes "bus object abstract resettable" ++ 10 ∷ [])
+    ∷ (codes "slot-bus bus plain -" ++ 10 ∷ [])
+    ∷ (codes "mem-bus bus plain -" ++ 10 ∷ [])
+    ∷ (codes "clock object plain -" ++ 10 ∷ [])
+    ∷ (codes "memory-backend object abstract user-creatable" ++ 10 ∷ [])
+    ∷ (codes "memory-backend-ram memory-backend plain -" ++ 10 ∷ [])
+    ∷ (codes "tag object plain user-creatable" ++ 10 ∷ [])
+    ∷ []
+unfolding types
+lines-of-types = refl
+
+-- chains, and what is of which name
+chain-of-uart : chain SlotUart ≡ SlotUart ∷ SlotDevice ∷ Device ∷ Object ∷ []
+unfolding types
+chain-of-uart = refl
+
+bridge-is-resettable : is_a SlotBridge (codes "resettable") ≡ true
+unfolding types
+bridge-is-resettable = refl
+
+bus-is-no-device : is_a SlotBus (codes "device") ≡ false
+unfolding types
+bus-is-no-device = refl
+
+slots-of-uart : map (λ (p : Property). p.name) (slots_of SlotUart) ≡ codes "type" ∷ codes "realized" ∷ codes "parent_bus" ∷ codes "slot" ∷ codes "peer" ∷ codes "watch" ∷ codes "clk" ∷ codes "clock-period" ∷ codes "chardev" ∷ []
+unfolding types
+slots-of-uart = refl
+
+inits-of-uart : inits SlotUart ≡ Device ∷ SlotDevice ∷ SlotUart ∷ []
+unfolding types
+inits-of-uart = refl
+
+finals-of-backend : finals MemoryBackendRam ≡ MemoryBackendRam ∷ MemoryBackend ∷ []
+unfolding types
+finals-of-backend = refl
+
+finals-of-container : finals Container ≡ []
+unfolding types
+finals-of-container = refl
+
+-- paths on the opening board
+components-of-path : components (codes "//machine/sysclk/") ≡ codes "machine" ∷ codes "sysclk" ∷ []
+components-of-path = refl
+
+clock-found : resolve_absolute opening_board (codes "//machine/sysclk") (codes "clock") ≡ Some 5
+unfolding types opening_board
+clock-found = refl
+
+machine-found : resolve_absolute opening_board (codes "/machine/") (codes "resettable") ≡ Some 2
+unfolding types opening_board
+machine-found = refl
+
+root-found : resolve_absolute opening_board (codes "/") (codes "container") ≡ Some 1
+unfolding types opening_board
+root-found = refl
+
+nowhere-missed : resolve_absolute opening_board (codes "/nowhere") (codes "object") ≡ None
+unfolding types opening_board
+nowhere-missed = refl
+
+bus-of-another-type : resolve_absolute opening_board (codes "/machine/mem.0") (codes "slot-bus") ≡ None
+unfolding types opening_board
+bus-of-another-type = refl
+
+relative-missed : resolve_absolute opening_board (codes "machine") (codes "object") ≡ None
+unfolding types opening_board
+relative-missed = refl
+
+path-of-clock : canonical opening_board 5 ≡ Some (codes "/machine/sysclk")
+unfolding types opening_board canonical
+path-of-clock = refl
+
+no-path-of-nine : canonical opening_board 9 ≡ None
+unfolding types opening_board canonical
+no-path-of-nine = refl
+
+clock-attached : attached opening_board 5 ≡ true
+unfolding types opening_board attached
+clock-attached = refl
+
+-- what `qom-list` says of the clock and of the machine
+listing-of-clock :
+    listing opening_board 5
+    ≡ (codes "type", codes "string")
+    ∷ (codes "period", codes "uint64")
+    ∷ (codes "mul", codes "uint64")
+    ∷ (codes "div", codes "uint64")
+    ∷ (codes "source", codes "link<clock>")
+    ∷ []
+unfolding types opening_board
+listing-of-clock = refl
+
+listing-of-machine :
+    listing opening_board 2
+    ≡ (codes "type", codes "string")
+    ∷ (codes "peripheral", codes "child<container>")
+    ∷ (codes "peripheral-anon", codes "child<container>")
+    ∷ (codes "sysclk", codes "child<clock>")
+    ∷ (codes "root.0", codes "child<slot-bus>")
+    ∷ (codes "mem.0", codes "child<mem-bus>")
+    ∷ []
+unfolding types opening_board
+listing-of-machine = refl
+
+listing-of-root :
+    listing opening_board 1
+    ≡ (codes "type", codes "string")
+    ∷ (codes "machine", codes "child<machine>")
+    ∷ (codes "objects", codes "child<container>")
+    ∷ []
+unfolding types opening_board
+listing-of-root = refl

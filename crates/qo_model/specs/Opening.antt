@@ -1,0 +1,83 @@
+-- The opening board: the eight objects that every machine begins with (the profile's; compare docs/devel/qom.rst on `/machine` and `/objects`).
+use Rattle.std.specs.Prelude.{ℕ, ◌*◌, ◌^◌, true, false, if◌then◌else◌, List, [], ◌∷◌, ◌++◌, map, filter_map, codes, Option, Some, None, option_map}
+use Rattle.std.specs.Str.{bytes_eq}
+use Rattle.qo_values.specs.Kinds.{type_name}
+use Rattle.qo_values.specs.Registers.{fresh_registers}
+use Rattle.qo_values.specs.declared.kinds.TypeId.{TypeId}
+use Rattle.qo_values.specs.declared.kinds.TypeId.TheVariants.{Container, Machine, Clock, SlotBus, MemBus}
+use Rattle.qo_values.specs.declared.properties.Val.{Val}
+use Rattle.qo_values.specs.declared.properties.Val.TheVariants as val
+use Rattle.qo_model.specs.Board.{Board, Record, Slot}
+use Rattle.qo_model.specs.Types.{First, nothing, empty_text, own_name, truth, number, Property, Kind, slots_of}
+
+-- what a plain property of an object of a type holds at first
+abbrev pub first_value : TypeId → First → Val
+first_value t nothing = val.Nothing
+first_value t empty_text = val.Text []
+first_value t own_name = val.Text (type_name t)
+first_value t (truth b) = val.Bool b
+first_value t (number n) = val.Uint n
+
+-- the slot that a property of a name begins as; `further` has the births of the objects that are made as children, by name, as far as they are made
+abbrev pub first_slot : (List ℕ → Option ℕ) → TypeId → List ℕ → Kind → Option Slot
+first_slot further t name (Kind.plain type first) = Some (Slot.plain (first_value t first))
+first_slot further t name (Kind.link target true) = Some (Slot.strong target None)
+first_slot further t name (Kind.link target false) = Some (Slot.weak target None)
+first_slot further t name (Kind.child type) = option_map Slot.child (further name)
+first_slot further t name (Kind.alias owner property) = option_map (λ n. Slot.alias n property) (further owner)
+
+-- the slots of a new object with these further objects, in order
+abbrev pub slots_with : (List ℕ → Option ℕ) → TypeId → List (List ℕ × Slot)
+slots_with further t = filter_map (λ (p : Property). option_map (λ (s : Slot). (p.name, s)) (first_slot further t p.name p.kind)) (slots_of t)
+
+-- the slots of a new object without further objects: its plain properties and its links
+abbrev pub fresh_slots : TypeId → List (List ℕ × Slot)
+fresh_slots t = slots_with (λ _. None) t
+
+-- an object as it is made
+abbrev pub fresh_record : ℕ → TypeId → Record
+fresh_record birth t = record { birth = birth; kind = t; slots = fresh_slots t; registers = fresh_registers t; device_id = None; kept_path = None }
+
+-- an object with a child more
+abbrev pub with_child : List ℕ → ℕ → Record → Record
+with_child name n r = record r { slots = r.slots ++ (name, Slot.child n) ∷ [] }
+
+-- an object whose plain property of a name holds a value
+abbrev pub with_value : List ℕ → Val → Record → Record
+with_value name v r = record r { slots = map (λ (s : List ℕ × Slot). if bytes_eq s.0 name then (name, Slot.plain v) else s) r.slots }
+
+-- 10 ns, in units of 2^-32 ns (docs/devel/clocks.rst, "The clock state")
+abbrev pub system_period : ℕ
+system_period = 10 * 2 ^ 32
+
+-- the eight objects
+abbrev pub opening_records : List Record
+opening_records =
+    with_child (codes "objects") 8 (with_child (codes "machine") 2 (fresh_record 1 Container))
+    ∷ with_child (codes "mem.0") 7 (with_child (codes "root.0") 6 (with_child (codes "sysclk") 5 (with_child (codes "peripheral-anon") 4 (with_child (codes "peripheral") 3 (fresh_record 2 Machine)))))
+    ∷ fresh_record 3 Container
+    ∷ fresh_record 4 Container
+    ∷ with_value (codes "period") (val.Uint system_period) (fresh_record 5 Clock)
+    ∷ fresh_record 6 SlotBus
+    ∷ fresh_record 7 MemBus
+    ∷ fresh_record 8 Container
+    ∷ []
+
+-- the board as a machine begins: it runs, at time 0, and only birth 1 is pinned
+unfoldable pub opening_board : Board
+opening_board =
+    record {
+      records = opening_records;
+      born = 8;
+      anonymous = 0;
+      now = 0;
+      running = true;
+      holds = [];
+      pending = [];
+      notices = [];
+      rings = [];
+      pins = 1 ∷ [];
+      total = 0;
+      tail = [];
+      events = [];
+    }

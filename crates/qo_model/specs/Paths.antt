@@ -1,0 +1,77 @@
+-- Paths through the tree (docs/devel/qom.rst, "The QEMU Object Model": canonical and partial paths; include/qom/object.h).
+use Rattle.std.specs.Prelude.{ℕ, Bool, true, false, not, ◌==◌, if◌then◌else◌, List, [], ◌∷◌, ◌++◌, map, filter, find, codes, Option, Some, None, is_some, option_map, option_and_then}
+use Rattle.std.specs.List.{slice_split}
+use Rattle.std.specs.Str.{bytes_eq}
+use Rattle.std.specs.Option.{option_map_or}
+use Rattle.qo_values.specs.declared.kinds.TypeId.{TypeId}
+use Rattle.qo_model.specs.Board.{Board, Record, Slot, child, kind_of, slot_named, target_of}
+use Rattle.qo_model.specs.Depth.{by_objects}
+use Rattle.qo_model.specs.Types.{is_a}
+
+-- whether a slot is a child slot that names n
+abbrev pub is_child : ℕ → Slot → Bool
+is_child n (child m) = m == n
+is_child n _ = false
+
+-- an object and the name of its child slot that names n
+abbrev pub place_in : ℕ → Record → Option (ℕ × List ℕ)
+place_in n r = option_map (λ (s : List ℕ × Slot). (r.birth, s.0)) (find (λ s. is_child n s.1) r.slots)
+
+-- the place of n in the tree: its parent, and the name that it has there
+abbrev pub place_of : Board → ℕ → Option (ℕ × List ℕ)
+place_of b n = option_and_then (place_in n) (find (λ r. is_some (place_in n r)) b.records)
+
+-- the parent of n, the owner of the child slot that names it
+abbrev pub parent_of : Board → ℕ → Option ℕ
+parent_of b n = option_map (λ (p : ℕ × List ℕ). p.0) (place_of b n)
+
+-- the births of all objects
+abbrev pub births : Board → List ℕ
+births b = map (λ (r : Record). r.birth) b.records
+
+-- whether parents lead from an object to birth 1, where f says it of its parent
+abbrev pub attached_turn : Board → (ℕ → Bool) → ℕ → Bool
+attached_turn b f n = elim (n == 1) [ true ↦ true | false ↦ elim (place_of b n) [ None ↦ false | Some p ↦ f p.0 ] ]
+
+-- whether n is attached: parents lead from it to birth 1, which itself is attached
+unfoldable pub attached : Board → ℕ → Bool
+attached b n = by_objects (attached_turn b) (λ _. false) (births b) n
+
+-- a `/` and a name for each step from birth 1 down to an object, where f says it of its parent
+abbrev pub steps_turn : Board → (ℕ → Option (List ℕ)) → ℕ → Option (List ℕ)
+steps_turn b f n =
+    elim (n == 1) [ true ↦ Some [] | false ↦ elim (place_of b n) [ None ↦ None | Some p ↦ option_map (λ (above : List ℕ). above ++ 47 ∷ p.1) (f p.0) ] ]
+
+-- the canonical path: `/` of birth 1, else a `/` and the name of the child slot for each step from birth 1 down; a detached object has none
+unfoldable pub canonical : Board → ℕ → Option (List ℕ)
+canonical b n = elim (n == 1) [ true ↦ Some (codes "/") | false ↦ by_objects (steps_turn b) (λ _. None) (births b) n ]
+
+-- the components of a path: what stands between its `/`, without the empty ones
+abbrev pub components : List ℕ → List (List ℕ)
+components path = filter (λ part. not (bytes_eq part [])) (slice_split (λ c. c == 47) path)
+
+-- where a component leads from n: to the child or the target of the link of that name; an alias leads nowhere
+abbrev pub next_of : Board → ℕ → List ℕ → Option ℕ
+next_of b n name = option_and_then target_of (slot_named b n name)
+
+-- where the components lead from n, one after another
+abbrev pub walk : Board → ℕ → List (List ℕ) → Option ℕ
+walk b n [] = Some n
+walk b n (part ∷ parts) = elim (next_of b n part) [ None ↦ None | Some m ↦ walk b m parts ]
+
+-- whether an object is there and its type is of a name
+abbrev pub is_of : Board → List ℕ → ℕ → Bool
+is_of b wanted n = option_map_or (λ (t : TypeId). is_a t wanted) (kind_of b n) false
+
+-- whether a path is absolute: it begins with `/`
+abbrev pub is_absolute : List ℕ → Bool
+is_absolute [] = false
+is_absolute (c ∷ cs) = c == 47
+
+-- n, if it is of the wanted type
+abbrev pub only_of : Board → List ℕ → ℕ → Option ℕ
+only_of b wanted n = if is_of b wanted n then Some n else None
+
+-- the object of an absolute path: where its components lead from birth 1, if that is of the wanted type
+abbrev pub resolve_absolute : Board → List ℕ → List ℕ → Option ℕ
+resolve_absolute b path wanted = if is_absolute path then option_and_then (only_of b wanted) (walk b 1 (components path)) else None

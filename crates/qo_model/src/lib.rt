@@ -1,0 +1,7 @@
+//! The definitions of the object tree: types, the board, references, paths, and when a board is
+//! sound. `specs/` has the definitions; the module `laws` states what follows from them.
+#![tactic(auto)]
+
+mod notes;
+
+pub use notes::{Deed, Note};
