@@ -1,0 +1,5 @@
+pub mod Reading
+pub mod Replies
+pub mod Requests
+pub mod Tree
+pub mod Views
