@@ -1,6 +1,6 @@
 -- The bytes of what a session is sent (QMP specification, 2.2 "Server Greeting", 2.4 "Commands Responses").
-use Rattle.std.specs.Prelude.{ℕ, List, [], ◌∷◌, ◌++◌, map, codes}
-use Rattle.std.specs.List.{join_with_byte}
+use Rattle.std.specs.Prelude.{ℕ, List, [], ◌∷◌, ◌++◌, codes}
+use Rattle.std.specs.List.{flat_map}
 use Rattle.qo_values.specs.Codes.{class_name, class_of, description_of}
 use Rattle.qo_values.specs.declared.codes.Code.{Code}
 
@@ -17,14 +17,23 @@ greeting =
 abbrev pub empty_return : List ℕ
 empty_return = codes "{\"return\":{}}" ++ line_end
 
--- one property in a listing
+-- one property in a listing, by its name and type text
 abbrev pub property_text : List ℕ × List ℕ → List ℕ
 property_text p = codes "{\"name\":\"" ++ p.0 ++ codes "\",\"type\":\"" ++ p.1 ++ codes "\"}"
+
+-- one more, behind a comma
+abbrev pub further_text : List ℕ × List ℕ → List ℕ
+further_text p = 44 ∷ property_text p
+
+-- the properties, with commas between them
+abbrev pub properties_text : List (List ℕ × List ℕ) → List ℕ
+properties_text [] = []
+properties_text (p ∷ ps) = property_text p ++ flat_map further_text ps
 
 -- the answer to `qom-list`: names and types of properties, in order
 abbrev pub listing_return : List (List ℕ × List ℕ) → List ℕ
 listing_return properties =
-    codes "{\"return\":[" ++ join_with_byte 44 (map property_text properties) ++ codes "]}" ++ line_end
+    codes "{\"return\":[" ++ properties_text properties ++ codes "]}" ++ line_end
 
 -- the answer to a refused command
 abbrev pub error_reply : Code → List ℕ

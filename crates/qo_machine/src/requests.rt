@@ -3,7 +3,7 @@
 ghost use Rattle.std.specs.Prelude.{◌≡◌, option_map};
 ghost use Rattle.std.specs.List.{list_all};
 ghost use Rattle.qo_machine.specs.Requests.{is_path_byte, is_path, is_word_byte, is_word, listing_of, named, plain_of, request_of};
-ghost use Rattle.qo_machine.specs.Views.{request};
+ghost use Rattle.qo_machine.specs.Views.{request_view};
 
 use crate::reading::{between, is_digit};
 
@@ -63,7 +63,7 @@ fn is_word(bytes: &[u8]) -> bool
 
 /// A `qom-list` of a path.
 fn listing_of(bytes: &[u8]) -> Option<Request<'_>>
-    ensures { option_map request result ≡ listing_of bytes.now }
+    ensures { option_map request_view result ≡ listing_of bytes.now }
 {
     let path = between(b"{\"execute\":\"qom-list\",\"arguments\":{\"path\":\"", b"\"}}", bytes)?;
     if is_path(path) { Some(Request::QomList(path)) } else { None }
@@ -71,7 +71,7 @@ fn listing_of(bytes: &[u8]) -> Option<Request<'_>>
 
 /// The command of a name, without arguments; `qom-list` wants one.
 fn named(word: &[u8]) -> Option<Request<'_>>
-    ensures { option_map request result ≡ named word.now }
+    ensures { option_map request_view result ≡ named word.now }
 {
     if word == b"qmp_capabilities".as_slice() {
         Some(Request::Capabilities)
@@ -84,7 +84,7 @@ fn named(word: &[u8]) -> Option<Request<'_>>
 
 /// A command without arguments.
 fn plain_of(bytes: &[u8]) -> Option<Request<'_>>
-    ensures { option_map request result ≡ plain_of bytes.now }
+    ensures { option_map request_view result ≡ plain_of bytes.now }
 {
     let word = between(b"{\"execute\":\"", b"\"}", bytes)?;
     if is_word(word) { named(word) } else { None }
@@ -93,7 +93,7 @@ fn plain_of(bytes: &[u8]) -> Option<Request<'_>>
 /// The request that a message is.
 #[tactic(auto, unfolding(crate::specs::Requests::request_of))]
 pub(crate) fn request_of(bytes: &[u8]) -> Option<Request<'_>>
-    ensures { option_map request result ≡ request_of bytes.now }
+    ensures { option_map request_view result ≡ request_of bytes.now }
 {
     match listing_of(bytes) {
         Some(request) => Some(request),
