@@ -1,3 +1,4 @@
 pub mod AnswerLemmas
 pub mod MachineLemmas
+pub mod SendingLemmas
 pub mod TreeLemmas

@@ -1,6 +1,9 @@
 pub mod Machine
 pub mod Reading
+pub mod Record
 pub mod Replies
 pub mod Requests
+pub mod Runs
+pub mod Sending
 pub mod Tree
 pub mod Views

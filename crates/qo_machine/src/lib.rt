@@ -6,8 +6,10 @@ mod machines;
 mod reading;
 mod replies;
 mod requests;
+mod running;
 mod sessions;
 mod tree;
 
 pub use machines::{Machine, Outs};
+pub use running::Ending;
 pub use sessions::Session;

@@ -18,4 +18,4 @@ returns-in-Bytes-clause-answered c =
 
 pub returns-in-End-clause-answered : goal.returns-in-End-clause-answered
 returns-in-End-clause-answered c =
-    ([], step_on _ c.args.input.now _ [] (sym (state_ended c.self.view_is) ∙ c.if-self.false) c.in-End.is ∙ finished_is _ _ _ (c.from_vec-in-End.ensures ∙ c.new-in-End.ensures.items) c.finish.ensures.done)
+    ([], step_on _ c.args.input.now _ [] (sym (state_ended c.self.view_is) ∙ c.if-self.false) c.in-End.is ∙ finished_is c.args.self.now.state _ _ (c.from_vec-in-End.ensures ∙ c.new-in-End.ensures.items) c.finish.ensures.done)

@@ -1,0 +1,141 @@
+-- Runs: what a list of inputs sends to each lane, and what a hub tells of it.
+use Rattle.std.specs.Prelude.{◌≡◌, ℕ, zero, suc, ◌+◌, ◌-◌, ◌^◌, ◌≤◌, min, max, Bool, true, false, if◌then◌else◌, List, [], ◌∷◌, ◌++◌, length, take, Option, Some, None, option_map, slice_index_or}
+use Rattle.std.specs.List.{AllByRecursion, flat_map, filter_map, list_any}
+use Rattle.std.specs.Io.KnownBytes.{append_known}
+use Rattle.qo_causes.specs.Bytes.{AppendsPrefix}
+use Rattle.qo_causes.specs.Hub.{AtEnd, given_by, is_end, line, part}
+use Rattle.qo_causes.specs.declared.hubs.Lane.{Lane}
+use Rattle.qo_causes.specs.declared.hubs.Lane.TheVariants.{Session, Guest}
+use Rattle.qo_causes.specs.declared.inputs.Input.{Input}
+use Rattle.qo_machine.specs.Machine.{Message, State, Choice, IsBuilt, step, opening, with_mode}
+use Rattle.qo_machine.specs.declared.sessions.Session.TheVariants.{Closed}
+use Rattle.qo_machine.specs.declared.running.Ending.{Ending}
+use Rattle.qo_machine.specs.declared.running.Ending.TheVariants.{Done, Bad, Memory, NextFailed, SendFailed, Limit}
+
+-- an input, the choices at it, the sessions that are lost in its step, and how many bytes of the step a lost one got
+pub record Turn : Type 0 where
+  pub input : Input
+  pub choices : List Choice
+  pub lost : List Bool
+  pub cut : Lane → ℕ
+
+-- is a lane lost; the guest never is
+abbrev pub is_lost : List Bool → Lane → Bool
+is_lost lost (Session n) = slice_index_or lost n false
+is_lost lost Guest = false
+
+-- of the first so many sessions those that are lost are closed
+unfoldable pub close_lost : ℕ → List Bool → State → State
+close_lost zero lost s = s
+close_lost (suc n) lost s =
+    if slice_index_or lost n false then with_mode (close_lost n lost s) n Closed else close_lost n lost s
+
+-- what a turn sends, and the state behind it
+abbrev pub outs_at : State → Turn → List Message
+outs_at s t = (step s t.input t.choices).outs
+
+abbrev pub after : State → Turn → State
+after s t = close_lost 16 t.lost ((step s t.input t.choices).state)
+
+-- the state behind some turns, and all that they send
+abbrev pub state_after : State → List Turn → State
+state_after s [] = s
+state_after s (t ∷ ts) = state_after (after s t) ts
+
+abbrev pub outs_of : State → List Turn → List Message
+outs_of s [] = []
+outs_of s (t ∷ ts) = outs_at s t ++ outs_of (after s t) ts
+
+-- the transcript: each message as its line, in order
+abbrev pub transcript : List Message → List ℕ
+transcript outs = flat_map (λ m. line m.0 m.1) outs
+
+-- the bytes of a lane among some messages
+abbrev pub lane_bytes : Lane → List Message → List ℕ
+lane_bytes l outs = flat_map (λ m. part l m.0 m.1) outs
+
+abbrev pub cut_to : Bool → ℕ → List ℕ → List ℕ
+cut_to true n bytes = take n bytes
+cut_to false n bytes = bytes
+
+-- what a lane gets in a turn, and in some turns: of a step in which its session is lost a front
+abbrev pub lane_at : Lane → State → Turn → List ℕ
+lane_at l s t = cut_to (is_lost t.lost l) (t.cut l) (lane_bytes l (outs_at s t))
+
+abbrev pub lane_of : Lane → State → List Turn → List ℕ
+lane_of l s [] = []
+lane_of l s (t ∷ ts) = lane_at l s t ++ lane_of l (after s t) ts
+
+-- the inputs of some turns; the end is none
+abbrev pub turn_inputs : List Turn → List Input
+turn_inputs ts = filter_map (λ t. given_by t.input) ts
+
+-- has the end come
+abbrev pub has_end : List Turn → Bool
+has_end ts = list_any (λ t. is_end t.input.what) ts
+
+-- a count that has risen, below its last value
+abbrev pub risen : Bool → ℕ → ℕ
+risen true n = max n (min (n + 1) (2 ^ 64 - 1))
+risen false n = n
+
+-- a session's count of losses after some turns
+abbrev pub risen_by : ℕ → ℕ → List Turn → ℕ
+risen_by n count [] = count
+risen_by n count (t ∷ ts) = risen_by n (risen (slice_index_or t.lost n false) count) ts
+
+-- what a hub tells
+pub record Told : Type 0 where
+  pub inputs : Option (List Input)
+  pub sent : Option (List ℕ)
+  pub got : Lane → Option (List ℕ)
+  pub losses : ℕ → ℕ
+
+abbrev pub told : Option (List Input) → Option (List ℕ) → (Lane → Option (List ℕ)) → (ℕ → ℕ) → Told
+told inputs sent got losses = record { inputs = inputs; sent = sent; got = got; losses = losses }
+
+-- by some turns a hub came from the one to the other: their inputs were taken, and what they send was sent
+pub record Turns (from : State) (old new : Told) (turns : List Turn) : Type 0 where
+  pub took : old.inputs ≡ option_map (λ rest. turn_inputs turns ++ rest) new.inputs
+  pub sent : new.sent ≡ append_known old.sent (transcript (outs_of from turns))
+  pub lanes : (l : Lane) → new.got l ≡ append_known (old.got l) (lane_of l from turns)
+  pub losses : (n : ℕ) → risen_by n (old.losses n) turns ≤ new.losses n
+
+-- what a last turn sends, and its input, if there is such a turn
+abbrev pub last_outs : State → Option Turn → List Message
+last_outs s None = []
+last_outs s (Some t) = outs_at s t
+
+abbrev pub last_input : Option Turn → List Input
+last_input None = []
+last_input (Some t) = turn_inputs (t ∷ [])
+
+-- by a last turn that was cut, if any: its input was taken, and fronts of what it sends were sent
+pub record Cut (from : State) (old new : Told) (last : Option Turn) : Type 0 where
+  pub took : old.inputs ≡ option_map (λ rest. last_input last ++ rest) new.inputs
+  pub sent : AppendsPrefix old.sent new.sent (transcript (last_outs from last))
+  pub lanes : (l : Lane) → AppendsPrefix (old.got l) (new.got l) (lane_bytes l (last_outs from last))
+
+-- whole turns, with the run ended behind them or not
+abbrev pub WholeRun : Told → Told → Bool → List Turn → Type 0
+WholeRun old new over turns = Turns opening old new turns × ((state_after opening turns).ended ≡ over)
+
+-- whole turns, and then one that was cut
+abbrev pub CutRun : Told → Told → Type 0
+CutRun old new =
+    (mid : Told) × (turns : List Turn) × (last : Option Turn) × Turns opening old mid turns × Cut (state_after opening turns) mid new last
+
+-- what a run did by how it ended, of at most so many inputs; the hub had this bad place
+abbrev pub RunMeets : Ending → ℕ → Told → Told → Option (Option ℕ) → Type 0
+RunMeets Done limit old new bad =
+    (turns : List Turn) × WholeRun old new true turns × (has_end turns ≡ true → AtEnd new.inputs bad None)
+RunMeets (Bad n) limit old new bad = (turns : List Turn) × WholeRun old new false turns × AtEnd new.inputs bad (Some n)
+RunMeets Limit limit old new bad = (turns : List Turn) × WholeRun old new false turns × (length turns ≡ limit)
+RunMeets NextFailed limit old new bad = (turns : List Turn) × WholeRun old new false turns
+RunMeets SendFailed limit old new bad = CutRun old new
+RunMeets Memory limit old new bad = CutRun old new
+
+-- the hub tells its inputs, and they are all defined so far
+abbrev pub OnlyBuilt : Option (List Input) → Type 0
+OnlyBuilt None = ⊥
+OnlyBuilt (Some inputs) = AllByRecursion (λ (i : Input). IsBuilt i.what) inputs

@@ -1,0 +1,85 @@
+//! Runs: inputs from a hub, until the run ends.
+
+ghost use Rattle.std.specs.Prelude.{◌≡◌, ◌≤◌, List, [], ◌∷◌, ◌++◌, OnErr, OnOk};
+ghost use Rattle.qo_causes.specs.Cause.{HasCause};
+ghost use Rattle.qo_machine.specs.Machine.{Message};
+ghost use Rattle.qo_machine.specs.Runs.{Told, is_lost, told};
+ghost use Rattle.qo_machine.specs.Sending.{AreToLanes, IsLane, SendsAll, Sent, SentFront};
+
+use qo_causes::{Failed, Hub, Lane, SendError};
+use qo_values::Chars;
+
+/// How a run ended.
+#[derive(Clone, Copy, Debug, PartialEq, Eq)]
+pub enum Ending {
+    /// The run came to its end.
+    Done,
+    /// The hub has a bad place, this byte.
+    Bad(u64),
+    /// Memory ran out.
+    Memory,
+    /// The hub failed to give an input.
+    NextFailed,
+    /// The hub failed to send a message.
+    SendFailed,
+    /// As many inputs were taken as the run may take.
+    Limit,
+}
+
+/// Whether the session of a lane is lost.
+fn is_lost(lost: &[bool; 16], lane: Lane) -> bool
+    ensures { result ≡ is_lost lost.now lane }
+{
+    match lane {
+        Lane::Session(session) => lost.get(usize::from(session)).copied().unwrap_or(false),
+        Lane::Guest => false,
+    }
+}
+
+/// Sends one message, unless its session is lost, or is lost in this.
+fn send_one<H: Hub>(
+    hub: &mut H,
+    lost: &mut [bool; 16],
+    lane: Lane,
+    text: &Chars,
+) -> Result<(), Failed>
+    requires { IsLane lane }
+    ensures ok { OnOk result ((start : Told) (outs : List Message) → Sent start (told (H.inputs hub.old) (H.sent hub.old) (H.got hub.old) (H.losses hub.old)) outs lost.old → Sent start (told (H.inputs hub.new) (H.sent hub.new) (H.got hub.new) (H.losses hub.new)) (outs ++ (lane, text.now) ∷ []) lost.new) }
+    ensures err { OnErr result ((start : Told) (outs : List Message) → Sent start (told (H.inputs hub.old) (H.sent hub.old) (H.got hub.old) (H.losses hub.old)) outs lost.old → SentFront start (told (H.inputs hub.new) (H.sent hub.new) (H.got hub.new) (H.losses hub.new)) (outs ++ (lane, text.now) ∷ [])) }
+    ensures bad { H.bad hub.new ≡ H.bad hub.old }
+    ensures asked { H.asked hub.new ≡ H.asked hub.old }
+    ensures cause { HasCause (H.send_faults hub.old) (H.send_faults hub.new) result }
+    ensures next_count { H.next_faults hub.old ≤ H.next_faults hub.new }
+    ensures later { H.later hub.old hub.new }
+{
+    if is_lost(lost, lane) {
+        return Ok(());
+    }
+    match hub.send(lane, text.as_slice()) {
+        Ok(()) => Ok(()),
+        Err(SendError::Gone(session)) => {
+            lost[usize::from(session)] = true;
+            Ok(())
+        }
+        Err(SendError::Failed) => Err(Failed),
+    }
+}
+
+/// Sends the messages of one step. What follows for a session that is lost is left out.
+fn send_all<H: Hub>(hub: &mut H, outs: &[(Lane, Chars)]) -> Result<[bool; 16], Failed>
+    requires { AreToLanes outs.now }
+    ensures sends { SendsAll (told (H.inputs hub.old) (H.sent hub.old) (H.got hub.old) (H.losses hub.old)) (told (H.inputs hub.new) (H.sent hub.new) (H.got hub.new) (H.losses hub.new)) outs.now result }
+    ensures bad { H.bad hub.new ≡ H.bad hub.old }
+    ensures asked { H.asked hub.new ≡ H.asked hub.old }
+    ensures cause { HasCause (H.send_faults hub.old) (H.send_faults hub.new) result }
+    ensures next_count { H.next_faults hub.old ≤ H.next_faults hub.new }
+    ensures later { H.later hub.old hub.new }
+{
+    let mut lost = [false; 16];
+    for out in outs {
+        if let Err(Failed) = send_one(hub, &mut lost, out.0, &out.1) {
+            return Err(Failed);
+        }
+    }
+    Ok(lost)
+}
