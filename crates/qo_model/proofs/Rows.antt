@@ -3,7 +3,7 @@ use Rattle.std.proofs.Common.{◌≡◌, refl, [], ◌∷◌, ◌++◌, map, cod
 use Rattle.qo_values.specs.declared.kinds.TypeId.TheVariants.{Object, Container, Device, SlotDevice, SlotUart, SlotBridge, SlotBus, MemoryBackend, MemoryBackendRam}
 use Rattle.qo_model.specs.Types.{Property, types, type_line, chain, is_a, slots_of, inits, finals}
 use Rattle.qo_model.specs.Opening.{opening_board}
-use Rattle.qo_model.specs.Paths.{canonical, attached, resolve_absolute, components}
+use Rattle.qo_model.specs.Paths.{canonical, steps_to, attached, resolve_absolute, components}
 use Rattle.qo_model.specs.Listing.{listing}
 
 -- the lines of the types
@@ -87,11 +87,11 @@ unfolding types opening_board
 relative-missed = refl
 
 path-of-clock : canonical opening_board 5 ≡ Some (codes "/machine/sysclk")
-unfolding types opening_board canonical
+unfolding types opening_board steps_to
 path-of-clock = refl
 
 no-path-of-nine : canonical opening_board 9 ≡ None
-unfolding types opening_board canonical
+unfolding types opening_board steps_to
 no-path-of-nine = refl
 
 clock-attached : attached opening_board 5 ≡ true

@@ -1,6 +1,11 @@
 pub mod Board
 pub mod Depth
+pub mod Laws
 pub mod Listing
 pub mod Opening
 pub mod Paths
+pub mod References
+pub mod Sound
+pub mod SoundEvents
+pub mod SoundGraph
 pub mod Types
