@@ -1,7 +1,7 @@
 -- The law of recursion by objects: its answer is one turn over its own answers.
-use Rattle.std.proofs.Common.{◌≡◌, refl, sym, ap, subst, ◌∙◌, ℕ, zero, suc, ◌+◌, ◌<◌, ◌≤◌, Bool, true, false, List, [], ◌∷◌, length, eqb, arith}
-use Rattle.std.specs.List.{list_any, AllByRecursion, IsDistinct}
-use Rattle.std.proofs.lemmas.Bool.{eqb-true, eq-eqb}
+use Rattle.std.proofs.Common.{◌≡◌, refl, sym, subst, ℕ, zero, suc, ◌+◌, ◌<◌, ◌≤◌, Bool, true, false, List, [], ◌∷◌, length, eqb, arith}
+use Rattle.std.specs.List.{AllByRecursion, IsDistinct}
+use Rattle.std.proofs.lemmas.Bool.{eqb-true}
 use Rattle.std.proofs.lemmas.Map.Made.{length-le_from_is_member}
 use Rattle.std.specs.Cmp.{nat_eq_equiv}
 use Rattle.qo_model.specs.Depth.{by_depth, by_objects, among, leads, Leads, one, more, IsTree, IsLocal}
@@ -50,7 +50,7 @@ module _ (next : ℕ → List ℕ) (all : List ℕ) (tree : IsTree next all) whe
         distinct = (apart m passed w.ahead, w.distinct);
         live = (w.here, w.live);
         ahead = (one s, further m k passed s w.ahead);
-        here = tree.lives m k s
+        here = tree.lives m k s;
       }
 
   way-none : (m : ℕ) → among all m ≡ true → IsWay [] m

@@ -1,12 +1,12 @@
 -- Children and births: on a board without plain values, after a search, and by the order of births.
-use Rattle.std.proofs.Common.{◌≡◌, refl, ap, ap₂, sym, subst, ◌∙◌, ℕ, ◌+◌, ◌<◌, Bool, true, false, List, [], ◌∷◌, map, ◌==◌, eqb, Option, Some, None, find, option_map, is_some, arith, rules}
-use Rattle.std.specs.List.{list_any, filter_map, cons_option, AllByRecursion}
-use Rattle.std.specs.Option.{option_map_or, option_and_then, option_to_list}
-use Rattle.std.proofs.lemmas.Bool.{eqb-true, eq-eqb}
+use Rattle.std.proofs.Common.{◌≡◌, refl, ap, ap₂, ℕ, ◌<◌, Bool, true, false, List, [], ◌∷◌, map, ◌==◌, eqb, Option, find, is_some, arith}
+use Rattle.std.specs.List.{cons_option, AllByRecursion}
+use Rattle.std.specs.Option.{option_map_or, option_and_then}
+use Rattle.std.proofs.lemmas.Bool.{eqb-true}
 use Rattle.qo_model.specs.Board.{Board, Record, Slot, plain, child, strong, weak, alias}
-use Rattle.qo_model.specs.Depth.{among, leads, Leads}
-use Rattle.qo_model.specs.Paths.{births, child_of, children_in, children_of, is_child, place_in, place_of, parent_of}
-use Rattle.qo_model.specs.SoundGraph.{graph_of, without_value, without_values, Rises}
+use Rattle.qo_model.specs.Depth.{among, Leads}
+use Rattle.qo_model.specs.Paths.{births, child_of, children_in, children_of, place_in}
+use Rattle.qo_model.specs.SoundGraph.{graph_of, without_value, without_values}
 use Rattle.qo_model.proofs.DepthLemmas.{Leads-up}
 
 -- what is among numbers above n is above n

@@ -20,7 +20,7 @@ opening_sound =
             one_parent = search rules;
             none_round = none_round-from_later opening_board (search rules);
             pinned = refl;
-            referred = search rules
+            referred = search rules;
           };
-      events = record { none = refl }
+      events = record { none = refl };
     }

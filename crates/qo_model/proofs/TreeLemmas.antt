@@ -1,14 +1,13 @@
 -- Laws of paths: parents make a tree, and paths go along it.
-use Rattle.std.proofs.Common.{◌≡◌, refl, ap, sym, subst, ◌∙◌, ℕ, zero, suc, ◌+◌, ◌<◌, Bool, true, false, List, [], ◌∷◌, ◌++◌, map, length, ◌==◌, eqb, Option, Some, None, find, option_map, is_some, arith, rules}
-use Rattle.std.specs.List.{list_any, AllByRecursion}
+use Rattle.std.proofs.Common.{◌≡◌, refl, ap, sym, subst, ◌∙◌, ℕ, zero, suc, ◌<◌, Bool, true, false, List, [], ◌∷◌, ◌++◌, map, length, ◌==◌, eqb, Option, Some, None, find, option_map, is_some, arith}
 use Rattle.std.specs.Option.{option_and_then, option_to_list, option_map_or}
 use Rattle.std.proofs.lemmas.Bool.{eqb-true, eq-eqb}
 use Rattle.std.proofs.Math.Bool.{or-true, or-false}
 use Rattle.qo_model.specs.Types.{types}
 use Rattle.qo_model.specs.Board.{Board, Record, Slot, plain, child, strong, weak, alias}
-use Rattle.qo_model.specs.Depth.{among, leads, Leads, one, more, IsTree, IsLocal, by_depth, by_objects}
+use Rattle.qo_model.specs.Depth.{among, leads, IsTree, IsLocal, by_depth}
 use Rattle.qo_model.specs.Opening.{opening_board}
-use Rattle.qo_model.specs.Paths.{births, child_of, children_in, children_of, is_child, place_in, place_of, parent_of, attached, attached_turn, steps_to, steps_turn, canonical}
+use Rattle.qo_model.specs.Paths.{births, children_in, children_of, is_child, place_in, place_of, parent_of, attached, attached_turn, steps_to, steps_turn, canonical}
 use Rattle.qo_model.specs.SoundGraph.{graph_of, Rises, SoundGraph, GraphFacts}
 use Rattle.qo_model.specs.Laws.{PathsLaw, FrameLaw}
 use Rattle.qo_model.proofs.DepthLemmas.{Leads-back, by_objects_is}
@@ -64,7 +63,7 @@ parent-at (r ∷ rs) h n p e = go (is_some (place_in n r)) refl (parent-at rs h.
         let is : r.birth ≡ p.0 = place_in-birth n r p (rw q at e) in
         record {
           there = rw (eq-eqb p.0 r.birth (sym is)) refl;
-          child_there = rw (eq-eqb r.birth p.0 is) (place_in-child n r q)
+          child_there = rw (eq-eqb r.birth p.0 is) (place_in-child n r q);
         }
     go false q rest =
         let h' : IsParent rs n p.0 = rest (rw q at e) in
@@ -95,7 +94,7 @@ parents-tree b sound =
     let rising : Rises (births b) = rw births-graph_of at sound.rising in
     record {
       none_round = λ n l. sound.none_round n (Leads-back (parents b) (children_of (graph_of b)) (λ k m e. rw children_of-graph_of (parent-of b rising k m e).child_there) l);
-      lives = λ n m e. (parent-of b rising n m e).there
+      lives = λ n m e. (parent-of b rising n m e).there;
     }
 
 -- an object leads to the parent that its place gives
@@ -154,7 +153,7 @@ paths_lem =
       back = refl;
       attached_only = attached-canonical;
       attached_by_parent = λ b sound n. by_objects_is (parents b) (attached_turn b) (λ _. false) (births b) (attached-local b) (parents-tree b sound) n;
-      steps_by_parent = λ b sound n. by_objects_is (parents b) (steps_turn b) (λ _. None) (births b) (steps-local b) (parents-tree b sound) n
+      steps_by_parent = λ b sound n. by_objects_is (parents b) (steps_turn b) (λ _. None) (births b) (steps-local b) (parents-tree b sound) n;
     }
 
 pub frame_lem : FrameLaw

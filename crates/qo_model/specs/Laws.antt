@@ -11,10 +11,11 @@ use Rattle.qo_model.specs.SoundGraph.{SoundGraph, graph_of}
 abbrev pub OpeningLaw : Type 0
 OpeningLaw = IsSound opening_board
 
--- the births of the opening board, and their canonical paths
+-- the births of the opening board
 abbrev pub opening_births : List ℕ
 opening_births = 1 ∷ 2 ∷ 3 ∷ 4 ∷ 5 ∷ 6 ∷ 7 ∷ 8 ∷ []
 
+-- their canonical paths
 abbrev pub opening_paths : List (List ℕ)
 opening_paths =
     codes "/"
@@ -34,7 +35,7 @@ pub record PathsLaw : Type 0 where
   pub back : map (λ path. resolve_absolute opening_board path (codes "object")) opening_paths ≡ map Some opening_births
   -- an object has a canonical path exactly where it is attached
   pub attached_only : (b : Board) (n : ℕ) → is_some (canonical b n) ≡ attached b n
-  -- on a sound board an object is attached where its parent is, and its path is that of its parent and its name; both at any depth
+  -- on a sound board, at any depth, an object is attached where its parent is, and its steps are those of its parent and its name
   pub attached_by_parent : (b : Board) → SoundGraph b → (n : ℕ) → attached b n ≡ attached_turn b (attached b) n
   pub steps_by_parent : (b : Board) → SoundGraph b → (n : ℕ) → steps_to b n ≡ steps_turn b (steps_to b) n
 

@@ -2,6 +2,7 @@ pub mod Board
 pub mod Depth
 pub mod Laws
 pub mod Listing
+pub mod Notes
 pub mod Opening
 pub mod Paths
 pub mod References

@@ -1,5 +1,5 @@
 -- References: what keeps an object alive (docs/devel/qom.rst, "The QEMU Object Model": reference counting).
-use Rattle.std.specs.Prelude.{ℕ, ◌+◌, Bool, false, ◌==◌, List, Option, None, Some, sum_by, count_by}
+use Rattle.std.specs.Prelude.{ℕ, ◌+◌, Bool, false, ◌==◌, List, None, Some, sum_by, count_by}
 use Rattle.qo_model.specs.Board.{Board, Record, Slot, held}
 
 -- whether a slot holds n

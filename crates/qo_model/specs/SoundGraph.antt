@@ -1,5 +1,5 @@
 -- When the tree of a board is sound: births and names, what slots name, child slots without repeats or cycles, and references.
-use Rattle.std.specs.Prelude.{◌≡◌, ◌≢◌, ℕ, ◌≤◌, ◌<◌, Bool, true, false, nat_eq, List, [], ◌∷◌, map, flat_map, Option, None, Some, ⊤}
+use Rattle.std.specs.Prelude.{◌≡◌, ◌≢◌, ℕ, ◌≤◌, ◌<◌, true, false, nat_eq, List, [], ◌∷◌, map, flat_map, Option, None, Some, ⊤}
 use Rattle.std.specs.List.{AllByRecursion, IsDistinct}
 use Rattle.std.specs.Str.{bytes_eq}
 use Rattle.qo_values.specs.Kinds.{type_name}
@@ -36,7 +36,7 @@ graph_of b =
       pins = b.pins;
       total = 0;
       tail = [];
-      events = []
+      events = [];
     }
 
 -- each number of a list is below all that follow it
@@ -44,17 +44,17 @@ abbrev pub Rises : List ℕ → Type 0
 Rises [] = ⊤
 Rises (n ∷ ns) = AllByRecursion (λ m. n < m) ns × Rises ns
 
--- the target of a link is there and of the link's type
-abbrev pub Fits : Board → TypeId → Option ℕ → Type 0
-Fits b t None = ⊤
-Fits b t (Some n) = is_of b (type_name t) n ≡ true
+-- the target of a link, if it has one, is there and of the link's type
+abbrev pub FitsLink : Board → TypeId → Option ℕ → Type 0
+FitsLink b t None = ⊤
+FitsLink b t (Some n) = is_of b (type_name t) n ≡ true
 
 -- what a slot names is there, and a link's target is of its type
 abbrev pub NamesLive : Board → Slot → Type 0
 NamesLive b (plain v) = ⊤
 NamesLive b (child n) = is_live b n ≡ true
-NamesLive b (strong t target) = Fits b t target
-NamesLive b (weak t target) = Fits b t target
+NamesLive b (strong t target) = FitsLink b t target
+NamesLive b (weak t target) = FitsLink b t target
 NamesLive b (alias n name) = is_live b n ≡ true
 
 -- the facts, of a board that has nothing else
