@@ -1,1 +1,5 @@
+pub mod DepthLemmas
+pub mod GraphLemmas
+pub mod OpeningLemmas
 mod Rows
+pub mod TreeLemmas

@@ -1,10 +1,13 @@
 -- Worked rows: what the table of types and the opening board give, by computing.
-use Rattle.std.proofs.Common.{◌≡◌, refl, [], ◌∷◌, ◌++◌, map, codes, true, false, Some, None}
-use Rattle.qo_values.specs.declared.kinds.TypeId.TheVariants.{Object, Container, Device, SlotDevice, SlotUart, SlotBridge, SlotBus, MemoryBackend, MemoryBackendRam}
-use Rattle.qo_model.specs.Types.{Property, types, type_line, chain, is_a, slots_of, inits, finals}
-use Rattle.qo_model.specs.Opening.{opening_board}
-use Rattle.qo_model.specs.Paths.{canonical, attached, resolve_absolute, components}
+use Rattle.std.proofs.Common.{◌≡◌, refl, ℕ, List, [], ◌∷◌, ◌++◌, map, filter, codes, true, false, not, ◌&&◌, if◌then◌else◌, Option, Some, None}
+use Rattle.std.specs.Str.{bytes_eq}
+use Rattle.qo_values.specs.declared.kinds.TypeId.TheVariants.{Object, Container, Device, SlotDevice, SlotUart, SlotBridge, MemDimm, SlotBus, Clock, MemoryBackend, MemoryBackendRam, Tag}
+use Rattle.qo_model.specs.Board.{Board}
 use Rattle.qo_model.specs.Listing.{listing}
+use Rattle.qo_model.specs.Opening.{opening_board, opening_records, fresh_record, slots_with}
+use Rattle.qo_model.specs.Paths.{canonical, steps_to, attached, resolve_absolute, components, walk}
+use Rattle.qo_model.specs.References.{refs}
+use Rattle.qo_model.specs.Types.{Property, TypeRow, types, type_line, chain, is_a, slots_of, inits, finals}
 
 -- the lines of the types
 lines-of-types :
@@ -58,6 +61,18 @@ finals-of-container : finals Container ≡ []
 unfolding types
 finals-of-container = refl
 
+inits-of-dimm : inits MemDimm ≡ Device ∷ MemDimm ∷ []
+unfolding types
+inits-of-dimm = refl
+
+finals-of-uart : finals SlotUart ≡ SlotUart ∷ SlotDevice ∷ Device ∷ []
+unfolding types
+finals-of-uart = refl
+
+creatable : map (λ (r : TypeRow). r.id) (filter (λ r. is_a r.id (codes "user-creatable") && not r.is_abstract) types) ≡ MemoryBackendRam ∷ Tag ∷ []
+unfolding types
+creatable = refl
+
 -- paths on the opening board
 components-of-path : components (codes "//machine/sysclk/") ≡ codes "machine" ∷ codes "sysclk" ∷ []
 components-of-path = refl
@@ -87,11 +102,11 @@ unfolding types opening_board
 relative-missed = refl
 
 path-of-clock : canonical opening_board 5 ≡ Some (codes "/machine/sysclk")
-unfolding types opening_board canonical
+unfolding types opening_board steps_to
 path-of-clock = refl
 
 no-path-of-nine : canonical opening_board 9 ≡ None
-unfolding types opening_board canonical
+unfolding types opening_board steps_to
 no-path-of-nine = refl
 
 clock-attached : attached opening_board 5 ≡ true
@@ -130,3 +145,44 @@ listing-of-root :
     ∷ []
 unfolding types opening_board
 listing-of-root = refl
+
+-- a UART with its clock: the alias has the type of the clock's period
+uart_births : List ℕ → Option ℕ
+uart_births name = if bytes_eq name (codes "clk") then Some 10 else None
+
+uart_board : Board
+uart_board = record opening_board { records = opening_records ++ record (fresh_record 9 SlotUart) { slots = slots_with uart_births SlotUart } ∷ fresh_record 10 Clock ∷ [] }
+
+listing-of-uart :
+    listing uart_board 9
+    ≡ (codes "type", codes "string")
+    ∷ (codes "realized", codes "bool")
+    ∷ (codes "parent_bus", codes "link<bus>")
+    ∷ (codes "slot", codes "uint64")
+    ∷ (codes "peer", codes "link<device>")
+    ∷ (codes "watch", codes "link<device>")
+    ∷ (codes "clk", codes "child<clock>")
+    ∷ (codes "clock-period", codes "uint64")
+    ∷ (codes "chardev", codes "string")
+    ∷ []
+unfolding types uart_board uart_births
+listing-of-uart = refl
+
+-- the references of the opening board: 1 by its pin, the clock by the machine's child slot
+refs-of-opening : map (refs opening_board) (1 ∷ 2 ∷ 5 ∷ 9 ∷ []) ≡ 1 ∷ 1 ∷ 1 ∷ 0 ∷ []
+unfolding types opening_board
+refs-of-opening = refl
+
+-- a path does not go on through an alias, and a weak link that is empty leads nowhere
+no-way-through-alias : walk uart_board 9 (codes "clock-period" ∷ []) ≡ None
+unfolding types uart_board uart_births
+no-way-through-alias = refl
+
+no-way-through-empty : walk uart_board 9 (codes "watch" ∷ []) ≡ None
+unfolding types uart_board uart_births
+no-way-through-empty = refl
+
+-- a detached object has no path
+no-path-of-detached : canonical uart_board 9 ≡ None
+unfolding types uart_board uart_births steps_to
+no-path-of-detached = refl

@@ -1,6 +1,12 @@
 pub mod Board
 pub mod Depth
+pub mod Laws
 pub mod Listing
+pub mod Notes
 pub mod Opening
 pub mod Paths
+pub mod References
+pub mod Sound
+pub mod SoundEvents
+pub mod SoundGraph
 pub mod Types

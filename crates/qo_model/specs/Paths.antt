@@ -1,10 +1,10 @@
 -- Paths through the tree (docs/devel/qom.rst, "The QEMU Object Model": canonical and partial paths; include/qom/object.h).
-use Rattle.std.specs.Prelude.{ℕ, Bool, true, false, not, ◌==◌, if◌then◌else◌, List, [], ◌∷◌, ◌++◌, map, filter, find, codes, Option, Some, None, is_some, option_map, option_and_then}
+use Rattle.std.specs.Prelude.{ℕ, Bool, true, false, not, ◌==◌, if◌then◌else◌, List, [], ◌∷◌, ◌++◌, map, filter, filter_map, find, codes, Option, Some, None, is_some, option_map, option_and_then}
 use Rattle.std.specs.List.{slice_split}
 use Rattle.std.specs.Str.{bytes_eq}
 use Rattle.std.specs.Option.{option_map_or}
 use Rattle.qo_values.specs.declared.kinds.TypeId.{TypeId}
-use Rattle.qo_model.specs.Board.{Board, Record, Slot, child, kind_of, slot_named, target_of}
+use Rattle.qo_model.specs.Board.{Board, Record, Slot, child, kind_of, slots_at, slot_named, target_of}
 use Rattle.qo_model.specs.Depth.{by_objects}
 use Rattle.qo_model.specs.Types.{is_a}
 
@@ -25,6 +25,19 @@ place_of b n = option_and_then (place_in n) (find (λ r. is_some (place_in n r))
 abbrev pub parent_of : Board → ℕ → Option ℕ
 parent_of b n = option_map (λ (p : ℕ × List ℕ). p.0) (place_of b n)
 
+-- the child that a slot names
+abbrev pub child_of : Slot → Option ℕ
+child_of (child n) = Some n
+child_of _ = None
+
+-- the children that slots name, in order
+abbrev pub children_in : List (List ℕ × Slot) → List ℕ
+children_in slots = filter_map (λ s. child_of s.1) slots
+
+-- the children of n, in order
+abbrev pub children_of : Board → ℕ → List ℕ
+children_of b n = children_in (slots_at b n)
+
 -- the births of all objects
 abbrev pub births : Board → List ℕ
 births b = map (λ (r : Record). r.birth) b.records
@@ -42,9 +55,13 @@ abbrev pub steps_turn : Board → (ℕ → Option (List ℕ)) → ℕ → Option
 steps_turn b f n =
     elim (n == 1) [ true ↦ Some [] | false ↦ elim (place_of b n) [ None ↦ None | Some p ↦ option_map (λ (above : List ℕ). above ++ 47 ∷ p.1) (f p.0) ] ]
 
--- the canonical path: `/` of birth 1, else a `/` and the name of the child slot for each step from birth 1 down; a detached object has none
-unfoldable pub canonical : Board → ℕ → Option (List ℕ)
-canonical b n = elim (n == 1) [ true ↦ Some (codes "/") | false ↦ by_objects (steps_turn b) (λ _. None) (births b) n ]
+-- a `/` and the name of the child slot for each step from birth 1 down; none where parents do not lead there
+unfoldable pub steps_to : Board → ℕ → Option (List ℕ)
+steps_to b n = by_objects (steps_turn b) (λ _. None) (births b) n
+
+-- the canonical path: `/` of birth 1, else the steps down to the object; a detached object has none
+abbrev pub canonical : Board → ℕ → Option (List ℕ)
+canonical b n = if n == 1 then Some (codes "/") else steps_to b n
 
 -- the components of a path: what stands between its `/`, without the empty ones
 abbrev pub components : List ℕ → List (List ℕ)

@@ -24,7 +24,7 @@ pub data Mark : Type 0 where
   both : Mark
   on_set : Mark
 
--- what a property is: a value; a child, made with the object; a link (true where it is strong); or a property `of` of the object's child of a name
+-- what a property is: a value; a child of a type, made with the object; a link to a type, strong where it says true; or, of the child of a name, the property of another name
 pub data Kind : Type 0 where
   plain : PropType → First → Kind
   child : TypeId → Kind
@@ -45,16 +45,19 @@ pub record TypeRow : Type 0 where
   pub interfaces : List (List ℕ)
   pub properties : List Property
 
--- any number of 64 bits; such a number that is a multiple of a step; the numbers from 0 to `hi`; any signed number of 64 bits
+-- any number of 64 bits
 abbrev pub uint64 : PropType
 uint64 = ty.Uint 0 (2 ^ 64 - 1) 1
 
+-- a number of 64 bits that is a multiple of a step
 abbrev pub multiple_of : ℕ → PropType
 multiple_of step = ty.Uint 0 (2 ^ 64 - 1) step
 
+-- a number from 0 to `hi`
 abbrev pub up_to : ℕ → PropType
 up_to hi = ty.Uint 0 hi 1
 
+-- any signed number of 64 bits
 abbrev pub int64 : PropType
 int64 = ty.Int (negsuc (2 ^ 63 - 1)) (pos (2 ^ 63 - 1))
 
@@ -142,10 +145,11 @@ types =
     }
     ∷ []
 
--- the row of a name; the row of a type
+-- the row of the type of a name
 abbrev pub row_named : List ℕ → Option TypeRow
 row_named name = find (λ r. bytes_eq (type_name r.id) name) types
 
+-- the row of a type
 abbrev pub row_of : TypeId → Option TypeRow
 row_of t = row_named (type_name t)
 
@@ -159,9 +163,11 @@ chain_within (suc steps) name =
 abbrev pub chain : TypeId → List TypeId
 chain t = chain_within (length types) (type_name t)
 
+-- the interfaces in the row of a type
 abbrev pub interfaces_of : TypeId → List (List ℕ)
 interfaces_of t = option_map_or (λ (r : TypeRow). r.interfaces) (row_of t) []
 
+-- the properties in the row of a type
 abbrev pub properties_of : TypeId → List Property
 properties_of t = option_map_or (λ (r : TypeRow). r.properties) (row_of t) []
 
@@ -177,16 +183,17 @@ is_a t name = list_any (answers_to name) (chain t)
 abbrev pub slots_of : TypeId → List Property
 slots_of t = flat_map properties_of (reverse (chain t))
 
--- whether a type has an initialiser and a finaliser
+-- whether a type has an initialiser and a finaliser: all but `object` and `container` have
 abbrev pub has_finaliser : TypeId → Bool
 has_finaliser Object = false
 has_finaliser Container = false
 has_finaliser _ = true
 
--- the types whose finalisers end an object, derived first; those whose initialisers begin it, base first
+-- the types whose finalisers end an object, derived first
 abbrev pub finals : TypeId → List TypeId
 finals t = filter has_finaliser (chain t)
 
+-- the types whose initialisers begin an object, base first
 abbrev pub inits : TypeId → List TypeId
 inits t = reverse (finals t)
 

@@ -2,6 +2,7 @@
 //! sound. `specs/` has the definitions; the module `laws` states what follows from them.
 #![tactic(auto)]
 
+pub mod laws;
 mod notes;
 
 pub use notes::{Deed, Note};

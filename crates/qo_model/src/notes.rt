@@ -1,6 +1,10 @@
 //! Notes: what was done to the objects of a board, in order.
 
+ghost use Rattle.std.specs.Prelude.{◌≡◌, IfOk, string_bytes};
+ghost use Rattle.qo_model.specs.Notes.{deed_word, deed_type, note_text};
+
 use qo_values::{Act, TypeId};
+use std::alloc::{AllocError, Global};
 
 /// What a note says was done.
 #[derive(Clone, Copy, Debug, PartialEq, Eq)]
@@ -18,4 +22,71 @@ pub struct Note {
     pub birth: u64,
     /// What was done to it.
     pub deed: Deed,
+}
+
+impl Deed {
+    /// The word of what was done: the act or `final`, in lower case.
+    pub fn word(self) -> &'static str
+        ensures { result.now ≡ deed_word self }
+    {
+        match self {
+            Deed::Did(Act::Init(_)) => "init",
+            Deed::Did(Act::Realize) => "realize",
+            Deed::Did(Act::Unrealize) => "unrealize",
+            Deed::Did(Act::Enter) => "enter",
+            Deed::Did(Act::Hold) => "hold",
+            Deed::Did(Act::Exit) => "exit",
+            Deed::Did(Act::Pre) => "pre",
+            Deed::Did(Act::Update) => "update",
+            Deed::Final(_) => "final",
+        }
+    }
+
+    /// The type whose initialiser or finaliser ran; `None` for every other act.
+    pub fn type_id(self) -> Option<TypeId>
+        ensures { result ≡ deed_type self }
+    {
+        match self {
+            Deed::Did(Act::Init(id)) | Deed::Final(id) => Some(id),
+            Deed::Did(_) => None,
+        }
+    }
+}
+
+impl Note {
+    /// The note's text, as `init 9 device` or `enter 9`: the word, a space and the birth, and for
+    /// init and final a space and the type's name. The error is want of memory.
+    pub fn text(&self, alloc: Global) -> Result<String, AllocError>
+        ensures { IfOk result (λ s. string_bytes s ≡ note_text self.now) }
+    {
+        let word = self.deed.word();
+        match self.deed.type_id() {
+            Some(id) => {
+                let name = id.name();
+                format!(in alloc; "{word} {} {name}", self.birth)
+            }
+            None => format!(in alloc; "{word} {}", self.birth),
+        }
+    }
+}
+
+#[cfg(test)]
+mod tests {
+    use super::*;
+
+    #[test]
+    fn texts(rt: HostRuntime) {
+        let rows = [
+            (9, Deed::Did(Act::Init(TypeId::Device)), "init 9 device"),
+            (9, Deed::Did(Act::Enter), "enter 9"),
+            (9, Deed::Did(Act::Pre), "pre 9"),
+            (9, Deed::Final(TypeId::Device), "final 9 device"),
+            (145, Deed::Did(Act::Unrealize), "unrealize 145"),
+        ];
+        for (birth, deed, want) in rows {
+            let note = Note { birth, deed };
+            let text = note.text(rt.alloc()).expect(&rt, "ample memory");
+            assert_eq!(rt; text.as_str(), want);
+        }
+    }
 }

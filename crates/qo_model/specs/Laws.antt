@@ -1,0 +1,45 @@
+-- The laws of the definitions, each the contract of a function of `laws`.
+use Rattle.std.specs.Prelude.{◌≡◌, ℕ, List, [], ◌∷◌, map, codes, Some, is_some}
+use Rattle.qo_model.specs.Board.{Board}
+use Rattle.qo_model.specs.Opening.{opening_board}
+use Rattle.qo_model.specs.Paths.{attached, attached_turn, steps_to, steps_turn, canonical, resolve_absolute}
+use Rattle.qo_model.specs.Sound.{IsSound}
+use Rattle.qo_model.specs.SoundEvents.{SoundEvents}
+use Rattle.qo_model.specs.SoundGraph.{SoundGraph, graph_of}
+
+-- the board that a machine begins with is sound
+abbrev pub OpeningLaw : Type 0
+OpeningLaw = IsSound opening_board
+
+-- the births of the opening board
+abbrev pub opening_births : List ℕ
+opening_births = 1 ∷ 2 ∷ 3 ∷ 4 ∷ 5 ∷ 6 ∷ 7 ∷ 8 ∷ []
+
+-- their canonical paths
+abbrev pub opening_paths : List (List ℕ)
+opening_paths =
+    codes "/"
+    ∷ codes "/machine"
+    ∷ codes "/machine/peripheral"
+    ∷ codes "/machine/peripheral-anon"
+    ∷ codes "/machine/sysclk"
+    ∷ codes "/machine/root.0"
+    ∷ codes "/machine/mem.0"
+    ∷ codes "/objects"
+    ∷ []
+
+-- what paths give
+pub record PathsLaw : Type 0 where
+  -- on the opening board the eight objects have these canonical paths, and each of these leads back to its object
+  pub opening : map (canonical opening_board) opening_births ≡ map Some opening_paths
+  pub back : map (λ path. resolve_absolute opening_board path (codes "object")) opening_paths ≡ map Some opening_births
+  -- an object has a canonical path exactly where it is attached
+  pub attached_only : (b : Board) (n : ℕ) → is_some (canonical b n) ≡ attached b n
+  -- on a sound board, at any depth, an object is attached where its parent is, and its steps are those of its parent and its name
+  pub attached_by_parent : (b : Board) → SoundGraph b → (n : ℕ) → attached b n ≡ attached_turn b (attached b) n
+  pub steps_by_parent : (b : Board) → SoundGraph b → (n : ℕ) → steps_to b n ≡ steps_turn b (steps_to b) n
+
+-- two boards that agree in all that a group of facts speaks of agree in that group
+pub record FrameLaw : Type 0 where
+  pub graph : (b c : Board) → graph_of b ≡ graph_of c → SoundGraph b → SoundGraph c
+  pub events : (b c : Board) → b.events ≡ c.events → SoundEvents b → SoundEvents c
