@@ -1,20 +1,22 @@
 -- Sending the messages of a step, one at a time.
-use Rattle.std.proofs.Common.{◌≡◌, ℕ, ◌+◌, ◌-◌, ◌^◌, ◌<◌, ◌≤◌, ◌==◌, min, max, Bool, true, false, if◌then◌else◌, List, [], ◌∷◌, ◌++◌, length, take, refl, sym, ◌∙◌, ap, arith, length-append, Option, None, Some, slice_index_or, slice_set}
-use Rattle.std.proofs.Math.Seq.{take-nil, take-append-add}
+use Rattle.std.proofs.Common.{◌≡◌, ℕ, zero, suc, ◌+◌, ◌-◌, ◌^◌, ◌<◌, ◌≤◌, ◌==◌, min, max, Bool, true, false, if◌then◌else◌, List, [], ◌∷◌, ◌++◌, length, take, drop, add-one, refl, sym, ◌∙◌, ap, subst, arith, length-append, Result, Err, Option, None, Some, slice_index_or, slice_set, replicate}
+use Rattle.std.proofs.Math.Seq.{take-nil, take-append-add, take-suc}
 use Rattle.std.proofs.lemmas.Bool.{eqb-true, eqb-false, eq-eqb, true≢false}
 use Rattle.std.proofs.lemmas.Grind.{flat_map-append}
-use Rattle.std.proofs.lemmas.List.{append-nil, take-append-le, get_or-set_same, get_or-set_other, length-set}
+use Rattle.std.proofs.lemmas.List.{append-nil, take-append-le, take-append-drop, get_or-set_same, get_or-set_other, length-set}
 use Rattle.std.specs.Io.KnownBytes.{append_known}
 use Rattle.qo_causes.proofs.BytesLemmas.{append_known_twice}
-use Rattle.qo_causes.specs.Bytes.{AppendsPrefix}
+use Rattle.qo_causes.specs.Bytes.{AppendsPrefix, PutsAll}
 use Rattle.qo_causes.specs.Cause.{Rose}
-use Rattle.qo_causes.specs.Hub.{Loses, line, part, same_lane}
+use Rattle.qo_causes.specs.Hub.{GoneOnly, Loses, Sends, is_gone, line, part, same_lane}
 use Rattle.qo_causes.specs.declared.hubs.Lane.{Lane}
 use Rattle.qo_causes.specs.declared.hubs.Lane.TheVariants.{Session, Guest}
+use Rattle.qo_causes.specs.declared.hubs.SendError.{SendError}
+use Rattle.qo_causes.specs.declared.hubs.SendError.TheVariants.{Gone, Failed}
 use Rattle.qo_causes.specs.declared.inputs.Input.{Input}
 use Rattle.qo_machine.specs.Machine.{Message}
 use Rattle.qo_machine.specs.Runs.{Told, told, cut_to, is_lost, lane_bytes, risen, transcript}
-use Rattle.qo_machine.specs.Sending.{SentLanes, Sent, SentFront}
+use Rattle.qo_machine.specs.Sending.{AreToLanes, IsLane, SentLanes, Sent, SentFront}
 
 -- One lane, over its flags: was its session lost, and is it the lane of the message.
 
@@ -180,3 +182,77 @@ front_failed start mi ni ms ns mg ng ml nl outs m lost flag inputs sent got h =
           rw (lane_bytes_more l outs m)
           (failed_at (is_lost lost l) (same_lane l m.0) (h.lanes.0 l) ((got l).0) (start.got l) (mg l) (ng l) (lane_bytes l outs) m.1 (λ s. same_lost l m.0 lost s ∙ flag) (h.lanes.1.within l) ((got l).1) (h.lanes.1.lanes l) ((got l).2));
     }
+
+-- What `send` answers, by its error.
+
+pub err_gone : (start : Told) (mi ni : Option (List Input)) (ms ns : Option (List ℕ)) (mg ng : Lane → Option (List ℕ)) (ml nl : ℕ → ℕ) (outs : List Message) (lane : Lane) (bytes text : List ℕ) (r : SendError) (s k : ℕ) (lost : List Bool) → r ≡ Gone s → k ≡ s → bytes ≡ text → is_lost lost lane ≡ false → IsLane lane → ni ≡ mi → Sends ms ns (line lane bytes) (Err r) → ((l : Lane) → PutsAll {T = Unit {0}} {E = SendError} (mg l) (ng l) (Err r) (part l lane bytes)) → GoneOnly lane (Err r) → ((t : ℕ) → Loses (is_gone (Err r) t) (ml t) (nl t)) → Sent start (told mi ms mg ml) outs lost → Sent start (told ni ns ng nl) (outs ++ (lane, text) ∷ []) (slice_set lost k true)
+err_gone start mi ni ms ns mg ng ml nl outs lane bytes text (Gone j) s k lost is from same flag wide inputs sent got gone losses h =
+    let j_is : j ≡ k = cc in
+    let below : IsLane (Session j) = subst IsLane gone wide in
+    let k_below : k < 16 = omega arith in
+    let to : lane ≡ Session k = gone ∙ ap Session j_is in
+    sent_gone start mi ni ms ns mg ng ml nl outs (lane, text) k lost flag to k_below inputs sent (λ l. rw same at (got l)) (λ n. rw j_is at (losses n)) h
+err_gone start mi ni ms ns mg ng ml nl outs lane bytes text Failed s k lost is from same flag wide inputs sent got gone losses h = cc
+
+pub err_failed : (start : Told) (mi ni : Option (List Input)) (ms ns : Option (List ℕ)) (mg ng : Lane → Option (List ℕ)) (ml nl : ℕ → ℕ) (outs : List Message) (lane : Lane) (bytes text : List ℕ) (r : SendError) (lost : List Bool) → r ≡ Failed → bytes ≡ text → is_lost lost lane ≡ false → ni ≡ mi → Sends ms ns (line lane bytes) (Err r) → ((l : Lane) → PutsAll {T = Unit {0}} {E = SendError} (mg l) (ng l) (Err r) (part l lane bytes)) → Sent start (told mi ms mg ml) outs lost → SentFront start (told ni ns ng nl) (outs ++ (lane, text) ∷ [])
+err_failed start mi ni ms ns mg ng ml nl outs lane bytes text (Gone j) lost is same flag inputs sent got h = cc
+err_failed start mi ni ms ns mg ng ml nl outs lane bytes text Failed lost is same flag inputs sent got h =
+    front_failed start mi ni ms ns mg ng ml nl outs (lane, text) lost flag inputs (rw same at sent) (λ l. rw same at (got l)) h
+
+-- The messages of a step.
+
+append_none : (x : Option (List ℕ)) → x ≡ append_known x []
+append_none None = refl
+append_none (Some xs) = ap (λ (l : List ℕ). Some l) (sym (append-nil xs))
+
+none_among : (k n : ℕ) → slice_index_or (replicate k false) n false ≡ false
+none_among zero n = refl
+none_among (suc k) zero = refl
+none_among (suc k) (suc n) = none_among k n
+
+none_lost : (n : ℕ) → slice_index_or (replicate 16 false) n false ≡ false
+none_lost n = none_among 16 n
+
+lane_not_lost : (l : Lane) → is_lost (replicate 16 false) l ≡ false
+lane_not_lost (Session n) = none_lost n
+lane_not_lost Guest = refl
+
+-- nothing was sent yet
+pub sent_none : (i : Option (List Input)) (s : Option (List ℕ)) (g : Lane → Option (List ℕ)) (n : ℕ → ℕ) → Sent (told i s g n) (told i s g n) [] (replicate 16 false)
+sent_none i s g n =
+    record {
+      inputs = refl;
+      sent = append_none s;
+      lanes = ((λ l. 0), record { within = λ l. omega arith; lanes = λ l. rw (lane_not_lost l) (append_none (g l)) });
+      losses = λ k. rw (none_lost k) (omega arith);
+      untold = λ l f. absurd (true≢false (sym f ∙ lane_not_lost l));
+      size = refl;
+    }
+
+-- a front of some messages is one of all
+pub front_all : (start new : Told) (xs ys : List Message) → SentFront start new xs → SentFront start new (xs ++ ys)
+front_all start new xs ys h =
+    record {
+      inputs = h.inputs;
+      sent = rw (flat_map-append (λ (x : Message). line x.0 x.1) xs ys) (front_more start.sent new.sent (transcript xs) (transcript ys) h.sent);
+      lanes = λ l.
+          rw (flat_map-append (λ (x : Message). part l x.0 x.1) xs ys)
+          (front_more (start.got l) (new.got l) (lane_bytes l xs) (lane_bytes l ys) (h.lanes l));
+    }
+
+-- the lane of each message is such a lane
+lane_at : (outs : List Message) (i : ℕ) (d : Message) → AreToLanes outs → i < length outs → IsLane (slice_index_or outs i d).0
+lane_at [] i d h below = absurd (omega arith)
+lane_at (m ∷ outs) zero d h below = h.0
+lane_at (m ∷ outs) (suc i) d h below = lane_at outs i d h.1 (omega arith)
+
+pub lane_of_item : (outs : List Message) (i : ℕ) (m : Message) → AreToLanes outs → i < length outs → m ≡ slice_index_or outs i m → IsLane m.0
+lane_of_item outs i m h below is = subst (λ (x : Message). IsLane x.0) (sym is) (lane_at outs i m h below)
+
+-- one message more of a list
+pub one_further : (outs : List Message) (i : ℕ) (m : Message) → i < length outs → m ≡ slice_index_or outs i m → take (i + 1) outs ≡ take i outs ++ m ∷ []
+one_further outs i m below is = rw add-one (take-suc outs i m below ∙ ap (λ (x : Message). take i outs ++ x ∷ []) (sym is))
+
+pub front_at : (start new : Told) (outs : List Message) (i : ℕ) (m : Message) → i < length outs → m ≡ slice_index_or outs i m → SentFront start new (take i outs ++ m ∷ []) → SentFront start new outs
+front_at start new outs i m below is h =
+    subst (SentFront start new) (take-append-drop (i + 1) outs) (front_all start new (take (i + 1) outs) (drop (i + 1) outs) (subst (SentFront start new) (sym (one_further outs i m below is)) h))

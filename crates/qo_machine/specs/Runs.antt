@@ -1,5 +1,5 @@
 -- Runs: what a list of inputs sends to each lane, and what a hub tells of it.
-use Rattle.std.specs.Prelude.{◌≡◌, ℕ, zero, suc, ◌+◌, ◌-◌, ◌^◌, ◌≤◌, min, max, Bool, true, false, if◌then◌else◌, List, [], ◌∷◌, ◌++◌, length, take, Option, Some, None, option_map, slice_index_or}
+use Rattle.std.specs.Prelude.{◌≡◌, ℕ, zero, suc, ◌+◌, ◌-◌, ◌^◌, ◌≤◌, min, max, Bool, true, false, if◌then◌else◌, List, [], ◌∷◌, ◌++◌, length, take, Option, Some, None, Result, Ok, Err, option_map, slice_index_or}
 use Rattle.std.specs.List.{AllByRecursion, flat_map, filter_map, list_any}
 use Rattle.std.specs.Io.KnownBytes.{append_known}
 use Rattle.qo_causes.specs.Bytes.{AppendsPrefix}
@@ -7,7 +7,8 @@ use Rattle.qo_causes.specs.Hub.{AtEnd, given_by, is_end, line, part}
 use Rattle.qo_causes.specs.declared.hubs.Lane.{Lane}
 use Rattle.qo_causes.specs.declared.hubs.Lane.TheVariants.{Session, Guest}
 use Rattle.qo_causes.specs.declared.inputs.Input.{Input}
-use Rattle.qo_machine.specs.Machine.{Message, State, Choice, IsBuilt, step, opening, with_mode}
+use Rattle.qo_machine.specs.Machine.{Message, State, Choice, IsBuilt, step, opening}
+use Rattle.qo_machine.specs.declared.sessions.Session.{Session as Mode}
 use Rattle.qo_machine.specs.declared.sessions.Session.TheVariants.{Closed}
 use Rattle.qo_machine.specs.declared.running.Ending.{Ending}
 use Rattle.qo_machine.specs.declared.running.Ending.TheVariants.{Done, Bad, Memory, NextFailed, SendFailed, Limit}
@@ -24,18 +25,22 @@ abbrev pub is_lost : List Bool → Lane → Bool
 is_lost lost (Session n) = slice_index_or lost n false
 is_lost lost Guest = false
 
--- of the first so many sessions those that are lost are closed
-unfoldable pub close_lost : ℕ → List Bool → State → State
-close_lost zero lost s = s
-close_lost (suc n) lost s =
-    if slice_index_or lost n false then with_mode (close_lost n lost s) n Closed else close_lost n lost s
+-- the sessions that are lost are closed
+unfoldable pub closed_where : List Bool → List Mode → List Mode
+closed_where [] sessions = sessions
+closed_where (flag ∷ lost) [] = []
+closed_where (flag ∷ lost) (mode ∷ sessions) = (if flag then Closed else mode) ∷ closed_where lost sessions
+
+abbrev pub close_lost : List Bool → State → State
+close_lost lost s =
+    record { board = s.board; sessions = closed_where lost s.sessions; guest_line = s.guest_line; ended = s.ended }
 
 -- what a turn sends, and the state behind it
 abbrev pub outs_at : State → Turn → List Message
 outs_at s t = (step s t.input t.choices).outs
 
 abbrev pub after : State → Turn → State
-after s t = close_lost 16 t.lost ((step s t.input t.choices).state)
+after s t = close_lost t.lost ((step s t.input t.choices).state)
 
 -- the state behind some turns, and all that they send
 abbrev pub state_after : State → List Turn → State
@@ -124,6 +129,17 @@ WholeRun old new over turns = Turns opening old new turns × ((state_after openi
 abbrev pub CutRun : Told → Told → Type 0
 CutRun old new =
     (mid : Told) × (turns : List Turn) × (last : Option Turn) × Turns opening old mid turns × Cut (state_after opening turns) mid new last
+
+-- what one turn did by its answer; the hub has this bad place
+abbrev pub TurnMeets : State → State → Told → Told → Option (Option ℕ) → Result (Unit {0}) Ending → Type 0
+TurnMeets from to old new bad (Ok u) =
+    (t : Turn) × Turns from old new (t ∷ []) × (to ≡ after from t) × (is_end t.input.what ≡ true → AtEnd new.inputs bad None)
+TurnMeets from to old new bad (Err (Bad n)) = Turns from old new [] × AtEnd new.inputs bad (Some n)
+TurnMeets from to old new bad (Err NextFailed) = Turns from old new []
+TurnMeets from to old new bad (Err SendFailed) = (last : Option Turn) × Cut from old new last
+TurnMeets from to old new bad (Err Memory) = (last : Option Turn) × Cut from old new last
+TurnMeets from to old new bad (Err Done) = ⊥
+TurnMeets from to old new bad (Err Limit) = ⊥
 
 -- what a run did by how it ended, of at most so many inputs; the hub had this bad place
 abbrev pub RunMeets : Ending → ℕ → Told → Told → Option (Option ℕ) → Type 0

@@ -11,5 +11,5 @@ mod sessions;
 mod tree;
 
 pub use machines::{Machine, Outs};
-pub use running::Ending;
+pub use running::{Ending, run};
 pub use sessions::Session;

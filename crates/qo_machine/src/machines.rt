@@ -1,6 +1,7 @@
 //! The machine: its state, and what one input does.
 
 ghost use Rattle.std.specs.Prelude.{◌≡◌, [], ◌∷◌, IfOk};
+ghost use Rattle.qo_machine.specs.Runs.{closed_where};
 
 use crate::answers::answer_to;
 use crate::replies;
@@ -51,6 +52,17 @@ impl Outs {
     }
 }
 
+/// Closes the sessions whose flag is set.
+fn close_where(sessions: &mut [Session; 16], lost: &[bool; 16])
+    ensures { sessions.new ≡ closed_where lost.now sessions.old }
+{
+    for session in 0..16usize {
+        if lost[session] {
+            sessions[session] = Session::Closed;
+        }
+    }
+}
+
 /// The machine.
 ///
 /// It is driven by one input at a time. A step that runs out of memory ends it: every later one
@@ -75,6 +87,7 @@ impl Model for Machine {
 impl Machine {
     ghost use Rattle.std.specs.Prelude.{◌≡◌, true, false, [], List, IfOk, IsErr, OnErr, OnOk};
     ghost use Rattle.qo_machine.specs.Machine.{Choice, IsBuilt, finished, input_step, opening, step};
+    ghost use Rattle.qo_machine.specs.Runs.{close_lost};
     ghost use Rattle.qo_causes.specs.declared.inputs.What.TheVariants as What;
 
     /// The machine at first: the opening board, and all sessions closed.
@@ -116,6 +129,13 @@ impl Machine {
                 Err(Memory)
             }
         }
+    }
+
+    /// Closes the sessions that are lost, as if each was shut. It takes no memory.
+    pub(crate) fn close_lost(&mut self, lost: &[bool; 16])
+        ensures { self.new.state ≡ close_lost lost.now self.old.state }
+    {
+        close_where(&mut self.sessions, lost);
     }
 
     /// One step, while memory has not run out.

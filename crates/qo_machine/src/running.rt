@@ -1,13 +1,16 @@
 //! Runs: inputs from a hub, until the run ends.
 
 ghost use Rattle.std.specs.Prelude.{◌≡◌, ◌≤◌, List, [], ◌∷◌, ◌++◌, OnErr, OnOk};
-ghost use Rattle.qo_causes.specs.Cause.{HasCause};
+ghost use Rattle.qo_causes.specs.Cause.{HasCause, Rose};
 ghost use Rattle.qo_machine.specs.Machine.{Message};
-ghost use Rattle.qo_machine.specs.Runs.{Told, is_lost, told};
+ghost use Rattle.qo_machine.specs.Runs.{OnlyBuilt, RunMeets, Told, TurnMeets, is_lost, told};
+ghost use Rattle.qo_machine.specs.declared.running.Ending.TheVariants as Ending;
 ghost use Rattle.qo_machine.specs.Sending.{AreToLanes, IsLane, SendsAll, Sent, SentFront};
 
-use qo_causes::{Failed, Hub, Lane, SendError};
+use crate::machines::Machine;
+use qo_causes::{Failed, Hub, Lane, NextError, SendError};
 use qo_values::Chars;
+use std::alloc::Global;
 
 /// How a run ended.
 #[derive(Clone, Copy, Debug, PartialEq, Eq)]
@@ -82,4 +85,61 @@ fn send_all<H: Hub>(hub: &mut H, outs: &[(Lane, Chars)]) -> Result<[bool; 16], F
         }
     }
     Ok(lost)
+}
+
+/// One turn: an input is taken and done, and what it makes is sent.
+fn turn<H: Hub>(alloc: Global, hub: &mut H, machine: &mut Machine) -> Result<(), Ending>
+    requires { OnlyBuilt (H.inputs hub.old) }
+    ensures meets { TurnMeets machine.old.state machine.new.state (told (H.inputs hub.old) (H.sent hub.old) (H.got hub.old) (H.losses hub.old)) (told (H.inputs hub.new) (H.sent hub.new) (H.got hub.new) (H.losses hub.new)) (H.bad hub.old) result }
+    ensures built { OnlyBuilt (H.inputs hub.new) }
+    ensures bad { H.bad hub.new ≡ H.bad hub.old }
+    ensures asked { H.asked hub.new ≡ H.asked hub.old }
+    ensures next_count { H.next_faults hub.old ≤ H.next_faults hub.new }
+    ensures send_count { H.send_faults hub.old ≤ H.send_faults hub.new }
+    ensures next_cause { result ≡ Err Ending.NextFailed → Rose (H.next_faults hub.old) (H.next_faults hub.new) }
+    ensures send_cause { result ≡ Err Ending.SendFailed → Rose (H.send_faults hub.old) (H.send_faults hub.new) }
+    ensures later { H.later hub.old hub.new }
+{
+    let input = match hub.next() {
+        Ok(input) => input,
+        Err(NextError::Failed) => return Err(Ending::NextFailed),
+        Err(NextError::Bad(place)) => return Err(Ending::Bad(place)),
+        Err(NextError::Memory) => return Err(Ending::Memory),
+    };
+    let Ok(outs) = machine.step(alloc, &input) else {
+        return Err(Ending::Memory);
+    };
+    match send_all(hub, outs.as_slice()) {
+        Ok(lost) => {
+            machine.close_lost(&lost);
+            Ok(())
+        }
+        Err(Failed) => Err(Ending::SendFailed),
+    }
+}
+
+/// Runs a new machine on the inputs of a hub, at most `limit` of them, until the run ends.
+pub fn run<H: Hub>(alloc: Global, hub: &mut H, limit: u64) -> Ending
+    requires { OnlyBuilt (H.inputs hub.old) }
+    ensures meets { RunMeets result limit (told (H.inputs hub.old) (H.sent hub.old) (H.got hub.old) (H.losses hub.old)) (told (H.inputs hub.new) (H.sent hub.new) (H.got hub.new) (H.losses hub.new)) (H.bad hub.old) }
+    ensures bad { H.bad hub.new ≡ H.bad hub.old }
+    ensures asked { H.asked hub.new ≡ H.asked hub.old }
+    ensures next_count { H.next_faults hub.old ≤ H.next_faults hub.new }
+    ensures send_count { H.send_faults hub.old ≤ H.send_faults hub.new }
+    ensures next_cause { result ≡ Ending.NextFailed → Rose (H.next_faults hub.old) (H.next_faults hub.new) }
+    ensures send_cause { result ≡ Ending.SendFailed → Rose (H.send_faults hub.old) (H.send_faults hub.new) }
+    ensures later { H.later hub.old hub.new }
+{
+    let Ok(mut machine) = Machine::start(alloc) else {
+        return Ending::Memory;
+    };
+    for _ in 0..limit {
+        if let Err(ending) = turn(alloc, hub, &mut machine) {
+            return ending;
+        }
+        if machine.ended() {
+            return Ending::Done;
+        }
+    }
+    Ending::Limit
 }
