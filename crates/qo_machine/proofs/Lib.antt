@@ -1,4 +1,5 @@
 pub mod AnswerLemmas
 pub mod MachineLemmas
+pub mod RunLemmas
 pub mod SendingLemmas
 pub mod TreeLemmas

@@ -1,0 +1,210 @@
+-- Runs: one turn after another.
+use Rattle.std.proofs.Common.{◌≡◌, ℕ, zero, suc, ◌+◌, ◌-◌, ◌^◌, ◌<◌, ◌≤◌, min, max, Bool, true, false, if◌then◌else◌, List, [], ◌∷◌, ◌++◌, length, take, refl, sym, ◌∙◌, ap, subst, add-one, arith, append_assoc, length-append, Option, None, Some, IfSome, Result, Ok, option_map, slice_index_or, slice_set, nat_lt}
+use Rattle.std.proofs.lemmas.Bool.{ltb-true}
+use Rattle.std.proofs.lemmas.Grind.{flat_map-append}
+use Rattle.std.proofs.lemmas.List.{append-nil}
+use Rattle.std.specs.Io.KnownBytes.{append_known}
+use Rattle.std.specs.List.{AllByRecursion, cons_option, filter_map}
+use Rattle.qo_causes.proofs.BytesLemmas.{append_known_twice}
+use Rattle.qo_causes.specs.Bytes.{AppendsPrefix}
+use Rattle.qo_causes.specs.Hub.{AtEnd, Gives, given_by, is_end, line}
+use Rattle.qo_causes.specs.declared.hubs.Lane.{Lane}
+use Rattle.qo_causes.specs.declared.hubs.Lane.TheVariants.{Session, Guest}
+use Rattle.qo_causes.specs.declared.inputs.Input.{Input}
+use Rattle.qo_causes.specs.declared.inputs.What.{What}
+use Rattle.qo_causes.specs.declared.inputs.What.TheVariants.{Open, Bytes, Shut, Guest as GuestLine, Step, End}
+use Rattle.qo_machine.specs.Machine.{Message, State, Stepped, Choice, IsBuilt, first, input_step, mode_of, opened, opening, served, step, unchanged, unless_ended}
+use Rattle.qo_machine.specs.Requests.{Request, request_of}
+use Rattle.qo_machine.specs.Runs.{Cut, OnlyBuilt, Told, Turn, TurnMeets, Turns, after, close_lost, closed_where, cut_to, is_lost, lane_at, lane_bytes, lane_of, outs_at, outs_of, risen, risen_by, state_after, told, transcript, turn_inputs}
+use Rattle.qo_machine.specs.Sending.{AreToLanes, Sent, SentFront}
+use Rattle.qo_machine.specs.declared.sessions.Session.{Session as Mode}
+use Rattle.qo_machine.specs.declared.sessions.Session.TheVariants.{Closed, Negotiating, Commanding}
+
+-- one flag more
+pub closed_more : (i : ℕ) (lost : List Bool) (sessions : List Mode) → i < length lost → i < length sessions → closed_where (take (i + 1) lost) sessions ≡ (if slice_index_or lost i false then slice_set (closed_where (take i lost) sessions) i Closed else closed_where (take i lost) sessions)
+unfolding closed_where
+closed_more i lost sessions below within = rw add-one (go i lost sessions below within)
+  where
+    head : (flag : Bool) (mode : Mode) (modes : List Mode) → (if flag then Closed else mode) ∷ modes ≡ (if flag then Closed ∷ modes else mode ∷ modes)
+    head true mode modes = refl
+    head false mode modes = refl
+    tail : (flag : Bool) (mode : Mode) (set kept : List Mode) → mode ∷ (if flag then set else kept) ≡ (if flag then mode ∷ set else mode ∷ kept)
+    tail true mode set kept = refl
+    tail false mode set kept = refl
+    go : (k : ℕ) (ls : List Bool) (ss : List Mode) → k < length ls → k < length ss → closed_where (take (suc k) ls) ss ≡ (if slice_index_or ls k false then slice_set (closed_where (take k ls) ss) k Closed else closed_where (take k ls) ss)
+    go k [] ss b w = absurd (omega arith)
+    go k (f ∷ ls) [] b w = absurd (omega arith)
+    go zero (f ∷ ls) (s ∷ ss) b w = head f s ss
+    go (suc k) (f ∷ ls) (s ∷ ss) b w =
+        ap (λ (rest : List Mode). (if f then Closed else s) ∷ rest) (go k ls ss (omega arith) (omega arith))
+        ∙ tail (slice_index_or ls k false) (if f then Closed else s) (slice_set (closed_where (take k ls) ss) k Closed) (closed_where (take k ls) ss)
+
+-- What some turns do, and then more.
+
+pub state_more : (ts us : List Turn) (s : State) → state_after s (ts ++ us) ≡ state_after (state_after s ts) us
+state_more [] us s = refl
+state_more (t ∷ ts) us s = state_more ts us (after s t)
+
+outs_more : (ts us : List Turn) (s : State) → outs_of s (ts ++ us) ≡ outs_of s ts ++ outs_of (state_after s ts) us
+outs_more [] us s = refl
+outs_more (t ∷ ts) us s =
+    ap (λ (outs : List Message). outs_at s t ++ outs) (outs_more ts us (after s t)) ∙ sym (append_assoc (outs_at s t) (outs_of (after s t) ts) (outs_of (state_after (after s t) ts) us))
+
+lane_more : (ts us : List Turn) (l : Lane) (s : State) → lane_of l s (ts ++ us) ≡ lane_of l s ts ++ lane_of l (state_after s ts) us
+lane_more [] us l s = refl
+lane_more (t ∷ ts) us l s =
+    ap (λ (bytes : List ℕ). lane_at l s t ++ bytes) (lane_more ts us l (after s t)) ∙ sym (append_assoc (lane_at l s t) (lane_of l (after s t) ts) (lane_of l (state_after (after s t) ts) us))
+
+risen_more : (ts us : List Turn) (n count : ℕ) → risen_by n count (ts ++ us) ≡ risen_by n (risen_by n count ts) us
+risen_more [] us n count = refl
+risen_more (t ∷ ts) us n count = risen_more ts us n (risen (slice_index_or t.lost n false) count)
+
+risen_le : (flag : Bool) (m n : ℕ) → m ≤ n → risen flag m ≤ risen flag n
+risen_le true m n h = omega arith
+risen_le false m n h = h
+
+risen_by_le : (ts : List Turn) (n x y : ℕ) → x ≤ y → risen_by n x ts ≤ risen_by n y ts
+risen_by_le [] n x y h = h
+risen_by_le (t ∷ ts) n x y h =
+    risen_by_le ts n (risen (slice_index_or t.lost n false) x) (risen (slice_index_or t.lost n false) y) (risen_le (slice_index_or t.lost n false) x y h)
+
+inputs_more : (ts us : List Turn) → turn_inputs (ts ++ us) ≡ turn_inputs ts ++ turn_inputs us
+inputs_more [] us = refl
+inputs_more (t ∷ ts) us = first (given_by t.input) (turn_inputs ts) (turn_inputs us) (turn_inputs (ts ++ us)) (inputs_more ts us)
+  where
+    first : (i : Option Input) (xs ys zs : List Input) → zs ≡ xs ++ ys → cons_option i zs ≡ cons_option i xs ++ ys
+    first None xs ys zs h = h
+    first (Some x) xs ys zs h = ap (λ (l : List Input). x ∷ l) h
+
+took_twice : (a b c : Option (List Input)) (xs ys : List Input) → a ≡ option_map (λ (r : List Input). xs ++ r) b → b ≡ option_map (λ (r : List Input). ys ++ r) c → a ≡ option_map (λ (r : List Input). (xs ++ ys) ++ r) c
+took_twice a b None xs ys p q = p ∙ ap (option_map (λ (r : List Input). xs ++ r)) q
+took_twice a b (Some zs) xs ys p q =
+    p ∙ ap (option_map (λ (r : List Input). xs ++ r)) q ∙ ap (λ (l : List Input). Some l) (sym (append_assoc xs ys zs))
+
+sent_twice : (a b c : Option (List ℕ)) (xs ys zs : List ℕ) → zs ≡ xs ++ ys → b ≡ append_known a xs → c ≡ append_known b ys → c ≡ append_known a zs
+sent_twice a b c xs ys zs whole p q =
+    q ∙ ap (λ (k : Option (List ℕ)). append_known k ys) p ∙ append_known_twice a xs ys ∙ ap (append_known a) (sym whole)
+
+-- whole turns, and then more
+pub turns_more : (s : State) (a b c : Told) (ts us : List Turn) → Turns s a b ts → Turns (state_after s ts) b c us → Turns s a c (ts ++ us)
+turns_more s a b c ts us p q =
+    record {
+      took = rw (inputs_more ts us) (took_twice a.inputs b.inputs c.inputs (turn_inputs ts) (turn_inputs us) p.took q.took);
+      sent =
+        sent_twice a.sent b.sent c.sent (transcript (outs_of s ts)) (transcript (outs_of (state_after s ts) us)) (transcript (outs_of s (ts ++ us)))
+        (ap transcript (outs_more ts us s) ∙ flat_map-append (λ (m : Message). line m.0 m.1) (outs_of s ts) (outs_of (state_after s ts) us)) p.sent q.sent;
+      lanes = λ l.
+          sent_twice (a.got l) (b.got l) (c.got l) (lane_of l s ts) (lane_of l (state_after s ts) us) (lane_of l s (ts ++ us)) (lane_more ts us l s) (p.lanes l) (q.lanes l);
+      losses = λ n.
+          rw (risen_more ts us n (a.losses n)) (omega (arith, q.losses n, risen_by_le us n (risen_by n (a.losses n) ts) (b.losses n) (p.losses n)));
+    }
+
+pub closed_none : (sessions : List Mode) → sessions ≡ closed_where [] sessions
+unfolding closed_where
+closed_none sessions = refl
+
+pub closed_then : (i : ℕ) (lost : List Bool) (sessions before now : List Mode) → i < length lost → i < length sessions → slice_index_or lost i false ≡ true → before ≡ closed_where (take i lost) sessions → now ≡ slice_set before i Closed → now ≡ closed_where (take (i + 1) lost) sessions
+closed_then i lost sessions before now below within flag was is =
+    is ∙ ap (λ (ms : List Mode). slice_set ms i Closed) was ∙ sym (rw flag at (closed_more i lost sessions below within))
+
+pub closed_else : (i : ℕ) (lost : List Bool) (sessions before now : List Mode) → i < length lost → i < length sessions → slice_index_or lost i false ≡ false → before ≡ closed_where (take i lost) sessions → now ≡ before → now ≡ closed_where (take (i + 1) lost) sessions
+closed_else i lost sessions before now below within flag was is =
+    is ∙ was ∙ sym (rw flag at (closed_more i lost sessions below within))
+
+-- whole turns from the opening to a state, so many of them, in which the run has not ended
+pub record GoneOn (old new : Told) (state : State) (count : ℕ) (turns : List Turn) : Type 0 where
+  pub turns_are : Turns opening old new turns
+  pub state_is : state_after opening turns ≡ state
+  pub count_is : length turns ≡ count
+  pub going : state.ended ≡ false
+
+-- One turn.
+
+none_taken : (x : Option (List Input)) → x ≡ option_map (λ (r : List Input). [] ++ r) x
+none_taken None = refl
+none_taken (Some xs) = refl
+
+nothing_appended : (x : Option (List ℕ)) → x ≡ append_known x []
+nothing_appended None = refl
+nothing_appended (Some xs) = ap (λ (l : List ℕ). Some l) (sym (append-nil xs))
+
+took_one : (old new : Option (List Input)) (bad : Option (Option ℕ)) (i : Option Input) → Gives old new bad i → old ≡ option_map (λ (r : List Input). cons_option i [] ++ r) new
+took_one old new bad None h = sym h.0 ∙ none_taken new
+took_one old new bad (Some i) h = h
+
+-- messages go to the lanes of the sixteen sessions
+pub to_lanes : (s : State) (i : Input) (cs : List Choice) → AreToLanes (step s i cs).outs
+unfolding step
+to_lanes s i cs = on s.ended
+  where
+    open_lanes : (n : ℕ) (mode : Mode) (t : Bool) → nat_lt n 16 ≡ t → AreToLanes (if t then opened s n mode else unchanged s).outs
+    open_lanes n Closed true h = (ltb-true n 16 h, tt)
+    open_lanes n Negotiating true h = tt
+    open_lanes n Commanding true h = tt
+    open_lanes n mode false h = tt
+    reply_lanes : (n : ℕ) (mode : Mode) (r : Option Request) (c : Choice) (t : Bool) → nat_lt n 16 ≡ t → AreToLanes (if t then served s n mode r c else unchanged s).outs
+    reply_lanes n Closed r c true h = tt
+    reply_lanes n Negotiating None c true h = tt
+    reply_lanes n Commanding None c true h = tt
+    reply_lanes n Negotiating (Some r) c true h = (ltb-true n 16 h, tt)
+    reply_lanes n Commanding (Some r) c true h = (ltb-true n 16 h, tt)
+    reply_lanes n mode r c false h = tt
+    what_lanes : (w : What) → AreToLanes (input_step s w cs).outs
+    what_lanes (Open n) = open_lanes n (mode_of s n) (nat_lt n 16) refl
+    what_lanes (Bytes n bytes) = reply_lanes n (mode_of s n) (request_of bytes) (first cs) (nat_lt n 16) refl
+    what_lanes (Shut n) = tt
+    what_lanes (GuestLine bytes) = tt
+    what_lanes (Step ns) = tt
+    what_lanes End = tt
+    on : (e : Bool) → AreToLanes (unless_ended e (unchanged s) (input_step s i.what cs)).outs
+    on true = tt
+    on false = what_lanes i.what
+
+-- an input was taken, and nothing sent
+abbrev pub taken_turn : Input → Turn
+taken_turn i = record { input = i; choices = []; lost = []; cut = λ l. 0 }
+
+pub cut_taken : (s : State) (oi ni : Option (List Input)) (os ns : Option (List ℕ)) (og ng : Lane → Option (List ℕ)) (ol nl : ℕ → ℕ) (bad : Option (Option ℕ)) (i : Input) → Gives oi ni bad (given_by i) → ns ≡ os → ((l : Lane) → ng l ≡ og l) → Cut s (told oi os og ol) (told ni ns ng nl) (Some (taken_turn i))
+cut_taken s oi ni os ns og ng ol nl bad i given sent got =
+    record {
+      took = took_one oi ni bad (given_by i) given;
+      sent = (0, omega arith, sent ∙ nothing_appended os);
+      lanes = λ l. (0, omega arith, got l ∙ nothing_appended (og l));
+    }
+
+-- an input was taken, and its messages were cut short
+pub cut_sent : (s : State) (i : Input) (cs : List Choice) (t : State) (slice outs : List Message) (oi mi ni : Option (List Input)) (os ms ns : Option (List ℕ)) (og mg ng : Lane → Option (List ℕ)) (ol ml nl : ℕ → ℕ) (bad : Option (Option ℕ)) → step s i cs ≡ record { outs = outs; state = t } → slice ≡ outs → Gives oi mi bad (given_by i) → ms ≡ os → ((l : Lane) → mg l ≡ og l) → SentFront (told mi ms mg ml) (told ni ns ng nl) slice → Cut s (told oi os og ol) (told ni ns ng nl) (Some (record { input = i; choices = cs; lost = []; cut = λ l. 0 }))
+cut_sent s i cs t slice outs oi mi ni os ms ns og mg ng ol ml nl bad is same given sent got h =
+    record {
+      took = took_one oi ni bad (given_by i) (rw h.inputs given);
+      sent = rw (outs_is, ← sent) h.sent;
+      lanes = λ l. rw (outs_is, ← got l) (h.lanes l);
+    }
+  where
+    outs_is : (step s i cs).outs ≡ slice
+    outs_is = ap (λ (x : Stepped). x.outs) is ∙ sym same
+
+at_end : (oi mi ni : Option (List Input)) (bad : Option (Option ℕ)) (i : Input) → ni ≡ mi → Gives oi mi bad (given_by i) → is_end i.what ≡ true → AtEnd ni bad None
+at_end oi mi ni bad i same given over = subst (λ (x : Option (List Input)). AtEnd x bad None) (sym (same ∙ ended.0)) ended.1
+  where
+    ended : (mi ≡ oi) × AtEnd oi bad None
+    ended = rw over at given
+
+-- an input was taken, and what it makes was sent
+pub one_turn : (s u to : State) (i : Input) (cs : List Choice) (slice outs : List Message) (lost : List Bool) (oi mi ni : Option (List Input)) (os ms ns : Option (List ℕ)) (og mg ng : Lane → Option (List ℕ)) (ol ml nl : ℕ → ℕ) (bad : Option (Option ℕ)) → step s i cs ≡ record { outs = outs; state = u } → slice ≡ outs → Gives oi mi bad (given_by i) → ms ≡ os → ((l : Lane) → mg l ≡ og l) → ((n : ℕ) → ml n ≡ ol n) → Sent (told mi ms mg ml) (told ni ns ng nl) slice lost → to ≡ close_lost lost u → TurnMeets s to (told oi os og ol) (told ni ns ng nl) bad (Ok tt)
+one_turn s u to i cs slice outs lost oi mi ni os ms ns og mg ng ol ml nl bad is same given sent got losses h closed =
+    (
+      record { input = i; choices = cs; lost = lost; cut = h.lanes.0 },
+      record {
+        took = took_one oi ni bad (given_by i) (rw h.inputs given);
+        sent = rw (append-nil (step s i cs).outs, outs_is, ← sent) h.sent;
+        lanes = λ l.
+            rw (append-nil (cut_to (is_lost lost l) (h.lanes.0 l) (lane_bytes l (step s i cs).outs)), outs_is, ← got l) (h.lanes.1.lanes l);
+        losses = λ n. rw (← losses n) (h.losses n);
+      },
+      closed ∙ ap (close_lost lost) (sym (ap (λ (x : Stepped). x.state) is)),
+      at_end oi mi ni bad i h.inputs given,
+    )
+  where
+    outs_is : (step s i cs).outs ≡ slice
+    outs_is = ap (λ (x : Stepped). x.outs) is ∙ sym same

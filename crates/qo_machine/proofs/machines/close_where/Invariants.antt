@@ -1,0 +1,7 @@
+-- The sessions passed over are closed where they are lost.
+use Rattle.std.proofs.Common.{◌≡◌, take}
+use Rattle.qo_machine.specs.Runs.{closed_where}
+use Rattle.qo_machine.proofs.machines.close_where.Given as goal
+
+abbrev pub invariant-loop-session : goal.invariant-loop-session
+invariant-loop-session l = l.sessions ≡ closed_where (take l.session l.lost) l.fn.sessions

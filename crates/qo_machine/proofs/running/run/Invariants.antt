@@ -1,0 +1,19 @@
+-- The turns so far lead from the opening to here.
+use Rattle.std.proofs.Common.{◌≡◌, ◌≤◌, ℕ, List, false, length}
+use Rattle.qo_machine.specs.Machine.{opening}
+use Rattle.qo_machine.specs.Runs.{OnlyBuilt, Turn, Turns, state_after, told}
+use Rattle.qo_machine.proofs.RunLemmas.{GoneOn}
+use Rattle.qo_machine.proofs.running.run.Given as goal
+
+abbrev pub invariant-loop : goal.invariant-loop
+invariant-loop g l =
+    let hub = g.H.Hub in
+    record {
+      gone : (turns : List Turn) × GoneOn (told (hub.inputs l.fn.hub) (hub.sent l.fn.hub) (hub.got l.fn.hub) (hub.losses l.fn.hub)) (told (hub.inputs l.hub) (hub.sent l.hub) (hub.got l.hub) (hub.losses l.hub)) l.machine.state l.counter turns;
+      built : OnlyBuilt (hub.inputs l.hub);
+      bad : hub.bad l.hub ≡ hub.bad l.fn.hub;
+      asked : hub.asked l.hub ≡ hub.asked l.fn.hub;
+      next_count : hub.next_faults l.fn.hub ≤ hub.next_faults l.hub;
+      send_count : hub.send_faults l.fn.hub ≤ hub.send_faults l.hub;
+      later : hub.later l.fn.hub l.hub;
+    }
