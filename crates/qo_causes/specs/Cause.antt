@@ -2,9 +2,9 @@
 use Rattle.std.specs.Prelude.{ℕ, ◌+◌, ◌-◌, ◌^◌, ◌<◌, ◌≤◌, ◌≡◌, min, List, length, Result, Ok, Err, OnErr}
 use Rattle.qo_causes.specs.declared.faults.Failed.{Failed}
 
--- the one fault that there is
-abbrev pub failed : Failed
-failed = record {}
+-- the answer of a call that failed
+abbrev pub fault : Failed
+fault = record {}
 
 -- one more, in a count whose last value is 2^64 - 1
 abbrev pub counted : ℕ → ℕ
@@ -20,6 +20,6 @@ pub record HasCause {T E : Type 0} (before now : ℕ) (result : Result T E) : Ty
   pub failed : OnErr result (Rose before now)
 
 -- to take nothing of a piece that is not empty is a fault too
-abbrev pub StuckRose : {E : Type 0} → ℕ → ℕ → Result ℕ E → List ℕ → Type 0
-StuckRose before now (Ok n) piece = n ≡ 0 → 0 < length piece → Rose before now
-StuckRose before now (Err e) piece = Unit {0}
+abbrev pub StuckRose : {E : Type 0} → ℕ → ℕ → List ℕ → Result ℕ E → Type 0
+StuckRose before now piece (Ok n) = n ≡ 0 → 0 < length piece → Rose before now
+StuckRose before now piece (Err e) = Unit {0}

@@ -1,7 +1,7 @@
 -- The source and the sink in memory, whose calls fail where they are told to.
 use Rattle.std.specs.Prelude.{ℕ, ◌-◌, ◌==◌, ◌&&◌, ◌||◌, min, Bool, not, if◌then◌else◌, List, ◌++◌, length, take, drop, Result, Ok, Err}
 use Rattle.std.specs.List.{list_any}
-use Rattle.qo_causes.specs.Cause.{counted, failed}
+use Rattle.qo_causes.specs.Cause.{counted, fault}
 use Rattle.qo_causes.specs.declared.faults.Failed.{Failed}
 
 -- a source: the bytes left, how many calls there were, the numbers of the calls that fail, and how many failed
@@ -33,7 +33,7 @@ take_fails s = is_listed s.calls s.fails
 
 -- what a take into a buffer of this length answers: as many bytes as it has room for and are left
 abbrev pub take_answer : SourceState → ℕ → Result ℕ Failed
-take_answer s room = if take_fails s then Err failed else Ok (min room (length s.bytes))
+take_answer s room = if take_fails s then Err fault else Ok (min room (length s.bytes))
 
 -- the source after it
 abbrev pub after_take : SourceState → ℕ → SourceState
@@ -55,7 +55,7 @@ put_fails s piece = is_listed s.calls s.fails || (room_left s == 0 && not (lengt
 
 -- what a put of this piece answers: as many bytes as the piece has and still fit
 abbrev pub put_answer : SinkState → List ℕ → Result ℕ Failed
-put_answer s piece = if put_fails s piece then Err failed else Ok (min (length piece) (room_left s))
+put_answer s piece = if put_fails s piece then Err fault else Ok (min (length piece) (room_left s))
 
 -- the sink after it
 abbrev pub after_put : SinkState → List ℕ → SinkState

@@ -28,7 +28,13 @@ impl Model for ByteSink {
 
     ghost Value = { SinkState };
 
-    ghost view = { λ s. record { held = s.held.items; room = s.room; calls = s.calls; fails = s.fails.items; faults = s.faults } };
+    ghost view = { λ s. record {
+      held = s.held.items;
+      room = s.room;
+      calls = s.calls;
+      fails = s.fails.items;
+      faults = s.faults;
+    } };
 
     ghost invariant = { λ s. (length s.held.items ≤ s.room) × (s.room ≤ vec_capacity s.held) };
 }
@@ -37,7 +43,8 @@ impl ByteSink {
     /// A sink with room for so many bytes, of whose calls those fail whose numbers are listed, counted from
     /// 1. The room is taken here: no later call takes memory.
     pub fn new(alloc: Global, room: usize, fails: Vec<u64>) -> Result<ByteSink, Memory>
-        ensures { IfOk result (λ sink. sink ≡ record { held = []; room = room; calls = 0; fails = fails.items; faults = 0 }) }
+        ensures { IfOk result (λ sink. sink ≡
+            record { held = []; room = room; calls = 0; fails = fails.items; faults = 0 }) }
     {
         let held = Vec::with_capacity(alloc, room)?;
         Ok(ByteSink {
@@ -69,7 +76,7 @@ impl Sink for ByteSink {
         ensures bound { IfOk result (λ n. n ≤ length piece.now) }
         ensures bytes { Puts (Some self.old.held) (Some self.new.held) result piece.now }
         ensures cause { HasCause self.old.faults self.new.faults result }
-        ensures stuck { StuckRose self.old.faults self.new.faults result piece.now }
+        ensures stuck { StuckRose self.old.faults self.new.faults piece.now result }
 
         ensures answer { result ≡ put_answer self.old piece.now }
         ensures after { self.new ≡ after_put self.old piece.now }

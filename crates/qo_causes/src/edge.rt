@@ -1,9 +1,9 @@
 //! The trusted edge: a source and a sink over std's reader and writer. They tell nothing of the bytes.
-ghost use Rattle.std.specs.Prelude.{◌≡◌, ◌≤◌, length, IfOk, None, is_ok, if◌then◌else◌};
+ghost use Rattle.std.specs.Prelude.{◌≡◌, ◌≤◌, length, IfOk, None};
 ghost use Rattle.std.specs.Io.KnownBytes.{ReadConsumes, WriteAppends};
 ghost use Rattle.qo_causes.specs.Bytes.{Puts, Takes};
-ghost use Rattle.qo_causes.specs.Cause.{HasCause, StuckRose, counted};
-ghost use Rattle.qo_causes.specs.Edge.{put_faults};
+ghost use Rattle.qo_causes.specs.Cause.{HasCause, StuckRose};
+ghost use Rattle.qo_causes.specs.Edge.{put_faults, take_faults};
 
 use crate::faults::Failed;
 use crate::sinks::Sink;
@@ -47,7 +47,7 @@ impl<R: Read> Source for StdSource<R> {
         ensures cause { HasCause self.old.faults self.new.faults result }
 
         ensures read { ReadConsumes (R.remaining self.old.inner) (R.remaining self.new.inner) result buf.new }
-        ensures faults { self.new.faults ≡ (if is_ok result then self.old.faults else counted self.old.faults) }
+        ensures faults { self.new.faults ≡ take_faults self.old.faults result }
     {
         match self.reader.read(buf) {
             Ok(count) => Ok(count),
@@ -97,7 +97,7 @@ impl<W: Write> Sink for StdSink<W> {
         ensures bound { IfOk result (λ n. n ≤ length piece.now) }
         ensures bytes { Puts None None result piece.now }
         ensures cause { HasCause self.old.faults self.new.faults result }
-        ensures stuck { StuckRose self.old.faults self.new.faults result piece.now }
+        ensures stuck { StuckRose self.old.faults self.new.faults piece.now result }
 
         ensures written { WriteAppends (W.contents self.old.inner) (W.contents self.new.inner) result piece.now }
         ensures faults { self.new.faults ≡ put_faults self.old.faults piece.now result }

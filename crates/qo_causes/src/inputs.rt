@@ -1,9 +1,9 @@
 //! What a hub gives: one input at a time, each with its moment.
-ghost use Rattle.std.specs.Prelude.{◌≡◌, ◌≤◌, length, vec_len};
+ghost use Rattle.std.specs.Prelude.{◌≡◌, ◌≤◌, length};
 
 use std::marker::Model;
 
-/// A moment of the outside's clock, in seconds and microseconds since 1970.
+/// A moment, as the outside tells it.
 ///
 /// `micros` is 0 to 999,999 by convention. Nothing rests on it.
 #[derive(Clone, Copy, Debug, PartialEq, Eq)]
@@ -67,7 +67,7 @@ pub enum What {
     Bytes(u8, Chunk),
     /// A session is shut by its peer.
     Shut(u8),
-    /// One line of the guest comes, with its line end.
+    /// What the guest wrote comes: one guest line.
     Guest(Chunk),
     /// Virtual time goes on by so many nanoseconds.
     Step(u64),

@@ -10,6 +10,8 @@ mod hubs;
 mod inputs;
 mod sinks;
 mod sources;
+#[cfg(test)]
+mod tests;
 
 pub use byte_sink::ByteSink;
 pub use byte_source::ByteSource;

@@ -19,7 +19,7 @@ pub trait Sink {
         ensures bound { IfOk result (λ n. n ≤ length piece.now) }
         ensures bytes { Puts (held self.old) (held self.new) result piece.now }
         ensures cause { HasCause (faults self.old) (faults self.new) result }
-        ensures stuck { StuckRose (faults self.old) (faults self.new) result piece.now };
+        ensures stuck { StuckRose (faults self.old) (faults self.new) piece.now result };
 }
 
 /// Puts all the bytes, piece by piece. After `Failed` the sink has a front of them, and its count of faults

@@ -1,7 +1,6 @@
-use Rattle.std.proofs.Common.{arith, ◌∙◌, ap, sym, length, take}
+use Rattle.std.proofs.Common.{arith, ◌∙◌, take}
 use Rattle.std.proofs.Math.Seq.{take-add}
 use Rattle.std.proofs.lemmas.List.{length-drop, take_rest}
-use Rattle.std.specs.Io.KnownBytes.{append_known}
 use Rattle.qo_causes.proofs.BytesLemmas.{append_known_twice}
 use Rattle.qo_causes.proofs.sinks.put_all.Goals as goal
 
