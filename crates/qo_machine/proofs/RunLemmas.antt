@@ -1,10 +1,11 @@
 -- Runs: one turn after another.
-use Rattle.std.proofs.Common.{◌≡◌, ℕ, zero, suc, ◌+◌, ◌-◌, ◌^◌, ◌<◌, ◌≤◌, min, max, Bool, true, false, if◌then◌else◌, List, [], ◌∷◌, ◌++◌, length, take, refl, sym, ◌∙◌, ap, subst, add-one, arith, append_assoc, length-append, Option, None, Some, IfSome, Result, Ok, option_map, slice_index_or, slice_set, nat_lt}
-use Rattle.std.proofs.lemmas.Bool.{ltb-true}
+use Rattle.std.proofs.Common.{◌≡◌, ℕ, zero, suc, ◌+◌, ◌-◌, ◌^◌, ◌<◌, ◌≤◌, min, max, Bool, true, false, if◌then◌else◌, ◌||◌, List, [], ◌∷◌, ◌++◌, length, take, refl, sym, ◌∙◌, ap, subst, add-one, arith, append_assoc, length-append, Option, None, Some, IfSome, Result, Ok, Err, option_map, slice_index_or, slice_set, nat_lt}
+use Rattle.std.proofs.lemmas.Bool.{ltb-true, true≢false}
 use Rattle.std.proofs.lemmas.Grind.{flat_map-append}
 use Rattle.std.proofs.lemmas.List.{append-nil}
 use Rattle.std.specs.Io.KnownBytes.{append_known}
 use Rattle.std.specs.List.{AllByRecursion, cons_option, filter_map}
+use Rattle.qo_machine.proofs.MachineLemmas.{step_ended, step_on}
 use Rattle.qo_causes.proofs.BytesLemmas.{append_known_twice}
 use Rattle.qo_causes.specs.Bytes.{AppendsPrefix}
 use Rattle.qo_causes.specs.Hub.{AtEnd, Gives, given_by, is_end, line}
@@ -15,8 +16,10 @@ use Rattle.qo_causes.specs.declared.inputs.What.{What}
 use Rattle.qo_causes.specs.declared.inputs.What.TheVariants.{Open, Bytes, Shut, Guest as GuestLine, Step, End}
 use Rattle.qo_machine.specs.Machine.{Message, State, Stepped, Choice, IsBuilt, first, input_step, mode_of, opened, opening, served, step, unchanged, unless_ended}
 use Rattle.qo_machine.specs.Requests.{Request, request_of}
-use Rattle.qo_machine.specs.Runs.{Cut, OnlyBuilt, Told, Turn, TurnMeets, Turns, after, close_lost, closed_where, cut_to, is_lost, lane_at, lane_bytes, lane_of, outs_at, outs_of, risen, risen_by, state_after, told, transcript, turn_inputs}
+use Rattle.qo_machine.specs.Runs.{Cut, CutRun, OnlyBuilt, RunMeets, Told, Turn, TurnMeets, Turns, after, close_lost, closed_where, cut_to, has_end, is_lost, lane_at, lane_bytes, lane_of, outs_at, outs_of, risen, risen_by, state_after, told, transcript, turn_inputs}
 use Rattle.qo_machine.specs.Sending.{AreToLanes, Sent, SentFront}
+use Rattle.qo_machine.specs.declared.running.Ending.{Ending}
+use Rattle.qo_machine.specs.declared.running.Ending.TheVariants.{Done, Bad, Memory, NextFailed, SendFailed, Limit}
 use Rattle.qo_machine.specs.declared.sessions.Session.{Session as Mode}
 use Rattle.qo_machine.specs.declared.sessions.Session.TheVariants.{Closed, Negotiating, Commanding}
 
@@ -208,3 +211,120 @@ one_turn s u to i cs slice outs lost oi mi ni os ms ns og mg ng ol ml nl bad is 
   where
     outs_is : (step s i cs).outs ≡ slice
     outs_is = ap (λ (x : Stepped). x.outs) is ∙ sym same
+
+-- Runs.
+
+-- no turns, and nothing changed
+pub turns_none : (s : State) (i : Option (List Input)) (t : Option (List ℕ)) (g : Lane → Option (List ℕ)) (n : ℕ → ℕ) → Turns s (told i t g n) (told i t g n) []
+turns_none s i t g n =
+    record {
+      took = none_taken i;
+      sent = nothing_appended t;
+      lanes = λ l. nothing_appended (g l);
+      losses = λ k. omega arith;
+    }
+
+-- nothing was done
+pub cut_none : (i : Option (List Input)) (t : Option (List ℕ)) (g : Lane → Option (List ℕ)) (n : ℕ → ℕ) → CutRun (told i t g n) (told i t g n)
+cut_none i t g n =
+    (
+      told i t g n,
+      [],
+      None,
+      turns_none opening i t g n,
+      record { took = none_taken i; sent = (0, omega arith, nothing_appended t); lanes = λ l. (0, omega arith, nothing_appended (g l)) },
+    )
+
+pub gone_none : (s : State) (i : Option (List Input)) (t : Option (List ℕ)) (g : Lane → Option (List ℕ)) (n : ℕ → ℕ) → s ≡ opening → (turns : List Turn) × GoneOn (told i t g n) (told i t g n) s 0 turns
+gone_none s i t g n is =
+    ([], record { turns_are = turns_none opening i t g n; state_is = sym is; count_is = refl; going = ap (λ (x : State). x.ended) is })
+
+-- one turn more
+joined : (a b c : Told) (s to : State) (count : ℕ) (bad : Option (Option ℕ)) (ts : List Turn) → GoneOn a b s count ts → (p : TurnMeets s to b c bad (Ok tt)) → Turns opening a c (ts ++ p.0 ∷ [])
+joined a b c s to count bad ts h p =
+    turns_more opening a b c ts (p.0 ∷ []) h.turns_are (subst (λ (x : State). Turns x b c (p.0 ∷ [])) (sym h.state_is) p.1)
+
+joined_state : (a b c : Told) (s to : State) (count : ℕ) (bad : Option (Option ℕ)) (ts : List Turn) → GoneOn a b s count ts → (p : TurnMeets s to b c bad (Ok tt)) → state_after opening (ts ++ p.0 ∷ []) ≡ to
+joined_state a b c s to count bad ts h p =
+    state_more ts (p.0 ∷ []) opening ∙ ap (λ (x : State). after x p.0) h.state_is ∙ sym p.2
+
+pub going_on : (a b c : Told) (s to : State) (count : ℕ) (bad : Option (Option ℕ)) → (turns : List Turn) × GoneOn a b s count turns → TurnMeets s to b c bad (Ok tt) → to.ended ≡ false → (turns : List Turn) × GoneOn a c to (count + 1) turns
+going_on a b c s to count bad h p going =
+    (
+      h.0 ++ p.0 ∷ [],
+      record {
+        turns_are = joined a b c s to count bad h.0 h.1 p;
+        state_is = joined_state a b c s to count bad h.0 h.1 p;
+        count_is = length-append h.0 (p.0 ∷ []) ∙ ap (λ (n : ℕ). n + 1) h.1.count_is;
+        going = going;
+      },
+    )
+
+-- a run that has ended stays so, and its end ends it
+after_ended : (s : State) (t : Turn) → s.ended ≡ true → (after s t).ended ≡ true
+after_ended s t over = ap (λ (x : Stepped). x.state.ended) (step_ended s t.input t.choices over) ∙ over
+
+stays_ended : (ts : List Turn) (s : State) → s.ended ≡ true → (state_after s ts).ended ≡ true
+stays_ended [] s over = over
+stays_ended (t ∷ ts) s over = stays_ended ts (after s t) (after_ended s t over)
+
+end_ends : (s : State) (t : Turn) → is_end t.input.what ≡ true → (after s t).ended ≡ true
+end_ends s t over = by_state s.ended refl
+  where
+    by_what : (w : What) → s.ended ≡ false → t.input.what ≡ w → is_end w ≡ true → (after s t).ended ≡ true
+    by_what End going is e = ap (λ (x : Stepped). x.state.ended) (step_on s t.input End t.choices going is)
+    by_what (Open n) going is e = absurd (true≢false (sym e))
+    by_what (Bytes n bytes) going is e = absurd (true≢false (sym e))
+    by_what (Shut n) going is e = absurd (true≢false (sym e))
+    by_what (GuestLine bytes) going is e = absurd (true≢false (sym e))
+    by_what (Step ns) going is e = absurd (true≢false (sym e))
+    by_state : (e : Bool) → s.ended ≡ e → (after s t).ended ≡ true
+    by_state true is = after_ended s t is
+    by_state false is = by_what t.input.what is refl over
+
+has_end_ends : (ts : List Turn) (s : State) → has_end ts ≡ true → (state_after s ts).ended ≡ true
+has_end_ends [] s over = absurd (true≢false (sym over))
+has_end_ends (t ∷ ts) s over = go (is_end t.input.what) refl over (has_end_ends ts (after s t))
+  where
+    go : (e : Bool) → is_end t.input.what ≡ e → (e || has_end ts) ≡ true → (has_end ts ≡ true → (state_after (after s t) ts).ended ≡ true) → (state_after (after s t) ts).ended ≡ true
+    go true is any rest = stays_ended ts (after s t) (end_ends s t is)
+    go false is any rest = rest any
+
+-- a run that goes on until a turn has its end there
+has_end_last : (ts : List Turn) (t : Turn) (s : State) → (state_after s ts).ended ≡ false → has_end (ts ++ t ∷ []) ≡ true → is_end t.input.what ≡ true
+has_end_last [] t s going over = go (is_end t.input.what) over
+  where
+    go : (e : Bool) → (e || false) ≡ true → e ≡ true
+    go true h = refl
+    go false h = h
+has_end_last (u ∷ ts) t s going over = go (is_end u.input.what) refl over (has_end_last ts t (after s u) going)
+  where
+    go : (e : Bool) → is_end u.input.what ≡ e → (e || has_end (ts ++ t ∷ [])) ≡ true → (has_end (ts ++ t ∷ []) ≡ true → is_end t.input.what ≡ true) → is_end t.input.what ≡ true
+    go true is any rest = absurd (true≢false (sym (stays_ended ts (after s u) (end_ends s u is)) ∙ going))
+    go false is any rest = rest any
+
+pub done : (a b c : Told) (s to : State) (count limit : ℕ) (bad other : Option (Option ℕ)) → bad ≡ other → (turns : List Turn) × GoneOn a b s count turns → TurnMeets s to b c bad (Ok tt) → to.ended ≡ true → RunMeets Done limit a c other
+done a b c s to count limit bad other is h p over =
+    subst (RunMeets Done limit a c) is
+    (
+      h.0 ++ p.0 ∷ [],
+      (joined a b c s to count bad h.0 h.1 p, ap (λ (x : State). x.ended) (joined_state a b c s to count bad h.0 h.1 p) ∙ over),
+      λ e. p.3 (has_end_last h.0 p.0 opening (ap (λ (x : State). x.ended) h.1.state_is ∙ h.1.going) e),
+    )
+
+-- whole turns, and then nothing more
+also : (a b c : Told) (s : State) (count : ℕ) (ts : List Turn) → GoneOn a b s count ts → Turns s b c [] → Turns opening a c ts
+also a b c s count ts h p =
+    subst (λ (us : List Turn). Turns opening a c us) (append-nil ts) (turns_more opening a b c ts [] h.turns_are (subst (λ (x : State). Turns x b c []) (sym h.state_is) p))
+
+-- a turn that stopped the run
+pub stopped_by : (a b c : Told) (s to : State) (count limit : ℕ) (bad : Option (Option ℕ)) (e : Ending) → (turns : List Turn) × GoneOn a b s count turns → TurnMeets s to b c bad (Err e) → RunMeets e limit a c bad
+stopped_by a b c s to count limit bad Done h p = absurd p
+stopped_by a b c s to count limit bad Limit h p = absurd p
+stopped_by a b c s to count limit bad (Bad n) h p =
+    (h.0, (also a b c s count h.0 h.1 p.0, ap (λ (x : State). x.ended) h.1.state_is ∙ h.1.going), p.1)
+stopped_by a b c s to count limit bad NextFailed h p = (h.0, (also a b c s count h.0 h.1 p, ap (λ (x : State). x.ended) h.1.state_is ∙ h.1.going))
+stopped_by a b c s to count limit bad SendFailed h p =
+    (b, h.0, p.0, h.1.turns_are, subst (λ (x : State). Cut x b c p.0) (sym h.1.state_is) p.1)
+stopped_by a b c s to count limit bad Memory h p =
+    (b, h.0, p.0, h.1.turns_are, subst (λ (x : State). Cut x b c p.0) (sym h.1.state_is) p.1)
