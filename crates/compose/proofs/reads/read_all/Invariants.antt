@@ -1,0 +1,17 @@
+-- The bytes so far were taken from the source.
+use Rattle.std.proofs.Common.{◌≡◌, ◌≤◌, ◌-◌, vec_len}
+use Rattle.std.specs.Io.KnownBytes.{prepend_known}
+use Rattle.compose.proofs.reads.read_all.Given as goal
+
+abbrev pub invariant-loop-count : goal.invariant-loop-count
+invariant-loop-count g l =
+    let source = g.S.Source in
+    record {
+      taken : source.left l.fn.source ≡ prepend_known l.bytes.items (source.left l.source);
+      short : vec_len l.bytes ≤ 16777216;
+      room : vec_len l.buffer ≡ 65536;
+      count : source.faults l.fn.source ≤ source.faults l.source;
+    }
+
+abbrev pub decreases-loop-count : goal.decreases-loop-count
+decreases-loop-count g l = 16777216 - vec_len l.bytes

@@ -1,0 +1,4 @@
+pub mod Exits
+pub mod Reads
+pub mod Views
+pub mod Words

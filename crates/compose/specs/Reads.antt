@@ -1,0 +1,11 @@
+-- What reading a source to its end gives.
+use Rattle.std.specs.Prelude.{◌≡◌, ℕ, ◌<◌, ◌≤◌, List, [], length, Option, IfSome, Result, Ok, Err}
+use Rattle.compose.specs.declared.reads.ReadError.{ReadError}
+use Rattle.compose.specs.declared.reads.ReadError.TheVariants.{Fault, Memory, Limit}
+
+-- these bytes were taken, and the source has this left
+abbrev pub ReadAll : {V : Type 0} → (V → List ℕ) → List ℕ → Option (List ℕ) → Result V ReadError → Type 0
+ReadAll items bytes left (Ok v) = (items v ≡ bytes) × (length bytes ≤ 16777216) × IfSome left (λ more. more ≡ [])
+ReadAll items bytes left (Err Limit) = 16777216 < length bytes
+ReadAll items bytes left (Err Fault) = length bytes ≤ 16777216
+ReadAll items bytes left (Err Memory) = length bytes ≤ 16777216
