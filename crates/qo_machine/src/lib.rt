@@ -9,8 +9,10 @@ mod replies;
 mod requests;
 mod running;
 mod sessions;
+mod streams;
 mod tree;
 
 pub use machines::{Machine, Outs};
 pub use running::{Ending, run};
 pub use sessions::Session;
+pub use streams::WholeHub;
