@@ -35,20 +35,18 @@ line_is lane bytes = sym (append_assoc (lane_text lane) (32 ∷ []) bytes)
 
 -- where the first part failed, a front of it is there
 pub line_cut : (old new : Option (List ℕ)) (lane : Lane) (bytes : List ℕ) → AppendsPrefix old new (lane_text lane ++ 32 ∷ []) → AppendsPrefix old new (line lane bytes)
-line_cut old new lane bytes p =
-    (
-      p.0,
-      omega (arith, p.1, ap (length {A = ℕ}) (line_is lane bytes), length-append (lane_text lane ++ 32 ∷ []) bytes),
-      p.2 ∙ ap (append_known old) (sym (ap (take p.0) (line_is lane bytes) ∙ take-append-le p.0 (lane_text lane ++ 32 ∷ []) bytes p.1)),
-    )
+line_cut old new lane bytes p = (
+  p.0,
+  omega (arith, p.1, ap (length {A = ℕ}) (line_is lane bytes), length-append (lane_text lane ++ 32 ∷ []) bytes),
+  p.2 ∙ ap (append_known old) (sym (ap (take p.0) (line_is lane bytes) ∙ take-append-le p.0 (lane_text lane ++ 32 ∷ []) bytes p.1)),
+)
 
 -- where the second failed, the first and a front of it are
 pub bytes_cut : (old mid new : Option (List ℕ)) (lane : Lane) (bytes : List ℕ) → mid ≡ append_known old (lane_text lane ++ 32 ∷ []) → AppendsPrefix mid new bytes → AppendsPrefix old new (line lane bytes)
 bytes_cut old mid new lane bytes is p =
-    let name = lane_text lane ++ 32 ∷ [] in
-    (
+    let name = lane_text lane ++ 32 ∷ [] in (
       length name + p.0,
       omega (arith, p.1, ap (length {A = ℕ}) (line_is lane bytes), length-append name bytes),
       p.2 ∙ ap (λ (m : Option (List ℕ)). append_known m (take p.0 bytes)) is ∙ append_known_twice old name (take p.0 bytes)
-      ∙ ap (append_known old) (sym (ap (take (length name + p.0)) (line_is lane bytes) ∙ take-append-add name bytes p.0)),
+          ∙ ap (append_known old) (sym (ap (take (length name + p.0)) (line_is lane bytes) ∙ take-append-add name bytes p.0)),
     )

@@ -44,11 +44,11 @@ ends_then a b c p q = (p.0 ++ q.0, p.1 ∙ ap (λ (l : List ℕ). p.0 ++ l) q.1 
 behind_is : (front bytes rest : List ℕ) → behind front bytes ≡ Some rest → bytes ≡ front ++ rest
 behind_is front bytes rest h =
     elim (if_some (bytes_eq (take (length front) bytes) front) (Some (drop (length front) bytes)) None rest h) [
-      inl p ↦ (
-        let same : take (length front) bytes ≡ front = (bytes_eq-Decides (take (length front) bytes) front).0 p.0 in
-        let left : drop (length front) bytes ≡ rest = some_is p.1 in
-        sym (take-append-drop (length front) bytes) ∙ ap (λ (l : List ℕ). l ++ drop (length front) bytes) same ∙ ap (λ (l : List ℕ). front ++ l) left
-      )
+      | inl p ↦ (
+          let same : take (length front) bytes ≡ front = (bytes_eq-Decides (take (length front) bytes) front).0 p.0 in
+          let left : drop (length front) bytes ≡ rest = some_is p.1 in
+          sym (take-append-drop (length front) bytes) ∙ ap (λ (l : List ℕ). l ++ drop (length front) bytes) same ∙ ap (λ (l : List ℕ). front ++ l) left
+          )
       | inr p ↦ absurd (none_some p.1)
     ]
 
@@ -62,27 +62,27 @@ digits_until_ends : (stop last : ℕ) (bytes : List ℕ) (n : ℕ) (x : ℕ × L
 digits_until_ends stop last [] n x h = absurd (none_some h)
 digits_until_ends stop last (b ∷ bytes) n x h =
     elim (if_some (b == stop) (Some (n, bytes)) (next_of last n b >>= λ next. digits_until stop last next bytes) x h) [
-      inl p ↦ (b ∷ [], ap (λ (y : ℕ × List ℕ). b ∷ y.1) (some_is p.1))
+      | inl p ↦ (b ∷ [], ap (λ (y : ℕ × List ℕ). b ∷ y.1) (some_is p.1))
       | inr p ↦ (
-        let s = bind_some (next_of last n b) (λ (next : ℕ). digits_until stop last next bytes) x p.1 in
-        one_ends b bytes x.1 (digits_until_ends stop last bytes s.0 x s.2)
-      )
+          let s = bind_some (next_of last n b) (λ (next : ℕ). digits_until stop last next bytes) x p.1 in
+          one_ends b bytes x.1 (digits_until_ends stop last bytes s.0 x s.2)
+          )
     ]
 
 number_until_ends : (stop last : ℕ) (bytes : List ℕ) (x : ℕ × List ℕ) → number_until stop last bytes ≡ Some x → Ends bytes x.1
 number_until_ends stop last [] x h = absurd (none_some h)
 number_until_ends stop last (b ∷ bytes) x h =
     elim (if_some (b == 48) (behind (stop ∷ []) bytes >>= λ rest. Some (0, rest)) (next_of last 0 b >>= λ first. digits_until stop last first bytes) x h) [
-      inl p ↦ (
-        let s = bind_some (behind (stop ∷ []) bytes) (λ (rest : List ℕ). Some (0, rest)) x p.1 in
-        let left : s.0 ≡ x.1 = ap (λ (y : ℕ × List ℕ). y.1) (some_is s.2) in
-        let e : Ends bytes s.0 = behind_ends (stop ∷ []) bytes s.0 s.1 in
-        one_ends b bytes x.1 (e.0, e.1 ∙ ap (λ (l : List ℕ). e.0 ++ l) left)
-      )
+      | inl p ↦ (
+          let s = bind_some (behind (stop ∷ []) bytes) (λ (rest : List ℕ). Some (0, rest)) x p.1 in
+          let left : s.0 ≡ x.1 = ap (λ (y : ℕ × List ℕ). y.1) (some_is s.2) in
+          let e : Ends bytes s.0 = behind_ends (stop ∷ []) bytes s.0 s.1 in
+          one_ends b bytes x.1 (e.0, e.1 ∙ ap (λ (l : List ℕ). e.0 ++ l) left)
+          )
       | inr p ↦ (
-        let s = bind_some (next_of last 0 b) (λ (first : ℕ). digits_until stop last first bytes) x p.1 in
-        one_ends b bytes x.1 (digits_until_ends stop last bytes s.0 x s.2)
-      )
+          let s = bind_some (next_of last 0 b) (λ (first : ℕ). digits_until stop last first bytes) x p.1 in
+          one_ends b bytes x.1 (digits_until_ends stop last bytes s.0 x s.2)
+          )
     ]
 
 digits_of_ends : (k : ℕ) (bytes : List ℕ) (n : ℕ) (x : ℕ × List ℕ) → digits_of k n bytes ≡ Some x → Ends bytes x.1
@@ -116,7 +116,7 @@ record IsEntry (bytes : List ℕ) (e : Entry) : Type 0 where
 open_entry_is : (p : Progress) (at : Moment) (rest : List ℕ) (e : Entry) → open_entry p at rest ≡ Some e → IsEntry rest e
 open_entry_is p at rest e h =
     elim (if_some p.opened None _ e h) [
-      inl q ↦ absurd (none_some q.1)
+      | inl q ↦ absurd (none_some q.1)
       | inr q ↦ subst (λ (y : Entry). IsEntry rest y) (some_is q.1) record { ends = ([], refl); built = refl; given = refl }
     ]
 
@@ -142,27 +142,27 @@ content_entry_is p at message rest e h =
 content_is : (p : Progress) (at : Moment) (len : ℕ) (bytes : List ℕ) (e : Entry) → content_at p at len bytes ≡ Some e → IsEntry bytes e
 content_is p at len bytes e h =
     elim (if_some ((len == 0) || nat_lt (length bytes) len) None _ e h) [
-      inl q ↦ absurd (none_some q.1)
+      | inl q ↦ absurd (none_some q.1)
       | inr q ↦ (
-        let s = bind_some (behind (10 ∷ []) (drop len bytes)) _ e q.1 in
-        longer bytes (drop len bytes) e (take len bytes, sym (take-append-drop len bytes))
-        (longer (drop len bytes) s.0 e (behind_ends (10 ∷ []) (drop len bytes) s.0 s.1) (content_entry_is p at (take len bytes) s.0 e s.2))
-      )
+          let s = bind_some (behind (10 ∷ []) (drop len bytes)) _ e q.1 in
+          longer bytes (drop len bytes) e (take len bytes, sym (take-append-drop len bytes))
+          (longer (drop len bytes) s.0 e (behind_ends (10 ∷ []) (drop len bytes) s.0 s.1) (content_entry_is p at (take len bytes) s.0 e s.2))
+          )
     ]
 
 bytes_is : (p : Progress) (bytes : List ℕ) (e : Entry) → bytes_at p bytes ≡ Some e → IsEntry bytes e
 bytes_is p bytes e h =
     elim (if_some p.opened _ None e h) [
-      inl q ↦ (
-        let s = bind_some (moment_at bytes) _ e q.1 in
-        let t = bind_some (behind (48 ∷ 32 ∷ []) s.0.1) _ e s.2 in
-        let u = bind_some (number_until 10 65536 t.0) _ e t.2 in
-        longer bytes s.0.1 e (moment_ends bytes s.0 s.1)
-        (
+      | inl q ↦ (
+          let s = bind_some (moment_at bytes) _ e q.1 in
+          let t = bind_some (behind (48 ∷ 32 ∷ []) s.0.1) _ e s.2 in
+          let u = bind_some (number_until 10 65536 t.0) _ e t.2 in
+          longer bytes s.0.1 e (moment_ends bytes s.0 s.1)
+          (
           longer s.0.1 t.0 e (behind_ends (48 ∷ 32 ∷ []) s.0.1 t.0 t.1)
           (longer t.0 u.0.1 e (number_until_ends 10 65536 t.0 u.0 u.1) (content_is p s.0.0 u.0.0 u.0.1 e u.2))
-        )
-      )
+          )
+          )
       | inr q ↦ absurd (none_some q.1)
     ]
 
@@ -189,14 +189,14 @@ pub entry_first : (p : Progress) (bytes : List ℕ) (e : Entry) → entry_at p b
 unfolding entry_at
 entry_first p bytes e h =
     elim (or_else_some (behind (codes "open ") bytes >>= λ rest. open_at p rest) (behind (codes "bytes ") bytes >>= λ rest. bytes_at p rest) e h) [
-      inl q ↦ (
-        let s = bind_some (behind (codes "open ") bytes) _ e q in
-        by_word (codes "open ") bytes s.0 e (omega arith) s.1 (open_is p s.0 e s.2)
-      )
+      | inl q ↦ (
+          let s = bind_some (behind (codes "open ") bytes) _ e q in
+          by_word (codes "open ") bytes s.0 e (omega arith) s.1 (open_is p s.0 e s.2)
+          )
       | inr q ↦ (
-        let s = bind_some (behind (codes "bytes ") bytes) _ e q in
-        by_word (codes "bytes ") bytes s.0 e (omega arith) s.1 (bytes_is p s.0 e s.2)
-      )
+          let s = bind_some (behind (codes "bytes ") bytes) _ e q in
+          by_word (codes "bytes ") bytes s.0 e (omega arith) s.1 (bytes_is p s.0 e s.2)
+          )
     ]
 
 pub entry_shorter : (p : Progress) (bytes : List ℕ) (e : Entry) → entry_at p bytes ≡ Some e → length e.rest < length bytes

@@ -46,8 +46,8 @@ first_is : (headed : Bool) (items : List ℕ) (at len : ℕ) (p : Progress) (old
 first_is headed items at len p old e head size is h =
     let moved : behind_entry true items (length items) e ≡ ahead true (length items) e.progress e.rest = ap (ahead true (length items) e.progress) (rest_is items at p e h) in
     rw (head, size) (
-      sym (rw head at is) ∙ ahead_some (length items) p (drop at items) e h
-      ∙ ap (λ (a : Ahead). record { inputs = e.input ∷ a.inputs; bad = a.bad }) (sym moved)
+    sym (rw head at is) ∙ ahead_some (length items) p (drop at items) e h
+    ∙ ap (λ (a : Ahead). record { inputs = e.input ∷ a.inputs; bad = a.bad }) (sym moved)
     )
 
 -- the entry is given, and the bad place stays

@@ -181,7 +181,10 @@ fn what_of(alloc: Global, said: Said) -> Result<What, AllocError>
 {
     match said {
         Said::Opens => Ok(What::Open(0)),
-        Said::Sends(message) => Ok(What::Bytes(0, Chunk::from_vec(Vec::from_slice(alloc, message)?))),
+        Said::Sends(message) => Ok(What::Bytes(
+            0,
+            Chunk::from_vec(Vec::from_slice(alloc, message)?),
+        )),
     }
 }
 

@@ -68,7 +68,11 @@ impl Stream {
             return Err(NextError::Bad(0));
         }
         let size = self.bytes.len();
-        match first_of(*self.bytes.allocator(), self.progress, &self.bytes[self.at..]) {
+        match first_of(
+            *self.bytes.allocator(),
+            self.progress,
+            &self.bytes[self.at..],
+        ) {
             Ok(Some(taken)) => {
                 self.at = size - taken.rest.len();
                 self.progress = taken.progress;
