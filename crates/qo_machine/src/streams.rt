@@ -148,6 +148,7 @@ fn put_line<K: Sink>(sink: &mut K, lane: Lane, bytes: &[u8]) -> Result<(), Faile
 /// It gives the entries of the stream as inputs, in order, and then their end, or the bad place where bytes
 /// are left that are no entry. Each message goes into the sink as a line: its lane, a space, and its bytes.
 /// No session is lost, and no call of `begin` or `next` fails.
+#[derive(Drop)]
 pub struct WholeHub<K> {
     stream: Stream,
     sink: K,
@@ -217,4 +218,106 @@ impl<K: Sink> Hub for WholeHub<K> {
     ghost now = { λ a. tt };
 
     ghost after = { λ a b c p q. tt };
+}
+
+#[cfg(test)]
+mod tests {
+    use super::*;
+    use qo_causes::ByteSink;
+    use std::test::Fail;
+
+    const TWO_MESSAGES: &[u8] =
+        b"qrec 1\nopen 1.000000 0\nbytes 1.000002 0 30\n{\"execute\":\"qmp_capabilities\"}\nbytes 0.999999 0 47\n{\"execute\":\"qom-list\",\"arguments\":{\"path\":\"/\"}}\n";
+
+    fn hub(rt: &HostRuntime, bytes: &[u8]) -> Result<WholeHub<ByteSink>, Fail> {
+        let sink = ByteSink::new(rt.alloc(), 64, vec![in rt.alloc(); 4]?)?;
+        Ok(WholeHub::new(bytes.to_vec(rt.alloc())?, sink))
+    }
+
+    fn is_message(what: &What, message: &[u8]) -> bool {
+        match what {
+            What::Bytes(0, bytes) => bytes.as_slice() == message,
+            _ => false,
+        }
+    }
+
+    #[test]
+    fn nothing_is_no_stream(rt: HostRuntime) -> Result<(), Fail> {
+        let mut hub = hub(&rt, b"")?;
+        assert!(rt; matches!(hub.next(), Err(NextError::Bad(0))));
+        Ok(())
+    }
+
+    #[test]
+    fn header_alone_is_a_stream(rt: HostRuntime) -> Result<(), Fail> {
+        let mut hub = hub(&rt, b"qrec 1\n")?;
+        assert!(rt; hub.begin("s", 1).is_ok());
+        let input = hub.next()?;
+        assert!(rt; matches!(input.what, What::End));
+        assert_eq!(rt;
+            input.at,
+            Moment {
+                seconds: 0,
+                micros: 0
+            }
+        );
+        Ok(())
+    }
+
+    #[test]
+    fn entries_come_in_order(rt: HostRuntime) -> Result<(), Fail> {
+        let mut hub = hub(&rt, TWO_MESSAGES)?;
+        let first = hub.next()?;
+        assert!(rt; matches!(first.what, What::Open(0)));
+        assert_eq!(rt;
+            first.at,
+            Moment {
+                seconds: 1,
+                micros: 0
+            }
+        );
+        let second = hub.next()?;
+        assert!(rt; is_message(&second.what, b"{\"execute\":\"qmp_capabilities\"}"));
+        assert_eq!(rt;
+            second.at,
+            Moment {
+                seconds: 1,
+                micros: 2
+            }
+        );
+        let third = hub.next()?;
+        assert!(rt;
+            is_message(
+                &third.what,
+                b"{\"execute\":\"qom-list\",\"arguments\":{\"path\":\"/\"}}"
+            )
+        );
+        assert_eq!(rt;
+            third.at,
+            Moment {
+                seconds: 0,
+                micros: 999_999
+            }
+        );
+        assert!(rt; matches!(hub.next()?.what, What::End));
+        Ok(())
+    }
+
+    #[test]
+    fn cut_entry_is_bad_at_its_first_byte(rt: HostRuntime) -> Result<(), Fail> {
+        let mut hub = hub(&rt, b"qrec 1\nopen 1.000000 0\nbytes 1.0")?;
+        assert!(rt; matches!(hub.next()?.what, What::Open(0)));
+        assert!(rt; matches!(hub.next(), Err(NextError::Bad(23))));
+        assert!(rt; matches!(hub.next(), Err(NextError::Bad(23))));
+        Ok(())
+    }
+
+    #[test]
+    fn messages_go_into_the_sink_as_lines(rt: HostRuntime) -> Result<(), Fail> {
+        let mut hub = hub(&rt, b"qrec 1\n")?;
+        assert!(rt; hub.send(Lane::Session(15), b"one\r\n").is_ok());
+        assert!(rt; matches!(hub.send(Lane::Guest, b"two\n"), Err(SendError::Failed)));
+        assert_eq!(rt; hub.into_sink().held(), b"15 one\r\ng ".as_slice());
+        Ok(())
+    }
 }
