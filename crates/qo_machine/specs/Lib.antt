@@ -5,5 +5,6 @@ pub mod Replies
 pub mod Requests
 pub mod Runs
 pub mod Sending
+pub mod Streams
 pub mod Tree
 pub mod Views

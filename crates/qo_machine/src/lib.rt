@@ -2,14 +2,17 @@
 #![tactic(auto)]
 
 mod answers;
+mod entries;
 mod machines;
 mod reading;
 mod replies;
 mod requests;
 mod running;
 mod sessions;
+mod streams;
 mod tree;
 
 pub use machines::{Machine, Outs};
 pub use running::{Ending, run};
 pub use sessions::Session;
+pub use streams::WholeHub;
