@@ -167,21 +167,23 @@ to_lanes s i cs = on s.ended
 abbrev pub taken_turn : Input → Turn
 taken_turn i = record { input = i; choices = []; lost = []; cut = λ l. 0 }
 
-pub cut_taken : (s : State) (oi ni : Option (List Input)) (os ns : Option (List ℕ)) (og ng : Lane → Option (List ℕ)) (ol nl : ℕ → ℕ) (bad : Option (Option ℕ)) (i : Input) → Gives oi ni bad (given_by i) → ns ≡ os → ((l : Lane) → ng l ≡ og l) → Cut s (told oi os og ol) (told ni ns ng nl) (Some (taken_turn i))
-cut_taken s oi ni os ns og ng ol nl bad i given sent got =
+pub cut_taken : (s : State) (oi ni : Option (List Input)) (os ns : Option (List ℕ)) (og ng : Lane → Option (List ℕ)) (ol nl : ℕ → ℕ) (bad : Option (Option ℕ)) (i : Input) → Gives oi ni bad (given_by i) → ns ≡ os → ((l : Lane) → ng l ≡ og l) → ((n : ℕ) → nl n ≡ ol n) → Cut s (told oi os og ol) (told ni ns ng nl) (Some (taken_turn i))
+cut_taken s oi ni os ns og ng ol nl bad i given sent got losses =
     record {
       took = took_one oi ni bad (given_by i) given;
       sent = (0, omega arith, sent ∙ nothing_appended os);
       lanes = λ l. (0, omega arith, got l ∙ nothing_appended (og l));
+      losses = λ n. omega (arith, losses n);
     }
 
 -- an input was taken, and its messages were cut short
-pub cut_sent : (s : State) (i : Input) (cs : List Choice) (t : State) (slice outs : List Message) (oi mi ni : Option (List Input)) (os ms ns : Option (List ℕ)) (og mg ng : Lane → Option (List ℕ)) (ol ml nl : ℕ → ℕ) (bad : Option (Option ℕ)) → step s i cs ≡ record { outs = outs; state = t } → slice ≡ outs → Gives oi mi bad (given_by i) → ms ≡ os → ((l : Lane) → mg l ≡ og l) → SentFront (told mi ms mg ml) (told ni ns ng nl) slice → Cut s (told oi os og ol) (told ni ns ng nl) (Some (record { input = i; choices = cs; lost = []; cut = λ l. 0 }))
-cut_sent s i cs t slice outs oi mi ni os ms ns og mg ng ol ml nl bad is same given sent got h =
+pub cut_sent : (s : State) (i : Input) (cs : List Choice) (t : State) (slice outs : List Message) (oi mi ni : Option (List Input)) (os ms ns : Option (List ℕ)) (og mg ng : Lane → Option (List ℕ)) (ol ml nl : ℕ → ℕ) (bad : Option (Option ℕ)) → step s i cs ≡ record { outs = outs; state = t } → slice ≡ outs → Gives oi mi bad (given_by i) → ms ≡ os → ((l : Lane) → mg l ≡ og l) → ((n : ℕ) → ml n ≡ ol n) → SentFront (told mi ms mg ml) (told ni ns ng nl) slice → Cut s (told oi os og ol) (told ni ns ng nl) (Some (record { input = i; choices = cs; lost = []; cut = λ l. 0 }))
+cut_sent s i cs t slice outs oi mi ni os ms ns og mg ng ol ml nl bad is same given sent got losses h =
     record {
       took = took_one oi ni bad (given_by i) (rw h.inputs given);
       sent = rw (outs_is, ← sent) h.sent;
       lanes = λ l. rw (outs_is, ← got l) (h.lanes l);
+      losses = λ n. rw (← losses n) (h.losses n);
     }
   where
     outs_is : (step s i cs).outs ≡ slice
@@ -232,7 +234,7 @@ cut_none i t g n =
       [],
       None,
       turns_none opening i t g n,
-      record { took = none_taken i; sent = (0, omega arith, nothing_appended t); lanes = λ l. (0, omega arith, nothing_appended (g l)) },
+      record { took = none_taken i; sent = (0, omega arith, nothing_appended t); lanes = λ l. (0, omega arith, nothing_appended (g l)); losses = λ k. omega arith },
     )
 
 pub gone_none : (s : State) (i : Option (List Input)) (t : Option (List ℕ)) (g : Lane → Option (List ℕ)) (n : ℕ → ℕ) → s ≡ opening → (turns : List Turn) × GoneOn (told i t g n) (told i t g n) s 0 turns

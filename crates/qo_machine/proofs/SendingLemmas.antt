@@ -172,15 +172,20 @@ front_behind old mid new xs ys whole p =
       ∙ ap (append_known old) (sym (take-append-add xs ys p.0)),
     )
 
+risen_up : (flag : Bool) (start now : ℕ) → risen flag start ≤ now → start ≤ now
+risen_up true start now h = omega arith
+risen_up false start now h = h
+
 -- a message failed
-pub front_failed : (start : Told) (mi ni : Option (List Input)) (ms ns : Option (List ℕ)) (mg ng : Lane → Option (List ℕ)) (ml nl : ℕ → ℕ) (outs : List Message) (m : Message) (lost : List Bool) → is_lost lost m.0 ≡ false → ni ≡ mi → AppendsPrefix ms ns (line m.0 m.1) → ((l : Lane) → AppendsPrefix (mg l) (ng l) (part l m.0 m.1)) → Sent start (told mi ms mg ml) outs lost → SentFront start (told ni ns ng nl) (outs ++ m ∷ [])
-front_failed start mi ni ms ns mg ng ml nl outs m lost flag inputs sent got h =
+pub front_failed : (start : Told) (mi ni : Option (List Input)) (ms ns : Option (List ℕ)) (mg ng : Lane → Option (List ℕ)) (ml nl : ℕ → ℕ) (outs : List Message) (m : Message) (lost : List Bool) → is_lost lost m.0 ≡ false → ni ≡ mi → AppendsPrefix ms ns (line m.0 m.1) → ((l : Lane) → AppendsPrefix (mg l) (ng l) (part l m.0 m.1)) → ((n : ℕ) → nl n ≡ ml n) → Sent start (told mi ms mg ml) outs lost → SentFront start (told ni ns ng nl) (outs ++ m ∷ [])
+front_failed start mi ni ms ns mg ng ml nl outs m lost flag inputs sent got losses h =
     record {
       inputs = inputs ∙ h.inputs;
       sent = rw (transcript_more outs m) (front_behind start.sent ms ns (transcript outs) (line m.0 m.1) h.sent sent);
       lanes = λ l.
           rw (lane_bytes_more l outs m)
           (failed_at (is_lost lost l) (same_lane l m.0) (h.lanes.0 l) ((got l).0) (start.got l) (mg l) (ng l) (lane_bytes l outs) m.1 (λ s. same_lost l m.0 lost s ∙ flag) (h.lanes.1.within l) ((got l).1) (h.lanes.1.lanes l) ((got l).2));
+      losses = λ n. rw (losses n) (risen_up (slice_index_or lost n false) (start.losses n) (ml n) (h.losses n));
     }
 
 -- What `send` answers, by its error.
@@ -194,10 +199,10 @@ err_gone start mi ni ms ns mg ng ml nl outs lane bytes text (Gone j) s k lost is
     sent_gone start mi ni ms ns mg ng ml nl outs (lane, text) k lost flag to k_below inputs sent (λ l. rw same at (got l)) (λ n. rw j_is at (losses n)) h
 err_gone start mi ni ms ns mg ng ml nl outs lane bytes text Failed s k lost is from same flag wide inputs sent got gone losses h = cc
 
-pub err_failed : (start : Told) (mi ni : Option (List Input)) (ms ns : Option (List ℕ)) (mg ng : Lane → Option (List ℕ)) (ml nl : ℕ → ℕ) (outs : List Message) (lane : Lane) (bytes text : List ℕ) (r : SendError) (lost : List Bool) → r ≡ Failed → bytes ≡ text → is_lost lost lane ≡ false → ni ≡ mi → Sends ms ns (line lane bytes) (Err r) → ((l : Lane) → PutsAll {T = Unit {0}} {E = SendError} (mg l) (ng l) (Err r) (part l lane bytes)) → Sent start (told mi ms mg ml) outs lost → SentFront start (told ni ns ng nl) (outs ++ (lane, text) ∷ [])
-err_failed start mi ni ms ns mg ng ml nl outs lane bytes text (Gone j) lost is same flag inputs sent got h = cc
-err_failed start mi ni ms ns mg ng ml nl outs lane bytes text Failed lost is same flag inputs sent got h =
-    front_failed start mi ni ms ns mg ng ml nl outs (lane, text) lost flag inputs (rw same at sent) (λ l. rw same at (got l)) h
+pub err_failed : (start : Told) (mi ni : Option (List Input)) (ms ns : Option (List ℕ)) (mg ng : Lane → Option (List ℕ)) (ml nl : ℕ → ℕ) (outs : List Message) (lane : Lane) (bytes text : List ℕ) (r : SendError) (lost : List Bool) → r ≡ Failed → bytes ≡ text → is_lost lost lane ≡ false → ni ≡ mi → Sends ms ns (line lane bytes) (Err r) → ((l : Lane) → PutsAll {T = Unit {0}} {E = SendError} (mg l) (ng l) (Err r) (part l lane bytes)) → ((t : ℕ) → Loses (is_gone (Err r) t) (ml t) (nl t)) → Sent start (told mi ms mg ml) outs lost → SentFront start (told ni ns ng nl) (outs ++ (lane, text) ∷ [])
+err_failed start mi ni ms ns mg ng ml nl outs lane bytes text (Gone j) lost is same flag inputs sent got losses h = cc
+err_failed start mi ni ms ns mg ng ml nl outs lane bytes text Failed lost is same flag inputs sent got losses h =
+    front_failed start mi ni ms ns mg ng ml nl outs (lane, text) lost flag inputs (rw same at sent) (λ l. rw same at (got l)) losses h
 
 -- The messages of a step.
 
@@ -238,6 +243,7 @@ front_all start new xs ys h =
       lanes = λ l.
           rw (flat_map-append (λ (x : Message). part l x.0 x.1) xs ys)
           (front_more (start.got l) (new.got l) (lane_bytes l xs) (lane_bytes l ys) (h.lanes l));
+      losses = h.losses;
     }
 
 -- the lane of each message is such a lane

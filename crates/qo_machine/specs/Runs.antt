@@ -120,6 +120,7 @@ pub record Cut (from : State) (old new : Told) (last : Option Turn) : Type 0 whe
   pub took : old.inputs ≡ option_map (λ rest. last_input last ++ rest) new.inputs
   pub sent : AppendsPrefix old.sent new.sent (transcript (last_outs from last))
   pub lanes : (l : Lane) → AppendsPrefix (old.got l) (new.got l) (lane_bytes l (last_outs from last))
+  pub losses : (n : ℕ) → old.losses n ≤ new.losses n
 
 -- whole turns, with the run ended behind them or not
 abbrev pub WholeRun : Told → Told → Bool → List Turn → Type 0

@@ -37,6 +37,7 @@ pub record SentFront (old new : Told) (outs : List Message) : Type 0 where
   pub inputs : new.inputs ≡ old.inputs
   pub sent : AppendsPrefix old.sent new.sent (transcript outs)
   pub lanes : (l : Lane) → AppendsPrefix (old.got l) (new.got l) (lane_bytes l outs)
+  pub losses : (n : ℕ) → old.losses n ≤ new.losses n
 
 abbrev pub SendsAll : Told → Told → List Message → Result (List Bool) Failed → Type 0
 SendsAll old new outs (Ok lost) = Sent old new outs lost

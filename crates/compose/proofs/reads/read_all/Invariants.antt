@@ -1,5 +1,5 @@
 -- The bytes so far were taken from the source.
-use Rattle.std.proofs.Common.{◌≡◌, ◌≤◌, ◌-◌, vec_len}
+use Rattle.std.proofs.Common.{◌≡◌, ◌≤◌, ◌-◌, length, vec_len}
 use Rattle.std.specs.Io.KnownBytes.{prepend_known}
 use Rattle.compose.proofs.reads.read_all.Given as goal
 
@@ -8,7 +8,8 @@ invariant-loop-count g l =
     let source = g.S.Source in
     record {
       taken : source.left l.fn.source ≡ prepend_known l.bytes.items (source.left l.source);
-      short : vec_len l.bytes ≤ 16777216;
+      short : length l.bytes.items ≤ 16777216;
+      size : length l.bytes.items ≡ vec_len l.bytes;
       room : vec_len l.buffer ≡ 65536;
       count : source.faults l.fn.source ≤ source.faults l.source;
     }

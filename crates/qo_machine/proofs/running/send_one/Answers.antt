@@ -9,4 +9,4 @@ returns-in-Err-Gone-clause-ok g c = λ start outs h.
 
 pub returns-in-Err-Failed-clause-err : goal.returns-in-Err-Failed-clause-err
 returns-in-Err-Failed-clause-err g c = λ start outs h.
-    err_failed start _ _ _ _ _ _ _ _ outs c.args.lane c.as_slice.result.now c.args.text.now c.in-Err-Failed.field-0 c.args.lost.now c.in-Err-Failed.field-0-is c.as_slice.ensures (sym c.if-is_lost.ensures) c.in-Err-Failed.ensures.inputs c.in-Err-Failed.ensures.sent c.in-Err-Failed.ensures.got h
+    err_failed start _ _ _ _ _ _ _ _ outs c.args.lane c.as_slice.result.now c.args.text.now c.in-Err-Failed.field-0 c.args.lost.now c.in-Err-Failed.field-0-is c.as_slice.ensures (sym c.if-is_lost.ensures) c.in-Err-Failed.ensures.inputs c.in-Err-Failed.ensures.sent c.in-Err-Failed.ensures.got c.in-Err-Failed.ensures.losses h

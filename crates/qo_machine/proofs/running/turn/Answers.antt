@@ -7,7 +7,7 @@ use Rattle.qo_machine.proofs.running.turn.Goals as goal
 
 pub returns-in_default-clause-meets : goal.returns-in_default-clause-meets
 returns-in_default-clause-meets g c =
-    (Some (taken_turn c.in-Ok.input), cut_taken c.args.machine.now.state _ _ _ _ _ _ _ _ _ c.in-Ok.input c.in-Ok.ensures.given c.in-Ok.ensures.sent c.in-Ok.ensures.got)
+    (Some (taken_turn c.in-Ok.input), cut_taken c.args.machine.now.state _ _ _ _ _ _ _ _ _ c.in-Ok.input c.in-Ok.ensures.given c.in-Ok.ensures.sent c.in-Ok.ensures.got c.in-Ok.ensures.losses)
 
 pub send_all-requires : goal.send_all-requires
 send_all-requires g c =
@@ -22,5 +22,5 @@ pub returns-clause-meets : goal.returns-clause-meets
 returns-clause-meets g c =
     (
       _,
-      cut_sent c.args.machine.now.state c.in-Ok.input c.in-Ok-step.ensures.answered.0 c.step.new.self.state _ c.in-Ok-step.outs _ _ _ _ _ _ _ _ _ _ (g.H.Hub.losses c.next.new.self) _ _ c.in-Ok-step.ensures.answered.1 c.as_slice.ensures c.in-Ok.ensures.given c.in-Ok.ensures.sent c.in-Ok.ensures.got c.in-Err.ensures.sends,
+      cut_sent c.args.machine.now.state c.in-Ok.input c.in-Ok-step.ensures.answered.0 c.step.new.self.state _ c.in-Ok-step.outs _ _ _ _ _ _ _ _ _ _ (g.H.Hub.losses c.next.new.self) _ _ c.in-Ok-step.ensures.answered.1 c.as_slice.ensures c.in-Ok.ensures.given c.in-Ok.ensures.sent c.in-Ok.ensures.got c.in-Ok.ensures.losses c.in-Err.ensures.sends,
     )
