@@ -1,4 +1,5 @@
 pub mod Exits
 pub mod Reads
+pub mod Replay
 pub mod Views
 pub mod Words

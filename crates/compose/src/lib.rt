@@ -2,6 +2,7 @@
 #![tactic(auto)]
 
 mod reads;
+mod replays;
 mod statuses;
 mod words;
 

@@ -284,7 +284,7 @@ end_ends s t over = by_state s.ended refl
     by_state true is = after_ended s t is
     by_state false is = by_what t.input.what is refl over
 
-has_end_ends : (ts : List Turn) (s : State) → has_end ts ≡ true → (state_after s ts).ended ≡ true
+pub has_end_ends : (ts : List Turn) (s : State) → has_end ts ≡ true → (state_after s ts).ended ≡ true
 has_end_ends [] s over = absurd (true≢false (sym over))
 has_end_ends (t ∷ ts) s over = go (is_end t.input.what) refl over (has_end_ends ts (after s t))
   where

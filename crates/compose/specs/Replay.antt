@@ -1,0 +1,86 @@
+-- What the top call does, by its status.
+use Rattle.std.specs.Prelude.{◌≡◌, ℕ, ◌<◌, ◌↔◌, ◌⊎◌, Bool, true, false, List, [], ◌∷◌, ◌++◌, length, Option, Some, None, IfSome, IsSome, decimal, codes, slice_index_or, unwrap_or}
+use Rattle.std.specs.List.{AllByRecursion}
+use Rattle.std.specs.Io.KnownBytes.{append_known, prepend_known}
+use Rattle.qo_causes.specs.Bytes.{AppendsPrefix}
+use Rattle.qo_causes.specs.Cause.{Rose}
+use Rattle.qo_causes.specs.declared.inputs.Input.{Input}
+use Rattle.qo_machine.specs.Machine.{opening}
+use Rattle.qo_machine.specs.Record.{bad_place, stream_inputs}
+use Rattle.qo_machine.specs.Runs.{Turn, has_end, last_input, last_outs, outs_of, state_after, transcript, turn_inputs}
+use Rattle.qo_machine.specs.declared.running.Ending.{Ending}
+use Rattle.qo_machine.specs.declared.running.Ending.TheVariants as ending
+use Rattle.compose.specs.declared.statuses.Status.{Status}
+use Rattle.compose.specs.declared.statuses.Status.TheVariants.{Done, Usage, BadRecord, Memory, ReadFault, WriteFault, HubFault, InputLimit}
+
+-- no session is lost in these turns
+abbrev pub NoneLost : List Turn → Type 0
+NoneLost turns = AllByRecursion (λ (t : Turn). (n : ℕ) → slice_index_or t.lost n false ≡ false) turns
+
+-- a run of the whole stream, over at its end or still going; the whole transcript was put
+pub record WholeReplay (bytes : List ℕ) (held_old held_new : Option (List ℕ)) (over : Bool) (turns : List Turn) : Type 0 where
+  pub inputs : turn_inputs turns ≡ stream_inputs bytes
+  pub end : has_end turns ≡ over
+  pub ended : (state_after opening turns).ended ≡ over
+  pub lost : NoneLost turns
+  pub put : held_new ≡ append_known held_old (transcript (outs_of opening turns))
+
+-- a run of a front of the stream; a front of its transcript was put, and at least all of it but for the last turn, if there is one
+pub record CutReplay (bytes : List ℕ) (held_old held_new : Option (List ℕ)) (turns : List Turn) (last : Option Turn) (rest : List Input) : Type 0 where
+  pub inputs : stream_inputs bytes ≡ (turn_inputs turns ++ last_input last) ++ rest
+  pub lost : NoneLost turns
+  pub put : (held : Option (List ℕ)) × (held ≡ append_known held_old (transcript (outs_of opening turns))) × AppendsPrefix held held_new (transcript (last_outs (state_after opening turns) last))
+
+-- the source is at its end, where it tells what it has left
+abbrev pub IsAtEnd : Option (List ℕ) → Type 0
+IsAtEnd left = IfSome left (λ more. more ≡ [])
+
+abbrev pub IsCut : List ℕ → Option (List ℕ) → Option (List ℕ) → Type 0
+IsCut bytes held_old held_new =
+    (turns : List Turn) × (last : Option Turn) × (rest : List Input) × CutReplay bytes held_old held_new turns last rest
+
+-- what a run of these bytes did, by how it ended
+abbrev pub DidRun : Ending → List ℕ → Option (List ℕ) → Option (List ℕ) → Type 0
+DidRun ending.Done bytes held_old held_new =
+    (turns : List Turn) × WholeReplay bytes held_old held_new true turns × (bad_place bytes ≡ None)
+DidRun (ending.Bad n) bytes held_old held_new =
+    (turns : List Turn) × WholeReplay bytes held_old held_new false turns × (bad_place bytes ≡ Some n)
+DidRun ending.SendFailed bytes held_old held_new = IsCut bytes held_old held_new
+DidRun ending.Memory bytes held_old held_new = IsCut bytes held_old held_new
+DidRun ending.NextFailed bytes held_old held_new = ⊥
+DidRun ending.Limit bytes held_old held_new = ⊥
+
+-- what was done with the bytes that were taken, by the status; the source has this left
+abbrev pub DidReplay : Status → List ℕ → Option (List ℕ) → Option (List ℕ) → Option (List ℕ) → Type 0
+DidReplay Done bytes left held_old held_new =
+    (turns : List Turn) × WholeReplay bytes held_old held_new true turns × (bad_place bytes ≡ None) × IsAtEnd left
+DidReplay BadRecord bytes left held_old held_new =
+    (turns : List Turn) × WholeReplay bytes held_old held_new false turns × IsSome (bad_place bytes) × IsAtEnd left
+DidReplay InputLimit bytes left held_old held_new = held_new ≡ held_old
+DidReplay ReadFault bytes left held_old held_new = held_new ≡ held_old
+DidReplay WriteFault bytes left held_old held_new = IsCut bytes held_old held_new
+DidReplay Memory bytes left held_old held_new = IsCut bytes held_old held_new
+DidReplay Usage bytes left held_old held_new = ⊥
+DidReplay HubFault bytes left held_old held_new = ⊥
+
+-- the line that tells a status, where these bytes were taken; none for Done
+abbrev pub line_of : Status → List ℕ → List ℕ
+line_of Done bytes = []
+line_of Usage bytes =
+    codes "usage: compose replay | serve --socket PATH --connections N | demo --seed N --steps K | types" ++ 10 ∷ []
+line_of BadRecord bytes = codes "compose: bad record at byte " ++ decimal (unwrap_or (bad_place bytes) 0) ++ 10 ∷ []
+line_of Memory bytes = codes "compose: out of memory" ++ 10 ∷ []
+line_of ReadFault bytes = codes "compose: read fault" ++ 10 ∷ []
+line_of WriteFault bytes = codes "compose: write fault" ++ 10 ∷ []
+line_of HubFault bytes = codes "compose: hub fault" ++ 10 ∷ []
+line_of InputLimit bytes = codes "compose: input limit" ++ 10 ∷ []
+
+-- the line went to the complaints, or where their count of faults rose a front of it
+abbrev pub Complained : Option (List ℕ) → Option (List ℕ) → ℕ → ℕ → List ℕ → Type 0
+Complained old new before now line = (new ≡ append_known old line) ⊎ (AppendsPrefix old new line × Rose before now)
+
+-- `replay`: it took these bytes from the source, and did this with them
+pub record Replayed (status : Status) (left_old left_new held_old held_new : Option (List ℕ)) (bytes : List ℕ) : Type 0 where
+  pub took : left_old ≡ prepend_known bytes left_new
+  pub limit : (status ≡ InputLimit) ↔ (16777216 < length bytes)
+  pub did : DidReplay status bytes left_new held_old held_new
