@@ -1,2 +1,4 @@
+pub mod CallLemmas
+pub mod ComplaintLemmas
 pub mod ReadLemmas
 pub mod ReplayLemmas

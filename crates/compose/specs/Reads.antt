@@ -1,5 +1,7 @@
 -- What reading a source to its end gives.
 use Rattle.std.specs.Prelude.{◌≡◌, ℕ, ◌<◌, ◌≤◌, List, [], length, Option, IfSome, Result, Ok, Err}
+use Rattle.compose.specs.declared.statuses.Status.{Status}
+use Rattle.compose.specs.declared.statuses.Status.TheVariants as status
 use Rattle.compose.specs.declared.reads.ReadError.{ReadError}
 use Rattle.compose.specs.declared.reads.ReadError.TheVariants.{Fault, Memory, Limit}
 
@@ -9,3 +11,9 @@ ReadAll items bytes left (Ok v) = (items v ≡ bytes) × (length bytes ≤ 16777
 ReadAll items bytes left (Err Limit) = 16777216 < length bytes
 ReadAll items bytes left (Err Fault) = length bytes ≤ 16777216
 ReadAll items bytes left (Err Memory) = length bytes ≤ 16777216
+
+-- the status of a source that was not read to its end
+abbrev pub read_status : ReadError → Status
+read_status Fault = status.ReadFault
+read_status Memory = status.Memory
+read_status Limit = status.InputLimit

@@ -50,6 +50,19 @@ DidRun ending.Memory bytes held_old held_new = IsCut bytes held_old held_new
 DidRun ending.NextFailed bytes held_old held_new = ⊥
 DidRun ending.Limit bytes held_old held_new = ⊥
 
+-- the status of a run by how it ended, and the place that it tells
+abbrev pub status_of : Ending → Status
+status_of ending.Done = Done
+status_of (ending.Bad n) = BadRecord
+status_of ending.Memory = Memory
+status_of ending.NextFailed = ReadFault
+status_of ending.SendFailed = WriteFault
+status_of ending.Limit = InputLimit
+
+abbrev pub place_of : Ending → ℕ
+place_of (ending.Bad n) = n
+place_of e = 0
+
 -- what was done with the bytes that were taken, by the status; the source has this left
 abbrev pub DidReplay : Status → List ℕ → Option (List ℕ) → Option (List ℕ) → Option (List ℕ) → Type 0
 DidReplay Done bytes left held_old held_new =
@@ -63,17 +76,17 @@ DidReplay Memory bytes left held_old held_new = IsCut bytes held_old held_new
 DidReplay Usage bytes left held_old held_new = ⊥
 DidReplay HubFault bytes left held_old held_new = ⊥
 
--- the line that tells a status, where these bytes were taken; none for Done
-abbrev pub line_of : Status → List ℕ → List ℕ
-line_of Done bytes = []
-line_of Usage bytes =
+-- the line that tells a status, where the bad place is this one; none for Done
+abbrev pub line_of : Status → ℕ → List ℕ
+line_of Done place = []
+line_of Usage place =
     codes "usage: compose replay | serve --socket PATH --connections N | demo --seed N --steps K | types" ++ 10 ∷ []
-line_of BadRecord bytes = codes "compose: bad record at byte " ++ decimal (unwrap_or (bad_place bytes) 0) ++ 10 ∷ []
-line_of Memory bytes = codes "compose: out of memory" ++ 10 ∷ []
-line_of ReadFault bytes = codes "compose: read fault" ++ 10 ∷ []
-line_of WriteFault bytes = codes "compose: write fault" ++ 10 ∷ []
-line_of HubFault bytes = codes "compose: hub fault" ++ 10 ∷ []
-line_of InputLimit bytes = codes "compose: input limit" ++ 10 ∷ []
+line_of BadRecord place = codes "compose: bad record at byte " ++ decimal place ++ 10 ∷ []
+line_of Memory place = codes "compose: out of memory" ++ 10 ∷ []
+line_of ReadFault place = codes "compose: read fault" ++ 10 ∷ []
+line_of WriteFault place = codes "compose: write fault" ++ 10 ∷ []
+line_of HubFault place = codes "compose: hub fault" ++ 10 ∷ []
+line_of InputLimit place = codes "compose: input limit" ++ 10 ∷ []
 
 -- the line went to the complaints, or where their count of faults rose a front of it
 abbrev pub Complained : Option (List ℕ) → Option (List ℕ) → ℕ → ℕ → List ℕ → Type 0

@@ -127,7 +127,7 @@ none_taken : (x : Option (List Input)) → x ≡ option_map (λ (r : List Input)
 none_taken None = refl
 none_taken (Some xs) = refl
 
-nothing_appended : (x : Option (List ℕ)) → x ≡ append_known x []
+pub nothing_appended : (x : Option (List ℕ)) → x ≡ append_known x []
 nothing_appended None = refl
 nothing_appended (Some xs) = ap (λ (l : List ℕ). Some l) (sym (append-nil xs))
 

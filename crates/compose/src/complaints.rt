@@ -1,0 +1,66 @@
+//! The lines that tell how a call ended.
+
+ghost use Rattle.std.specs.Prelude.{◌≡◌, ◌∷◌, [], ◌++◌, codes, decimal};
+ghost use Rattle.qo_causes.specs.Bytes.{PutsAll};
+ghost use Rattle.qo_causes.specs.Cause.{HasCause};
+ghost use Rattle.compose.specs.Replay.{Complained, line_of};
+
+use crate::statuses::Status;
+use itoa::Buffer;
+use qo_causes::{Failed, Sink, put_all};
+
+/// Puts the line of a bad record.
+fn put_place<K: Sink>(sink: &mut K, place: u64) -> Result<(), Failed>
+    ensures bytes { PutsAll (K.held sink.old) (K.held sink.new) result (line_of Status.BadRecord place) }
+    ensures cause { HasCause (K.faults sink.old) (K.faults sink.new) result }
+{
+    if let Err(Failed) = put_all(sink, b"compose: bad record at byte ") {
+        return Err(Failed);
+    }
+    put_number(sink, place)
+}
+
+/// Puts a number and the end of the line.
+fn put_number<K: Sink>(sink: &mut K, number: u64) -> Result<(), Failed>
+    ensures bytes { PutsAll (K.held sink.old) (K.held sink.new) result (decimal number ++ 10 ∷ []) }
+    ensures cause { HasCause (K.faults sink.old) (K.faults sink.new) result }
+{
+    let mut buffer = Buffer::new();
+    if let Err(Failed) = put_all(sink, buffer.format(number).as_bytes()) {
+        return Err(Failed);
+    }
+    match put_all(sink, b"\n") {
+        Ok(()) => Ok(()),
+        Err(Failed) => Err(Failed),
+    }
+}
+
+/// Puts the line of a status; of a bad record with its place.
+fn put_line<K: Sink>(sink: &mut K, status: Status, place: u64) -> Result<(), Failed>
+    ensures bytes { PutsAll (K.held sink.old) (K.held sink.new) result (line_of status place) }
+    ensures cause { HasCause (K.faults sink.old) (K.faults sink.new) result }
+{
+    match status {
+        Status::Done => put_all(sink, b""),
+        Status::Usage => put_all(
+            sink,
+            b"usage: compose replay | serve --socket PATH --connections N | demo --seed N --steps K | types\n",
+        ),
+        Status::BadRecord => put_place(sink, place),
+        Status::Memory => put_all(sink, b"compose: out of memory\n"),
+        Status::ReadFault => put_all(sink, b"compose: read fault\n"),
+        Status::WriteFault => put_all(sink, b"compose: write fault\n"),
+        Status::HubFault => put_all(sink, b"compose: hub fault\n"),
+        Status::InputLimit => put_all(sink, b"compose: input limit\n"),
+    }
+}
+
+/// Tells a status, as far as the sink takes the line.
+pub(crate) fn complain<K: Sink>(sink: &mut K, status: Status, place: u64)
+    ensures { Complained (K.held sink.old) (K.held sink.new) (K.faults sink.old) (K.faults sink.new) (line_of status place) }
+{
+    match put_line(sink, status, place) {
+        Ok(()) => {}
+        Err(Failed) => {}
+    }
+}
