@@ -1,6 +1,8 @@
 pub mod Codes
+pub mod Counts
 pub mod Ids
 pub mod Kinds
 pub mod Names
 pub mod Properties
 pub mod Registers
+pub mod Uart
