@@ -1,5 +1,6 @@
 pub mod Codes
 pub mod Counts
+pub mod Dimm
 pub mod Ids
 pub mod Kinds
 pub mod Names
