@@ -6,4 +6,5 @@ pub mod Kinds
 pub mod Names
 pub mod Properties
 pub mod Registers
+pub mod Timer
 pub mod Uart
