@@ -1,6 +1,10 @@
 pub mod Codes
+pub mod Counts
+pub mod Dimm
 pub mod Ids
 pub mod Kinds
 pub mod Names
 pub mod Properties
 pub mod Registers
+pub mod Timer
+pub mod Uart

@@ -1,0 +1,4 @@
+pub mod Calls
+pub mod Mode
+pub mod Segments
+pub mod Sum
