@@ -3,10 +3,15 @@
 
 mod calls;
 mod complaints;
+mod no_hub;
 mod reads;
 mod replays;
 mod statuses;
 mod words;
 
 pub use calls::compose;
+pub use no_hub::NoHub;
 pub use statuses::{Ran, Status};
+
+#[cfg(test)]
+mod tests;

@@ -1,0 +1,230 @@
+//! The worked rows of the recorded stream, through the top call over a source and sinks in memory.
+//! Expected texts are written out by hand.
+
+use crate::{NoHub, Ran, Status, compose};
+use qo_causes::{ByteSink, ByteSource};
+use std::alloc::Global;
+use std::test::Fail;
+
+const GREETING: &str = "0 {\"QMP\":{\"capabilities\":[],\"version\":{\"package\":\"compose\",\"qemu\":{\"major\":1,\"micro\":0,\"minor\":0}}}}\r\n";
+
+const EMPTY: &str = "0 {\"return\":{}}\r\n";
+
+const ROOT: &str = "0 {\"return\":[{\"name\":\"type\",\"type\":\"string\"},{\"name\":\"machine\",\"type\":\"child<machine>\"},{\"name\":\"objects\",\"type\":\"child<container>\"}]}\r\n";
+
+const OPEN: &str = "qrec 1\nopen 1.000000 0\n";
+
+const NEGOTIATE: &str = "bytes 1.000000 0 30\n{\"execute\":\"qmp_capabilities\"}\n";
+
+const LIST_ROOT: &str =
+    "bytes 1.000000 0 47\n{\"execute\":\"qom-list\",\"arguments\":{\"path\":\"/\"}}\n";
+
+/// What a call left: its status, what its sink holds, and what was complained.
+#[derive(Drop)]
+struct Left {
+    status: Status,
+    held: Vec<u8>,
+    told: Vec<u8>,
+}
+
+/// Calls `compose` with these words over a record in memory; the takes and puts of these numbers fail.
+fn call(
+    alloc: Global,
+    words: &[&str],
+    record: &[u8],
+    takes: &[u64],
+    puts: &[u64],
+) -> Result<Left, Fail> {
+    let mut texts: Vec<String> = Vec::new(alloc);
+    for word in words {
+        texts.push(String::from_str(alloc, word)?)?;
+    }
+    let source = ByteSource::new(Vec::from_slice(alloc, record)?, Vec::from_slice(alloc, takes)?);
+    let sink = ByteSink::new(alloc, 65_536, Vec::from_slice(alloc, puts)?)?;
+    let mut complaints = ByteSink::new(alloc, 4_096, Vec::new(alloc))?;
+    let mut hub = NoHub;
+    let Ran {
+        status,
+        source: _,
+        sink,
+    } = compose(
+        alloc,
+        texts.as_slice(),
+        source,
+        sink,
+        &mut complaints,
+        &mut hub,
+    );
+    Ok(Left {
+        status,
+        held: Vec::from_slice(alloc, sink.held())?,
+        told: Vec::from_slice(alloc, complaints.held())?,
+    })
+}
+
+/// The texts, one after another.
+fn joined(alloc: Global, parts: &[&str]) -> Result<String, Fail> {
+    let mut text = String::new(alloc);
+    for part in parts {
+        text.push_str(part)?;
+    }
+    Ok(text)
+}
+
+#[test]
+fn records_without_entries(rt: HostRuntime) -> Result<(), Fail> {
+    let left = call(rt.alloc(), &["replay"], b"qrec 1\n", &[], &[])?;
+    assert_eq!(rt; left.status, Status::Done);
+    assert_eq!(rt; left.held.as_slice(), b"".as_slice());
+    assert_eq!(rt; left.told.as_slice(), b"".as_slice());
+    let left = call(rt.alloc(), &["replay"], b"", &[], &[])?;
+    assert_eq!(rt; left.status, Status::BadRecord);
+    assert_eq!(rt; left.held.as_slice(), b"".as_slice());
+    assert_eq!(rt; left.told.as_slice(), b"compose: bad record at byte 0\n".as_slice());
+    Ok(())
+}
+
+#[test]
+fn the_opening_tree_is_listed(rt: HostRuntime) -> Result<(), Fail> {
+    let record = joined(rt.alloc(), &[OPEN, NEGOTIATE, LIST_ROOT])?;
+    let left = call(rt.alloc(), &["replay"], record.as_bytes(), &[], &[])?;
+    let want = joined(rt.alloc(), &[GREETING, EMPTY, ROOT])?;
+    assert_eq!(rt; left.status, Status::Done);
+    assert_eq!(rt; left.held.as_slice(), want.as_bytes());
+    assert_eq!(rt; left.told.as_slice(), b"".as_slice());
+    Ok(())
+}
+
+#[test]
+fn a_truncated_entry_is_the_bad_place(rt: HostRuntime) -> Result<(), Fail> {
+    let record = joined(rt.alloc(), &[OPEN, "bytes 1.0"])?;
+    let left = call(rt.alloc(), &["replay"], record.as_bytes(), &[], &[])?;
+    assert_eq!(rt; left.status, Status::BadRecord);
+    assert_eq!(rt; left.held.as_slice(), GREETING.as_bytes());
+    assert_eq!(rt; left.told.as_slice(), b"compose: bad record at byte 23\n".as_slice());
+    Ok(())
+}
+
+/// The entry of a message, and the transcript's line that answers it behind a negotiation.
+const ANSWERED: [(&str, &str); 3] = [
+    (
+        "bytes 1.000000 0 54\n{\"execute\":\"qom-list\",\"arguments\":{\"path\":\"/nowhere\"}}\n",
+        "0 {\"error\":{\"class\":\"DeviceNotFound\",\"desc\":\"E15 path not found\"}}\r\n",
+    ),
+    (
+        "bytes 1.000000 0 18\n{\"execute\":\"frob\"}\n",
+        "0 {\"error\":{\"class\":\"CommandNotFound\",\"desc\":\"E10 unknown command\"}}\r\n",
+    ),
+    (
+        "bytes 1.000000 0 62\n{\"execute\":\"qom-list\",\"arguments\":{\"path\":\"//machine/sysclk\"}}\n",
+        "0 {\"return\":[{\"name\":\"type\",\"type\":\"string\"},{\"name\":\"period\",\"type\":\"uint64\"},{\"name\":\"mul\",\"type\":\"uint64\"},{\"name\":\"div\",\"type\":\"uint64\"},{\"name\":\"source\",\"type\":\"link<clock>\"}]}\r\n",
+    ),
+];
+
+#[test]
+fn messages_are_answered(rt: HostRuntime) -> Result<(), Fail> {
+    for (entry, answer) in ANSWERED {
+        let record = joined(rt.alloc(), &[OPEN, NEGOTIATE, entry])?;
+        let left = call(rt.alloc(), &["replay"], record.as_bytes(), &[], &[])?;
+        let want = joined(rt.alloc(), &[GREETING, EMPTY, answer])?;
+        assert_eq!(rt; left.status, Status::Done);
+        assert_eq!(rt; left.held.as_slice(), want.as_bytes());
+    }
+    Ok(())
+}
+
+#[test]
+fn nothing_else_is_served_before_the_negotiation(rt: HostRuntime) -> Result<(), Fail> {
+    let record = joined(rt.alloc(), &[OPEN, LIST_ROOT])?;
+    let left = call(rt.alloc(), &["replay"], record.as_bytes(), &[], &[])?;
+    let refusal =
+        "0 {\"error\":{\"class\":\"CommandNotFound\",\"desc\":\"E8 negotiation expected\"}}\r\n";
+    let want = joined(rt.alloc(), &[GREETING, refusal])?;
+    assert_eq!(rt; left.status, Status::Done);
+    assert_eq!(rt; left.held.as_slice(), want.as_bytes());
+    Ok(())
+}
+
+#[test]
+fn each_failing_take_is_a_read_fault(rt: HostRuntime) -> Result<(), Fail> {
+    let record = joined(rt.alloc(), &[OPEN, NEGOTIATE, LIST_ROOT])?;
+    for number in 1..3u64 {
+        let left = call(rt.alloc(), &["replay"], record.as_bytes(), &[number], &[])?;
+        assert_eq!(rt; left.status, Status::ReadFault, "at take {number}");
+        assert_eq!(rt; left.held.as_slice(), b"".as_slice());
+        assert_eq!(rt; left.told.as_slice(), b"compose: read fault\n".as_slice());
+    }
+    let left = call(rt.alloc(), &["replay"], record.as_bytes(), &[3], &[])?;
+    assert_eq!(rt; left.status, Status::Done);
+    Ok(())
+}
+
+#[test]
+fn each_failing_put_is_a_write_fault(rt: HostRuntime) -> Result<(), Fail> {
+    let record = joined(rt.alloc(), &[OPEN, NEGOTIATE, LIST_ROOT])?;
+    let whole = joined(rt.alloc(), &[GREETING, EMPTY, ROOT])?;
+    // Each message is two puts: its lane and a space, and its bytes.
+    let fronts = [
+        0,
+        2,
+        GREETING.len(),
+        GREETING.len() + 2,
+        GREETING.len() + EMPTY.len(),
+        GREETING.len() + EMPTY.len() + 2,
+    ];
+    for (at, front) in fronts.iter().enumerate() {
+        let left = call(rt.alloc(), &["replay"], record.as_bytes(), &[], &[at as u64 + 1])?;
+        assert_eq!(rt; left.status, Status::WriteFault, "at put {at}");
+        assert_eq!(rt; left.held.len(), *front, "at put {at}");
+        assert!(rt; whole.as_bytes().starts_with(left.held.as_slice()));
+        assert_eq!(rt; left.told.as_slice(), b"compose: write fault\n".as_slice());
+    }
+    let left = call(rt.alloc(), &["replay"], record.as_bytes(), &[], &[7])?;
+    assert_eq!(rt; left.status, Status::Done);
+    Ok(())
+}
+
+#[test]
+fn other_words_are_no_order(rt: HostRuntime) -> Result<(), Fail> {
+    let usage = "usage: compose replay | serve --socket PATH --connections N | demo --seed N --steps K | types\n";
+    let no_words: [&str; 0] = [];
+    let left = call(rt.alloc(), &no_words, b"qrec 1\n", &[1], &[1])?;
+    assert_eq!(rt; left.status, Status::Usage);
+    assert_eq!(rt; left.told.as_slice(), usage.as_bytes());
+    for words in [["replay", "x"], ["--", "replay"], ["replay", "--help"]] {
+        let left = call(rt.alloc(), &words, b"qrec 1\n", &[1], &[1])?;
+        assert_eq!(rt; left.status, Status::Usage);
+        assert_eq!(rt; left.told.as_slice(), usage.as_bytes());
+    }
+    for word in ["Replay", "replay ", "serve", "types", "--help", ""] {
+        let left = call(rt.alloc(), &[word], b"qrec 1\n", &[1], &[1])?;
+        assert_eq!(rt; left.status, Status::Usage);
+    }
+    Ok(())
+}
+
+#[test]
+fn one_byte_too_many_is_the_input_limit(rt: HostRuntime) -> Result<(), Fail> {
+    let mut record = Vec::from_slice(rt.alloc(), b"qrec 1\n")?;
+    record.resize(16_777_216, b'x')?;
+    let left = call(rt.alloc(), &["replay"], record.as_slice(), &[], &[])?;
+    assert_eq!(rt; left.status, Status::BadRecord);
+    record.push(b'x')?;
+    let left = call(rt.alloc(), &["replay"], record.as_slice(), &[], &[])?;
+    assert_eq!(rt; left.status, Status::InputLimit);
+    assert_eq!(rt; left.held.as_slice(), b"".as_slice());
+    assert_eq!(rt; left.told.as_slice(), b"compose: input limit\n".as_slice());
+    Ok(())
+}
+
+#[test]
+fn statuses_have_their_codes(rt: HostRuntime) {
+    assert_eq!(rt; Status::Done.code(), 0);
+    assert_eq!(rt; Status::Usage.code(), 2);
+    assert_eq!(rt; Status::BadRecord.code(), 3);
+    assert_eq!(rt; Status::Memory.code(), 4);
+    assert_eq!(rt; Status::ReadFault.code(), 5);
+    assert_eq!(rt; Status::WriteFault.code(), 6);
+    assert_eq!(rt; Status::HubFault.code(), 7);
+    assert_eq!(rt; Status::InputLimit.code(), 8);
+}
