@@ -1,5 +1,5 @@
 -- Answers to requests.
-use Rattle.std.proofs.Common.{◌≡◌, ℕ, List, ◌∙◌, ap, codes, Option, Some}
+use Rattle.std.proofs.Common.{◌≡◌, ℕ, List, ◌∙◌, ap, codes, Some}
 use Rattle.qo_model.specs.Opening.{opening_board}
 use Rattle.qo_model.specs.Paths.{resolve_absolute}
 use Rattle.qo_machine.proofs.TreeLemmas.{rows_listing}

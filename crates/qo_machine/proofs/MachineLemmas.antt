@@ -1,5 +1,5 @@
 -- One step of the machine.
-use Rattle.std.proofs.Common.{◌≡◌, ◌≢◌, ◌<◌, ℕ, Bool, true, false, List, [], ◌∷◌, refl, sym, ◌∙◌, ap, Option, Some, Result, Ok, Err, IfOk, nat_lt}
+use Rattle.std.proofs.Common.{◌≡◌, ◌≢◌, ◌<◌, ℕ, true, false, List, [], ◌∷◌, refl, sym, ◌∙◌, ap, Some, Result, Ok, Err, IfOk}
 use Rattle.std.proofs.lemmas.Bool.{lt-ltb}
 use Rattle.qo_causes.specs.declared.hubs.Lane.TheVariants.{Session as to_session}
 use Rattle.qo_causes.specs.declared.inputs.Input.{Input}

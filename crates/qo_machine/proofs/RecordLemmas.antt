@@ -1,5 +1,5 @@
 -- Recorded streams: an entry takes at least one byte from the front, and its input is defined so far.
-use Rattle.std.proofs.Common.{◌≡◌, ℕ, zero, suc, ◌+◌, ◌-◌, ◌^◌, ◌<◌, ◌≤◌, ◌==◌, ◌||◌, ◌⊎◌, inl, inr, Bool, true, false, if◌then◌else◌, List, [], ◌∷◌, ◌++◌, length, take, drop, refl, sym, ◌∙◌, ap, subst, arith, codes, length-append, append_assoc, Option, None, Some, nat_lt, IsSome}
+use Rattle.std.proofs.Common.{◌≡◌, ℕ, zero, suc, ◌-◌, ◌^◌, ◌<◌, ◌≤◌, ◌==◌, ◌||◌, ◌⊎◌, inl, inr, Bool, true, false, if◌then◌else◌, List, [], ◌∷◌, ◌++◌, length, take, drop, refl, sym, ◌∙◌, ap, subst, arith, codes, length-append, append_assoc, Option, None, Some, nat_lt, IsSome}
 use Rattle.std.proofs.lemmas.Slice.Eq.{bytes_eq-Decides}
 use Rattle.std.proofs.lemmas.List.{take-append-drop}
 use Rattle.std.specs.List.{AllByRecursion}
@@ -9,8 +9,8 @@ use Rattle.qo_causes.specs.declared.inputs.Input.{Input}
 use Rattle.qo_causes.specs.declared.inputs.Moment.{Moment}
 use Rattle.qo_machine.specs.Machine.{IsBuilt}
 use Rattle.qo_machine.specs.Reading.{◌>>=◌, or_else, behind, digits_of, digits_until, next_of, number_until}
-use Rattle.qo_machine.specs.Record.{Entry, Progress, Read, allowed, bytes_at, content_at, content_entry, entries_from, entries_within, entry_at, inputs_behind, header, moment_at, nothing_yet, on_entry, open_at, open_entry, stopped, stream_inputs, with_first}
-use Rattle.qo_machine.specs.Requests.{Request, request_of}
+use Rattle.qo_machine.specs.Record.{Entry, Progress, Read, allowed, bytes_at, content_at, content_entry, entries_from, entries_within, entry_at, inputs_behind, header, moment_at, nothing_yet, open_at, open_entry, stopped, stream_inputs, with_first}
+use Rattle.qo_machine.specs.Requests.{request_of}
 use Rattle.qo_machine.specs.Runs.{OnlyBuilt}
 
 -- Where something was read in the end, each part was read.

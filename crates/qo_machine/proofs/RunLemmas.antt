@@ -1,22 +1,20 @@
 -- Runs: one turn after another.
-use Rattle.std.proofs.Common.{◌≡◌, ℕ, zero, suc, ◌+◌, ◌-◌, ◌^◌, ◌<◌, ◌≤◌, min, max, Bool, true, false, if◌then◌else◌, ◌||◌, List, [], ◌∷◌, ◌++◌, length, take, refl, sym, ◌∙◌, ap, subst, add-one, arith, append_assoc, length-append, Option, None, Some, IfSome, Result, Ok, Err, option_map, slice_index_or, slice_set, nat_lt}
+use Rattle.std.proofs.Common.{◌≡◌, ℕ, zero, suc, ◌+◌, ◌<◌, ◌≤◌, Bool, true, false, if◌then◌else◌, ◌||◌, List, [], ◌∷◌, ◌++◌, length, take, refl, sym, ◌∙◌, ap, subst, add-one, arith, append_assoc, length-append, Option, None, Some, Ok, Err, option_map, slice_index_or, slice_set, nat_lt}
 use Rattle.std.proofs.lemmas.Bool.{ltb-true, true≢false}
 use Rattle.std.proofs.lemmas.Grind.{flat_map-append}
 use Rattle.std.proofs.lemmas.List.{append-nil}
 use Rattle.std.specs.Io.KnownBytes.{append_known}
-use Rattle.std.specs.List.{AllByRecursion, cons_option, filter_map}
+use Rattle.std.specs.List.{cons_option}
 use Rattle.qo_machine.proofs.MachineLemmas.{step_ended, step_on}
 use Rattle.qo_causes.proofs.BytesLemmas.{append_known_twice}
-use Rattle.qo_causes.specs.Bytes.{AppendsPrefix}
 use Rattle.qo_causes.specs.Hub.{AtEnd, Gives, given_by, is_end, line}
 use Rattle.qo_causes.specs.declared.hubs.Lane.{Lane}
-use Rattle.qo_causes.specs.declared.hubs.Lane.TheVariants.{Session, Guest}
 use Rattle.qo_causes.specs.declared.inputs.Input.{Input}
 use Rattle.qo_causes.specs.declared.inputs.What.{What}
 use Rattle.qo_causes.specs.declared.inputs.What.TheVariants.{Open, Bytes, Shut, Guest as GuestLine, Step, End}
-use Rattle.qo_machine.specs.Machine.{Message, State, Stepped, Choice, IsBuilt, first, input_step, mode_of, opened, opening, served, step, unchanged, unless_ended}
+use Rattle.qo_machine.specs.Machine.{Message, State, Stepped, Choice, first, input_step, mode_of, opened, opening, served, step, unchanged, unless_ended}
 use Rattle.qo_machine.specs.Requests.{Request, request_of}
-use Rattle.qo_machine.specs.Runs.{Cut, CutRun, OnlyBuilt, RunMeets, Told, Turn, TurnMeets, Turns, after, close_lost, closed_where, cut_to, has_end, is_lost, lane_at, lane_bytes, lane_of, outs_at, outs_of, risen, risen_by, state_after, told, transcript, turn_inputs}
+use Rattle.qo_machine.specs.Runs.{Cut, CutRun, RunMeets, Told, Turn, TurnMeets, Turns, after, close_lost, closed_where, cut_to, has_end, is_lost, lane_at, lane_bytes, lane_of, outs_at, outs_of, risen, risen_by, state_after, told, transcript, turn_inputs}
 use Rattle.qo_machine.specs.Sending.{AreToLanes, Sent, SentFront}
 use Rattle.qo_machine.specs.declared.running.Ending.{Ending}
 use Rattle.qo_machine.specs.declared.running.Ending.TheVariants.{Done, Bad, Memory, NextFailed, SendFailed, Limit}

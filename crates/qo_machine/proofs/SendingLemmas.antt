@@ -1,13 +1,12 @@
 -- Sending the messages of a step, one at a time.
-use Rattle.std.proofs.Common.{◌≡◌, ℕ, zero, suc, ◌+◌, ◌-◌, ◌^◌, ◌<◌, ◌≤◌, ◌==◌, min, max, Bool, true, false, if◌then◌else◌, List, [], ◌∷◌, ◌++◌, length, take, drop, add-one, refl, sym, ◌∙◌, ap, subst, arith, length-append, Result, Err, Option, None, Some, slice_index_or, slice_set, replicate}
+use Rattle.std.proofs.Common.{◌≡◌, ℕ, zero, suc, ◌+◌, ◌<◌, ◌≤◌, ◌==◌, Bool, true, false, if◌then◌else◌, List, [], ◌∷◌, ◌++◌, length, take, drop, add-one, refl, sym, ◌∙◌, ap, subst, arith, length-append, Err, Option, None, Some, slice_index_or, slice_set, replicate}
 use Rattle.std.proofs.Math.Seq.{take-nil, take-append-add, take-suc}
-use Rattle.std.proofs.lemmas.Bool.{eqb-true, eqb-false, eq-eqb, true≢false}
+use Rattle.std.proofs.lemmas.Bool.{eqb-true, eqb-false, true≢false}
 use Rattle.std.proofs.lemmas.Grind.{flat_map-append}
 use Rattle.std.proofs.lemmas.List.{append-nil, take-append-le, take-append-drop, get_or-set_same, get_or-set_other, length-set}
 use Rattle.std.specs.Io.KnownBytes.{append_known}
 use Rattle.qo_causes.proofs.BytesLemmas.{append_known_twice}
 use Rattle.qo_causes.specs.Bytes.{AppendsPrefix, PutsAll}
-use Rattle.qo_causes.specs.Cause.{Rose}
 use Rattle.qo_causes.specs.Hub.{GoneOnly, Loses, Sends, is_gone, line, part, same_lane}
 use Rattle.qo_causes.specs.declared.hubs.Lane.{Lane}
 use Rattle.qo_causes.specs.declared.hubs.Lane.TheVariants.{Session, Guest}
@@ -16,7 +15,7 @@ use Rattle.qo_causes.specs.declared.hubs.SendError.TheVariants.{Gone, Failed}
 use Rattle.qo_causes.specs.declared.inputs.Input.{Input}
 use Rattle.qo_machine.specs.Machine.{Message}
 use Rattle.qo_machine.specs.Runs.{Told, told, cut_to, is_lost, lane_bytes, risen, transcript}
-use Rattle.qo_machine.specs.Sending.{AreToLanes, IsLane, SentLanes, Sent, SentFront}
+use Rattle.qo_machine.specs.Sending.{AreToLanes, IsLane, Sent, SentFront}
 
 -- One lane, over its flags: was its session lost, and is it the lane of the message.
 

@@ -6,7 +6,7 @@ use Rattle.std.proofs.lemmas.List.Splits.{slice_split_first, slice_split_none}
 use Rattle.std.proofs.lemmas.Bool.{ltb-true, ltb-false}
 use Rattle.std.proofs.lemmas.List.Sums.{fails_before_first}
 use Rattle.std.specs.Str.{bytes_eq}
-use Rattle.qo_model.specs.Board.{Board, Slot, slots_at, slot_named, target_of}
+use Rattle.qo_model.specs.Board.{Board, Slot, slots_at, target_of}
 use Rattle.qo_model.specs.Listing.{listing}
 use Rattle.qo_model.specs.Opening.{opening_board}
 use Rattle.qo_model.specs.Types.{types}

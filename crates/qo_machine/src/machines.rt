@@ -86,13 +86,15 @@ impl Model for Machine {
 
 impl Machine {
     ghost use Rattle.std.specs.Prelude.{◌≡◌, true, false, [], List, IfOk, IsErr, OnErr, OnOk};
+    ghost use Rattle.qo_model.specs.Sound.{IsSound};
     ghost use Rattle.qo_machine.specs.Machine.{Choice, IsBuilt, finished, input_step, opening, step};
     ghost use Rattle.qo_machine.specs.Runs.{close_lost};
     ghost use Rattle.qo_causes.specs.declared.inputs.What.TheVariants as What;
 
     /// The machine at first: the opening board, and all sessions closed.
     pub fn start(_alloc: Global) -> Result<Machine, Memory>
-        ensures { IfOk result (λ m. (m.state ≡ opening) × (m.spent ≡ false)) }
+        ensures state { IfOk result (λ m. (m.state ≡ opening) × (m.spent ≡ false)) }
+        ensures sound { IfOk result (λ m. IsSound m.state.board) }
     {
         Ok(Machine {
             sessions: [Session::Closed; 16],
@@ -118,6 +120,7 @@ impl Machine {
         ensures lasts { OnOk result (self.new.spent ≡ false) }
         ensures spends { OnErr result (self.new.spent ≡ true) }
         ensures spent { self.old.spent ≡ true → IsErr result }
+        ensures sound { OnOk result (IsSound self.old.state.board → IsSound self.new.state.board) }
     {
         if self.spent {
             return Err(Memory);

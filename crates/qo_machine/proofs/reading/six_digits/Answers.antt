@@ -1,5 +1,5 @@
 -- One digit more is read.
-use Rattle.std.proofs.Common.{◌≡◌, ℕ, suc, ◌+◌, ◌-◌, ◌<◌, List, [], ◌∷◌, Option, Some, arith, rules}
+use Rattle.std.proofs.Common.{◌≡◌, ℕ, suc, ◌+◌, ◌-◌, ◌<◌, List, ◌∷◌, Option, Some, arith, rules}
 use Rattle.qo_machine.specs.Reading.{next_of, digits_of}
 use Rattle.qo_machine.proofs.reading.six_digits.Goals as goal
 

@@ -1,6 +1,6 @@
 -- Turn by turn.
-use Rattle.std.proofs.Common.{refl, sym, ap, ◌∙◌, rules, arith}
-use Rattle.qo_machine.proofs.RunLemmas.{cut_none, done, going_on, gone_none, stopped_by}
+use Rattle.std.proofs.Common.{refl, sym, ◌∙◌, arith}
+use Rattle.qo_machine.proofs.RunLemmas.{cut_none, done, going_on, gone_none}
 use Rattle.qo_machine.proofs.running.run.Goals as goal
 
 pub returns-in_default-clause-meets : goal.returns-in_default-clause-meets
@@ -9,7 +9,7 @@ returns-in_default-clause-meets g c = cut_none _ _ _ _
 pub loop-init : goal.loop-init
 loop-init g c =
     record {
-      gone = gone_none _ _ _ _ _ c.in-Ok.ensures.0;
+      gone = gone_none _ _ _ _ _ c.in-Ok.ensures.state.0;
       built = c.requires;
       bad = refl;
       asked = refl;

@@ -1,7 +1,6 @@
 -- The turns so far lead from the opening to here.
-use Rattle.std.proofs.Common.{◌≡◌, ◌≤◌, ℕ, List, false, length}
-use Rattle.qo_machine.specs.Machine.{opening}
-use Rattle.qo_machine.specs.Runs.{OnlyBuilt, Turn, Turns, state_after, told}
+use Rattle.std.proofs.Common.{◌≡◌, ◌≤◌, List}
+use Rattle.qo_machine.specs.Runs.{OnlyBuilt, Turn, told}
 use Rattle.qo_machine.proofs.RunLemmas.{GoneOn}
 use Rattle.qo_machine.proofs.running.run.Given as goal
 

@@ -1,5 +1,5 @@
 -- One message after another.
-use Rattle.std.proofs.Common.{refl, sym, subst, take, ◌∙◌, rules, arith}
+use Rattle.std.proofs.Common.{refl, sym, subst, ◌∙◌, arith}
 use Rattle.qo_machine.proofs.SendingLemmas.{front_at, lane_of_item, one_further, sent_none}
 use Rattle.qo_machine.specs.Runs.{told}
 use Rattle.qo_machine.specs.Sending.{Sent}

@@ -1,7 +1,7 @@
 -- Each part goes on as the tree does.
 use Rattle.std.proofs.Common.{sym, ◌∙◌}
 use Rattle.std.specs.Option.{option_copied}
-use Rattle.qo_machine.proofs.TreeLemmas.{walk_child, walk_none, walk_skip}
+use Rattle.qo_machine.proofs.TreeLemmas.{walk_child, walk_none}
 use Rattle.qo_machine.proofs.tree.walk.Goals as goal
 
 pub loop-left-preserved : goal.loop-left-preserved

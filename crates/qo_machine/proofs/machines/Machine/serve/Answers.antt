@@ -1,5 +1,5 @@
 -- An input does what it does by itself, while the run goes on.
-use Rattle.std.proofs.Common.{[], refl, ◌∙◌, ap, sym}
+use Rattle.std.proofs.Common.{[], ◌∙◌, ap, sym}
 use Rattle.qo_causes.specs.declared.inputs.What.TheVariants.{Bytes}
 use Rattle.qo_machine.proofs.MachineLemmas.{if_ok, step_ended, step_on, state_ended, unchanged_is, finished_is}
 use Rattle.qo_machine.proofs.machines.Machine.serve.Goals as goal

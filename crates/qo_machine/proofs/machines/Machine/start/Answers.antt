@@ -1,0 +1,6 @@
+-- The board at first is the opening one.
+use Rattle.qo_model.proofs.OpeningLemmas.{opening_sound}
+use Rattle.qo_machine.proofs.machines.Machine.start.Goals as goal
+
+pub returns-clause-sound : goal.returns-clause-sound
+returns-clause-sound c = opening_sound
