@@ -1,4 +1,5 @@
 pub mod Addresses
+pub mod Answers
 pub mod Lines
 pub mod Padded
 pub mod Pieces

@@ -1,7 +1,9 @@
 //! Where a guest's act is aimed: the slots on the way to a device, or a memory slot.
 
-ghost use Rattle.std.specs.Prelude.{◌≡◌, ◌≤◌, ◌<◌, [], ◌∷◌, ◌++◌, length};
+ghost use Rattle.std.specs.Prelude.{◌≡◌, ◌≤◌, ◌<◌, [], ◌∷◌, ◌++◌, length, Some};
+ghost use Rattle.qo_guest.specs.Answers.{steps_text, address_text};
 
+use std::fmt;
 use std::marker::Model;
 
 /// The most slots on the way to a device: one of the root bus, and one for each bridge below it.
@@ -65,6 +67,21 @@ impl Steps9 {
     }
 }
 
+impl fmt::Display for Steps9 {
+    ghost output = { λ steps. Some (steps_text steps) };
+
+    fn fmt<W: fmt::Write>(&self, f: &mut fmt::Formatter<W>) -> fmt::Result {
+        let [first, others @ ..] = self.as_slice() else {
+            return Ok(());
+        };
+        write!(f, "{first}")?;
+        for slot in others {
+            write!(f, ".{slot}")?;
+        }
+        Ok(())
+    }
+}
+
 /// An address on a guest line.
 #[derive(Clone, Copy, Debug, PartialEq, Eq)]
 pub enum Addr {
@@ -72,4 +89,15 @@ pub enum Addr {
     Slots(Steps9),
     /// A memory slot.
     Mem(u8),
+}
+
+impl fmt::Display for Addr {
+    ghost output = { λ at. Some (address_text at) };
+
+    fn fmt<W: fmt::Write>(&self, f: &mut fmt::Formatter<W>) -> fmt::Result {
+        match self {
+            Addr::Slots(steps) => write!(f, "{steps}"),
+            Addr::Mem(number) => write!(f, "m{number}"),
+        }
+    }
 }

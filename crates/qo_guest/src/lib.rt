@@ -2,8 +2,10 @@
 #![tactic(auto)]
 
 mod addresses;
+mod answers;
 mod lines;
 mod words;
 
 pub use addresses::{Addr, Steps9};
+pub use answers::{GuestAnswer, answer_text};
 pub use lines::{GuestAct, GuestBad};
