@@ -30,7 +30,7 @@ filled_last m i n acc some small =
     record {
       zeros = m;
       counted = rw last (omega arith);
-      whole = rw (last, low, hex_text-zero m, append_assoc) refl
+      whole = rw (last, low, hex_text-zero m, append_assoc) refl;
     }
 
 -- at most m + 1 digits, behind zeros
@@ -47,7 +47,7 @@ filled (suc m) i n acc room small =
         record {
           zeros = front.zeros;
           counted = rw step (omega (arith, front.counted));
-          whole = rw step (front.whole ∙ sym (append_assoc (hex_text (suc m) (n / 16)) (digit_glyph false (n % 16) ∷ []) acc))
+          whole = rw step (front.whole ∙ sym (append_assoc (hex_text (suc m) (n / 16)) (digit_glyph false (n % 16) ∷ []) acc));
         }
 
 -- zeros fill up to eight digits

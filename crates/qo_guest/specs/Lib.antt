@@ -3,3 +3,4 @@ pub mod Answers
 pub mod Lines
 pub mod Padded
 pub mod Pieces
+pub mod Spellings

@@ -3,6 +3,7 @@
 
 mod addresses;
 mod answers;
+pub mod laws;
 mod lines;
 mod words;
 
