@@ -18,16 +18,38 @@ use Rattle.qo_guest.specs.Spellings.{IsSteps, IsAddress, AddressesAreSpelled}
 use Rattle.qo_guest.proofs.Numbers.{guard_some, then_some, number_taken, number_given}
 use Rattle.qo_guest.proofs.Splits.{pieces_some}
 
+-- what holds of each element, both ways
+each_of : {X : Type 0} (P : X → Type 0) (xs : List X) → AllByRecursion P xs → All P xs
+each_of P [] all = λ k d within. absurd (omega arith)
+each_of {X = X} P (x ∷ xs) all = go (each_of P xs all.1)
+  where
+    go : All P xs → (k : ℕ) (d : X) → k < length (x ∷ xs) → P (slice_index_or (x ∷ xs) k d)
+    go rest zero d within = all.0
+    go rest (suc k) d within = rest k d (omega arith)
+
+of_each : {X : Type 0} (P : X → Type 0) (xs : List X) → All P xs → AllByRecursion P xs
+of_each P [] all = tt
+of_each P (x ∷ xs) all = (all 0 x (omega arith), of_each P xs (λ k d within. all (suc k) d (omega arith)))
+
+-- a byte is not the separator
+abbrev pub IsOther : ℕ → ℕ → Type 0
+IsOther separator byte = (byte == separator) ≡ false
+
 -- no byte of a word is the separator
 abbrev pub IsFree : ℕ → List ℕ → Type 0
-IsFree separator bytes = All (λ byte. (byte == separator) ≡ false) bytes
+IsFree separator bytes = AllByRecursion (IsOther separator) bytes
+
+-- nor in two words, one after the other
+pub IsFree-append : (separator : ℕ) (xs ys : List ℕ) → IsFree separator xs → IsFree separator ys → IsFree separator (xs ++ ys)
+IsFree-append separator [] ys front back = back
+IsFree-append separator (x ∷ xs) ys front back = (front.0, IsFree-append separator xs ys front.1 back)
 
 -- words without separators, joined, are cut into the words
 pub pieces-join : (separator : ℕ) (first : List ℕ) (others : List (List ℕ)) → AllByRecursion (IsFree separator) (first ∷ others) → pieces separator (join_with_byte separator (first ∷ others)) ≡ first ∷ others
-pieces-join separator first [] free = slice_split_none (λ byte. byte == separator) first free.0
+pieces-join separator first [] free = slice_split_none (λ byte. byte == separator) first (each_of (IsOther separator) first free.0)
 pieces-join separator first (next ∷ others) free =
     let here : (separator == separator) ≡ true = grind (arith, nat_tests) in
-    slice_split_at (λ byte. byte == separator) first separator (join_with_byte separator (next ∷ others)) free.0 here
+    slice_split_at (λ byte. byte == separator) first separator (join_with_byte separator (next ∷ others)) (each_of (IsOther separator) first free.0) here
     ∙ ap (λ (words : List (List ℕ)). first ∷ words) (pieces-join separator next others free.1)
 
 -- a number's bytes are digits
@@ -38,10 +60,13 @@ decimal_bytes n i few within =
 
 -- and so no separator
 pub decimal-IsFree : (separator n : ℕ) → separator < 48 → n ≤ 255 → IsFree separator (decimal n)
-decimal-IsFree separator n low few = λ k d within.
-    let here = decimal_bytes n k few within in
-    let same = get_or_default (decimal n) k d 0 within in
-    ne_eqb (get_or (decimal n) k d) separator (λ e. absurd (omega (arith, here, same, e)))
+decimal-IsFree separator n low few = of_each (IsOther separator) (decimal n) go
+  where
+    go : All (IsOther separator) (decimal n)
+    go k d within =
+        let here = decimal_bytes n k few within in
+        let same = get_or_default (decimal n) k d 0 within in
+        ne_eqb (get_or (decimal n) k d) separator (λ e. absurd (omega (arith, here, same, e)))
 
 -- words that are numbers are the numbers' digits
 numbers_taken : (words : List (List ℕ)) (ns : List ℕ) → numbers_of words ≡ Some ns → AllByRecursion (λ n. n ≤ 255) ns × (words ≡ map decimal ns)
@@ -59,19 +84,6 @@ numbers_given : (ns : List ℕ) → AllByRecursion (λ n. n ≤ 255) ns → numb
 numbers_given [] all = refl
 numbers_given (n ∷ ns) all = let here = number_given n all.0 in let rest = numbers_given ns all.1 in rw (here, rest) refl
 
--- what holds of each element, both ways
-each_below : (ns : List ℕ) → AllByRecursion (λ n. n ≤ 255) ns → All (λ n. n ≤ 255) ns
-each_below [] all = λ k d within. absurd (omega arith)
-each_below (n ∷ ns) all = λ k d within. go (each_below ns all.1) k d within
-  where
-    go : All (λ m. m ≤ 255) ns → (k d : ℕ) → k < length (n ∷ ns) → slice_index_or (n ∷ ns) k d ≤ 255
-    go rest zero d within = all.0
-    go rest (suc k) d within = rest k d (omega arith)
-
-below_each : (ns : List ℕ) → All (λ n. n ≤ 255) ns → AllByRecursion (λ n. n ≤ 255) ns
-below_each [] all = tt
-below_each (n ∷ ns) all = (all 0 0 (omega arith), below_each ns (λ k d within. all (suc k) d (omega arith)))
-
 -- a word that is slots is their text
 steps_taken : (word steps : List ℕ) → steps_of word ≡ Some steps → IsSteps steps × (word ≡ steps_text steps)
 steps_taken word steps e =
@@ -83,7 +95,7 @@ steps_taken word steps e =
     let long : length (pieces 46 word) ≡ suc (length first.1) = ap length first.2 in
     let within = leb-true (length read.0) 9 few.0 in
     let whole : word ≡ steps_text read.0 = sym (join_with_byte-slice_split 46 word) ∙ ap (join_with_byte 46) numbers.1 in
-    subst (λ (xs : List ℕ). IsSteps xs × (word ≡ steps_text xs)) few.1 (record { some = omega arith; few = within; slots = each_below read.0 numbers.0 }, whole)
+    subst (λ (xs : List ℕ). IsSteps xs × (word ≡ steps_text xs)) few.1 (record { some = omega arith; few = within; slots = each_of (λ slot. slot ≤ 255) read.0 numbers.0 }, whole)
 
 -- no dot in the words of slots
 all_free : (ns : List ℕ) → AllByRecursion (λ n. n ≤ 255) ns → AllByRecursion (IsFree 46) (map decimal ns)
@@ -94,7 +106,7 @@ all_free (n ∷ ns) all = (decimal-IsFree 46 n (omega arith) all.0, all_free ns 
 steps_given : (steps : List ℕ) → IsSteps steps → steps_of (steps_text steps) ≡ Some steps
 steps_given [] is = let some = is.some in absurd (omega arith)
 steps_given (n ∷ ns) is =
-    let each = below_each (n ∷ ns) is.slots in
+    let each = of_each (λ slot. slot ≤ 255) (n ∷ ns) is.slots in
     let cut = pieces-join 46 (decimal n) (map decimal ns) (all_free (n ∷ ns) each) in
     let numbers = numbers_given (n ∷ ns) each in
     let few = is.few in
@@ -119,7 +131,7 @@ steps_first (n ∷ next ∷ ns) is =
     record { some = omega (arith, length-append (decimal n) rest, some); digit = omega (arith, front, (decimal_bytes n 0 few some).1) }
 
 -- an address under a test of its first byte
-address_taken : (word : List ℕ) (at : Addr) → address_of word ≡ Some at → IsAddress at × (word ≡ address_text at)
+pub address_taken : (word : List ℕ) (at : Addr) → address_of word ≡ Some at → IsAddress at × (word ≡ address_text at)
 address_taken [] at e = cc
 address_taken (byte ∷ bytes) at e = go (byte == 109) refl e
   where
@@ -143,9 +155,20 @@ slots_given (byte ∷ bytes) steps first e =
     let other : (byte == 109) ≡ false = grind (arith, nat_tests) in
     rw (other, e) refl
 
-address_given : (at : Addr) → IsAddress at → address_of (address_text at) ≡ Some at
+pub address_given : (at : Addr) → IsAddress at → address_of (address_text at) ≡ Some at
 address_given (Slots steps) is = slots_given (steps_text steps) steps (steps_first steps is) (steps_given steps is)
 address_given (Mem n) few = rw (number_given n few) refl
+
+-- no space in the text of an address
+steps-IsFree : (steps : List ℕ) → AllByRecursion (λ slot. slot ≤ 255) steps → IsFree 32 (steps_text steps)
+steps-IsFree [] all = tt
+steps-IsFree (n ∷ []) all = decimal-IsFree 32 n (omega arith) all.0
+steps-IsFree (n ∷ next ∷ ns) all =
+    IsFree-append 32 (decimal n) (46 ∷ steps_text (next ∷ ns)) (decimal-IsFree 32 n (omega arith) all.0) (refl, steps-IsFree (next ∷ ns) all.1)
+
+pub address-IsFree : (at : Addr) → IsAddress at → IsFree 32 (address_text at)
+address-IsFree (Slots steps) is = steps-IsFree steps (of_each (λ slot. slot ≤ 255) steps is.slots)
+address-IsFree (Mem n) few = (refl, decimal-IsFree 32 n (omega arith) few)
 
 pub addresses_are_spelled : AddressesAreSpelled
 addresses_are_spelled word at = (address_taken word at, λ h. rw h.1 (address_given at h.0))
