@@ -1,15 +1,15 @@
 -- Values from their hexadecimal digits, and back.
-use Rattle.std.proofs.Common.{◌≡◌, ◌≢◌, ◌==◌, ℕ, suc, zero, ◌+◌, ◌-◌, ◌*◌, ◌/◌, ◌%◌, ◌^◌, ◌<◌, ◌≤◌, Bool, true, false, cond, ◌&&◌, nat_le, nat_lt, List, [], ◌∷◌, ◌++◌, length, Option, Some, None, refl, sym, ap, subst, ◌∙◌, arith}
+use Rattle.std.proofs.Common.{◌≡◌, ◌==◌, ℕ, suc, zero, ◌+◌, ◌*◌, ◌/◌, ◌%◌, ◌^◌, ◌<◌, Bool, true, false, cond, ◌&&◌, nat_le, List, [], ◌∷◌, ◌++◌, length, Option, Some, None, refl, ap, arith}
 use Rattle.std.specs.Prelude.{option_and_then, codes}
 use Rattle.std.specs.Char.{digit_value}
 use Rattle.std.specs.Fmt.{digit_glyph}
-use Rattle.std.specs.Str.Parse.{AllDigits, digits_value, digits_value_after}
+use Rattle.std.specs.Str.Parse.{AllDigits, digits_value_after}
 use Rattle.std.proofs.Math.Nat.{pow-suc}
 use Rattle.std.proofs.lemmas.Bool.Decides.{nat_tests}
 use Rattle.qo_guest.specs.Addresses.{hex_digit, with_hex, value_of}
 use Rattle.qo_guest.specs.Answers.{hex_text}
 use Rattle.qo_guest.specs.Spellings.{IsHex, ValuesAreReadBack}
-use Rattle.qo_guest.proofs.Numbers.{guard_some, then_some}
+use Rattle.qo_guest.proofs.Numbers.{then_some}
 
 -- a hexadecimal digit and its value
 digit_is : (byte digit : ℕ) → hex_digit byte ≡ Some digit → (digit_value byte < 16) × (digit ≡ digit_value byte)

@@ -1,7 +1,6 @@
 -- Lines from what they ask for, and back.
-use Rattle.std.proofs.Common.{◌≡◌, ℕ, ◌+◌, ◌<◌, ◌≤◌, Bool, true, false, cond, nat_le, List, [], ◌∷◌, ◌++◌, length, Option, Some, None, refl, sym, ap, subst, ◌∙◌, arith, rules, ◌⊎◌, inl, inr, ⊎_elim}
+use Rattle.std.proofs.Common.{◌≡◌, ℕ, ◌≤◌, Bool, true, false, cond, nat_le, List, [], ◌∷◌, ◌++◌, length, Option, Some, None, refl, sym, ap, subst, ◌∙◌, arith, rules, ◌⊎◌, inl, inr, ⊎_elim}
 use Rattle.std.specs.Prelude.{option_and_then, codes}
-use Rattle.std.specs.Char.{digit_value}
 use Rattle.std.specs.Fmt.{decimal}
 use Rattle.std.specs.List.{AllByRecursion, join_with_byte}
 use Rattle.std.specs.Str.{bytes_eq}
@@ -16,9 +15,9 @@ use Rattle.qo_guest.specs.declared.lines.GuestAct.TheVariants.{Ack, Nack, Poll, 
 use Rattle.qo_guest.specs.Addresses.{pieces, number_of, address_of, value_of}
 use Rattle.qo_guest.specs.Answers.{address_text}
 use Rattle.qo_guest.specs.Lines.{lone_act, pending_act, register_act, aimed_act, act_of, guest_line}
-use Rattle.qo_guest.specs.Spellings.{IsAddress, IsHex, Spells, LinesAreSpelled}
+use Rattle.qo_guest.specs.Spellings.{IsAddress, Spells, LinesAreSpelled}
 use Rattle.qo_guest.proofs.Numbers.{guard_some, then_some, number_taken, number_given}
-use Rattle.qo_guest.proofs.AddressSpellings.{IsFree, IsFree-append, IsOther, pieces-join, decimal-IsFree, address-IsFree, address_taken, address_given}
+use Rattle.qo_guest.proofs.AddressSpellings.{IsFree, IsOther, pieces-join, decimal-IsFree, address-IsFree, address_taken, address_given}
 use Rattle.qo_guest.proofs.HexSpellings.{guard_then, value_taken, value_given}
 
 -- the first choice, or the others
@@ -48,7 +47,7 @@ pending_taken verb at act is e =
     let behind : List ℕ → List ℕ = λ word. word ++ 32 ∷ address_text at in
     ⊎_elim (λ ack. subst (λ (a : GuestAct). Spells (behind verb) a) ack.1 (is, ap behind (word_is verb (codes "ack") ack.0)))
     (λ last. let nack = guard_some (bytes_eq verb (codes "nack")) (Nack at) act last in
-        subst (λ (a : GuestAct). Spells (behind verb) a) nack.1 (is, ap behind (word_is verb (codes "nack") nack.0)))
+    subst (λ (a : GuestAct). Spells (behind verb) a) nack.1 (is, ap behind (word_is verb (codes "nack") nack.0)))
     (chosen (bytes_eq verb (codes "ack")) (Ack at) (cond (bytes_eq verb (codes "nack")) (Some (Nack at)) None) act e)
 
 register_taken : (verb : List ℕ) (at : Addr) (register : ℕ) (words : List (List ℕ)) (act : GuestAct) → IsAddress at → register ≤ 255 → register_act verb at register words ≡ Some act → Spells (line_of (verb ∷ address_text at ∷ decimal register ∷ words)) act

@@ -1,6 +1,6 @@
 -- Numbers from their decimal digits, and back.
-use Rattle.std.proofs.Common.{◌≡◌, ◌≢◌, ◌==◌, ℕ, suc, zero, ◌+◌, ◌-◌, ◌*◌, ◌/◌, ◌%◌, ◌^◌, ◌<◌, ◌≤◌, Bool, true, false, cond, ◌&&◌, nat_le, eqb, List, [], ◌∷◌, ◌++◌, length, get_or, Option, Some, None, refl, sym, ap, subst, ◌∙◌, append_assoc, append-nil, arith, ◌⊎◌, ⊎_elim}
-use Rattle.std.specs.Prelude.{option_and_then, ◌↔◌}
+use Rattle.std.proofs.Common.{◌≡◌, ◌≢◌, ◌==◌, ℕ, ◌+◌, ◌-◌, ◌*◌, ◌/◌, ◌%◌, ◌<◌, ◌≤◌, Bool, true, false, cond, ◌&&◌, nat_le, List, [], ◌∷◌, ◌++◌, length, get_or, Option, Some, None, refl, sym, ap, ◌∙◌, append_assoc, append-nil, arith, ⊎_elim}
+use Rattle.std.specs.Prelude.{option_and_then}
 use Rattle.std.specs.Fmt.{decimal}
 use Rattle.std.proofs.lemmas.Fmt.{decimal_digit, decimal_step, decimal_by_steps, first_decimal, decimal_nonempty}
 use Rattle.std.proofs.lemmas.Bool.Decides.{nat_tests}
@@ -86,6 +86,7 @@ digits_give n few = decimal_by_steps (λ k ds. k ≤ 255 → with_digits 0 ds �
   where
     one : (k : ℕ) → k < 10 → k ≤ 255 → with_digits 0 ((48 + k) ∷ []) ≡ Some k
     one k small below = rw (digit_takes 0 (48 + k) k (record { low = omega arith; high = omega arith; sum = omega arith; fits = below })) refl
+
     more : (k : ℕ) (ds : List ℕ) → 10 ≤ k → (k / 10 ≤ 255 → with_digits 0 ds ≡ Some (k / 10)) → k ≤ 255 → with_digits 0 (ds ++ ((48 + k % 10) ∷ [])) ≡ Some k
     more k ds large front below =
         let first = front (omega arith) in
@@ -107,6 +108,7 @@ number_given n few = ⊎_elim positive (λ none. zero_given n (omega arith)) (ca
   where
     zero_given : (k : ℕ) → k ≡ 0 → number_of (decimal k) ≡ Some k
     zero_given k none = rw (decimal_digit k (omega arith), none) refl
+
     positive : 0 < n → number_of (decimal n) ≡ Some n
     positive some =
         let first = first_decimal n some (omega arith) in

@@ -1,5 +1,5 @@
 -- Words that are numbers or addresses, by the form of guest lines (profile, "Guest lines").
-use Rattle.std.specs.Prelude.{ℕ, ◌+◌, ◌-◌, ◌*◌, Bool, ◌&&◌, ◌==◌, nat_le, List, [], ◌∷◌, length, Option, Some, None, option_and_then, if◌then◌else◌}
+use Rattle.std.specs.Prelude.{ℕ, ◌+◌, ◌-◌, ◌*◌, ◌&&◌, ◌==◌, nat_le, List, [], ◌∷◌, length, Option, Some, None, option_and_then, if◌then◌else◌}
 use Rattle.std.specs.List.{slice_split}
 use Rattle.qo_guest.specs.declared.addresses.Addr.{Addr}
 use Rattle.qo_guest.specs.declared.addresses.Addr.TheVariants.{Slots, Mem}

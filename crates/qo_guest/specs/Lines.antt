@@ -1,5 +1,5 @@
 -- How a guest line is read into an act (profile, "Guest lines").
-use Rattle.std.specs.Prelude.{ℕ, Bool, nat_le, codes, List, [], ◌∷◌, length, Option, Some, None, option_and_then, if◌then◌else◌}
+use Rattle.std.specs.Prelude.{ℕ, nat_le, codes, List, [], ◌∷◌, length, Option, Some, None, option_and_then, if◌then◌else◌}
 use Rattle.std.specs.Str.{bytes_eq}
 use Rattle.qo_guest.specs.Addresses.{pieces, number_of, address_of, value_of}
 use Rattle.qo_guest.specs.declared.addresses.Addr.{Addr}

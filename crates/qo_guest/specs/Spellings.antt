@@ -1,5 +1,5 @@
 -- How a guest spells what it asks for (profile, "Guest lines").
-use Rattle.std.specs.Prelude.{◌≡◌, ℕ, ◌≤◌, ◌<◌, ◌^◌, ◌↔◌, codes, List, [], ◌∷◌, ◌++◌, length, Option, Some, All}
+use Rattle.std.specs.Prelude.{◌≡◌, ℕ, ◌≤◌, ◌<◌, ◌^◌, ◌↔◌, codes, List, ◌∷◌, ◌++◌, length, Some, All}
 use Rattle.std.specs.Fmt.{decimal}
 use Rattle.std.specs.Str.Parse.{AllDigits, digits_value}
 use Rattle.qo_guest.specs.declared.addresses.Addr.{Addr}

@@ -41,14 +41,6 @@ impl Steps9 {
         Steps9 { slots, count: 1 }
     }
 
-    /// How many slots there are.
-    pub fn len(&self) -> usize
-        ensures value { result ≡ length self.now }
-        ensures within { (1 ≤ result) × (result ≤ 9) }
-    {
-        self.count
-    }
-
     /// Goes one slot further. It takes no memory.
     pub fn push(&mut self, slot: u8)
         requires { length self.old < 9 }

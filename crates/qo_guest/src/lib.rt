@@ -9,4 +9,7 @@ mod words;
 
 pub use addresses::{Addr, Steps9};
 pub use answers::{GuestAnswer, answer_text};
-pub use lines::{GuestAct, GuestBad};
+pub use lines::{GuestAct, GuestBad, read_line};
+
+#[cfg(test)]
+mod tests;

@@ -13,6 +13,9 @@ fn separator_at(bytes: &[u8], separator: u8) -> Option<usize>
     bytes.iter().position(|byte| *byte == separator)
 }
 
+/// The most digits of a value.
+const VALUE_DIGITS_MAX: usize = 8;
+
 /// What stands before the first separator, and what stands behind it, where there is one.
 pub fn split_piece(bytes: &[u8], separator: u8) -> (&[u8], Option<&[u8]>)
     ensures pieces { pieces separator bytes.now
@@ -64,7 +67,7 @@ fn read_steps(word: &[u8]) -> Option<Steps9>
     while let Some(rest) = behind {
         let (next, behind_next) = split_piece(rest, b'.');
         let slot = read_number(next)?;
-        if steps.len() == STEPS_MAX {
+        if steps.as_slice().len() == STEPS_MAX {
             return None;
         }
         steps.push(slot);
@@ -114,7 +117,8 @@ pub fn read_value(word: &[u8]) -> Option<u32>
     ensures { result ≡ value_of word.now }
 {
     match word {
-        [b'0', b'x', digits @ ..] if !digits.is_empty() && digits.len() <= 8 => read_hex(digits),
+        [b'0', b'x', digits @ ..] if !digits.is_empty() && digits.len() <= VALUE_DIGITS_MAX =>
+            read_hex(digits),
         _ => None,
     }
 }

@@ -1,4 +1,4 @@
-use Rattle.qo_guest.proofs.HexSpellings.{values_are_read_back, value_taken}
+use Rattle.qo_guest.proofs.HexSpellings.{values_are_read_back}
 use Rattle.qo_guest.proofs.laws.law_values.Goals as goal
 
 pub returns : goal.returns

@@ -1,4 +1,4 @@
-use Rattle.std.proofs.Common.{◌≡◌, ◌≤◌, ◌+◌, length, option_copied}
+use Rattle.std.proofs.Common.{◌≡◌, ◌≤◌, length, option_copied}
 use Rattle.qo_guest.specs.Addresses.{steps_of}
 use Rattle.qo_guest.specs.Pieces.{pieces_behind, size_behind}
 use Rattle.qo_guest.proofs.Steps.{with_steps}

@@ -1,6 +1,5 @@
-use Rattle.std.proofs.Common.{◌+◌, sym, ap, drop, ◌≡◌, length, take, ◌-◌, ◌∷◌}
-use Rattle.std.proofs.lemmas.List.{take_rest, length-drop}
-use Rattle.qo_guest.specs.Addresses.{pieces}
+use Rattle.std.proofs.Common.{sym}
+use Rattle.std.proofs.lemmas.List.{take_rest}
 use Rattle.qo_guest.proofs.Splits.{pieces_found, pieces_whole}
 use Rattle.qo_guest.proofs.words.split_piece.Goals as goal
 

@@ -1,4 +1,4 @@
-use Rattle.std.proofs.Common.{◌≡◌, Some, refl, ap, arith}
+use Rattle.std.proofs.Common.{◌≡◌, Some, ap, arith}
 use Rattle.std.specs.Fmt.{styled_digits_output}
 use Rattle.qo_guest.specs.Answers.{hex_text}
 use Rattle.qo_guest.proofs.Padded8.{padded_is}
