@@ -1,4 +1,4 @@
--- Words that are numbers or addresses, by the form of guest lines (profile, "Guest lines").
+-- The words of a guest line: numbers, addresses and values (docs/PROFILE.md, guest lines).
 use Rattle.std.specs.Prelude.{ℕ, ◌+◌, ◌-◌, ◌*◌, ◌&&◌, ◌==◌, nat_le, List, [], ◌∷◌, length, Option, Some, None, option_and_then, if◌then◌else◌}
 use Rattle.std.specs.List.{slice_split}
 use Rattle.qo_guest.specs.declared.addresses.Addr.{Addr}

@@ -1,4 +1,4 @@
--- How answers to guest lines are spelled (profile, "Guest lines").
+-- How answers to guest lines are spelled (docs/PROFILE.md, guest lines).
 use Rattle.std.specs.Prelude.{ℕ, ◌/◌, ◌%◌, zero, suc, codes, List, [], ◌∷◌, ◌++◌, false, map}
 use Rattle.std.specs.Fmt.{decimal, digit_glyph}
 use Rattle.std.specs.List.{join_with_byte}

@@ -1,4 +1,4 @@
--- How a guest line is read into an act (profile, "Guest lines").
+-- How a guest line is read into an act (docs/PROFILE.md, guest lines).
 use Rattle.std.specs.Prelude.{ℕ, nat_le, codes, List, [], ◌∷◌, length, Option, Some, None, option_and_then, if◌then◌else◌}
 use Rattle.std.specs.Str.{bytes_eq}
 use Rattle.qo_guest.specs.Addresses.{pieces, number_of, address_of, value_of}

@@ -1,4 +1,4 @@
--- How a guest spells what it asks for (profile, "Guest lines").
+-- How a guest spells what it asks for (docs/PROFILE.md, guest lines).
 use Rattle.std.specs.Prelude.{◌≡◌, ℕ, ◌≤◌, ◌<◌, ◌^◌, ◌↔◌, codes, List, ◌∷◌, ◌++◌, length, Some, All}
 use Rattle.std.specs.Fmt.{decimal}
 use Rattle.std.specs.Str.Parse.{AllDigits, digits_value}
@@ -10,7 +10,7 @@ use Rattle.qo_guest.specs.Addresses.{number_of, address_of, value_of}
 use Rattle.qo_guest.specs.Answers.{address_text, hex_text}
 use Rattle.qo_guest.specs.Lines.{guest_line}
 
--- 1 to 9 slots
+-- 1 to 9 slots, each 0 to 255
 pub record IsSteps (steps : List ℕ) : Type 0 where
   pub some : 1 ≤ length steps
   pub few : length steps ≤ 9

@@ -12,7 +12,7 @@ pub const STEPS_MAX: usize = 9;
 /// The slots on the way from the root bus to a device, 1 to 9 of them, outermost first.
 #[derive(Clone, Copy, Debug, PartialEq, Eq)]
 pub struct Steps9 {
-    slots: [u8; 9],
+    slots: [u8; STEPS_MAX],
     count: usize,
 }
 
@@ -64,7 +64,7 @@ impl fmt::Display for Steps9 {
 
     fn fmt<W: fmt::Write>(&self, f: &mut fmt::Formatter<W>) -> fmt::Result {
         let [first, others @ ..] = self.as_slice() else {
-            return Ok(());
+            unreachable!()
         };
         write!(f, "{first}")?;
         for slot in others {

@@ -6,15 +6,15 @@ ghost use Rattle.qo_guest.specs.Pieces.{pieces_behind};
 
 use crate::addresses::{Addr, STEPS_MAX, Steps9};
 
+/// The most digits of a value.
+const VALUE_DIGITS_MAX: usize = 8;
+
 /// Where the first separator stands.
 fn separator_at(bytes: &[u8], separator: u8) -> Option<usize>
     ensures { result ≡ position (λ byte. byte == separator) bytes.now }
 {
     bytes.iter().position(|byte| *byte == separator)
 }
-
-/// The most digits of a value.
-const VALUE_DIGITS_MAX: usize = 8;
 
 /// What stands before the first separator, and what stands behind it, where there is one.
 pub fn split_piece(bytes: &[u8], separator: u8) -> (&[u8], Option<&[u8]>)
@@ -28,7 +28,7 @@ pub fn split_piece(bytes: &[u8], separator: u8) -> (&[u8], Option<&[u8]>)
     }
 }
 
-/// A number with one more decimal digit; `None` where the byte is none or the number leaves a byte.
+/// A number with one more decimal digit; `None` where the byte is no digit or the number passes 255.
 fn with_digit(number: u8, byte: u8) -> Option<u8>
     ensures { result ≡ with_digit number byte }
 {
