@@ -4,3 +4,4 @@ pub mod Kinds
 pub mod Names
 pub mod Properties
 pub mod Registers
+pub mod Rings
