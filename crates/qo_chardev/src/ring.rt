@@ -68,7 +68,7 @@ impl From<AllocError> for TakeError {
 }
 
 impl Ring {
-    ghost use Rattle.std.specs.Prelude.{◌≡◌, true, false, None, Some, take, IfOk, OnOk, OnErr};
+    ghost use Rattle.std.specs.Prelude.{◌≡◌, true, false, None, Some, IfOk, OnOk, OnErr};
     ghost use Rattle.qo_values.specs.Rings.{is_ring_size, empty_ring, ring_add, ring_push, ring_oldest, ring_drop};
     ghost use Rattle.qo_chardev.specs.Texts.{told, untold, Adds};
 
@@ -107,8 +107,10 @@ impl Ring {
     pub fn take(&mut self, most: usize, form: Form) -> Result<Text, TakeError>
         ensures text { IfOk result (λ text. told form (ring_oldest self.old most) ≡ Some text) }
         ensures taken { OnOk result (self.new ≡ ring_drop self.old most) }
-        ensures not_ascii { told form (ring_oldest self.old most) ≡ None → result ≡ Err TakeError.NotAscii }
-        ensures only_not_ascii { result ≡ Err TakeError.NotAscii → told form (ring_oldest self.old most) ≡ None }
+        ensures not_ascii { told form (ring_oldest self.old most) ≡ None
+            → result ≡ Err TakeError.NotAscii }
+        ensures only_not_ascii { result ≡ Err TakeError.NotAscii
+            → told form (ring_oldest self.old most) ≡ None }
         ensures err { OnErr result (self.new ≡ self.old) }
     {
         let len = self.buffer.len();
@@ -119,8 +121,8 @@ impl Ring {
         Ok(text)
     }
 
-    /// Adds the bytes whose standard Base64 a text is; `BadText` exactly where there are none. An
-    /// error adds nothing.
+    /// Adds the bytes whose standard Base64 a text is. Where there are none it fails, by `BadText`
+    /// or, where memory runs out first, by `Memory`. An error adds nothing.
     pub fn add_base64(&mut self, text: &str) -> Result<(), AddError>
         ensures added { OnOk result (Adds text.now self.old self.new) }
         ensures only_bad_text { result ≡ Err AddError.BadText → untold text.now ≡ None }

@@ -52,8 +52,10 @@ fn ascii_text(bytes: Vec<u8>) -> Text
 /// The text that tells the bytes of two slices in a form; `NotAscii` exactly where there is none.
 pub fn tell(alloc: Global, front: &[u8], back: &[u8], form: Form) -> Result<Text, TakeError>
     ensures text { IfOk result (λ text. told form (front.now ++ back.now) ≡ Some text) }
-    ensures not_ascii { told form (front.now ++ back.now) ≡ None → result ≡ Err TakeError.NotAscii }
-    ensures only_not_ascii { result ≡ Err TakeError.NotAscii → told form (front.now ++ back.now) ≡ None }
+    ensures not_ascii { told form (front.now ++ back.now) ≡ None
+        → result ≡ Err TakeError.NotAscii }
+    ensures only_not_ascii { result ≡ Err TakeError.NotAscii
+        → told form (front.now ++ back.now) ≡ None }
 {
     match form {
         Form::Utf8 => {

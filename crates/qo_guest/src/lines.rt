@@ -1,8 +1,8 @@
 //! The lines that a guest sends, and the acts that they are.
 
-ghost use Rattle.std.specs.Prelude.{◌≡◌, [], ◌∷◌, None, option_and_then, option_copied};
+ghost use Rattle.std.specs.Prelude.{◌≡◌, [], ◌∷◌, option_copied};
 ghost use Rattle.std.specs.Result.{result_ok};
-ghost use Rattle.qo_guest.specs.Addresses.{pieces, number_of, address_of, value_of};
+ghost use Rattle.qo_guest.specs.Addresses.{pieces};
 ghost use Rattle.qo_guest.specs.Pieces.{pieces_behind};
 ghost use Rattle.qo_guest.specs.Lines.{lone_act, pending_act, register_act, aimed_act, act_of, guest_line};
 
