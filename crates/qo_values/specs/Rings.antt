@@ -27,9 +27,10 @@ ring_add ring more = record ring { bytes = keep_last ring.size (ring.bytes ++ mo
 abbrev pub ring_push : RingBytes → ℕ → RingBytes
 ring_push ring byte = ring_add ring (byte ∷ [])
 
--- the oldest bytes, at most so many, and a ring without them
+-- the oldest bytes of a ring, at most so many
 abbrev pub ring_oldest : RingBytes → ℕ → List ℕ
 ring_oldest ring most = take most ring.bytes
 
+-- a ring without them
 abbrev pub ring_drop : RingBytes → ℕ → RingBytes
 ring_drop ring most = record ring { bytes = drop most ring.bytes }
