@@ -20,7 +20,10 @@ fn reads(rt: &impl Abort, ring: &mut Ring, text: &str) {
 /// Adds bytes in Base64, which must be refused.
 fn refuses(rt: &impl Abort, ring: &mut Ring, text: &str) {
     let added = ring.add_base64(text);
-    assert!(rt; matches!(&added, Err(AddError::BadText)), "read: {text}");
+    assert!(rt;
+        matches!(&added, Err(AddError::BadText)),
+        "not refused as bad: {text}"
+    );
 }
 
 #[test]
