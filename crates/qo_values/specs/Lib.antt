@@ -6,5 +6,6 @@ pub mod Kinds
 pub mod Names
 pub mod Properties
 pub mod Registers
+pub mod Rings
 pub mod Timer
 pub mod Uart

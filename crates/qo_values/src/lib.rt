@@ -3,6 +3,7 @@
 #![tactic(auto)]
 
 mod codes;
+mod forms;
 mod ids;
 mod kinds;
 mod limits;
@@ -10,11 +11,13 @@ mod names;
 mod properties;
 
 pub use codes::{Class, Code};
+pub use forms::Form;
 pub use ids::{Id, IdError};
 pub use kinds::{Act, TypeId};
 pub use limits::{
     BUS_DEPTH_MAX, BUS_SLOTS, GUEST_LINE_MAX, HOLD_COUNT_MAX, INPUTS_MAX, LIVE_OBJECTS_MAX,
-    MESSAGE_MAX, NESTING_MAX, NOTES_KEPT, NOTES_PER_REPLY, NOTICES_MAX, SESSIONS, TIME_MAX,
+    MESSAGE_MAX, NESTING_MAX, NOTES_KEPT, NOTES_PER_REPLY, NOTICES_MAX, RING_SIZE_MAX, SESSIONS,
+    TIME_MAX,
 };
 pub use names::{Chars, Name, Text};
 pub use properties::{Misfit, PropType, Val};

@@ -36,5 +36,8 @@ pub const TIME_MAX: u64 = 9_223_372_036_854_775_807;
 /// Bytes of a guest line; a longer one is answered `no line`.
 pub const GUEST_LINE_MAX: u64 = 256;
 
+/// The greatest size of a ring, in bytes; a greater one is E51.
+pub const RING_SIZE_MAX: u64 = 1_048_576;
+
 /// Inputs of one run; a run that takes so many without an end ends as its input limit.
 pub const INPUTS_MAX: u64 = 1_000_000_000;

@@ -1,0 +1,14 @@
+-- What the words on rings mean.
+use Rattle.std.specs.Prelude.{◌≡◌, ℕ, ◌^◌, ◌≤◌, ◌↔◌, List, true, Some}
+use Rattle.base64.specs.Engines.{standard}
+use Rattle.base64.specs.GeneralPurpose.{encode_of, IsBytes}
+use Rattle.qo_values.specs.Rings.{is_ring_size}
+use Rattle.qo_chardev.specs.Texts.{untold}
+
+-- the sizes of rings are the powers of two up to 1,048,576
+abbrev pub SizesArePowers : Type 0
+SizesArePowers = (size : ℕ) → (is_ring_size size ≡ true) ↔ ((k : ℕ) × (k ≤ 20) × (size ≡ 2 ^ k))
+
+-- a text is read as bytes exactly where it is their Base64
+abbrev pub TextsAreEncodings : Type 0
+TextsAreEncodings = (text bytes : List ℕ) → IsBytes text → IsBytes bytes → (untold text ≡ Some bytes) ↔ (text ≡ encode_of standard bytes)

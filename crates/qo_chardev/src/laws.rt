@@ -1,0 +1,13 @@
+//! What holds of the definitions alone: the sizes of rings, and Base64.
+
+ghost use Rattle.qo_chardev.specs.Laws.{SizesArePowers, TextsAreEncodings};
+
+/// A number is the size of a ring exactly where it is a power of two up to 1,048,576.
+pub fn law_sizes()
+    ensures { SizesArePowers }
+{}
+
+/// A text is read as bytes exactly where it is their standard Base64 with padding.
+pub fn law_base64()
+    ensures { TextsAreEncodings }
+{}

@@ -1,0 +1,6 @@
+use Rattle.std.proofs.Common.{◌≡◌, drop}
+use Rattle.qo_guest.specs.Addresses.{with_digits}
+use Rattle.qo_guest.proofs.words.with_digits.Given as goal
+
+abbrev pub invariant-loop-digit : goal.invariant-loop-digit
+invariant-loop-digit l = with_digits l.number (drop l.digit-index l.digits) ≡ with_digits l.fn.number l.digits

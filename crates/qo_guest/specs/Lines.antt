@@ -1,0 +1,43 @@
+-- How a guest line is read into an act (docs/PROFILE.md, guest lines).
+use Rattle.std.specs.Prelude.{ℕ, nat_le, codes, List, [], ◌∷◌, length, Option, Some, None, option_and_then, if◌then◌else◌}
+use Rattle.std.specs.Str.{bytes_eq}
+use Rattle.qo_guest.specs.Addresses.{pieces, number_of, address_of, value_of}
+use Rattle.qo_guest.specs.declared.addresses.Addr.{Addr}
+use Rattle.qo_guest.specs.declared.lines.GuestAct.{GuestAct}
+use Rattle.qo_guest.specs.declared.lines.GuestAct.TheVariants.{Ack, Nack, Poll, Read, Write, Reset, Shutdown}
+
+-- the act of a lone word
+abbrev pub lone_act : List ℕ → Option GuestAct
+lone_act verb =
+    if bytes_eq verb (codes "poll") then Some Poll
+    else (if bytes_eq verb (codes "reset") then Some Reset
+    else (if bytes_eq verb (codes "shutdown") then Some Shutdown else None))
+
+-- the act of a verb that takes an address
+abbrev pub pending_act : List ℕ → Addr → Option GuestAct
+pending_act verb at =
+    if bytes_eq verb (codes "ack") then Some (Ack at)
+    else (if bytes_eq verb (codes "nack") then Some (Nack at) else None)
+
+-- the act of a verb that takes an address and a register, and for a write a value
+abbrev pub register_act : List ℕ → Addr → ℕ → List (List ℕ) → Option GuestAct
+register_act verb at register [] = if bytes_eq verb (codes "read") then Some (Read at register) else None
+register_act verb at register (word ∷ []) =
+    if bytes_eq verb (codes "write") then option_and_then (λ value. Some (Write at register value)) (value_of word)
+    else None
+register_act verb at register _ = None
+
+-- the act of a verb with an address, and what words stand behind it
+abbrev pub aimed_act : List ℕ → Addr → List (List ℕ) → Option GuestAct
+aimed_act verb at [] = pending_act verb at
+aimed_act verb at (word ∷ words) = option_and_then (λ register. register_act verb at register words) (number_of word)
+
+-- the act that the words of a line are
+abbrev pub act_of : List (List ℕ) → Option GuestAct
+act_of [] = None
+act_of (verb ∷ []) = lone_act verb
+act_of (verb ∷ word ∷ words) = option_and_then (λ at. aimed_act verb at words) (address_of word)
+
+-- the act of a line of at most 256 bytes, whose words are separated by one space
+abbrev pub guest_line : List ℕ → Option GuestAct
+guest_line line = if nat_le (length line) 256 then act_of (pieces 32 line) else None

@@ -1,0 +1,58 @@
+-- How a guest spells what it asks for (docs/PROFILE.md, guest lines).
+use Rattle.std.specs.Prelude.{◌≡◌, ℕ, ◌≤◌, ◌<◌, ◌^◌, ◌↔◌, codes, List, ◌∷◌, ◌++◌, length, Some, All}
+use Rattle.std.specs.Fmt.{decimal}
+use Rattle.std.specs.Str.Parse.{AllDigits, digits_value}
+use Rattle.qo_guest.specs.declared.addresses.Addr.{Addr}
+use Rattle.qo_guest.specs.declared.addresses.Addr.TheVariants.{Slots, Mem}
+use Rattle.qo_guest.specs.declared.lines.GuestAct.{GuestAct}
+use Rattle.qo_guest.specs.declared.lines.GuestAct.TheVariants.{Ack, Nack, Poll, Read, Write, Reset, Shutdown}
+use Rattle.qo_guest.specs.Addresses.{number_of, address_of, value_of}
+use Rattle.qo_guest.specs.Answers.{address_text, hex_text}
+use Rattle.qo_guest.specs.Lines.{guest_line}
+
+-- 1 to 9 slots, each 0 to 255
+pub record IsSteps (steps : List ℕ) : Type 0 where
+  pub some : 1 ≤ length steps
+  pub few : length steps ≤ 9
+  pub slots : All (λ slot. slot ≤ 255) steps
+
+-- an address whose numbers are 0 to 255
+abbrev pub IsAddress : Addr → Type 0
+IsAddress (Slots steps) = IsSteps steps
+IsAddress (Mem n) = n ≤ 255
+
+-- one to eight hexadecimal digits of either case that stand for a value
+pub record IsHex (digits : List ℕ) (value : ℕ) : Type 0 where
+  pub some : 1 ≤ length digits
+  pub few : length digits ≤ 8
+  pub all : AllDigits 16 digits
+  pub same : digits_value 16 digits ≡ value
+
+-- the line spells the act
+abbrev pub Spells : List ℕ → GuestAct → Type 0
+Spells line (Ack at) = IsAddress at × (line ≡ codes "ack " ++ address_text at)
+Spells line (Nack at) = IsAddress at × (line ≡ codes "nack " ++ address_text at)
+Spells line Poll = line ≡ codes "poll"
+Spells line (Read at register) =
+    IsAddress at × (register ≤ 255) × (line ≡ codes "read " ++ (address_text at ++ 32 ∷ decimal register))
+Spells line (Write at register value) =
+    (digits : List ℕ) × IsAddress at × (register ≤ 255) × IsHex digits value
+    × (line ≡ codes "write " ++ (address_text at ++ (32 ∷ (decimal register ++ (codes " 0x" ++ digits)))))
+Spells line Reset = line ≡ codes "reset"
+Spells line Shutdown = line ≡ codes "shutdown"
+
+-- a number is read from its decimal digits, and from nothing else
+abbrev pub NumbersAreSpelled : Type 0
+NumbersAreSpelled = (word : List ℕ) (n : ℕ) → (number_of word ≡ Some n) ↔ ((n ≤ 255) × (word ≡ decimal n))
+
+-- an address is read from its text, and from nothing else
+abbrev pub AddressesAreSpelled : Type 0
+AddressesAreSpelled = (word : List ℕ) (at : Addr) → (address_of word ≡ Some at) ↔ (IsAddress at × (word ≡ address_text at))
+
+-- a line of at most 256 bytes is read as the act that it spells, and no other line is an act
+abbrev pub LinesAreSpelled : Type 0
+LinesAreSpelled = (line : List ℕ) (act : GuestAct) → (guest_line line ≡ Some act) ↔ ((length line ≤ 256) × Spells line act)
+
+-- the digits of an answered value are read back
+abbrev pub ValuesAreReadBack : Type 0
+ValuesAreReadBack = (value : ℕ) → value < 2 ^ 32 → value_of (codes "0x" ++ hex_text 8 value) ≡ Some value
