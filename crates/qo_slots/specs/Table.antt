@@ -1,5 +1,5 @@
 -- What contracts see of a table: a finite map of keys to values.
-use Rattle.std.specs.Prelude.{◌≡◌, ◌≢◌, ℕ, ◌+◌, ◌≤◌, ◌<◌, ◌^◌, List, [], Option, None, Some, IsSomeAnd, is_some, count_by, filter_map, slice_index_or, slice_set, refl}
+use Rattle.std.specs.Prelude.{◌≡◌, ◌≢◌, ℕ, ◌+◌, ◌≤◌, ◌<◌, ◌^◌, List, [], Option, None, Some, IfSome, IsSomeAnd, is_some, count_by, filter_map, slice_index_or, slice_set, refl}
 use Rattle.std.specs.Option.{option_map}
 use Rattle.std.specs.Coded.{Coded, code_by, coded×, coded_ℕ, coded_list, coded_option}
 use Rattle.qo_slots.specs.declared.keys.Key.{Key}
@@ -37,6 +37,10 @@ module _ {T : Type 0} where
   -- so many more values fit with no memory, and so many births are left below 2^64
   abbrev pub HasSpare : Table T → ℕ → Type 0
   HasSpare t n = (live_count t + n ≤ t.capacity) × (t.born + n < 2 ^ 64)
+
+  -- each birth in these slots is one that was given: from 1 to the last
+  abbrev pub BirthsGiven : List (Option (ℕ × T)) → ℕ → Type 0
+  BirthsGiven slots born = (index : ℕ) → IfSome (slice_index_or slots index None) (λ e. (1 ≤ e.0) × (e.0 ≤ born))
 
   -- this stands at the index now, and at every other index what stood there before
   pub record Updates (old new : Table T) (index : ℕ) (slot : Option (ℕ × T)) : Type 0 where

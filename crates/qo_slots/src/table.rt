@@ -26,10 +26,14 @@ impl<T> Model for Slots<T> {
     ghost coded = { table_code T.code };
 
     ghost view = { λ s. record { slots = s.table.slots; born = s.born; capacity = s.table.capacity } };
+
+    ghost use Rattle.qo_slots.specs.Table.{BirthsGiven};
+
+    ghost invariant = { λ s. BirthsGiven s.table.slots s.born };
 }
 
 impl<T> Slots<T> {
-    ghost use Rattle.std.specs.Prelude.{◌≡◌, ℕ, ◌+◌, ◌≤◌, ◌<◌, ◌^◌, [], length, IsOkAnd, IsOk, IsErr, OnOk, Some, None, slice_set};
+    ghost use Rattle.std.specs.Prelude.{◌≡◌, ℕ, ◌+◌, ◌≤◌, ◌<◌, ◌^◌, [], length, IfSome, IsOkAnd, IsOk, IsErr, OnOk, Some, None, slice_set};
     ghost use Rattle.std.specs.Borrow.{sem};
     ghost use Rattle.qo_slots.specs.Table.{find, live_count, values, HasSpare, IsLive, Updates};
     ghost use Rattle.qo_slots.specs.Lends.{lends_value};
@@ -64,6 +68,7 @@ impl<T> Slots<T> {
     pub fn put<L: Ledger>(&mut self, value: T, steps: &mut Steps<L>) -> Key
         requires { HasSpare self.old 1 }
         ensures birth { result.birth ≡ self.old.born + 1 }
+        ensures fresh { (index : ℕ) → IfSome (find self.old index) (λ e. e.0 < result.birth) }
         ensures vacant { find self.old result.index ≡ None }
         ensures updates { Updates self.old self.new result.index (Some (result.birth, value)) }
         ensures born { self.new.born ≡ result.birth }
@@ -82,6 +87,7 @@ impl<T> Slots<T> {
     pub fn look<L: Ledger>(&self, key: Key, steps: &mut Steps<L>) -> &T
         requires { IsLive self.now key }
         ensures value { find self.now key.index ≡ Some (key.birth, result.now) }
+        ensures given { (1 ≤ key.birth) × (key.birth ≤ self.now.born) }
         ensures cost { steps.new ≡ steps.old + 1 }
     {
         steps.tick();
@@ -93,6 +99,7 @@ impl<T> Slots<T> {
         requires { IsLive self.old key }
         ensures* writes_back { sem 𝓛 (lends_value T.row self.entry key result) }
         ensures value { find self.old key.index ≡ Some (key.birth, result.now) }
+        ensures given { (1 ≤ key.birth) × (key.birth ≤ self.old.born) }
         ensures cost { steps.new ≡ steps.old + 1 }
     {
         steps.tick();
@@ -104,6 +111,7 @@ impl<T> Slots<T> {
     pub fn take<L: Ledger>(&mut self, key: Key, steps: &mut Steps<L>) -> T
         requires { IsLive self.old key }
         ensures value { find self.old key.index ≡ Some (key.birth, result) }
+        ensures given { (1 ≤ key.birth) × (key.birth ≤ self.old.born) }
         ensures updates { Updates self.old self.new key.index None }
         ensures slots { self.new.slots ≡ slice_set self.old.slots key.index None }
         ensures born { self.new.born ≡ self.old.born }
