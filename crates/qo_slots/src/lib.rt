@@ -7,6 +7,8 @@ mod counting;
 mod keys;
 mod stored;
 mod table;
+#[cfg(test)]
+mod tests;
 mod walk;
 
 pub use counting::Steps;

@@ -125,7 +125,7 @@ impl<T> Slots<T> {
 
     /// Ends a table without values. It takes no memory.
     pub fn destroy_empty(self)
-        requires { (index : ℕ) → find self index ≡ None }
+        requires { live_count self ≡ 0 }
     {
         let Slots { table: _, born: _ } = self;
     }
