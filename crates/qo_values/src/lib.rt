@@ -9,6 +9,8 @@ mod kinds;
 mod limits;
 mod names;
 mod properties;
+#[cfg(test)]
+mod tests;
 
 pub use codes::{Class, Code};
 pub use forms::Form;

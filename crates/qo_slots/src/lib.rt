@@ -1,0 +1,17 @@
+//! A table of values under keys that are never reused, and the counter of the looks into it.
+//!
+//! Whoever holds a key reaches its value in one step, and each such step is counted.
+#![tactic(auto)]
+
+mod counting;
+mod keys;
+mod stored;
+mod table;
+#[cfg(test)]
+mod tests;
+mod walk;
+
+pub use counting::Steps;
+pub use keys::{Key, Memory};
+pub use table::Slots;
+pub use walk::Rest;
