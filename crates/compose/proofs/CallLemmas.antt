@@ -1,16 +1,12 @@
 -- What the top call did, by what its parts did.
-use Rattle.std.proofs.Common.{◌≡◌, ℕ, ◌<◌, ◌≤◌, ◌↔◌, true, false, List, [], ◌++◌, length, take, refl, sym, ◌∙◌, ap, arith, append-nil, Option, None, Some, IsSome, Result, Ok, Err, unwrap_or}
-use Rattle.std.specs.Io.KnownBytes.{append_known, prepend_known}
+use Rattle.std.proofs.Common.{◌≡◌, ℕ, List, [], refl, arith, Option, None, Err, unwrap_or}
+use Rattle.std.specs.Io.KnownBytes.{prepend_known}
 use Rattle.qo_machine.proofs.RunLemmas.{nothing_appended}
 use Rattle.qo_machine.specs.Record.{bad_place, stream_inputs}
-use Rattle.qo_machine.specs.declared.running.Ending.{Ending}
-use Rattle.qo_machine.specs.declared.running.Ending.TheVariants as ending
 use Rattle.compose.specs.Reads.{ReadAll, read_status}
-use Rattle.compose.specs.Replay.{DidReplay, DidRun, IsAtEnd, IsCut, Replayed, line_of, place_of, status_of}
+use Rattle.compose.specs.Replay.{IsCut, Replayed, line_of}
 use Rattle.compose.specs.declared.reads.ReadError.{ReadError}
 use Rattle.compose.specs.declared.reads.ReadError.TheVariants as read
-use Rattle.compose.specs.declared.statuses.Status.{Status}
-use Rattle.compose.specs.declared.statuses.Status.TheVariants as status
 
 -- nothing was done with the bytes
 cut_nothing : (bytes : List ℕ) (held : Option (List ℕ)) → IsCut bytes held held

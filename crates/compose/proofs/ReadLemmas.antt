@@ -1,5 +1,5 @@
 -- Bytes that were taken from a source, piece by piece.
-use Rattle.std.proofs.Common.{◌≡◌, ℕ, ◌+◌, ◌<◌, ◌≤◌, List, [], ◌++◌, length, take, refl, sym, ◌∙◌, ap, append_assoc, length-append, arith, Option, None, Some}
+use Rattle.std.proofs.Common.{◌≡◌, ℕ, List, [], ◌++◌, take, refl, sym, ◌∙◌, ap, append_assoc, Option, None, Some}
 use Rattle.std.specs.Io.KnownBytes.{prepend_known}
 
 -- two pieces are one

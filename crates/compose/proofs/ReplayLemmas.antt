@@ -1,9 +1,9 @@
 -- What a run over the inputs of a stream did.
-use Rattle.std.proofs.Common.{◌≡◌, ℕ, ◌+◌, ◌<◌, ◌≤◌, Bool, true, false, if◌then◌else◌, ◌||◌, List, [], ◌∷◌, ◌++◌, length, nat_lt, refl, sym, ◌∙◌, ap, subst, arith, append_assoc, length-append, Option, None, Some, IfSome, option_map, slice_index_or}
+use Rattle.std.proofs.Common.{◌≡◌, ℕ, ◌+◌, ◌<◌, ◌≤◌, Bool, true, false, if◌then◌else◌, ◌||◌, List, [], ◌∷◌, ◌++◌, length, nat_lt, refl, sym, ◌∙◌, ap, subst, arith, append_assoc, length-append, Option, None, Some, option_map, slice_index_or}
 use Rattle.std.proofs.lemmas.Bool.{true≢false}
 use Rattle.std.proofs.lemmas.List.{append-nil}
 use Rattle.std.specs.List.{AllByRecursion, cons_option}
-use Rattle.qo_causes.specs.Hub.{AtEnd, given_by, is_end}
+use Rattle.qo_causes.specs.Hub.{is_end}
 use Rattle.qo_causes.specs.declared.hubs.Lane.{Lane}
 use Rattle.qo_causes.specs.declared.inputs.Input.{Input}
 use Rattle.qo_causes.specs.declared.inputs.What.{What}
@@ -14,12 +14,12 @@ use Rattle.qo_machine.proofs.RunLemmas.{has_end_ends}
 use Rattle.qo_machine.specs.Machine.{Choice, IsBuilt, State, Stepped, first, input_step, mode_of, opened, opening, served, unchanged}
 use Rattle.qo_machine.specs.Record.{bad_place, stream_inputs}
 use Rattle.qo_machine.specs.Requests.{Request, request_of}
-use Rattle.qo_machine.specs.Runs.{Cut, CutRun, RunMeets, Told, Turn, Turns, after, has_end, last_input, risen, risen_by, state_after, told, turn_inputs}
+use Rattle.qo_machine.specs.Runs.{CutRun, RunMeets, Turn, Turns, after, has_end, last_input, risen, risen_by, state_after, told, turn_inputs}
 use Rattle.qo_machine.specs.declared.running.Ending.{Ending}
 use Rattle.qo_machine.specs.declared.running.Ending.TheVariants as ending
 use Rattle.qo_machine.specs.declared.sessions.Session.{Session}
 use Rattle.qo_machine.specs.declared.sessions.Session.TheVariants.{Closed, Negotiating, Commanding}
-use Rattle.compose.specs.Replay.{CutReplay, DidRun, IsCut, NoneLost, WholeReplay}
+use Rattle.compose.specs.Replay.{DidRun, IsCut, NoneLost, WholeReplay}
 
 -- No session is lost where no count rises.
 

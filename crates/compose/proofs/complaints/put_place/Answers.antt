@@ -1,5 +1,5 @@
 -- The words, and then the number.
-use Rattle.std.proofs.Common.{◌∷◌, [], ◌++◌, codes, decimal}
+use Rattle.std.proofs.Common.{◌∷◌, [], ◌++◌, decimal}
 use Rattle.compose.proofs.ComplaintLemmas.{puts_behind, words_cut}
 use Rattle.compose.proofs.complaints.put_place.Goals as goal
 
