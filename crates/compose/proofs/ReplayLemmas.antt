@@ -137,14 +137,13 @@ cut bytes xs ys os ns og ng is h =
     let whole_part = h.3 in
     let cut_part = h.4 in
     let first_split = split xs (turn_inputs h.1) h.0.inputs whole_part.took in
-    let last_split = split first_split.0 (last_input h.2) (Some ys) (sym first_split.1 ∙ cut_part.took) in
-    (
+    let last_split = split first_split.0 (last_input h.2) (Some ys) (sym first_split.1 ∙ cut_part.took) in (
       h.1,
       h.2,
       last_split.0,
       record {
         inputs =
-          sym is ∙ first_split.2 ∙ ap (λ (r : List Input). turn_inputs h.1 ++ r) last_split.2 ∙ sym (append_assoc (turn_inputs h.1) (last_input h.2) last_split.0);
+            sym is ∙ first_split.2 ∙ ap (λ (r : List Input). turn_inputs h.1 ++ r) last_split.2 ∙ sym (append_assoc (turn_inputs h.1) (last_input h.2) last_split.0);
         lost = none_lost h.1 (λ n. omega (arith, whole_part.losses n, cut_part.losses n));
         put = (h.0.sent, whole_part.sent, cut_part.sent);
       },

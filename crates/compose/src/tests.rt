@@ -6,11 +6,13 @@ use qo_causes::{ByteSink, ByteSource};
 use std::alloc::Global;
 use std::test::Fail;
 
-const GREETING: &str = "0 {\"QMP\":{\"capabilities\":[],\"version\":{\"package\":\"compose\",\"qemu\":{\"major\":1,\"micro\":0,\"minor\":0}}}}\r\n";
+const GREETING: &str =
+    "0 {\"QMP\":{\"capabilities\":[],\"version\":{\"package\":\"compose\",\"qemu\":{\"major\":1,\"micro\":0,\"minor\":0}}}}\r\n";
 
 const EMPTY: &str = "0 {\"return\":{}}\r\n";
 
-const ROOT: &str = "0 {\"return\":[{\"name\":\"type\",\"type\":\"string\"},{\"name\":\"machine\",\"type\":\"child<machine>\"},{\"name\":\"objects\",\"type\":\"child<container>\"}]}\r\n";
+const ROOT: &str =
+    "0 {\"return\":[{\"name\":\"type\",\"type\":\"string\"},{\"name\":\"machine\",\"type\":\"child<machine>\"},{\"name\":\"objects\",\"type\":\"child<container>\"}]}\r\n";
 
 const OPEN: &str = "qrec 1\nopen 1.000000 0\n";
 
@@ -39,7 +41,10 @@ fn call(
     for word in words {
         texts.push(String::from_str(alloc, word)?)?;
     }
-    let source = ByteSource::new(Vec::from_slice(alloc, record)?, Vec::from_slice(alloc, takes)?);
+    let source = ByteSource::new(
+        Vec::from_slice(alloc, record)?,
+        Vec::from_slice(alloc, takes)?,
+    );
     let sink = ByteSink::new(alloc, 65_536, Vec::from_slice(alloc, puts)?)?;
     let mut complaints = ByteSink::new(alloc, 4_096, Vec::new(alloc))?;
     let mut hub = NoHub;
@@ -80,7 +85,10 @@ fn records_without_entries(rt: HostRuntime) -> Result<(), Fail> {
     let left = call(rt.alloc(), &["replay"], b"", &[], &[])?;
     assert_eq!(rt; left.status, Status::BadRecord);
     assert_eq!(rt; left.held.as_slice(), b"".as_slice());
-    assert_eq!(rt; left.told.as_slice(), b"compose: bad record at byte 0\n".as_slice());
+    assert_eq!(rt;
+        left.told.as_slice(),
+        b"compose: bad record at byte 0\n".as_slice()
+    );
     Ok(())
 }
 
@@ -101,7 +109,10 @@ fn a_truncated_entry_is_the_bad_place(rt: HostRuntime) -> Result<(), Fail> {
     let left = call(rt.alloc(), &["replay"], record.as_bytes(), &[], &[])?;
     assert_eq!(rt; left.status, Status::BadRecord);
     assert_eq!(rt; left.held.as_slice(), GREETING.as_bytes());
-    assert_eq!(rt; left.told.as_slice(), b"compose: bad record at byte 23\n".as_slice());
+    assert_eq!(rt;
+        left.told.as_slice(),
+        b"compose: bad record at byte 23\n".as_slice()
+    );
     Ok(())
 }
 
@@ -173,7 +184,13 @@ fn each_failing_put_is_a_write_fault(rt: HostRuntime) -> Result<(), Fail> {
         GREETING.len() + EMPTY.len() + 2,
     ];
     for (at, front) in fronts.iter().enumerate() {
-        let left = call(rt.alloc(), &["replay"], record.as_bytes(), &[], &[at as u64 + 1])?;
+        let left = call(
+            rt.alloc(),
+            &["replay"],
+            record.as_bytes(),
+            &[],
+            &[at as u64 + 1],
+        )?;
         assert_eq!(rt; left.status, Status::WriteFault, "at put {at}");
         assert_eq!(rt; left.held.len(), *front, "at put {at}");
         assert!(rt; whole.as_bytes().starts_with(left.held.as_slice()));
@@ -186,7 +203,8 @@ fn each_failing_put_is_a_write_fault(rt: HostRuntime) -> Result<(), Fail> {
 
 #[test]
 fn other_words_are_no_order(rt: HostRuntime) -> Result<(), Fail> {
-    let usage = "usage: compose replay | serve --socket PATH --connections N | demo --seed N --steps K | types\n";
+    let usage =
+        "usage: compose replay | serve --socket PATH --connections N | demo --seed N --steps K | types\n";
     let no_words: [&str; 0] = [];
     let left = call(rt.alloc(), &no_words, b"qrec 1\n", &[1], &[1])?;
     assert_eq!(rt; left.status, Status::Usage);

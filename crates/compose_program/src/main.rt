@@ -3,9 +3,8 @@
 
 use compose::{NoHub, Ran, compose};
 use qo_causes::{StdSink, StdSource};
-use std::env;
-use std::io;
 use std::process::ExitCode;
+use std::{env, io};
 
 fn main(rt: HostRuntime) -> io::Result<ExitCode> {
     let mut words: Vec<String> = Vec::new(rt.alloc());
