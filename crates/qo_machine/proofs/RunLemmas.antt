@@ -29,9 +29,11 @@ closed_more i lost sessions below within = rw add-one (go i lost sessions below 
     head : (flag : Bool) (mode : Mode) (modes : List Mode) → (if flag then Closed else mode) ∷ modes ≡ (if flag then Closed ∷ modes else mode ∷ modes)
     head true mode modes = refl
     head false mode modes = refl
+
     tail : (flag : Bool) (mode : Mode) (set kept : List Mode) → mode ∷ (if flag then set else kept) ≡ (if flag then mode ∷ set else mode ∷ kept)
     tail true mode set kept = refl
     tail false mode set kept = refl
+
     go : (k : ℕ) (ls : List Bool) (ss : List Mode) → k < length ls → k < length ss → closed_where (take (suc k) ls) ss ≡ (if slice_index_or ls k false then slice_set (closed_where (take k ls) ss) k Closed else closed_where (take k ls) ss)
     go k [] ss b w = absurd (omega arith)
     go k (f ∷ ls) [] b w = absurd (omega arith)
@@ -92,8 +94,8 @@ turns_more s a b c ts us p q =
     record {
       took = rw (inputs_more ts us) (took_twice a.inputs b.inputs c.inputs (turn_inputs ts) (turn_inputs us) p.took q.took);
       sent =
-        sent_twice a.sent b.sent c.sent (transcript (outs_of s ts)) (transcript (outs_of (state_after s ts) us)) (transcript (outs_of s (ts ++ us)))
-        (ap transcript (outs_more ts us s) ∙ flat_map-append (λ (m : Message). line m.0 m.1) (outs_of s ts) (outs_of (state_after s ts) us)) p.sent q.sent;
+          sent_twice a.sent b.sent c.sent (transcript (outs_of s ts)) (transcript (outs_of (state_after s ts) us)) (transcript (outs_of s (ts ++ us)))
+          (ap transcript (outs_more ts us s) ∙ flat_map-append (λ (m : Message). line m.0 m.1) (outs_of s ts) (outs_of (state_after s ts) us)) p.sent q.sent;
       lanes = λ l.
           sent_twice (a.got l) (b.got l) (c.got l) (lane_of l s ts) (lane_of l (state_after s ts) us) (lane_of l s (ts ++ us)) (lane_more ts us l s) (p.lanes l) (q.lanes l);
       losses = λ n.
@@ -143,6 +145,7 @@ to_lanes s i cs = on s.ended
     open_lanes n Negotiating true h = tt
     open_lanes n Commanding true h = tt
     open_lanes n mode false h = tt
+
     reply_lanes : (n : ℕ) (mode : Mode) (r : Option Request) (c : Choice) (t : Bool) → nat_lt n 16 ≡ t → AreToLanes (if t then served s n mode r c else unchanged s).outs
     reply_lanes n Closed r c true h = tt
     reply_lanes n Negotiating None c true h = tt
@@ -150,6 +153,7 @@ to_lanes s i cs = on s.ended
     reply_lanes n Negotiating (Some r) c true h = (ltb-true n 16 h, tt)
     reply_lanes n Commanding (Some r) c true h = (ltb-true n 16 h, tt)
     reply_lanes n mode r c false h = tt
+
     what_lanes : (w : What) → AreToLanes (input_step s w cs).outs
     what_lanes (Open n) = open_lanes n (mode_of s n) (nat_lt n 16) refl
     what_lanes (Bytes n bytes) = reply_lanes n (mode_of s n) (request_of bytes) (first cs) (nat_lt n 16) refl
@@ -157,6 +161,7 @@ to_lanes s i cs = on s.ended
     what_lanes (GuestLine bytes) = tt
     what_lanes (Step ns) = tt
     what_lanes End = tt
+
     on : (e : Bool) → AreToLanes (unless_ended e (unchanged s) (input_step s i.what cs)).outs
     on true = tt
     on false = what_lanes i.what
@@ -195,19 +200,18 @@ at_end oi mi ni bad i same given over = subst (λ (x : Option (List Input)). AtE
 
 -- an input was taken, and what it makes was sent
 pub one_turn : (s u to : State) (i : Input) (cs : List Choice) (slice outs : List Message) (lost : List Bool) (oi mi ni : Option (List Input)) (os ms ns : Option (List ℕ)) (og mg ng : Lane → Option (List ℕ)) (ol ml nl : ℕ → ℕ) (bad : Option (Option ℕ)) → step s i cs ≡ record { outs = outs; state = u } → slice ≡ outs → Gives oi mi bad (given_by i) → ms ≡ os → ((l : Lane) → mg l ≡ og l) → ((n : ℕ) → ml n ≡ ol n) → Sent (told mi ms mg ml) (told ni ns ng nl) slice lost → to ≡ close_lost lost u → TurnMeets s to (told oi os og ol) (told ni ns ng nl) bad (Ok tt)
-one_turn s u to i cs slice outs lost oi mi ni os ms ns og mg ng ol ml nl bad is same given sent got losses h closed =
-    (
-      record { input = i; choices = cs; lost = lost; cut = h.lanes.0 },
-      record {
-        took = took_one oi ni bad (given_by i) (rw h.inputs given);
-        sent = rw (append-nil (step s i cs).outs, outs_is, ← sent) h.sent;
-        lanes = λ l.
-            rw (append-nil (cut_to (is_lost lost l) (h.lanes.0 l) (lane_bytes l (step s i cs).outs)), outs_is, ← got l) (h.lanes.1.lanes l);
-        losses = λ n. rw (← losses n) (h.losses n);
-      },
-      closed ∙ ap (close_lost lost) (sym (ap (λ (x : Stepped). x.state) is)),
-      at_end oi mi ni bad i h.inputs given,
-    )
+one_turn s u to i cs slice outs lost oi mi ni os ms ns og mg ng ol ml nl bad is same given sent got losses h closed = (
+  record { input = i; choices = cs; lost = lost; cut = h.lanes.0 },
+  record {
+    took = took_one oi ni bad (given_by i) (rw h.inputs given);
+    sent = rw (append-nil (step s i cs).outs, outs_is, ← sent) h.sent;
+    lanes = λ l.
+        rw (append-nil (cut_to (is_lost lost l) (h.lanes.0 l) (lane_bytes l (step s i cs).outs)), outs_is, ← got l) (h.lanes.1.lanes l);
+    losses = λ n. rw (← losses n) (h.losses n);
+  },
+  closed ∙ ap (close_lost lost) (sym (ap (λ (x : Stepped). x.state) is)),
+  at_end oi mi ni bad i h.inputs given,
+)
   where
     outs_is : (step s i cs).outs ≡ slice
     outs_is = ap (λ (x : Stepped). x.outs) is ∙ sym same
@@ -226,14 +230,13 @@ turns_none s i t g n =
 
 -- nothing was done
 pub cut_none : (i : Option (List Input)) (t : Option (List ℕ)) (g : Lane → Option (List ℕ)) (n : ℕ → ℕ) → CutRun (told i t g n) (told i t g n)
-cut_none i t g n =
-    (
-      told i t g n,
-      [],
-      None,
-      turns_none opening i t g n,
-      record { took = none_taken i; sent = (0, omega arith, nothing_appended t); lanes = λ l. (0, omega arith, nothing_appended (g l)); losses = λ k. omega arith },
-    )
+cut_none i t g n = (
+  told i t g n,
+  [],
+  None,
+  turns_none opening i t g n,
+  record { took = none_taken i; sent = (0, omega arith, nothing_appended t); lanes = λ l. (0, omega arith, nothing_appended (g l)); losses = λ k. omega arith },
+)
 
 pub gone_none : (s : State) (i : Option (List Input)) (t : Option (List ℕ)) (g : Lane → Option (List ℕ)) (n : ℕ → ℕ) → s ≡ opening → (turns : List Turn) × GoneOn (told i t g n) (told i t g n) s 0 turns
 gone_none s i t g n is =
@@ -249,16 +252,15 @@ joined_state a b c s to count bad ts h p =
     state_more ts (p.0 ∷ []) opening ∙ ap (λ (x : State). after x p.0) h.state_is ∙ sym p.2
 
 pub going_on : (a b c : Told) (s to : State) (count : ℕ) (bad : Option (Option ℕ)) → (turns : List Turn) × GoneOn a b s count turns → TurnMeets s to b c bad (Ok tt) → to.ended ≡ false → (turns : List Turn) × GoneOn a c to (count + 1) turns
-going_on a b c s to count bad h p going =
-    (
-      h.0 ++ p.0 ∷ [],
-      record {
-        turns_are = joined a b c s to count bad h.0 h.1 p;
-        state_is = joined_state a b c s to count bad h.0 h.1 p;
-        count_is = length-append h.0 (p.0 ∷ []) ∙ ap (λ (n : ℕ). n + 1) h.1.count_is;
-        going = going;
-      },
-    )
+going_on a b c s to count bad h p going = (
+  h.0 ++ p.0 ∷ [],
+  record {
+    turns_are = joined a b c s to count bad h.0 h.1 p;
+    state_is = joined_state a b c s to count bad h.0 h.1 p;
+    count_is = length-append h.0 (p.0 ∷ []) ∙ ap (λ (n : ℕ). n + 1) h.1.count_is;
+    going = going;
+  },
+)
 
 -- a run that has ended stays so, and its end ends it
 after_ended : (s : State) (t : Turn) → s.ended ≡ true → (after s t).ended ≡ true
@@ -278,6 +280,7 @@ end_ends s t over = by_state s.ended refl
     by_what (Shut n) going is e = absurd (true≢false (sym e))
     by_what (GuestLine bytes) going is e = absurd (true≢false (sym e))
     by_what (Step ns) going is e = absurd (true≢false (sym e))
+
     by_state : (e : Bool) → s.ended ≡ e → (after s t).ended ≡ true
     by_state true is = after_ended s t is
     by_state false is = by_what t.input.what is refl over
@@ -305,8 +308,7 @@ has_end_last (u ∷ ts) t s going over = go (is_end u.input.what) refl over (has
 
 pub done : (a b c : Told) (s to : State) (count limit : ℕ) (bad other : Option (Option ℕ)) → bad ≡ other → (turns : List Turn) × GoneOn a b s count turns → TurnMeets s to b c bad (Ok tt) → to.ended ≡ true → RunMeets Done limit a c other
 done a b c s to count limit bad other is h p over =
-    subst (RunMeets Done limit a c) is
-    (
+    subst (RunMeets Done limit a c) is (
       h.0 ++ p.0 ∷ [],
       (joined a b c s to count bad h.0 h.1 p, ap (λ (x : State). x.ended) (joined_state a b c s to count bad h.0 h.1 p) ∙ over),
       λ e. p.3 (has_end_last h.0 p.0 opening (ap (λ (x : State). x.ended) h.1.state_is ∙ h.1.going) e),

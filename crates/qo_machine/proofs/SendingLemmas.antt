@@ -45,13 +45,12 @@ failed_at : (flag same : Bool) (cut n : ℕ) (old mid new : Option (List ℕ)) (
 failed_at true true cut n old mid new bytes more kept within few is sent = absurd (true≢false (kept refl))
 failed_at true false cut n old mid new bytes more kept within few is sent =
     (cut, omega (arith, length-append bytes []), ok_at true false cut old mid new bytes more kept within is (sent ∙ ap (append_known mid) (take-nil n)))
-failed_at false same cut n old mid new bytes more kept within few is sent =
-    (
-      length bytes + n,
-      omega (arith, length-append bytes (if same then more else [])),
-      sent ∙ ap (λ (m : Option (List ℕ)). append_known m (take n (if same then more else []))) is ∙ append_known_twice old bytes (take n (if same then more else []))
+failed_at false same cut n old mid new bytes more kept within few is sent = (
+  length bytes + n,
+  omega (arith, length-append bytes (if same then more else [])),
+  sent ∙ ap (λ (m : Option (List ℕ)). append_known m (take n (if same then more else []))) is ∙ append_known_twice old bytes (take n (if same then more else []))
       ∙ ap (append_known old) (sym (take-append-add bytes (if same then more else []) n)),
-    )
+)
 
 -- a front of some bytes is one of more
 pub front_more : (old new : Option (List ℕ)) (xs ys : List ℕ) → AppendsPrefix old new xs → AppendsPrefix old new (xs ++ ys)
@@ -85,16 +84,15 @@ sent_skip start mi ms mg ml outs m lost flag h =
     record {
       inputs = h.inputs;
       sent =
-        let none = h.untold m.0 flag in
-        none ∙ sym (none_stays start.sent (transcript outs) (transcript (outs ++ m ∷ [])) (sym h.sent ∙ none));
-      lanes =
-        (
-          h.lanes.0,
-          record {
-            within = λ l. rw (lane_bytes_more l outs m) (omega (arith, h.lanes.1.within l, length-append (lane_bytes l outs) (part l m.0 m.1)));
-            lanes = λ l. rw (lane_bytes_more l outs m) (skip_at (is_lost lost l) (same_lane l m.0) (h.lanes.0 l) (start.got l) (mg l) (lane_bytes l outs) m.1 (λ s. same_lost l m.0 lost s ∙ flag) (h.lanes.1.within l) (h.lanes.1.lanes l));
-          },
-        );
+          let none = h.untold m.0 flag in
+          none ∙ sym (none_stays start.sent (transcript outs) (transcript (outs ++ m ∷ [])) (sym h.sent ∙ none));
+      lanes = (
+        h.lanes.0,
+        record {
+          within = λ l. rw (lane_bytes_more l outs m) (omega (arith, h.lanes.1.within l, length-append (lane_bytes l outs) (part l m.0 m.1)));
+          lanes = λ l. rw (lane_bytes_more l outs m) (skip_at (is_lost lost l) (same_lane l m.0) (h.lanes.0 l) (start.got l) (mg l) (lane_bytes l outs) m.1 (λ s. same_lost l m.0 lost s ∙ flag) (h.lanes.1.within l) (h.lanes.1.lanes l));
+        },
+      );
       losses = h.losses;
       untold = h.untold;
       size = h.size;
@@ -106,16 +104,15 @@ sent_ok start mi ni ms ns mg ng ml nl outs m lost flag inputs sent got losses h 
     record {
       inputs = inputs ∙ h.inputs;
       sent =
-        sent ∙ ap (λ (x : Option (List ℕ)). append_known x (line m.0 m.1)) h.sent ∙ append_known_twice start.sent (transcript outs) (line m.0 m.1)
-        ∙ ap (append_known start.sent) (sym (transcript_more outs m));
-      lanes =
-        (
-          h.lanes.0,
-          record {
-            within = λ l. rw (lane_bytes_more l outs m) (omega (arith, h.lanes.1.within l, length-append (lane_bytes l outs) (part l m.0 m.1)));
-            lanes = λ l. rw (lane_bytes_more l outs m) (ok_at (is_lost lost l) (same_lane l m.0) (h.lanes.0 l) (start.got l) (mg l) (ng l) (lane_bytes l outs) m.1 (λ s. same_lost l m.0 lost s ∙ flag) (h.lanes.1.within l) (h.lanes.1.lanes l) (got l));
-          },
-        );
+          sent ∙ ap (λ (x : Option (List ℕ)). append_known x (line m.0 m.1)) h.sent ∙ append_known_twice start.sent (transcript outs) (line m.0 m.1)
+          ∙ ap (append_known start.sent) (sym (transcript_more outs m));
+      lanes = (
+        h.lanes.0,
+        record {
+          within = λ l. rw (lane_bytes_more l outs m) (omega (arith, h.lanes.1.within l, length-append (lane_bytes l outs) (part l m.0 m.1)));
+          lanes = λ l. rw (lane_bytes_more l outs m) (ok_at (is_lost lost l) (same_lane l m.0) (h.lanes.0 l) (start.got l) (mg l) (ng l) (lane_bytes l outs) m.1 (λ s. same_lost l m.0 lost s ∙ flag) (h.lanes.1.within l) (h.lanes.1.lanes l) (got l));
+        },
+      );
       losses = λ n. omega (arith, h.losses n, losses n);
       untold = λ l f. sent ∙ ap (λ (x : Option (List ℕ)). append_known x (line m.0 m.1)) (h.untold l f);
       size = h.size;
@@ -146,16 +143,15 @@ sent_gone start mi ni ms ns mg ng ml nl outs m k lost flag lane below inputs sen
     record {
       inputs = inputs ∙ h.inputs;
       sent = sent.1 ∙ sym (none_stays start.sent (transcript outs) (transcript (outs ++ m ∷ [])) (sym h.sent ∙ sent.0));
-      lanes =
-        (
-          (λ l. if same_lane l m.0 then length (lane_bytes l outs) + (got l).0 else h.lanes.0 l),
-          record {
-            within = λ l. rw (lane_bytes_more l outs m) (gone_within (same_lane l m.0) (h.lanes.0 l) ((got l).0) (lane_bytes l outs) m.1 (h.lanes.1.within l) ((got l).1));
-            lanes = λ l.
-                rw (lane_bytes_more l outs m, set_flag lost k l (rw h.size below), ← lane)
-                (gone_at (is_lost lost l) (same_lane l m.0) (h.lanes.0 l) ((got l).0) (start.got l) (mg l) (ng l) (lane_bytes l outs) m.1 (λ s. same_lost l m.0 lost s ∙ flag) (h.lanes.1.within l) (h.lanes.1.lanes l) ((got l).2));
-          },
-        );
+      lanes = (
+        (λ l. if same_lane l m.0 then length (lane_bytes l outs) + (got l).0 else h.lanes.0 l),
+        record {
+          within = λ l. rw (lane_bytes_more l outs m) (gone_within (same_lane l m.0) (h.lanes.0 l) ((got l).0) (lane_bytes l outs) m.1 (h.lanes.1.within l) ((got l).1));
+          lanes = λ l.
+              rw (lane_bytes_more l outs m, set_flag lost k l (rw h.size below), ← lane)
+              (gone_at (is_lost lost l) (same_lane l m.0) (h.lanes.0 l) ((got l).0) (start.got l) (mg l) (ng l) (lane_bytes l outs) m.1 (λ s. same_lost l m.0 lost s ∙ flag) (h.lanes.1.within l) (h.lanes.1.lanes l) ((got l).2));
+        },
+      );
       losses = λ n. rw (set_flag lost k (Session n) (rw h.size below)) (loss_at (is_lost lost (Session n)) (n == k) (start.losses n) (ml n) (nl n) (λ e. same_lost (Session n) (Session k) lost e ∙ (rw lane at flag)) (h.losses n) (losses n));
       untold = λ l f. sent.1;
       size = length-set lost k true ∙ h.size;
@@ -163,13 +159,12 @@ sent_gone start mi ni ms ns mg ng ml nl outs m k lost flag lane below inputs sen
 
 -- whole bytes, and then a front of more
 pub front_behind : (old mid new : Option (List ℕ)) (xs ys : List ℕ) → mid ≡ append_known old xs → AppendsPrefix mid new ys → AppendsPrefix old new (xs ++ ys)
-front_behind old mid new xs ys whole p =
-    (
-      length xs + p.0,
-      omega (arith, p.1, length-append xs ys),
-      p.2 ∙ ap (λ (m : Option (List ℕ)). append_known m (take p.0 ys)) whole ∙ append_known_twice old xs (take p.0 ys)
+front_behind old mid new xs ys whole p = (
+  length xs + p.0,
+  omega (arith, p.1, length-append xs ys),
+  p.2 ∙ ap (λ (m : Option (List ℕ)). append_known m (take p.0 ys)) whole ∙ append_known_twice old xs (take p.0 ys)
       ∙ ap (append_known old) (sym (take-append-add xs ys p.0)),
-    )
+)
 
 risen_up : (flag : Bool) (start now : ℕ) → risen flag start ≤ now → start ≤ now
 risen_up true start now h = omega arith

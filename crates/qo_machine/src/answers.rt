@@ -6,10 +6,9 @@ ghost use Rattle.qo_model.specs.Paths.{resolve_absolute};
 ghost use Rattle.qo_machine.specs.Machine.{Choice, answer, command, listed, refuse};
 ghost use Rattle.qo_machine.specs.Views.{answered, request_view};
 
-use crate::replies;
 use crate::requests::Request;
 use crate::sessions::Session;
-use crate::tree;
+use crate::{replies, tree};
 use qo_values::{Chars, Code};
 use std::alloc::{AllocError, Global};
 

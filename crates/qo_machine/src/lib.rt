@@ -10,6 +10,8 @@ mod requests;
 mod running;
 mod sessions;
 mod streams;
+#[cfg(test)]
+mod tests;
 mod tree;
 
 pub use machines::{Machine, Outs};

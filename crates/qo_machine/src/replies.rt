@@ -9,7 +9,8 @@ use crate::tree::Property;
 use qo_values::{Chars, Code};
 use std::alloc::{AllocError, Global};
 
-const GREETING: &[u8] = b"{\"QMP\":{\"capabilities\":[],\"version\":{\"package\":\"compose\",\"qemu\":{\"major\":1,\"micro\":0,\"minor\":0}}}}\r\n";
+const GREETING: &[u8] =
+    b"{\"QMP\":{\"capabilities\":[],\"version\":{\"package\":\"compose\",\"qemu\":{\"major\":1,\"micro\":0,\"minor\":0}}}}\r\n";
 
 const EMPTY_RETURN: &[u8] = b"{\"return\":{}}\r\n";
 
@@ -89,10 +90,7 @@ fn push_properties(text: &mut Vec<u8>, properties: &[Property]) -> Result<(), Al
 }
 
 /// The answer to `qom-list`: names and types of properties, in order.
-pub(crate) fn listing_return(
-    alloc: Global,
-    properties: &[Property],
-) -> Result<Chars, AllocError>
+pub(crate) fn listing_return(alloc: Global, properties: &[Property]) -> Result<Chars, AllocError>
     ensures { IfOk result (λ text. text ≡ listing_return (map row properties.now)) }
 {
     let mut text = Vec::with_capacity(alloc, PROPERTY_BYTES.saturating_mul(properties.len()))?;

@@ -65,8 +65,16 @@ fn is_word(bytes: &[u8]) -> bool
 fn listing_of(bytes: &[u8]) -> Option<Request<'_>>
     ensures { option_map request_view result ≡ listing_of bytes.now }
 {
-    let path = between(b"{\"execute\":\"qom-list\",\"arguments\":{\"path\":\"", b"\"}}", bytes)?;
-    if is_path(path) { Some(Request::QomList(path)) } else { None }
+    let path = between(
+        b"{\"execute\":\"qom-list\",\"arguments\":{\"path\":\"",
+        b"\"}}",
+        bytes,
+    )?;
+    if is_path(path) {
+        Some(Request::QomList(path))
+    } else {
+        None
+    }
 }
 
 /// The command of a name, without arguments; `qom-list` wants one.

@@ -12,8 +12,8 @@ loop-session-preserved c =
     let below : c.loop-session.session < length c.args.lost.now = omega arith in
     let within : c.loop-session.session < length c.args.sessions.now = omega arith in
     elim c.if-lost-session.branch [
-      then-lost-session w ↦
-        closed_then c.loop-session.session c.args.lost.now c.args.sessions.now c.loop-session.sessions c.if-lost-session.sessions below within w.if-lost-session.true c.loop-session.invariant w.sessions-is
+      | then-lost-session w ↦
+          closed_then c.loop-session.session c.args.lost.now c.args.sessions.now c.loop-session.sessions c.if-lost-session.sessions below within w.if-lost-session.true c.loop-session.invariant w.sessions-is
       | else-lost-session w ↦
-        closed_else c.loop-session.session c.args.lost.now c.args.sessions.now c.loop-session.sessions c.if-lost-session.sessions below within w.if-lost-session.false c.loop-session.invariant w.sessions-is
+          closed_else c.loop-session.session c.args.lost.now c.args.sessions.now c.loop-session.sessions c.if-lost-session.sessions below within w.if-lost-session.false c.loop-session.invariant w.sessions-is
     ]

@@ -19,8 +19,7 @@ returns-in-Ok-send_all-clause-meets g c =
     one_turn c.args.machine.now.state c.step.new.self.state _ c.in-Ok.input c.in-Ok-step.ensures.answered.0 _ c.in-Ok-step.outs c.in-Ok-send_all.lost _ _ _ _ _ _ _ _ _ _ _ _ _ c.in-Ok-step.ensures.answered.1 c.as_slice.ensures c.in-Ok.ensures.given c.in-Ok.ensures.sent c.in-Ok.ensures.got c.in-Ok.ensures.losses c.in-Ok-send_all.ensures.sends c.close_lost.ensures
 
 pub returns-clause-meets : goal.returns-clause-meets
-returns-clause-meets g c =
-    (
-      _,
-      cut_sent c.args.machine.now.state c.in-Ok.input c.in-Ok-step.ensures.answered.0 c.step.new.self.state _ c.in-Ok-step.outs _ _ _ _ _ _ _ _ _ _ (g.H.Hub.losses c.next.new.self) _ _ c.in-Ok-step.ensures.answered.1 c.as_slice.ensures c.in-Ok.ensures.given c.in-Ok.ensures.sent c.in-Ok.ensures.got c.in-Ok.ensures.losses c.in-Err.ensures.sends,
-    )
+returns-clause-meets g c = (
+  _,
+  cut_sent c.args.machine.now.state c.in-Ok.input c.in-Ok-step.ensures.answered.0 c.step.new.self.state _ c.in-Ok-step.outs _ _ _ _ _ _ _ _ _ _ (g.H.Hub.losses c.next.new.self) _ _ c.in-Ok-step.ensures.answered.1 c.as_slice.ensures c.in-Ok.ensures.given c.in-Ok.ensures.sent c.in-Ok.ensures.got c.in-Ok.ensures.losses c.in-Err.ensures.sends,
+)
