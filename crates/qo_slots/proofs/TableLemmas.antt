@@ -1,15 +1,14 @@
 -- Lemmas on what contracts see of a table, for this crate and its callers.
-use Rattle.std.proofs.Common.{◌≡◌, ◌≢◌, ℕ, zero, suc, ◌+◌, ◌<◌, List, [], ◌∷◌, length, map, get_or, sum_by, Option, None, Some, filter_map, refl, ap, arith, IsSomeAnd}
-use Rattle.std.specs.Option.{option_map}
+use Rattle.std.proofs.Common.{◌≡◌, ◌≢◌, ℕ, zero, suc, ◌+◌, ◌<◌, List, [], ◌∷◌, length, map, get_or, sum_by, Option, None, Some, refl, ap, arith, IsSomeAnd}
 use Rattle.std.proofs.lemmas.List.{get_or-set_same, get_or-set_other, get_or_past}
 use Rattle.std.proofs.lemmas.List.Sums.{sum_by-cons}
 use Rattle.slab.specs.Slab.{entries_from}
 use Rattle.qo_slots.specs.declared.keys.Key.{Key}
-use Rattle.qo_slots.specs.Table.{Table, find, IsLive, Updates, with_value, without}
+use Rattle.qo_slots.specs.Table.{Table, find, IsLive, Updates, with_value, values_in}
 
 module _ {T : Type 0} where
   -- the entries of a slab, without keys and births, are the values of its slots
-  pub map-entries_from : (key : ℕ) (slots : List (Option (ℕ × T))) → map (λ e. e.1.1) (entries_from key slots) ≡ filter_map (option_map (λ e. e.1)) slots
+  pub map-entries_from : (key : ℕ) (slots : List (Option (ℕ × T))) → map (λ e. e.1.1) (entries_from key slots) ≡ values_in slots
   map-entries_from key [] = refl
   map-entries_from key (None ∷ rest) = map-entries_from (key + 1) rest
   map-entries_from key (Some e ∷ rest) = ap (λ xs. e.1 ∷ xs) (map-entries_from (key + 1) rest)

@@ -1,11 +1,11 @@
 -- What contracts see of a table: a finite map of keys to values.
-use Rattle.std.specs.Prelude.{◌≡◌, ◌≢◌, ℕ, ◌+◌, ◌≤◌, ◌<◌, ◌^◌, List, [], Option, None, Some, IfSome, IsSomeAnd, is_some, count_by, filter_map, slice_index_or, slice_set, refl}
+use Rattle.std.specs.Prelude.{◌≡◌, ◌≢◌, ℕ, ◌+◌, ◌≤◌, ◌<◌, ◌^◌, List, Option, None, Some, IfSome, IsSomeAnd, is_some, count_by, filter_map, slice_index_or, slice_set, refl}
 use Rattle.std.specs.Option.{option_map}
 use Rattle.std.specs.Coded.{Coded, code_by, coded×, coded_ℕ, coded_list, coded_option}
 use Rattle.qo_slots.specs.declared.keys.Key.{Key}
 
--- at each index the birth and the value that stand there, or nothing; the birth given last, 0 at
--- first; and how many values there is memory for
+-- at each index the birth and the value that stand there, or nothing; the birth that was given
+-- last, 0 where none was; and how many values there is memory for
 pub record Table (T : Type 0) : Type 0 where
   pub slots : List (Option (ℕ × T))
   pub born : ℕ
@@ -51,10 +51,6 @@ module _ {T : Type 0} where
   abbrev pub with_value : Table T → Key → T → Table T
   with_value t key value = record t { slots = slice_set t.slots key.index (Some (key.birth, value)) }
 
-  -- the table without a key
-  abbrev pub without : Table T → Key → Table T
-  without t key = record t { slots = slice_set t.slots key.index None }
-
-  -- the values, by rising index
-  abbrev pub values : Table T → List T
-  values t = filter_map (option_map (λ e. e.1)) t.slots
+  -- the values in these slots, by rising index
+  abbrev pub values_in : List (Option (ℕ × T)) → List T
+  values_in slots = filter_map (option_map (λ e. e.1)) slots

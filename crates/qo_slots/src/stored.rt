@@ -34,8 +34,8 @@ impl<T> Stored<T> {
     pub fn new(birth: u64, value: T) -> Stored<T>
         ensures { result ≡ (birth, value) }
     {
-        // The value is consumed later: `Slots` and `Rest` are linear, end only without values, and
-        // hand out each value by `into_value`.
+        // SAFETY: the value is consumed later. `Slots` and `Rest` alone keep what is stored; they
+        // are linear, hand out each value by `into_value`, and end only when they hold none.
         let value = unsafe { ManuallyDrop::new_unchecked(value) };
         Stored { birth, value }
     }

@@ -25,7 +25,11 @@ impl<T> Model for Slots<T> {
 
     ghost coded = { table_code T.code };
 
-    ghost view = { λ s. record { slots = s.table.slots; born = s.born; capacity = s.table.capacity } };
+    ghost view = { λ s. record {
+      slots = s.table.slots;
+      born = s.born;
+      capacity = s.table.capacity;
+    } };
 
     ghost use Rattle.qo_slots.specs.Table.{BirthsGiven};
 
@@ -33,9 +37,9 @@ impl<T> Model for Slots<T> {
 }
 
 impl<T> Slots<T> {
-    ghost use Rattle.std.specs.Prelude.{◌≡◌, ℕ, ◌+◌, ◌≤◌, ◌<◌, ◌^◌, [], length, IfSome, IsOkAnd, IsOk, IsErr, OnOk, Some, None, slice_set};
+    ghost use Rattle.std.specs.Prelude.{◌≡◌, ℕ, ◌+◌, ◌≤◌, ◌<◌, ◌^◌, [], IfSome, IsOkAnd, IsOk, IsErr, OnOk, Some, None, slice_set};
     ghost use Rattle.std.specs.Borrow.{sem};
-    ghost use Rattle.qo_slots.specs.Table.{find, live_count, values, HasSpare, IsLive, Updates};
+    ghost use Rattle.qo_slots.specs.Table.{find, live_count, values_in, HasSpare, IsLive, Updates};
     ghost use Rattle.qo_slots.specs.Lends.{lends_value};
 
     /// A table without values. It takes memory only by `reserve`.
@@ -48,8 +52,9 @@ impl<T> Slots<T> {
         })
     }
 
-    /// Makes room for at least `n` more values, so that as many calls of `put` can't fail. `Memory`
-    /// comes where memory runs out, or where fewer than `n` births are left below 2^64.
+    /// Makes room for at least `n` more values, so that as many calls of `put` need no memory.
+    /// `Memory` comes where memory runs out, or where fewer than `n` births are left below 2^64;
+    /// the values and the births are then as before, and the room is no less.
     pub fn reserve(&mut self, n: usize) -> Result<(), Memory>
         ensures spare { OnOk result (HasSpare self.new n) }
         ensures births { 2 ^ 64 ≤ self.old.born + n → IsErr result }
@@ -132,7 +137,7 @@ impl<T> Slots<T> {
 
     /// Gives the table up, for what it still holds. It takes no memory.
     pub fn into_rest(self) -> Rest<T>
-        ensures { result ≡ values self }
+        ensures { result ≡ values_in self.slots }
     {
         let Slots { table, born: _ } = self;
         Rest::new(table)

@@ -109,6 +109,7 @@ fn walk_tokens<L: Ledger>(alloc: Global, blank: Blank) -> Result<u64, Memory>
 
 #[test]
 fn table_of_tokens(rt: HostRuntime) -> Result<(), Fail> {
+    assert_eq!(rt; size_of::<Steps<Brand>>(), 0);
     assert_eq!(rt; walk_tokens::<Brand>(rt.alloc(), Blank::new(1))?, 88);
     Ok(())
 }

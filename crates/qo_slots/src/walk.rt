@@ -19,11 +19,11 @@ impl<T> Model for Rest<T> {
 }
 
 impl<T> Rest<T> {
-    ghost use Rattle.std.specs.Prelude.{◌≡◌, [], ◌∷◌, IfSome, IfNone, filter_map};
-    ghost use Rattle.std.specs.Option.{option_map};
+    ghost use Rattle.std.specs.Prelude.{◌≡◌, [], ◌∷◌, IfSome, IfNone};
+    ghost use Rattle.qo_slots.specs.Table.{values_in};
 
     pub(crate) fn new(table: Slab<Stored<T>>) -> Rest<T>
-        ensures { result ≡ filter_map (option_map (λ e. e.1)) table.slots }
+        ensures { result ≡ values_in table.slots }
     {
         Rest {
             table: table.into_iter(),
