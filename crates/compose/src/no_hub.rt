@@ -1,17 +1,17 @@
 //! The hub of a caller that has none.
 
-ghost use Rattle.std.specs.Prelude.{None};
+ghost use Rattle.std.specs.Prelude.{None, Some, []};
 
 use qo_causes::{Failed, Hub, Input, Lane, Moment, NextError, SendError, What};
 
-/// A hub without inputs, which keeps nothing that it is sent. It tells nothing of either.
+/// A hub without inputs, which keeps nothing that it is sent and tells nothing of it.
 #[derive(Drop)]
 pub struct NoHub;
 
 impl Hub for NoHub {
-    ghost inputs = { λ _. None };
+    ghost inputs = { λ _. Some [] };
 
-    ghost bad = { λ _. None };
+    ghost bad = { λ _. Some None };
 
     ghost got = { λ _ _. None };
 
