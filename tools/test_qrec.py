@@ -1,0 +1,70 @@
+#!/usr/bin/env python3
+"""Tests tools/qrec. It prints nothing where all is well."""
+
+import pathlib
+import random
+import subprocess
+import sys
+
+TOP = pathlib.Path(__file__).resolve().parent.parent
+LISTS = {
+    "": b"qrec 1\n",
+    "open 0\n": b"qrec 1\nopen 0.000000 0\n",
+    "@1.500000 open 15\n>15 {}\nshut 15\n": b"qrec 1\nopen 1.500000 15\nbytes 1.500000 15 2\n{}\nshut 1.500000 15\n",
+    "g> poll\n": b"qrec 1\nguest 0.000000 5\npoll\n\n",
+    "raw g ack 1\n": b"qrec 1\nguest 0.000000 5\nack 1\n",
+    "open 0\nraw 0 \\x00\\n\\r\\t\\\\\n": b"qrec 1\nopen 0.000000 0\nbytes 0.000000 0 5\n\x00\n\r\t\\\n",
+    "open 0\n>0 {\"\u00e9\":1}\n": b"qrec 1\nopen 0.000000 0\nbytes 0.000000 0 8\n{\"\xc3\xa9\":1}\n",
+    "@9223372036854775807.999999 step 9223372036854775807\n": b"qrec 1\nstep 9223372036854775807.999999 9223372036854775807\n",
+}
+NO_INPUTS = ["open 16", "open 00", "open 0\nopen 0", ">0 {}", "shut 0", "step 0", "step 9223372036854775808", "@1.5 step 1", "raw g \\q", "raw g \\", "g>", "hello"]
+NO_ENTRIES = [(b"", 0), (b"qrec 2\n", 0), (b"qrec 1\nopen 0.000000 0", 7), (b"qrec 1\nbytes 0.000000 0 1\na\n", 7), (b"qrec 1\nstep 0.000000 0\n", 7), (b"qrec 1\nguest 0.000000 3\nab\n", 7)]
+
+
+def run(word, data):
+    """The status, the output and the errors of one call."""
+    done = subprocess.run([TOP / "tools" / "qrec", word], input=data, capture_output=True, check=False)
+    return done.returncode, done.stdout, done.stderr
+
+
+def test_lists():
+    """Each list is written as its record, and read back."""
+    for text, record in LISTS.items():
+        assert run("write", text.encode()) == (0, record, b""), text
+        assert run("read", record) == (0, text.encode(), b""), text
+
+
+def test_refusals():
+    """What is no input and what is no entry is told, with its place."""
+    for text in NO_INPUTS:
+        status, out, told = run("write", text.encode())
+        assert (status, out) == (3, b"") and told.startswith(f"qrec: line {text.count(chr(10)) + 1}: ".encode()), text
+    for record, place in NO_ENTRIES:
+        status, _, told = run("read", record)
+        assert (status, told) == (3, f"qrec: bad record at byte {place}\n".encode()), record
+    assert subprocess.run([TOP / "tools" / "qrec"], capture_output=True, check=False).returncode == 2
+
+
+def test_bytes():
+    """Bytes of all kinds come back, in one entry or in several."""
+    draw = random.Random(1)
+    for size in [1, 2, 3, 5, 8, 65_536, 65_537, 200_000]:
+        data = bytes(draw.choice(b"ab {}\\\n\r\t\x00\x7f\xc3\xa9\xff") for _ in range(size))
+        entries = b"".join(b"guest 0.000000 %d\n%s\n" % (len(it), it) for it in (data[at : at + 65_536] for at in range(0, size, 65_536)))
+        status, text, _ = run("read", b"qrec 1\n" + entries)
+        assert status == 0 and run("write", text) == (0, b"qrec 1\n" + entries, b""), size
+
+
+def test_examples():
+    """Each example is read, and written again byte for byte."""
+    for path in (TOP / "examples").glob("*.qrec"):
+        record = path.read_bytes()
+        status, text, _ = run("read", record)
+        assert status == 0 and run("write", text) == (0, record, b""), path
+
+
+if __name__ == "__main__":
+    for name, test in [*globals().items()]:
+        if name.startswith("test_"):
+            test()
+    sys.exit(0)
