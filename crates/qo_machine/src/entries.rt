@@ -10,7 +10,7 @@ use crate::requests::{Request, request_of};
 use qo_causes::{Chunk, Input, Moment, What};
 use std::alloc::{AllocError, Global};
 
-/// The last second of a moment.
+/// The last second of a moment: 2^63 - 1.
 const LAST_SECOND: u64 = 9_223_372_036_854_775_807;
 
 /// What the entries so far did.
