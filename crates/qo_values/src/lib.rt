@@ -8,6 +8,7 @@ mod ids;
 mod kinds;
 mod limits;
 mod names;
+mod plain;
 mod properties;
 #[cfg(test)]
 mod tests;
@@ -21,5 +22,6 @@ pub use limits::{
     MESSAGE_MAX, NESTING_MAX, NOTES_KEPT, NOTES_PER_REPLY, NOTICES_MAX, RING_SIZE_MAX, SESSIONS,
     TIME_MAX,
 };
-pub use names::{Chars, Name, Text};
-pub use properties::{Misfit, PropType, Val};
+pub use names::{Chars, Name, Text, TextList};
+pub use plain::{FromJson, from_json, to_json};
+pub use properties::{Misfit, PropList, PropType, Val};

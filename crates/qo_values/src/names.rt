@@ -72,6 +72,38 @@ impl Text {
     }
 }
 
+/// A list of texts.
+#[derive(Debug, Drop)]
+pub struct TextList {
+    texts: Vec<Text>,
+}
+
+impl Model for TextList {
+    ghost use Rattle.std.specs.Prelude.{List, ℕ};
+
+    ghost Value = { List (List ℕ) };
+
+    ghost view = { λ t. t.texts.items };
+}
+
+impl TextList {
+    ghost use Rattle.std.specs.Prelude.{◌≡◌};
+
+    /// The texts of a vector. It takes no memory.
+    pub fn from_vec(texts: Vec<Text>) -> TextList
+        ensures { result ≡ texts.items }
+    {
+        TextList { texts }
+    }
+
+    /// The texts as a slice. It takes no memory.
+    pub fn as_slice(&self) -> &[Text]
+        ensures { result.now ≡ self.now }
+    {
+        self.texts.as_slice()
+    }
+}
+
 /// A list of bytes, such as a message.
 #[derive(Debug, Drop)]
 pub struct Chars {

@@ -5,6 +5,7 @@ ghost use Rattle.std.specs.Prelude.{◌≡◌, is_ok};
 ghost use Rattle.qo_values.specs.Properties.{admits, is_multiple};
 
 use crate::names::Text;
+use std::marker::Model;
 use thiserror::Error;
 
 /// The value of a plain property.
@@ -20,6 +21,39 @@ pub enum Val {
     Text(Text),
     /// No value yet.
     Nothing,
+}
+
+/// A list of properties, each a name and a value.
+#[derive(Debug, Drop)]
+pub struct PropList {
+    pairs: Vec<(Text, Val)>,
+}
+
+impl Model for PropList {
+    ghost use Rattle.std.specs.Prelude.{List, ℕ};
+    ghost use Rattle.qo_values.specs.declared.properties.Val.{Val};
+
+    ghost Value = { List (List ℕ × Val) };
+
+    ghost view = { λ p. p.pairs.items };
+}
+
+impl PropList {
+    ghost use Rattle.std.specs.Prelude.{◌≡◌};
+
+    /// The pairs of a vector. It takes no memory.
+    pub fn from_vec(pairs: Vec<(Text, Val)>) -> PropList
+        ensures { result ≡ pairs.items }
+    {
+        PropList { pairs }
+    }
+
+    /// The pairs as a slice. It takes no memory.
+    pub fn as_slice(&self) -> &[(Text, Val)]
+        ensures { result.now ≡ self.now }
+    {
+        self.pairs.as_slice()
+    }
 }
 
 /// Which values a plain property takes.

@@ -1,0 +1,6 @@
+pub mod Building
+pub mod Commands
+pub mod Fields
+pub mod Kinds
+pub mod Messages
+pub mod Texts

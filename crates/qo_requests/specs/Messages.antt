@@ -1,0 +1,112 @@
+-- What a message is read into, or the first code that stands (QMP specification, 2.3 "Issuing Commands" and 2.5 "Server responses";
+-- docs/PROFILE.md, the order of refusals).
+use Rattle.std.specs.Prelude.{◌≡◌, ℕ, Bool, true, false, not, ◌&&◌, ◌||◌, List, [], ◌∷◌, ◌++◌, codes, Option, Some, None, is_some, option_and_then, option_map, unwrap_or, Result, Ok, Err, if◌then◌else◌, ⊤}
+use Rattle.std.specs.Str.{bytes_eq, is_utf8}
+use Rattle.serde_json.specs.Data.{Data, null}
+use Rattle.serde_json.specs.Find.{as_object}
+use Rattle.serde_json.specs.Read.{read}
+use Rattle.serde_json.specs.Written.{has_float}
+use Rattle.qo_values.specs.declared.codes.Code.{Code}
+use Rattle.qo_values.specs.declared.codes.Code.TheVariants.{E1, E6, E7, E10, E12, E13, E14}
+use Rattle.qo_requests.specs.Building.{request_of}
+use Rattle.qo_requests.specs.Commands.{command_of, required, optional, is_open}
+use Rattle.qo_requests.specs.Fields.{argument, has_all, has_only}
+use Rattle.qo_requests.specs.Kinds.{text_at}
+use Rattle.qo_requests.specs.Texts.{json}
+use Rattle.qo_requests.specs.declared.commands.Command.{Command}
+use Rattle.qo_requests.specs.declared.commands.Command.TheVariants.{ChardevAdd}
+use Rattle.qo_requests.specs.declared.fields.Field.TheVariants.{Arguments, Backend, Execute, Id, Kind, Payload, Size}
+use Rattle.qo_requests.specs.declared.requests.Parsed.{Parsed}
+use Rattle.qo_requests.specs.declared.requests.ReadError.{ReadError}
+use Rattle.qo_requests.specs.declared.requests.ReadError.TheVariants.{Refused, Memory}
+use Rattle.qo_requests.specs.declared.requests.Request.{Request}
+
+-- the value that a message is, where it is JSON in UTF-8
+abbrev pub value_of : List ℕ → Option Data
+value_of bytes = if is_utf8 bytes then read bytes else None
+
+-- the arguments of a message; where there are none, none of them is there
+abbrev pub arguments_of : Data → Data
+arguments_of d = unwrap_or (argument Arguments d) null
+
+-- `arguments` is an object where it stands
+abbrev pub arguments_fit : Option Data → Bool
+arguments_fit None = true
+arguments_fit (Some d) = is_some (as_object d)
+
+-- a message has the members `execute`, a text, and maybe `arguments`, an object, and `id`, and no other
+abbrev pub is_message : Data → Bool
+is_message d = has_only (Execute ∷ Arguments ∷ Id ∷ []) d && is_some (text_at Execute d) && arguments_fit (argument Arguments d)
+
+-- `backend`, where it is an object, has `type` and `data`
+abbrev pub backend_complete : Option Data → Bool
+backend_complete None = true
+backend_complete (Some d) = not (is_some (as_object d)) || has_all (Kind ∷ Payload ∷ []) d
+
+-- each argument that must stand there does
+abbrev pub is_complete : Command → Data → Bool
+is_complete ChardevAdd args = has_all (required ChardevAdd) args && backend_complete (argument Backend args)
+is_complete command args = has_all (required command) args
+
+-- `data` has at most `size`
+abbrev pub payload_closed : Option Data → Bool
+payload_closed None = true
+payload_closed (Some d) = has_only (Size ∷ []) d
+
+-- `backend` has at most `type` and `data`, and that at most `size`
+abbrev pub backend_closed : Option Data → Bool
+backend_closed None = true
+backend_closed (Some d) = has_only (Kind ∷ Payload ∷ []) d && payload_closed (argument Payload d)
+
+-- no argument stands there that the command does not take
+abbrev pub is_closed : Command → Data → Bool
+is_closed ChardevAdd args = has_only (required ChardevAdd ++ optional ChardevAdd) args && backend_closed (argument Backend args)
+is_closed command args = is_open command || has_only (required command ++ optional command) args
+
+-- what was read, or that an argument is of another kind
+abbrev pub of_right_kinds : Option Request → Result Request Code
+of_right_kinds None = Err E14
+of_right_kinds (Some request) = Ok request
+
+-- a command with its arguments: all are there, then none is beside them, then each is of its kind
+abbrev pub call_of : Option Command → Data → Result Request Code
+call_of None args = Err E10
+call_of (Some command) args =
+    if not (is_complete command args) then Err E12
+    else (if not (is_closed command args) then Err E13 else of_right_kinds (request_of command args))
+
+-- the request that a value is, or the first code that stands
+abbrev pub request_in : Data → Result Request Code
+request_in d =
+    if has_float d then Err E7
+    else (if not (is_message d) then Err E6
+    else call_of (option_and_then command_of (text_at Execute d)) (arguments_of d))
+
+-- an id as its text in a reply, where no number of it is a float
+abbrev pub id_text : Option Data → Option (List ℕ)
+id_text None = None
+id_text (Some d) = if has_float d then None else Some (json d)
+
+-- `execute` is `qmp_capabilities`
+abbrev pub negotiates : Data → Bool
+negotiates d = unwrap_or (option_map (λ name. bytes_eq name (codes "qmp_capabilities")) (text_at Execute d)) false
+
+-- a request or a code, with the id of its message
+abbrev pub with_id : Data → Result Request Code → Result Parsed ReadError
+with_id d (Ok request) = Ok (record { id = id_text (argument Id d); request = request })
+with_id d (Err code) = Err (Refused code (id_text (argument Id d)) (negotiates d))
+
+-- what the value of a message is read into; E1 where there is none
+abbrev pub of_value : Option Data → Result Parsed ReadError
+of_value None = Err (Refused E1 None false)
+of_value (Some d) = with_id d (request_in d)
+
+-- what a message is read into
+unfoldable pub command : List ℕ → Result Parsed ReadError
+command bytes = of_value (value_of bytes)
+
+-- what a reading comes to: as defined, or want of memory
+abbrev pub Reads : Result Parsed ReadError → Result Parsed ReadError → Type 0
+Reads (Err Memory) defined = ⊤
+Reads (Err (Refused code id negotiates)) defined = defined ≡ Err (Refused code id negotiates)
+Reads (Ok parsed) defined = defined ≡ Ok parsed

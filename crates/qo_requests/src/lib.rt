@@ -1,0 +1,11 @@
+//! The messages of a session, read into requests (QMP specification, 2.3 "Issuing Commands"; which
+//! commands there are and what they take is the profile's).
+#![tactic(auto)]
+
+mod commands;
+mod fields;
+mod requests;
+
+pub use commands::Command;
+pub use fields::Field;
+pub use requests::{Parsed, ReadError, Request};
