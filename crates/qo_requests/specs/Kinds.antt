@@ -70,12 +70,16 @@ optional_form_at field args = optional_of form_of (argument field args)
 abbrev pub optional_texts_at : Field → Data → Option (Option (List (List ℕ)))
 optional_texts_at field args = optional_of texts_of (argument field args)
 
--- the further members as properties: each is a plain value
+-- a member as a property
+abbrev pub named_property : List ℕ → Data → Option (List ℕ × Val)
+named_property name d = plain_of d >>= λ val. Some (name, val)
+
+-- the members that are none of these as properties, in their order
 abbrev pub properties_in : List Field → Members → Option (List (List ℕ × Val))
 properties_in fields no_members = Some []
 properties_in fields (member name d ms) =
     if is_named fields name then properties_in fields ms
-    else (plain_of d >>= λ val. properties_in fields ms >>= λ pairs. Some ((name, val) ∷ pairs))
+    else (named_property name d >>= λ pair. properties_in fields ms >>= λ pairs. Some (pair ∷ pairs))
 
 abbrev pub properties_beside : List Field → Data → Option (List (List ℕ × Val))
 properties_beside fields args = option_and_then (properties_in fields) (as_object args)

@@ -3,4 +3,5 @@ pub mod Commands
 pub mod Fields
 pub mod Kinds
 pub mod Messages
+pub mod Reading
 pub mod Texts

@@ -16,6 +16,8 @@ use Rattle.qo_requests.specs.Texts.{json}
 use Rattle.qo_requests.specs.declared.commands.Command.{Command}
 use Rattle.qo_requests.specs.declared.commands.Command.TheVariants.{ChardevAdd}
 use Rattle.qo_requests.specs.declared.fields.Field.TheVariants.{Arguments, Backend, Execute, Id, Kind, Payload, Size}
+use Rattle.qo_requests.specs.declared.messages.Refusal.{Refusal}
+use Rattle.qo_requests.specs.declared.messages.Refusal.TheVariants as refusal
 use Rattle.qo_requests.specs.declared.requests.Parsed.{Parsed}
 use Rattle.qo_requests.specs.declared.requests.ReadError.{ReadError}
 use Rattle.qo_requests.specs.declared.requests.ReadError.TheVariants.{Refused, Memory}
@@ -75,12 +77,15 @@ call_of (Some command) args =
     if not (is_complete command args) then Err E12
     else (if not (is_closed command args) then Err E13 else of_right_kinds (request_of command args))
 
+-- the call that a message makes
+abbrev pub call_in : Data → Result Request Code
+call_in d = call_of (option_and_then command_of (text_at Execute d)) (arguments_of d)
+
 -- the request that a value is, or the first code that stands
 abbrev pub request_in : Data → Result Request Code
 request_in d =
     if has_float d then Err E7
-    else (if not (is_message d) then Err E6
-    else call_of (option_and_then command_of (text_at Execute d)) (arguments_of d))
+    else (if not (is_message d) then Err E6 else call_in d)
 
 -- an id as its text in a reply, where no number of it is a float
 abbrev pub id_text : Option Data → Option (List ℕ)
@@ -110,3 +115,9 @@ abbrev pub Reads : Result Parsed ReadError → Result Parsed ReadError → Type 
 Reads (Err Memory) defined = ⊤
 Reads (Err (Refused code id negotiates)) defined = defined ≡ Err (Refused code id negotiates)
 Reads (Ok parsed) defined = defined ≡ Ok parsed
+
+-- what a value is read into: as defined, or want of memory
+abbrev pub GivesCode : Result Request Refusal → Result Request Code → Type 0
+GivesCode (Ok request) defined = defined ≡ Ok request
+GivesCode (Err (refusal.Code code)) defined = defined ≡ Err code
+GivesCode (Err refusal.Memory) defined = ⊤

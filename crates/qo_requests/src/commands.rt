@@ -1,7 +1,9 @@
 //! The commands by name, and what they take.
 
-ghost use Rattle.std.specs.Prelude.{◌≡◌};
-ghost use Rattle.qo_requests.specs.Commands.{command_name};
+ghost use Rattle.std.specs.Prelude.{◌≡◌, ◌++◌};
+ghost use Rattle.qo_requests.specs.Commands.{command_name, commands, command_of, required, optional, is_open};
+
+use crate::fields::Field;
 
 /// A command, in byte order of the names.
 #[derive(Clone, Copy, Debug, PartialEq, Eq)]
@@ -99,5 +101,106 @@ impl Command {
             Command::XSever => "x-sever",
             Command::XStep => "x-step",
         }
+    }
+
+    /// All commands.
+    pub fn all() -> &'static [Command]
+        ensures { result.now ≡ commands }
+    {
+        &[
+            Command::ChardevAdd,
+            Command::ChardevRemove,
+            Command::Cont,
+            Command::DeviceListProperties,
+            Command::DeviceAdd,
+            Command::DeviceDel,
+            Command::ObjectAdd,
+            Command::ObjectDel,
+            Command::QmpCapabilities,
+            Command::QomGet,
+            Command::QomList,
+            Command::QomListTypes,
+            Command::QomSet,
+            Command::QueryCommands,
+            Command::QueryStatus,
+            Command::QueryVersion,
+            Command::Quit,
+            Command::RingbufRead,
+            Command::RingbufWrite,
+            Command::Stop,
+            Command::SystemReset,
+            Command::XGuest,
+            Command::XQueryDetached,
+            Command::XQueryNotes,
+            Command::XResetHold,
+            Command::XResetRelease,
+            Command::XSever,
+            Command::XStep,
+        ]
+    }
+
+    /// The command of a name.
+    pub fn named(name: &str) -> Option<Command>
+        ensures { result ≡ command_of name.now }
+    {
+        Command::all()
+            .iter()
+            .copied()
+            .find(|command| command.name() == name)
+    }
+
+    /// The arguments that must stand there.
+    pub(crate) fn required(self) -> &'static [Field]
+        ensures { result.now ≡ required self }
+    {
+        match self {
+            Command::ChardevAdd => &[Field::Id, Field::Backend],
+            Command::ChardevRemove | Command::DeviceDel | Command::ObjectDel => &[Field::Id],
+            Command::DeviceListProperties => &[Field::Typename],
+            Command::DeviceAdd => &[Field::Driver],
+            Command::ObjectAdd => &[Field::QomType, Field::Id],
+            Command::QomGet => &[Field::Path, Field::Property],
+            Command::QomList | Command::XResetHold | Command::XResetRelease => &[Field::Path],
+            Command::QomSet => &[Field::Path, Field::Property, Field::Value],
+            Command::RingbufRead => &[Field::Device, Field::Size],
+            Command::RingbufWrite => &[Field::Device, Field::Payload],
+            Command::XGuest => &[Field::Line],
+            Command::XQueryNotes => &[Field::From],
+            Command::XSever => &[Field::Birth],
+            Command::XStep => &[Field::Ns],
+            _ => &[],
+        }
+    }
+
+    /// The arguments that the command takes; those that must stand there come first.
+    pub(crate) fn fields(self) -> &'static [Field]
+        ensures { result.now ≡ required self ++ optional self }
+    {
+        match self {
+            Command::ChardevAdd => &[Field::Id, Field::Backend],
+            Command::ChardevRemove | Command::DeviceDel | Command::ObjectDel => &[Field::Id],
+            Command::DeviceListProperties => &[Field::Typename],
+            Command::DeviceAdd => &[Field::Driver, Field::Id, Field::Bus],
+            Command::ObjectAdd => &[Field::QomType, Field::Id],
+            Command::QmpCapabilities => &[Field::Enable],
+            Command::QomGet => &[Field::Path, Field::Property],
+            Command::QomList | Command::XResetHold | Command::XResetRelease => &[Field::Path],
+            Command::QomListTypes => &[Field::Implements, Field::Abstract],
+            Command::QomSet => &[Field::Path, Field::Property, Field::Value],
+            Command::RingbufRead => &[Field::Device, Field::Size, Field::Format],
+            Command::RingbufWrite => &[Field::Device, Field::Payload, Field::Format],
+            Command::XGuest => &[Field::Line],
+            Command::XQueryNotes => &[Field::From],
+            Command::XSever => &[Field::Birth],
+            Command::XStep => &[Field::Ns],
+            _ => &[],
+        }
+    }
+
+    /// Whether each further argument is a property.
+    pub(crate) fn is_open(self) -> bool
+        ensures { result ≡ is_open self }
+    {
+        matches!(self, Command::DeviceAdd | Command::ObjectAdd)
     }
 }

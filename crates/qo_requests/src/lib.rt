@@ -2,10 +2,15 @@
 //! commands there are and what they take is the profile's).
 #![tactic(auto)]
 
+mod building;
 mod commands;
 mod fields;
+mod kinds;
+mod messages;
 mod requests;
+mod texts;
 
 pub use commands::Command;
 pub use fields::Field;
+pub use messages::read;
 pub use requests::{Parsed, ReadError, Request};
