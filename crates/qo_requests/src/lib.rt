@@ -14,3 +14,6 @@ pub use commands::Command;
 pub use fields::Field;
 pub use messages::read;
 pub use requests::{Parsed, ReadError, Request};
+
+#[cfg(test)]
+mod tests;
