@@ -1,0 +1,16 @@
+use Rattle.std.proofs.Common.{sym, ◌∙◌, append_assoc, append-nil}
+use Rattle.std.proofs.lemmas.Str.{IsUtf8-past_char}
+use Rattle.qo_replies.proofs.AsciiLemmas.{ascii-nil, ascii-step}
+use Rattle.qo_replies.proofs.ascii.push_escaped.Goals as goal
+
+pub loop-character-preserved : goal.loop-character-preserved
+loop-character-preserved c =
+    let held = c.loop-character.invariant in
+    let parts = c.in-Some.ensures.steps.0 in
+    let step = ascii-step _ _ c.in-Some.character held.0 parts in
+    (IsUtf8-past_char _ _ c.in-Some.character held.0 parts, rw (c.in_ok-push_character.ensures, append_assoc) (rw step at held.1))
+
+pub returns : goal.returns
+returns c =
+    let none = ascii-nil _ c.in-None.ensures.steps.0.0 in
+    sym (append-nil _) ∙ rw none at c.loop-character.invariant.1

@@ -1,0 +1,49 @@
+-- What a session is told unasked (QMP specification, 2.5 "Asynchronous events").
+use Rattle.std.specs.Prelude.{ℕ, List, ◌++◌, Bool, true, false, Option, None, Some, codes}
+use Rattle.qo_causes.specs.declared.inputs.Moment.{Moment}
+use Rattle.serde_json.specs.Data.{Data, Members, boolean, member, no_members, number, object, string, unsigned}
+use Rattle.qo_replies.specs.Json.{json}
+use Rattle.qo_replies.specs.Replies.{line_end}
+use Rattle.qo_replies.specs.declared.events.Event.{Event}
+use Rattle.qo_replies.specs.declared.events.Event.TheVariants.{DeviceDeleted, DeviceUnplugGuestError, Reset, Shutdown, Stop, Resume}
+
+-- the member `timestamp`: the moment of the input that made the event
+abbrev pub timestamp : Moment → Members
+timestamp at =
+    member (codes "timestamp")
+    (object (member (codes "microseconds") (number (unsigned at.micros)) (member (codes "seconds") (number (unsigned at.seconds)) no_members)))
+    no_members
+
+-- an event without data
+abbrev pub plain_event : Moment → List ℕ → Data
+plain_event at name = object (member (codes "event") (string name) (timestamp at))
+
+-- an event with data
+abbrev pub told_event : Moment → Members → List ℕ → Data
+told_event at told name = object (member (codes "data") (object told) (member (codes "event") (string name) (timestamp at)))
+
+-- an event of a device: its id where it has one, and its path
+abbrev pub device_event : Moment → Option (List ℕ) → List ℕ → List ℕ → Data
+device_event at None path name = told_event at (member (codes "path") (string path) no_members) name
+device_event at (Some id) path name =
+    told_event at (member (codes "device") (string id) (member (codes "path") (string path) no_members)) name
+
+-- an event that the guest caused, or the host by a command
+abbrev pub caused_event : Moment → Bool → List ℕ → List ℕ → Data
+caused_event at guest reason name =
+    told_event at (member (codes "guest") (boolean guest) (member (codes "reason") (string reason) no_members)) name
+
+-- an event as a value
+abbrev pub event_data : Moment → Event → Data
+event_data at (DeviceDeleted id path) = device_event at id path (codes "DEVICE_DELETED")
+event_data at (DeviceUnplugGuestError id path) = device_event at id path (codes "DEVICE_UNPLUG_GUEST_ERROR")
+event_data at (Reset true) = caused_event at true (codes "guest-reset") (codes "RESET")
+event_data at (Reset false) = caused_event at false (codes "host-qmp-system-reset") (codes "RESET")
+event_data at (Shutdown true) = caused_event at true (codes "guest-shutdown") (codes "SHUTDOWN")
+event_data at (Shutdown false) = caused_event at false (codes "host-qmp-quit") (codes "SHUTDOWN")
+event_data at Stop = plain_event at (codes "STOP")
+event_data at Resume = plain_event at (codes "RESUME")
+
+-- an event as it is sent
+unfoldable pub event_line : Moment → Event → List ℕ
+event_line at event = json (event_data at event) ++ line_end

@@ -1,0 +1,106 @@
+//! JSON in ASCII.
+
+ghost use Rattle.std.specs.Prelude.{◌≡◌, ◌<◌, ◌≤◌, ◌^◌, ◌++◌, false, string_bytes, IfOk, OnOk};
+ghost use Rattle.std.specs.Char.{digit_char};
+ghost use Rattle.serde_json.specs.View.{view};
+ghost use Rattle.serde_json.specs.Written.{has_float};
+ghost use Rattle.qo_replies.specs.Json.{ascii, character_text, json, pair_text, unit_text, units_text};
+
+use qo_values::Text;
+use serde_json::Value;
+use std::alloc::{AllocError, Global};
+
+/// A hexadecimal digit in lower case.
+fn hex_digit(digit: u32) -> char
+    requires { digit < 16 }
+    ensures { result ≡ digit_char digit }
+{
+    char::from_digit(digit, 16).unwrap_or('0')
+}
+
+/// A UTF-16 unit as `\u` and four hexadecimal digits.
+fn push_unit(text: &mut String, unit: u32) -> Result<(), AllocError>
+    requires { unit < 2 ^ 16 }
+    ensures { OnOk result (string_bytes text.new ≡ string_bytes text.old ++ unit_text unit) }
+{
+    text.push_str("\\u")?;
+    text.push(hex_digit(unit / 4096))?;
+    text.push(hex_digit(unit / 256 % 16))?;
+    text.push(hex_digit(unit / 16 % 16))?;
+    text.push(hex_digit(unit % 16))
+}
+
+/// A character above 65,535 as the two units that stand for it.
+fn push_pair(text: &mut String, character: u32) -> Result<(), AllocError>
+    requires above { 65536 ≤ character }
+    requires most { character < 1114112 }
+    ensures { OnOk result (string_bytes text.new ≡ string_bytes text.old ++ pair_text character) }
+{
+    push_unit(text, 55_296 + (character - 65_536) / 1_024)?;
+    push_unit(text, 56_320 + (character - 65_536) % 1_024)?;
+    Ok(())
+}
+
+/// A character that is not ASCII, as escapes of its UTF-16 units.
+fn push_units(text: &mut String, character: u32) -> Result<(), AllocError>
+    requires { character < 1114112 }
+    ensures { OnOk result (string_bytes text.new ≡ string_bytes text.old ++ units_text character) }
+{
+    if character < 65_536 {
+        push_unit(text, character)
+    } else {
+        push_pair(text, character)
+    }
+}
+
+/// One character, escaped where it is not ASCII.
+fn push_character(text: &mut String, character: char) -> Result<(), AllocError>
+    ensures { OnOk result (string_bytes text.new ≡ string_bytes text.old ++ character_text character) }
+{
+    if character.is_ascii() {
+        text.push(character)
+    } else {
+        push_units(text, u32::from(character))
+    }
+}
+
+/// A text whose characters above ASCII are escaped.
+fn push_escaped(text: &mut String, plain: &str) -> Result<(), AllocError>
+    ensures { OnOk result (string_bytes text.new ≡ string_bytes text.old ++ ascii plain.now) }
+{
+    for character in plain.chars() {
+        push_character(text, character)?;
+    }
+    Ok(())
+}
+
+/// A text in ASCII: as it is, or with the others escaped.
+fn push_ascii(text: &mut String, plain: &str) -> Result<(), AllocError>
+    ensures { OnOk result (string_bytes text.new ≡ string_bytes text.old ++ ascii plain.now) }
+{
+    if plain.is_ascii() {
+        text.push_str(plain)?;
+        Ok(())
+    } else {
+        push_escaped(text, plain)
+    }
+}
+
+#[tactic(auto, unfolding(crate::specs::Json::json))]
+/// Adds the text of a value.
+pub(crate) fn push_json(alloc: Global, text: &mut String, value: &Value) -> Result<(), AllocError>
+    ensures { OnOk result (has_float (view value.now) ≡ false → string_bytes text.new ≡ string_bytes text.old ++ json (view value.now)) }
+{
+    let plain = value.to_string(alloc)?;
+    push_ascii(text, plain.as_str())
+}
+
+/// The text of a value: compact JSON in ASCII, members in byte order of their names, every other
+/// character escaped by its UTF-16 units. Nothing is said of the text of a fraction.
+pub fn json_text(alloc: Global, value: &Value) -> Result<Text, AllocError>
+    ensures { IfOk result (λ text. has_float (view value.now) ≡ false → text ≡ json (view value.now)) }
+{
+    let mut text = String::new(alloc);
+    push_json(alloc, &mut text, value)?;
+    Ok(Text::from_string(text))
+}

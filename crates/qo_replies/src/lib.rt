@@ -1,0 +1,12 @@
+//! The bytes of what a session is sent: JSON in ASCII, replies, events, the greeting.
+#![tactic(auto)]
+
+mod ascii;
+mod events;
+mod replies;
+#[cfg(test)]
+mod tests;
+
+pub use ascii::json_text;
+pub use events::{Event, event_text};
+pub use replies::{error_text, greeting, return_text, version};
