@@ -4,4 +4,3 @@ pub mod Fields
 pub mod Kinds
 pub mod Messages
 pub mod Reading
-pub mod Texts

@@ -12,7 +12,7 @@ use Rattle.qo_requests.specs.Building.{request_of}
 use Rattle.qo_requests.specs.Commands.{command_of, required, optional, is_open}
 use Rattle.qo_requests.specs.Fields.{argument, has_all, has_only}
 use Rattle.qo_requests.specs.Kinds.{text_at}
-use Rattle.qo_requests.specs.Texts.{json}
+use Rattle.qo_replies.specs.Json.{json}
 use Rattle.qo_requests.specs.declared.commands.Command.{Command}
 use Rattle.qo_requests.specs.declared.commands.Command.TheVariants.{ChardevAdd}
 use Rattle.qo_requests.specs.declared.fields.Field.TheVariants.{Arguments, Backend, Execute, Id, Kind, Payload, Size}

@@ -8,7 +8,6 @@ mod fields;
 mod kinds;
 mod messages;
 mod requests;
-mod texts;
 
 pub use commands::Command;
 pub use fields::Field;

@@ -12,7 +12,7 @@ use crate::commands::Command;
 use crate::fields::{Field, argument, has_all, has_only};
 use crate::kinds::KindError;
 use crate::requests::{Parsed, ReadError, Request};
-use crate::texts::json_text;
+use qo_replies::json_text;
 use qo_values::{Code, Text};
 use serde_json::{Map, Value};
 use std::alloc::{AllocError, Global};
