@@ -1,6 +1,10 @@
 //! What no clause says: that the clauses mean what the profile says, at values written by hand, and
 //! that the call that takes memory succeeds where there is enough.
-use crate::{Chars, Class, Code, Id, IdError, Name, PropType, Text, TypeId, Val};
+use crate::{
+    Chars, Class, Code, FromJson, Id, IdError, Name, PropList, PropType, Text, TextList, TypeId,
+    Val, from_json, to_json,
+};
+use serde_json::Value;
 use std::test::Fail;
 
 #[test]
@@ -144,4 +148,70 @@ fn texts_and_truth_values_are_admitted_by_their_types_alone(rt: HostRuntime) {
     assert!(rt; PropType::Bool.admit(&text).is_err());
     assert!(rt; PropType::Bool.admit(&Val::Bool(true)).is_ok());
     assert!(rt; PropType::Text.admit(&Val::Uint(0)).is_err());
+}
+
+#[test]
+fn lists_are_lent_as_given(rt: HostRuntime) -> Result<(), Fail> {
+    let alloc = rt.alloc();
+    let mut texts = Vec::new(alloc);
+    texts.push(Text::from_string(String::from_str(alloc, "oob")?))?;
+    let texts = TextList::from_vec(texts);
+    assert_eq!(rt; texts.as_slice().len(), 1);
+    assert_eq!(rt; texts.as_slice()[0].as_str(), "oob");
+    let mut pairs = Vec::new(alloc);
+    pairs.push((
+        Text::from_string(String::from_str(alloc, "slot")?),
+        Val::Uint(7),
+    ))?;
+    let pairs = PropList::from_vec(pairs);
+    assert_eq!(rt; pairs.as_slice().len(), 1);
+    let (name, val) = &pairs.as_slice()[0];
+    assert_eq!(rt; name.as_str(), "slot");
+    assert!(rt; matches!(val, Val::Uint(7)));
+    Ok(())
+}
+
+#[test]
+fn plain_values_are_told_as_they_were_read(rt: HostRuntime) -> Result<(), Fail> {
+    let alloc = rt.alloc();
+    for (text, shown) in [
+        ("true", "Bool(true)"),
+        ("0", "Uint(0)"),
+        ("18446744073709551615", "Uint(18446744073709551615)"),
+        ("-1", "Int(-1)"),
+        ("-9223372036854775808", "Int(-9223372036854775808)"),
+        ("\"\"", "Text(Text { text: \"\" })"),
+        ("\"é\"", "Text(Text { text: \"é\" })"),
+    ] {
+        let val = from_json(alloc, &Value::from_str(alloc, text)?)?;
+        let given = format!(in alloc; "{val:?}")?;
+        assert_eq!(rt; given.as_str(), shown);
+        let told = to_json(alloc, &val)?.to_string(alloc)?;
+        assert_eq!(rt; told.as_str(), text);
+    }
+    Ok(())
+}
+
+#[test]
+fn other_values_are_not_plain(rt: HostRuntime) -> Result<(), Fail> {
+    let alloc = rt.alloc();
+    for text in [
+        "null",
+        "[]",
+        "[1]",
+        "{}",
+        "1.0",
+        "1e3",
+        "-0",
+        "18446744073709551616",
+        "-9223372036854775809",
+    ] {
+        let read = from_json(alloc, &Value::from_str(alloc, text)?);
+        assert!(rt; matches!(read, Err(FromJson::NotPlain)), "{text}");
+    }
+    let nothing = to_json(alloc, &Val::Nothing)?;
+    assert!(rt; nothing.is_null());
+    let above = to_json(alloc, &Val::Int(5))?.to_string(alloc)?;
+    assert_eq!(rt; above.as_str(), "5");
+    Ok(())
 }
