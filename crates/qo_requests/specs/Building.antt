@@ -1,9 +1,9 @@
 -- What each command is read into: its arguments by their kinds, and nothing where one is of another kind (docs/PROFILE.md, commands).
-use Rattle.std.specs.Prelude.{Option, Some, [], ◌∷◌}
+use Rattle.std.specs.Prelude.{Option, Some, None, [], ◌∷◌}
 use Rattle.serde_json.specs.Data.{Data}
 use Rattle.serde_json.specs.Find.{as_object}
 use Rattle.qo_requests.specs.Fields.{argument}
-use Rattle.qo_requests.specs.Kinds.{◌>>=◌, text_at, number_at, value_at, number_within, optional_text_at, optional_number_at, optional_bool_at, optional_form_at, optional_texts_at, properties_beside}
+use Rattle.qo_requests.specs.Kinds.{◌>>=◌, or_else, text_at, number_at, value_at, number_within, optional_text_at, optional_number_at, optional_bool_at, optional_form_at, optional_texts_at, properties_beside}
 use Rattle.qo_requests.specs.declared.commands.Command.{Command}
 use Rattle.qo_requests.specs.declared.commands.Command.TheVariants as command
 use Rattle.qo_requests.specs.declared.fields.Field.TheVariants.{Abstract, Backend, Birth, Bus, Device, Driver, Enable, Format, From, Id, Implements, Kind, Line, Ns, Path, Payload, Property, QomType, Size, Typename, Value}
@@ -77,33 +77,49 @@ ring_write args =
     optional_form_at Format args >>= λ format.
     Some (request.RingbufWrite device payload format)
 
+-- a command without arguments
+abbrev pub lone : Command → Option Request
+lone command.Cont = Some request.Cont
+lone command.QueryCommands = Some request.QueryCommands
+lone command.QueryStatus = Some request.QueryStatus
+lone command.QueryVersion = Some request.QueryVersion
+lone command.Quit = Some request.Quit
+lone command.Stop = Some request.Stop
+lone command.SystemReset = Some request.SystemReset
+lone command.XQueryDetached = Some request.XQueryDetached
+lone _ = None
+
+-- a command with one argument, a number from 0 to 2^64 - 1
+abbrev pub of_number : Command → Data → Option Request
+of_number command.XQueryNotes args = number_at From args >>= λ first. Some (request.XQueryNotes first)
+of_number command.XSever args = number_at Birth args >>= λ birth. Some (request.XSever birth)
+of_number command.XStep args = number_at Ns args >>= λ ns. Some (request.XStep ns)
+of_number _ args = None
+
+-- a command with one argument, a text
+abbrev pub of_text : Command → Data → Option Request
+of_text command.ChardevRemove args = text_at Id args >>= λ id. Some (request.ChardevRemove id)
+of_text command.DeviceDel args = text_at Id args >>= λ id. Some (request.DeviceDel id)
+of_text command.DeviceListProperties args = text_at Typename args >>= λ typename. Some (request.DeviceListProperties typename)
+of_text command.ObjectDel args = text_at Id args >>= λ id. Some (request.ObjectDel id)
+of_text command.QomList args = text_at Path args >>= λ path. Some (request.QomList path)
+of_text command.XGuest args = text_at Line args >>= λ line. Some (request.XGuest line)
+of_text command.XResetHold args = text_at Path args >>= λ path. Some (request.XResetHold path)
+of_text command.XResetRelease args = text_at Path args >>= λ path. Some (request.XResetRelease path)
+of_text _ args = None
+
 -- the request of a command with these arguments
 abbrev pub request_of : Command → Data → Option Request
 request_of command.ChardevAdd args = ring_adding args
-request_of command.ChardevRemove args = text_at Id args >>= λ id. Some (request.ChardevRemove id)
-request_of command.Cont args = Some request.Cont
-request_of command.DeviceListProperties args = text_at Typename args >>= λ typename. Some (request.DeviceListProperties typename)
 request_of command.DeviceAdd args = device_adding args
-request_of command.DeviceDel args = text_at Id args >>= λ id. Some (request.DeviceDel id)
 request_of command.ObjectAdd args = object_adding args
-request_of command.ObjectDel args = text_at Id args >>= λ id. Some (request.ObjectDel id)
 request_of command.QmpCapabilities args = negotiation args
 request_of command.QomGet args = property_read args
-request_of command.QomList args = text_at Path args >>= λ path. Some (request.QomList path)
 request_of command.QomListTypes args = type_listing args
 request_of command.QomSet args = property_write args
-request_of command.QueryCommands args = Some request.QueryCommands
-request_of command.QueryStatus args = Some request.QueryStatus
-request_of command.QueryVersion args = Some request.QueryVersion
-request_of command.Quit args = Some request.Quit
 request_of command.RingbufRead args = ring_read args
 request_of command.RingbufWrite args = ring_write args
-request_of command.Stop args = Some request.Stop
-request_of command.SystemReset args = Some request.SystemReset
-request_of command.XGuest args = text_at Line args >>= λ line. Some (request.XGuest line)
-request_of command.XQueryDetached args = Some request.XQueryDetached
-request_of command.XQueryNotes args = number_at From args >>= λ first. Some (request.XQueryNotes first)
-request_of command.XResetHold args = text_at Path args >>= λ path. Some (request.XResetHold path)
-request_of command.XResetRelease args = text_at Path args >>= λ path. Some (request.XResetRelease path)
-request_of command.XSever args = number_at Birth args >>= λ birth. Some (request.XSever birth)
-request_of command.XStep args = number_at Ns args >>= λ ns. Some (request.XStep ns)
+request_of command.XQueryNotes args = of_number command.XQueryNotes args
+request_of command.XSever args = of_number command.XSever args
+request_of command.XStep args = of_number command.XStep args
+request_of other args = or_else (lone other) (of_text other args)

@@ -2,7 +2,7 @@
 
 ghost use Rattle.std.specs.Prelude.{◌≡◌};
 ghost use Rattle.serde_json.specs.View.{view};
-ghost use Rattle.qo_requests.specs.Building.{negotiation, property_read, property_write, type_listing, object_adding, device_adding, ring_adding, ring_read, ring_write, request_of};
+ghost use Rattle.qo_requests.specs.Building.{negotiation, property_read, property_write, type_listing, object_adding, device_adding, ring_adding, ring_read, ring_write, lone, of_number, of_text, request_of};
 ghost use Rattle.qo_requests.specs.Reading.{Gives};
 
 use crate::commands::Command;
@@ -131,6 +131,74 @@ fn ring_write(alloc: Global, args: &Value) -> Result<Request, KindError>
     })
 }
 
+/// A command without arguments.
+fn lone(command: Command) -> Option<Request>
+    ensures { result ≡ lone command }
+{
+    match command {
+        Command::Cont => Some(Request::Cont),
+        Command::QueryCommands => Some(Request::QueryCommands),
+        Command::QueryStatus => Some(Request::QueryStatus),
+        Command::QueryVersion => Some(Request::QueryVersion),
+        Command::Quit => Some(Request::Quit),
+        Command::Stop => Some(Request::Stop),
+        Command::SystemReset => Some(Request::SystemReset),
+        Command::XQueryDetached => Some(Request::XQueryDetached),
+        _ => None,
+    }
+}
+
+/// A command with one argument, a number from 0 to 2^64 - 1.
+fn of_number(command: Command, args: &Value) -> Result<Request, KindError>
+    ensures { Gives result (of_number command (view args.now)) }
+{
+    match command {
+        Command::XQueryNotes => Ok(Request::XQueryNotes {
+            from: number_at(args, Field::From)?,
+        }),
+        Command::XSever => Ok(Request::XSever {
+            birth: number_at(args, Field::Birth)?,
+        }),
+        Command::XStep => Ok(Request::XStep {
+            ns: number_at(args, Field::Ns)?,
+        }),
+        _ => Err(KindError::WrongKind),
+    }
+}
+
+/// A command with one argument, a text.
+fn of_text(alloc: Global, command: Command, args: &Value) -> Result<Request, KindError>
+    ensures { Gives result (of_text command (view args.now)) }
+{
+    match command {
+        Command::ChardevRemove => Ok(Request::ChardevRemove {
+            id: text_at(alloc, args, Field::Id)?,
+        }),
+        Command::DeviceDel => Ok(Request::DeviceDel {
+            id: text_at(alloc, args, Field::Id)?,
+        }),
+        Command::DeviceListProperties => Ok(Request::DeviceListProperties {
+            typename: text_at(alloc, args, Field::Typename)?,
+        }),
+        Command::ObjectDel => Ok(Request::ObjectDel {
+            id: text_at(alloc, args, Field::Id)?,
+        }),
+        Command::QomList => Ok(Request::QomList {
+            path: text_at(alloc, args, Field::Path)?,
+        }),
+        Command::XGuest => Ok(Request::XGuest {
+            line: text_at(alloc, args, Field::Line)?,
+        }),
+        Command::XResetHold => Ok(Request::XResetHold {
+            path: text_at(alloc, args, Field::Path)?,
+        }),
+        Command::XResetRelease => Ok(Request::XResetRelease {
+            path: text_at(alloc, args, Field::Path)?,
+        }),
+        _ => Err(KindError::WrongKind),
+    }
+}
+
 /// The request of a command with these arguments.
 pub(crate) fn request_of(
     alloc: Global,
@@ -141,54 +209,18 @@ pub(crate) fn request_of(
 {
     match command {
         Command::ChardevAdd => ring_adding(alloc, args),
-        Command::ChardevRemove => Ok(Request::ChardevRemove {
-            id: text_at(alloc, args, Field::Id)?,
-        }),
-        Command::Cont => Ok(Request::Cont),
-        Command::DeviceListProperties => Ok(Request::DeviceListProperties {
-            typename: text_at(alloc, args, Field::Typename)?,
-        }),
         Command::DeviceAdd => device_adding(alloc, args),
-        Command::DeviceDel => Ok(Request::DeviceDel {
-            id: text_at(alloc, args, Field::Id)?,
-        }),
         Command::ObjectAdd => object_adding(alloc, args),
-        Command::ObjectDel => Ok(Request::ObjectDel {
-            id: text_at(alloc, args, Field::Id)?,
-        }),
         Command::QmpCapabilities => negotiation(alloc, args),
         Command::QomGet => property_read(alloc, args),
-        Command::QomList => Ok(Request::QomList {
-            path: text_at(alloc, args, Field::Path)?,
-        }),
         Command::QomListTypes => type_listing(alloc, args),
         Command::QomSet => property_write(alloc, args),
-        Command::QueryCommands => Ok(Request::QueryCommands),
-        Command::QueryStatus => Ok(Request::QueryStatus),
-        Command::QueryVersion => Ok(Request::QueryVersion),
-        Command::Quit => Ok(Request::Quit),
         Command::RingbufRead => ring_read(alloc, args),
         Command::RingbufWrite => ring_write(alloc, args),
-        Command::Stop => Ok(Request::Stop),
-        Command::SystemReset => Ok(Request::SystemReset),
-        Command::XGuest => Ok(Request::XGuest {
-            line: text_at(alloc, args, Field::Line)?,
-        }),
-        Command::XQueryDetached => Ok(Request::XQueryDetached),
-        Command::XQueryNotes => Ok(Request::XQueryNotes {
-            from: number_at(args, Field::From)?,
-        }),
-        Command::XResetHold => Ok(Request::XResetHold {
-            path: text_at(alloc, args, Field::Path)?,
-        }),
-        Command::XResetRelease => Ok(Request::XResetRelease {
-            path: text_at(alloc, args, Field::Path)?,
-        }),
-        Command::XSever => Ok(Request::XSever {
-            birth: number_at(args, Field::Birth)?,
-        }),
-        Command::XStep => Ok(Request::XStep {
-            ns: number_at(args, Field::Ns)?,
-        }),
+        Command::XQueryNotes | Command::XSever | Command::XStep => of_number(command, args),
+        _ => match lone(command) {
+            Some(request) => Ok(request),
+            None => of_text(alloc, command, args),
+        },
     }
 }
