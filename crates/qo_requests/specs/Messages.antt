@@ -1,5 +1,5 @@
 -- What a message is read into, or the first code that stands (QMP specification, 2.3 "Issuing Commands" and 2.5 "Server responses";
--- docs/PROFILE.md, the order of refusals).
+-- docs/PROFILE.md, commands).
 use Rattle.std.specs.Prelude.{◌≡◌, ℕ, Bool, true, false, not, ◌&&◌, ◌||◌, List, [], ◌∷◌, ◌++◌, codes, Option, Some, None, is_some, option_and_then, option_map, unwrap_or, Result, Ok, Err, if◌then◌else◌, ⊤}
 use Rattle.std.specs.Str.{bytes_eq, is_utf8}
 use Rattle.serde_json.specs.Data.{Data, null}
