@@ -1,0 +1,6 @@
+pub mod Classes
+pub mod Cut
+pub mod Fronts
+pub mod Laws
+pub mod Parts
+pub mod Scanning
