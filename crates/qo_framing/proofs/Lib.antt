@@ -1,2 +1,5 @@
 pub mod Scans
 pub mod Unfinished
+pub mod Cuts
+pub mod Steps
+pub mod Feeding

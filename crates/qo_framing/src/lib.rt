@@ -5,8 +5,14 @@
 #![tactic(auto)]
 
 mod bytes;
+mod framer;
 mod items;
+pub mod laws;
 mod parts;
 mod scanner;
 
+pub use framer::Framer;
 pub use items::{Item, Memory};
+
+#[cfg(test)]
+mod tests;

@@ -147,3 +147,38 @@ fn first_part(alloc: Global, gap: Gap, bytes: &[u8]) -> Result<Part<'_>, AllocEr
         Gap::Skipping => Ok(skipping_part(bytes)),
     }
 }
+
+/// Adds an item, if there is one.
+pub(crate) fn push_some(items: &mut Vec<Item>, item: Option<Item>) -> Result<(), AllocError>
+    ensures { OnOk result (items.new.items ≡ items.old.items ++ option_to_list item) }
+{
+    match item {
+        None => Ok(()),
+        Some(item) => Ok(items.push(item)?),
+    }
+}
+
+/// Adds the items of bytes, and answers where the stream stops behind them.
+pub(crate) fn add_items<'a>(
+    alloc: Global,
+    gap: Gap,
+    bytes: &'a [u8],
+    items: &mut Vec<Item>,
+) -> Result<Stop<'a>, AllocError>
+    ensures cut { IfOk result (λ stop. followed items.old.items (cut (state_of gap) bytes.now)
+        ≡ cut_to items.new.items stop) }
+    ensures scanned { IfOk result ScansStop }
+{
+    let mut gap = gap;
+    let mut left = bytes;
+    loop {
+        match first_part(alloc, gap, left)? {
+            Part::Stops(stop) => return Ok(stop),
+            Part::GoesOn(item, next, rest) => {
+                push_some(items, item)?;
+                gap = next;
+                left = rest;
+            }
+        }
+    }
+}

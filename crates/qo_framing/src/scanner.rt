@@ -20,7 +20,7 @@ pub(crate) enum Ending {
 }
 
 /// Where a byte stands.
-#[derive(Clone, Copy)]
+#[derive(Clone, Copy, Debug)]
 pub(crate) enum Place {
     /// Outside strings.
     Outside,
@@ -31,7 +31,7 @@ pub(crate) enum Place {
 }
 
 /// What is known of an object that has not ended.
-#[derive(Clone, Copy)]
+#[derive(Clone, Copy, Debug)]
 pub(crate) struct Scanner {
     /// How many brackets are open.
     depth: u64,
