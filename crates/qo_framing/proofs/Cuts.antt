@@ -1,12 +1,10 @@
 -- The cut goes by parts, and is the same anywhere.
-use Rattle.std.proofs.Common.{◌≡◌, ℕ, zero, suc, ◌+◌, ◌-◌, ◌*◌, ◌<◌, ◌≤◌, Bool, true, false, ◌==◌, cond, List, [], ◌∷◌, ◌++◌, length, take, drop, Option, Some, None, refl, sym, ◌∙◌, ap, subst, arith, length-append, length-drop, if◌then◌else◌, append_assoc}
+use Rattle.std.proofs.Common.{◌≡◌, ℕ, zero, suc, ◌+◌, ◌-◌, ◌*◌, ◌<◌, ◌≤◌, Bool, true, false, ◌==◌, List, [], ◌∷◌, ◌++◌, length, Option, Some, None, refl, sym, ◌∙◌, ap, arith, length-append, length-drop, if◌then◌else◌}
 use Rattle.std.specs.Prelude.{option_to_list}
-use Rattle.std.proofs.lemmas.Bool.Decides.{nat_tests}
 use Rattle.qo_framing.specs.Classes.{is_passed, ends_skipping}
-use Rattle.qo_framing.specs.Cut.{Cut, Framing, Part, between, inside, skipping, stops, goes_on, behind_skipping, between_part, cut, cut_of_part, cut_within, first_part, followed, held, item_of, left_behind, object_part, skipping_part, state_behind, trimmed}
-use Rattle.qo_framing.specs.Fronts.{End, end_behind, ending, here_or_later, later}
+use Rattle.qo_framing.specs.Cut.{Framing, Part, between, inside, skipping, stops, goes_on, behind_skipping, between_part, cut, cut_of_part, cut_within, first_part, followed, held, left_behind, object_part, skipping_part, state_behind, trimmed}
+use Rattle.qo_framing.specs.Fronts.{End, end_behind, ending, here_or_later}
 use Rattle.qo_framing.specs.Laws.{CutsByParts}
-use Rattle.qo_framing.specs.declared.items.Item.{Item}
 use Rattle.qo_framing.specs.declared.items.Item.TheVariants as item
 use Rattle.qo_framing.specs.declared.scanner.Ending.{Ending}
 use Rattle.qo_framing.specs.declared.scanner.Ending.TheVariants.{Whole, Broken, TooLong, TooDeep}

@@ -1,12 +1,12 @@
 -- What a framer's parts make of the cut.
-use Rattle.std.proofs.Common.{◌≡◌, ℕ, ◌+◌, ◌-◌, ◌<◌, List, [], ◌∷◌, ◌++◌, length, reverse, take, drop, Option, Some, None, refl, sym, ◌∙◌, ap, subst, arith, append_assoc}
+use Rattle.std.proofs.Common.{◌≡◌, ℕ, ◌+◌, ◌-◌, ◌<◌, List, [], ◌∷◌, ◌++◌, length, reverse, take, drop, Option, Some, None, sym, ◌∙◌, ap, subst, arith, append_assoc}
 use Rattle.std.specs.Prelude.{option_to_list}
 use Rattle.std.proofs.Math.Seq.{take-append-add, drop-append-add}
 use Rattle.std.proofs.lemmas.List.{append-nil}
 use Rattle.qo_framing.specs.Cut.{Cut, Framing, Part, inside, stops, goes_on, cut, cut_of_part, first_part, followed, item_of, left_behind, object_part, state_behind}
 use Rattle.qo_framing.specs.Fronts.{End, end_behind, later}
 use Rattle.qo_framing.specs.Framers.{IsFramer}
-use Rattle.qo_framing.specs.Parts.{IsUnfinished, state_at, state_of}
+use Rattle.qo_framing.specs.Parts.{IsUnfinished}
 use Rattle.qo_framing.specs.declared.framer.Mode.{Mode}
 use Rattle.qo_framing.specs.declared.framer.Mode.TheVariants.{Inside}
 use Rattle.qo_framing.specs.declared.items.Item.{Item}
@@ -59,7 +59,7 @@ left_more bytes more TooDeep n some =
 pub cut_ended : (bytes more : List ℕ) (s : Scanner) (how : Ending) (n : ℕ) → IsUnfinished bytes s → 0 < n → end_behind (reverse bytes) more ≡ Some (record { how = how; count = n }) → cut (inside bytes) more ≡ followed (item_of how (bytes ++ take n more) ∷ []) (cut (state_behind how) (left_behind how n more))
 cut_ended bytes more s how n h some found =
     cut_goes_on (inside bytes) more (Some (item_of how (take (length bytes + n) (bytes ++ more)))) (state_behind how) (left_behind how (length bytes + n) (bytes ++ more))
-        (sym (part_inside bytes more s h ∙ ap (λ (f : Option End). object_part (bytes ++ more) (later (length bytes) f)) found))
+    (sym (part_inside bytes more s h ∙ ap (λ (f : Option End). object_part (bytes ++ more) (later (length bytes) f)) found))
     ∙ (ap (λ (l : List ℕ). followed (item_of how l ∷ []) (cut (state_behind how) (left_behind how (length bytes + n) (bytes ++ more)))) (take-append-add bytes more n)
     ∙ ap (λ (l : List ℕ). followed (item_of how (bytes ++ take n more) ∷ []) (cut (state_behind how) l)) (left_more bytes more how n some))
 

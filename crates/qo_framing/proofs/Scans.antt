@@ -1,5 +1,5 @@
 -- The scanner follows the definitions on fronts.
-use Rattle.std.proofs.Common.{◌≡◌, ℕ, suc, ◌+◌, ◌-◌, ◌%◌, ◌<◌, ◌≤◌, Bool, true, false, not, ◌&&◌, ◌==◌, cond, List, [], ◌∷◌, ◌++◌, length, reverse, count_by, take, drop, get_or, Option, Some, None, refl, sym, ◌∙◌, ap, subst, arith, append_assoc, add-one, drop-cons, length-append, if◌then◌else◌}
+use Rattle.std.proofs.Common.{◌≡◌, ℕ, ◌+◌, ◌-◌, ◌%◌, ◌<◌, ◌≤◌, Bool, true, false, not, ◌&&◌, ◌==◌, cond, List, [], ◌∷◌, ◌++◌, length, reverse, count_by, take, drop, get_or, Option, Some, None, refl, sym, ◌∙◌, ap, subst, arith, append_assoc, add-one, drop-cons, length-append, if◌then◌else◌}
 use Rattle.std.specs.Prelude.{nat_le}
 use Rattle.std.proofs.lemmas.Bool.Decides.{nat_tests}
 use Rattle.std.proofs.lemmas.List.{length-reverse, length-take, reverse-append, take-append-drop, take_all, take_more}
@@ -208,7 +208,8 @@ step_in_place front b s behind short plain InString e = by_quote (b == 34) (b ==
           record {
             depth = behind.depth ∙ sym (string_depth front b h.0);
             place = behind.place ∙ (sym e ∙ sym (place ∙ rw (is_quote, is_slash) refl));
-            some = behind.some; most = behind.most;
+            some = behind.some;
+            most = behind.most;
           },
         )
 step_in_place front b s behind short plain Outside e = by_class (b == 34) (is_opening b) (is_closing b) refl refl refl
@@ -235,7 +236,8 @@ step_in_place front b s behind short plain Outside e = by_class (b == 34) (is_op
           record {
             depth = stays.1;
             place = behind.place ∙ (sym e ∙ sym (place ∙ rw is_quote refl));
-            some = behind.some; most = behind.most;
+            some = behind.some;
+            most = behind.most;
           },
         )
 

@@ -1,14 +1,14 @@
 -- The cut byte by byte, which shows that it is the same anywhere.
-use Rattle.std.proofs.Common.{◌≡◌, ℕ, zero, suc, ◌+◌, ◌-◌, ◌*◌, ◌<◌, ◌≤◌, Bool, true, false, ◌==◌, cond, List, [], ◌∷◌, ◌++◌, length, reverse, take, drop, Option, Some, None, refl, sym, ◌∙◌, ap, subst, arith, if◌then◌else◌, append_assoc, length-append}
+use Rattle.std.proofs.Common.{◌≡◌, ℕ, zero, suc, ◌+◌, ◌-◌, ◌<◌, Bool, true, false, ◌==◌, List, [], ◌∷◌, ◌++◌, length, reverse, take, drop, Option, Some, None, refl, sym, ◌∙◌, ap, subst, arith, if◌then◌else◌, append_assoc, length-append}
 use Rattle.std.specs.Prelude.{option_to_list}
 use Rattle.std.proofs.lemmas.Bool.Decides.{nat_tests}
-use Rattle.std.proofs.lemmas.List.{reverse-append, reverse-reverse, append-nil}
+use Rattle.std.proofs.lemmas.List.{reverse-append, append-nil}
 use Rattle.std.proofs.Math.Seq.{take-append-add, drop-append-add, drop-append_seam}
 use Rattle.qo_framing.proofs.Cuts.{Shrinks, weight, first_shrinks, cuts_by_parts}
 use Rattle.qo_framing.proofs.Scans.{end_here, no_end_here, later_twice}
-use Rattle.qo_framing.specs.Classes.{is_passed, is_reset, ends_skipping}
-use Rattle.qo_framing.specs.Cut.{Cut, Framing, Part, between, inside, skipping, stops, goes_on, behind_skipping, between_part, cut, cut_of_part, cut_within, first_part, followed, held, item_of, left_behind, object_part, skipping_part, state_behind, trimmed}
-use Rattle.qo_framing.specs.Fronts.{End, end_behind, ending, here_or_later, later}
+use Rattle.qo_framing.specs.Classes.{is_passed, ends_skipping}
+use Rattle.qo_framing.specs.Cut.{Cut, Framing, Part, between, inside, skipping, stops, goes_on, behind_skipping, between_part, cut, cut_of_part, first_part, followed, held, item_of, object_part, skipping_part, trimmed}
+use Rattle.qo_framing.specs.Fronts.{End, end_behind, ending, later}
 use Rattle.qo_framing.specs.Laws.{CutsAnywhere}
 use Rattle.qo_framing.specs.declared.items.Item.{Item}
 use Rattle.qo_framing.specs.declared.items.Item.TheVariants as item

@@ -1,8 +1,8 @@
 -- Objects that have not ended, and how they go on.
-use Rattle.std.proofs.Common.{◌≡◌, ℕ, ◌+◌, ◌-◌, ◌≤◌, List, [], ◌∷◌, ◌++◌, length, reverse, Option, Some, None, refl, sym, ◌∙◌, ap, subst, arith, append_assoc, length-append, if◌then◌else◌}
-use Rattle.std.proofs.lemmas.List.{reverse-append, append-nil, length-reverse}
-use Rattle.qo_framing.specs.Cut.{Part, between_part, object_part, trimmed, first_part, inside}
-use Rattle.qo_framing.specs.Fronts.{End, end_behind, later}
+use Rattle.std.proofs.Common.{◌≡◌, ℕ, ◌-◌, ◌≤◌, List, [], ◌∷◌, ◌++◌, length, reverse, None, refl, sym, ◌∙◌, ap, subst, arith, length-append}
+use Rattle.std.proofs.lemmas.List.{reverse-append, append-nil}
+use Rattle.qo_framing.specs.Cut.{between_part, object_part, trimmed, first_part, inside}
+use Rattle.qo_framing.specs.Fronts.{end_behind, later}
 use Rattle.qo_framing.specs.Parts.{IsUnfinished}
 use Rattle.qo_framing.specs.Scanning.{IsBehind}
 use Rattle.qo_framing.specs.declared.scanner.Scanner.{Scanner}
@@ -12,13 +12,13 @@ use Rattle.qo_framing.proofs.Scans.{end_further}
 pub unfinished_begun : (bytes inner : List ℕ) (s : Scanner) → bytes ≡ 123 ∷ inner → end_behind (123 ∷ []) inner ≡ None → IsBehind (reverse inner ++ 123 ∷ []) s → length inner ≤ 262143 → IsUnfinished bytes s
 unfinished_begun bytes inner s is none behind short =
     subst (λ (l : List ℕ). IsUnfinished l s) (sym is) (
-      record {
-        begins = inner;
-        brace = refl;
-        unended = ap (later 1) none;
-        scanned = subst (λ (l : List ℕ). IsBehind l s) (sym (reverse-append (123 ∷ []) inner)) behind;
-        size = omega arith;
-      }
+    record {
+      begins = inner;
+      brace = refl;
+      unended = ap (later 1) none;
+      scanned = subst (λ (l : List ℕ). IsBehind l s) (sym (reverse-append (123 ∷ []) inner)) behind;
+      size = omega arith;
+    }
     )
 
 -- an object that goes on

@@ -1,5 +1,5 @@
 -- How what the code finds in a stream stands to the definition of the cut.
-use Rattle.std.specs.Prelude.{◌≡◌, ◌≢◌, ℕ, ◌+◌, ◌-◌, ◌≤◌, if◌then◌else◌, List, [], ◌∷◌, ◌++◌, drop, length, reverse, Option, Some, None, ⊤}
+use Rattle.std.specs.Prelude.{◌≡◌, ℕ, ◌≤◌, List, [], ◌∷◌, length, reverse, None, ⊤}
 use Rattle.qo_framing.specs.Cut.{Cut, Framing, Part, between, inside, skipping, stops, goes_on}
 use Rattle.qo_framing.specs.Fronts.{end_behind}
 use Rattle.qo_framing.specs.Scanning.{IsBehind}

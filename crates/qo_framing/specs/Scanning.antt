@@ -1,7 +1,7 @@
 -- How the scanner of an object stands to the definitions on fronts.
-use Rattle.std.specs.Prelude.{◌≡◌, ℕ, ◌+◌, ◌-◌, ◌%◌, ◌<◌, ◌≤◌, Bool, ◌&&◌, ◌==◌, if◌then◌else◌, List, [], ◌∷◌, ◌++◌, length, reverse, count_by, Option, Some, None, nat_le, ⊤}
+use Rattle.std.specs.Prelude.{◌≡◌, ℕ, ◌+◌, ◌-◌, ◌%◌, ◌<◌, ◌≤◌, ◌==◌, if◌then◌else◌, List, ◌++◌, length, reverse, Some, None, nat_le, ⊤}
 use Rattle.qo_framing.specs.Classes.{is_opening, is_closing, is_reset}
-use Rattle.qo_framing.specs.Fronts.{backslashes, in_string, outside, depth, ending, end_behind}
+use Rattle.qo_framing.specs.Fronts.{backslashes, in_string, depth, end_behind}
 use Rattle.qo_framing.specs.declared.scanner.Ending.{Ending}
 use Rattle.qo_framing.specs.declared.scanner.Ending.TheVariants as ending
 use Rattle.qo_framing.specs.declared.scanner.Place.{Place}

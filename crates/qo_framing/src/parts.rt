@@ -105,11 +105,7 @@ fn skipping_part(bytes: &[u8]) -> Part<'_>
 }
 
 /// The first part of bytes that begin an object, whose bytes behind the brace are `inner`.
-fn object_part<'a>(
-    alloc: Global,
-    bytes: &'a [u8],
-    inner: &[u8],
-) -> Result<Part<'a>, AllocError>
+fn object_part<'a>(alloc: Global, bytes: &'a [u8], inner: &[u8]) -> Result<Part<'a>, AllocError>
     requires { bytes.now ≡ 123 ∷ inner.now }
     ensures part { IfOk result (λ p. part_view p ≡ object_part bytes.now (end_behind [] bytes.now)) }
     ensures scanned { IfOk result ScansPart }

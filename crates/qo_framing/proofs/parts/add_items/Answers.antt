@@ -1,5 +1,5 @@
 -- A part is the last, or leads on.
-use Rattle.std.proofs.Common.{◌≡◌, sym, ◌∙◌, ap}
+use Rattle.std.proofs.Common.{sym, ◌∙◌, ap}
 use Rattle.std.specs.Prelude.{option_to_list}
 use Rattle.qo_framing.specs.Cut.{cut}
 use Rattle.qo_framing.specs.Parts.{part_view, state_at, state_of}
@@ -18,6 +18,6 @@ loop-stop-smaller c =
 pub loop-stop-preserved : goal.loop-stop-preserved
 loop-stop-preserved c =
     followed_further c.loop-stop.items.items (option_to_list c.in-GoesOn.item) c.push_some.new.items.items (cut (state_of c.loop-stop.gap) c.loop-stop.left.now) (cut (state_of c.in-GoesOn.next) c.in-GoesOn.rest.now)
-        (cut_goes_on (state_of c.loop-stop.gap) c.loop-stop.left.now c.in-GoesOn.item (state_of c.in-GoesOn.next) c.in-GoesOn.rest.now (sym (ap part_view c.in-GoesOn.is) ∙ c.in_ok-stop.ensures.part))
-        c.in_ok-push_some-in-GoesOn.ensures
+    (cut_goes_on (state_of c.loop-stop.gap) c.loop-stop.left.now c.in-GoesOn.item (state_of c.in-GoesOn.next) c.in-GoesOn.rest.now (sym (ap part_view c.in-GoesOn.is) ∙ c.in_ok-stop.ensures.part))
+    c.in_ok-push_some-in-GoesOn.ensures
     ∙ c.loop-stop.invariant

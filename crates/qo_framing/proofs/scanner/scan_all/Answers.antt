@@ -1,6 +1,4 @@
 -- A byte ends the scan, or leads on.
-use Rattle.std.proofs.Common.{◌≡◌, ◌+◌, ◌≤◌, ◌<◌, ℕ, List, length, arith}
-use Rattle.qo_framing.specs.Scanning.{IsBehind}
 use Rattle.qo_framing.proofs.Scans.{scan_ends, scan_goes, scan_open}
 use Rattle.qo_framing.proofs.scanner.scan_all.Goals as goal
 

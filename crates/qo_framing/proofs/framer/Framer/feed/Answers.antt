@@ -2,7 +2,6 @@
 use Rattle.std.proofs.Common.{◌≡◌, ℕ, ◌-◌, ◌≤◌, ◌∷◌, [], ◌++◌, List, length, reverse, sym, ◌∙◌, ap, subst, rules}
 use Rattle.std.proofs.lemmas.List.{length-reverse}
 use Rattle.std.proofs.lemmas.Result.{IfOk-weaker}
-use Rattle.qo_framing.specs.Cut.{Cut, inside, cut}
 use Rattle.qo_framing.specs.Framers.{framing}
 use Rattle.qo_framing.specs.Parts.{IsUnfinished, state_of}
 use Rattle.qo_framing.specs.declared.framer.Mode.{Mode}
