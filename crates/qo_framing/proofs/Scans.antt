@@ -6,7 +6,7 @@ use Rattle.std.proofs.lemmas.List.{length-reverse, length-take, reverse-append, 
 use Rattle.std.proofs.lemmas.List.Sums.{sum_by-cons}
 use Rattle.qo_framing.specs.Classes.{is_opening, is_closing, is_reset}
 use Rattle.qo_framing.specs.Fronts.{End, backslashes, in_string, outside, depth, ending, end_behind, here_or_later, later}
-use Rattle.qo_framing.specs.Scanning.{IsBehind, one_too_many, place_behind, step_of, step_in, moved, opened, closed}
+use Rattle.qo_framing.specs.Scanning.{IsBehind, is_plain, one_too_many, place_behind, plain_step, step_of, step_in, moved, opened, closed}
 use Rattle.qo_framing.specs.declared.scanner.Ending.{Ending}
 use Rattle.qo_framing.specs.declared.scanner.Ending.TheVariants as ended
 use Rattle.qo_framing.specs.declared.scanner.Place.{Place}
@@ -365,3 +365,32 @@ pub too_many_found : (front xs : List ℕ) (i : ℕ) (b : ℕ) → i < length xs
 too_many_found front xs i b within full none is =
     let size = front_length front xs i (omega arith) in
     ends_at front xs i (one_too_many b) within none (ap (λ (x : ℕ). ending (x ∷ (reverse (take i xs) ++ front))) (sym is) ∙ too_many_at (reverse (take i xs) ++ front) b (omega arith))
+
+-- a plain byte has no meaning
+plain_reset : (b : ℕ) → is_plain b ≡ true → is_reset b ≡ false
+plain_reset b plain = grind (arith, nat_tests)
+
+plain_quote : (b : ℕ) → is_plain b ≡ true → (b == 34) ≡ false
+plain_quote b plain = grind (arith, nat_tests)
+
+plain_backslash : (b : ℕ) → is_plain b ≡ true → (b == 92) ≡ false
+plain_backslash b plain = grind (arith, nat_tests)
+
+plain_opening : (b : ℕ) → is_plain b ≡ true → is_opening b ≡ false
+plain_opening b plain = grind (arith, nat_tests)
+
+plain_closing : (b : ℕ) → is_plain b ≡ true → is_closing b ≡ false
+plain_closing b plain = grind (arith, nat_tests)
+
+pub plain_steps : (b : ℕ) (s : Scanner) → is_plain b ≡ true → step_of s b ≡ plain_step s.place s
+plain_steps b s plain = let no_reset = plain_reset b plain in rw no_reset (by_place s.place)
+  where
+    by_place : (place : Place) → step_in place s b ≡ plain_step place s
+    by_place Escaped = refl
+    by_place InString =
+        let no_quote = plain_quote b plain in let no_backslash = plain_backslash b plain in rw (no_quote, no_backslash) refl
+    by_place Outside =
+        let no_quote = plain_quote b plain in
+        let no_opening = plain_opening b plain in
+        let no_closing = plain_closing b plain in
+        rw (no_quote, no_opening, no_closing) refl

@@ -1,5 +1,5 @@
 -- How the scanner of an object stands to the definitions on fronts.
-use Rattle.std.specs.Prelude.{◌≡◌, ℕ, ◌+◌, ◌-◌, ◌%◌, ◌<◌, ◌≤◌, ◌==◌, if◌then◌else◌, List, ◌++◌, length, reverse, Some, None, nat_le, ⊤}
+use Rattle.std.specs.Prelude.{◌≡◌, ℕ, ◌+◌, ◌-◌, ◌%◌, ◌<◌, ◌≤◌, ◌==◌, Bool, ◌&&◌, ◌||◌, if◌then◌else◌, List, ◌++◌, length, reverse, Some, None, nat_le, ⊤}
 use Rattle.qo_framing.specs.Classes.{is_opening, is_closing, is_reset}
 use Rattle.qo_framing.specs.Fronts.{backslashes, in_string, depth, end_behind}
 use Rattle.qo_framing.specs.declared.scanner.Ending.{Ending}
@@ -43,6 +43,16 @@ step_in InString s b = if b == 34 then moved s Outside else (if b == 92 then mov
 step_in Outside s b =
     if b == 34 then moved s InString
     else (if is_opening b then opened s else (if is_closing b then closed s else step.Goes s))
+
+-- bytes that mean nothing to framing, the most common of them: space, ! and # to Z, ^ to z
+abbrev pub is_plain : ℕ → Bool
+is_plain b = b == 32 || b == 33 || (nat_le 35 b && nat_le b 90) || (nat_le 94 b && nat_le b 122)
+
+-- what such a byte does
+abbrev pub plain_step : Place → Scanner → Step
+plain_step Escaped s = moved s InString
+plain_step InString s = step.Goes s
+plain_step Outside s = step.Goes s
 
 -- what a byte does that is not one too many
 abbrev pub step_of : Scanner → ℕ → Step

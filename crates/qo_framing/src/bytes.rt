@@ -3,6 +3,7 @@
 ghost use Rattle.std.specs.Prelude.{◌≡◌};
 ghost use Rattle.qo_framing.specs.Classes.{ends_skipping, is_passed, is_reset};
 ghost use Rattle.qo_framing.specs.Cut.{trimmed};
+ghost use Rattle.qo_framing.specs.Scanning.{is_plain};
 
 /// Whether a byte resets the reader, as no JSON has it.
 pub(crate) fn is_reset(byte: u8) -> bool
@@ -23,6 +24,13 @@ pub(crate) fn ends_skipping(byte: u8) -> bool
     ensures { result ≡ ends_skipping byte }
 {
     matches!(byte, 0..=8 | 10..=12 | 14..=31 | 255)
+}
+
+/// Whether a byte is one of the most common that mean nothing to framing.
+pub(crate) fn is_plain(byte: u8) -> bool
+    ensures { result ≡ is_plain byte }
+{
+    matches!(byte, b' ' | b'!' | b'#'..=b'Z' | b'^'..=b'z')
 }
 
 /// Bytes without those in front that are passed over between objects.

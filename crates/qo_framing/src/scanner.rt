@@ -1,9 +1,9 @@
 //! The scanner of an object: where its next byte stands, and how the object ends.
 
 ghost use Rattle.std.specs.Prelude.{◌≡◌, ◌+◌, ◌-◌, ◌≤◌, List, [], ◌∷◌, ℕ, length};
-ghost use Rattle.qo_framing.specs.Scanning.{closed, moved, one_too_many, opened, step_of, CountsWithin, IsBehind, OpenWithin, Scans};
+ghost use Rattle.qo_framing.specs.Scanning.{closed, moved, one_too_many, opened, plain_step, step_of, CountsWithin, IsBehind, OpenWithin, Scans};
 
-use crate::bytes::is_reset;
+use crate::bytes::{is_plain, is_reset};
 use qo_values::{MESSAGE_MAX, NESTING_MAX};
 
 /// How an object ends.
@@ -102,10 +102,23 @@ impl Scanner {
         })
     }
 
+    /// What a plain byte does.
+    fn passed(self) -> Step
+        ensures { result ≡ plain_step self.place self }
+    {
+        match self.place {
+            Place::Escaped => self.moved(Place::InString),
+            Place::InString | Place::Outside => Step::Goes(self),
+        }
+    }
+
     /// What a byte does that is not one too many.
     fn step(self, byte: u8) -> Step
         ensures { result ≡ step_of self byte }
     {
+        if is_plain(byte) {
+            return self.passed();
+        }
         if is_reset(byte) {
             return Step::Ends(Ending::Broken);
         }
