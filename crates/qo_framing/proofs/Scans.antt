@@ -1,12 +1,12 @@
 -- The scanner follows the definitions on fronts.
-use Rattle.std.proofs.Common.{◌≡◌, ℕ, ◌+◌, ◌-◌, ◌%◌, ◌<◌, ◌≤◌, Bool, true, false, not, ◌&&◌, ◌==◌, cond, List, [], ◌∷◌, ◌++◌, length, reverse, count_by, take, drop, get_or, Option, Some, None, refl, sym, ◌∙◌, ap, subst, arith, append_assoc, add-one, drop-cons, length-append, if◌then◌else◌}
+use Rattle.std.proofs.Common.{◌≡◌, ℕ, zero, suc, ◌+◌, ◌-◌, ◌%◌, ◌<◌, ◌≤◌, Bool, true, false, not, ◌&&◌, ◌==◌, cond, List, [], ◌∷◌, ◌++◌, length, reverse, count_by, take, drop, get_or, Option, Some, None, refl, sym, ◌∙◌, ap, subst, arith, append_assoc, add-one, drop-cons, length-append, if◌then◌else◌}
 use Rattle.std.specs.Prelude.{nat_le}
 use Rattle.std.proofs.lemmas.Bool.Decides.{nat_tests}
 use Rattle.std.proofs.lemmas.List.{length-reverse, length-take, reverse-append, take-append-drop, take_all, take_more}
 use Rattle.std.proofs.lemmas.List.Sums.{sum_by-cons}
 use Rattle.qo_framing.specs.Classes.{is_opening, is_closing, is_reset}
 use Rattle.qo_framing.specs.Fronts.{End, backslashes, in_string, outside, depth, ending, end_behind, here_or_later, later}
-use Rattle.qo_framing.specs.Scanning.{IsBehind, is_plain, one_too_many, place_behind, plain_step, step_of, step_in, moved, opened, closed}
+use Rattle.qo_framing.specs.Scanning.{HasScanned, IsBehind, is_plain, one_too_many, place_behind, plain_step, step_of, step_in, moved, opened, closed}
 use Rattle.qo_framing.specs.declared.scanner.Ending.{Ending}
 use Rattle.qo_framing.specs.declared.scanner.Ending.TheVariants as ended
 use Rattle.qo_framing.specs.declared.scanner.Place.{Place}
@@ -394,3 +394,29 @@ plain_steps b s plain = let no_reset = plain_reset b plain in rw no_reset (by_pl
         let no_opening = plain_opening b plain in
         let no_closing = plain_closing b plain in
         rw (no_quote, no_opening, no_closing) refl
+
+-- behind a byte that hides, none is passed over
+pub plain_goes : (s : Scanner) → (s.place ≡ Escaped → ⊥) → plain_step s.place s ≡ step.Goes s
+plain_goes s shown = by_place s.place refl
+  where
+    by_place : (place : Place) → s.place ≡ place → plain_step place s ≡ step.Goes s
+    by_place Escaped e = absurd (shown e)
+    by_place InString e = refl
+    by_place Outside e = refl
+
+-- plain bytes are passed over
+pub scan_plain : (n : ℕ) (front xs : List ℕ) (i : ℕ) (s : Scanner) → (s.place ≡ Escaped → ⊥) → i + n ≤ length xs → length front + length xs ≤ 262144 → ((k : ℕ) → i ≤ k → k < i + n → is_plain (get_or xs k 0) ≡ true) → HasScanned front xs i s → HasScanned front xs (i + n) s
+scan_plain zero front xs i s shown within short plain so_far =
+    subst (λ (k : ℕ). HasScanned front xs k s) (omega arith) so_far
+scan_plain (suc n) front xs i s shown within short plain so_far =
+    let goes = sym (plain_goes s shown) ∙ sym (plain_steps (get_or xs (i + n) 0) s (plain (i + n) (omega arith) (omega arith))) in
+    subst (λ (k : ℕ). HasScanned front xs k s) (omega arith) (
+    scan_goes front xs (i + n) s s (omega arith) short (scan_plain n front xs i s shown (omega arith) short (λ k least most. plain k least (omega arith)) so_far) goes
+    )
+
+pub scan_plain_to : (front xs : List ℕ) (i m : ℕ) (s : Scanner) → (s.place ≡ Escaped → ⊥) → i ≤ m → m ≤ length xs → length front + length xs ≤ 262144 → ((k : ℕ) → i ≤ k → k < m → is_plain (get_or xs k 0) ≡ true) → HasScanned front xs i s → HasScanned front xs m s
+scan_plain_to front xs i m s shown least most short plain so_far =
+    let whole : i + (m - i) ≡ m = omega arith in
+    subst (λ (k : ℕ). HasScanned front xs k s) whole (
+    scan_plain (m - i) front xs i s shown (omega arith) short (λ k from below. plain k from (omega arith)) so_far
+    )

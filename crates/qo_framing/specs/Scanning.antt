@@ -1,5 +1,5 @@
 -- How the scanner of an object stands to the definitions on fronts.
-use Rattle.std.specs.Prelude.{◌≡◌, ℕ, ◌+◌, ◌-◌, ◌%◌, ◌<◌, ◌≤◌, ◌==◌, Bool, ◌&&◌, ◌||◌, if◌then◌else◌, List, ◌++◌, length, reverse, Some, None, nat_le, ⊤}
+use Rattle.std.specs.Prelude.{◌≡◌, ℕ, ◌+◌, ◌-◌, ◌%◌, ◌<◌, ◌≤◌, ◌==◌, Bool, ◌||◌, not, if◌then◌else◌, List, ◌++◌, length, reverse, take, Some, None, nat_le, ⊤}
 use Rattle.qo_framing.specs.Classes.{is_opening, is_closing, is_reset}
 use Rattle.qo_framing.specs.Fronts.{backslashes, in_string, depth, end_behind}
 use Rattle.qo_framing.specs.declared.scanner.Ending.{Ending}
@@ -44,9 +44,9 @@ step_in Outside s b =
     if b == 34 then moved s InString
     else (if is_opening b then opened s else (if is_closing b then closed s else step.Goes s))
 
--- bytes that mean nothing to framing, the most common of them: space, ! and # to Z, ^ to z
+-- a byte that means nothing to framing
 abbrev pub is_plain : ℕ → Bool
-is_plain b = b == 32 || b == 33 || (nat_le 35 b && nat_le b 90) || (nat_le 94 b && nat_le b 122)
+is_plain b = not (is_reset b || b == 34 || b == 92 || is_opening b || is_closing b)
 
 -- what such a byte does
 abbrev pub plain_step : Place → Scanner → Step
@@ -61,6 +61,10 @@ step_of s b = if is_reset b then step.Ends ending.Broken else step_in s.place s 
 -- how a byte that is one too many ends an object
 abbrev pub one_too_many : ℕ → Ending
 one_too_many b = if is_reset b then ending.Broken else ending.TooLong
+
+-- the first so many bytes were scanned behind a front: nothing ended, and the scanner stands behind them
+abbrev pub HasScanned : List ℕ → List ℕ → ℕ → Scanner → Type 0
+HasScanned front bytes n s = (end_behind front (take n bytes) ≡ None) × IsBehind (reverse (take n bytes) ++ front) s
 
 -- what a scan of bytes behind a front found: no end, and where the scanner stands; or the end
 abbrev pub Scans : List ℕ → List ℕ → Scanned → Type 0

@@ -1,9 +1,9 @@
 //! The scanner of an object: where its next byte stands, and how the object ends.
 
 ghost use Rattle.std.specs.Prelude.{◌≡◌, ◌+◌, ◌-◌, ◌≤◌, List, [], ◌∷◌, ℕ, length};
-ghost use Rattle.qo_framing.specs.Scanning.{closed, moved, one_too_many, opened, plain_step, step_of, CountsWithin, IsBehind, OpenWithin, Scans};
+ghost use Rattle.qo_framing.specs.Scanning.{closed, moved, one_too_many, opened, step_of, CountsWithin, HasScanned, IsBehind, OpenWithin, Scans};
 
-use crate::bytes::{is_plain, is_reset};
+use crate::bytes::{behind_plain, is_reset};
 use qo_values::{MESSAGE_MAX, NESTING_MAX};
 
 /// How an object ends.
@@ -102,23 +102,10 @@ impl Scanner {
         })
     }
 
-    /// What a plain byte does.
-    fn passed(self) -> Step
-        ensures { result ≡ plain_step self.place self }
-    {
-        match self.place {
-            Place::Escaped => self.moved(Place::InString),
-            Place::InString | Place::Outside => Step::Goes(self),
-        }
-    }
-
     /// What a byte does that is not one too many.
     fn step(self, byte: u8) -> Step
         ensures { result ≡ step_of self byte }
     {
-        if is_plain(byte) {
-            return self.passed();
-        }
         if is_reset(byte) {
             return Step::Ends(Ending::Broken);
         }
@@ -137,6 +124,20 @@ impl Scanner {
             },
         }
     }
+
+    /// The place from `at` on of the next byte to look at, or the end.
+    fn next_place(self, bytes: &[u8], at: usize) -> usize
+        requires { at ≤ length bytes.now }
+        ensures least { at ≤ result }
+        ensures most { result ≤ length bytes.now }
+        ensures scanned { (front : List ℕ) → length front + length bytes.now ≤ 262144
+            → HasScanned front bytes.now at self → HasScanned front bytes.now result self }
+    {
+        match self.place {
+            Place::Escaped => at,
+            Place::InString | Place::Outside => behind_plain(bytes, at),
+        }
+    }
 }
 
 /// Scans bytes of which none is one too many.
@@ -146,10 +147,18 @@ fn scan_all(scanner: Scanner, bytes: &[u8]) -> Scanned
     ensures count { CountsWithin bytes.now result }
 {
     let mut scanner = scanner;
-    for (index, byte) in bytes.iter().enumerate() {
-        match scanner.step(*byte) {
-            Step::Goes(next) => scanner = next,
-            Step::Ends(ending) => return Scanned::Ended(ending, index + 1),
+    let mut at = 0;
+    while at < bytes.len() {
+        let next = scanner.next_place(bytes, at);
+        match bytes.get(next) {
+            None => return Scanned::Open(scanner),
+            Some(byte) => match scanner.step(*byte) {
+                Step::Goes(after) => {
+                    scanner = after;
+                    at = next + 1;
+                }
+                Step::Ends(ending) => return Scanned::Ended(ending, next + 1),
+            },
         }
     }
     Scanned::Open(scanner)

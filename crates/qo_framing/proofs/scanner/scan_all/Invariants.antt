@@ -1,9 +1,14 @@
 -- So far nothing ended, and the scanner stands behind what was scanned.
-use Rattle.std.proofs.Common.{◌≡◌, ℕ, ◌+◌, ◌≤◌, List, ◌++◌, length, reverse, take, None}
-use Rattle.qo_framing.specs.Fronts.{end_behind}
-use Rattle.qo_framing.specs.Scanning.{IsBehind}
+use Rattle.std.proofs.Common.{ℕ, ◌+◌, ◌-◌, ◌≤◌, List, length}
+use Rattle.qo_framing.specs.Scanning.{HasScanned, IsBehind}
 use Rattle.qo_framing.proofs.scanner.scan_all.Given as goal
 
-abbrev pub invariant-loop-index : goal.invariant-loop-index
-invariant-loop-index l =
-    (front : List ℕ) → IsBehind front l.fn.scanner → length front + length l.bytes ≤ 262144 → (end_behind front (take l.index l.bytes) ≡ None) × IsBehind (reverse (take l.index l.bytes) ++ front) l.scanner
+abbrev pub invariant-loop-at : goal.invariant-loop-at
+invariant-loop-at l =
+    record {
+      within : l.at ≤ length l.bytes;
+      scanned : (front : List ℕ) → IsBehind front l.fn.scanner → length front + length l.bytes ≤ 262144 → HasScanned front l.bytes l.at l.scanner;
+    }
+
+abbrev pub decreases-loop-at : goal.decreases-loop-at
+decreases-loop-at l = length l.bytes - l.at
