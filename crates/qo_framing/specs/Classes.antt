@@ -1,4 +1,4 @@
--- The bytes that matter to framing (docs/PROFILE.md, framing; QMP specification 2.6, on errors in the input).
+-- The bytes that matter to framing (QMP specification 2.6, Forcing the JSON parser into known-good state).
 use Rattle.std.specs.Prelude.{ℕ, Bool, not, ◌&&◌, ◌||◌, ◌==◌, nat_lt}
 
 -- a byte that resets the reader, as no JSON has it: 0 to 31 other than tab, LF and CR; and 255

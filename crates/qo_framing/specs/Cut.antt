@@ -1,4 +1,4 @@
--- The cut of a byte stream into items (docs/PROFILE.md, framing; QMP specification 2.3 and 2.6).
+-- The cut of a byte stream into items (QMP specification 2.3, Issuing Commands, and 2.6; the limits and the skipping of junk are the profile's own).
 use Rattle.std.specs.Prelude.{ℕ, zero, suc, ◌+◌, ◌-◌, ◌*◌, ◌==◌, if◌then◌else◌, List, [], ◌∷◌, ◌++◌, length, take, drop, Option, Some, None, option_to_list}
 use Rattle.qo_framing.specs.Classes.{is_passed, ends_skipping}
 use Rattle.qo_framing.specs.Fronts.{End, end_behind}
