@@ -3,3 +3,4 @@ pub mod Unfinished
 pub mod Cuts
 pub mod Steps
 pub mod Feeding
+pub mod Ends
