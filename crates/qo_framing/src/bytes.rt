@@ -9,7 +9,10 @@ ghost use Rattle.qo_framing.specs.Scanning.{is_plain};
 pub(crate) fn is_reset(byte: u8) -> bool
     ensures { result ≡ is_reset byte }
 {
-    matches!(byte, 0..=8 | 11 | 12 | 14..=31 | 255)
+    if byte >= b' ' {
+        return byte == 255;
+    }
+    !matches!(byte, b'\t' | b'\n' | b'\r')
 }
 
 /// Whether a byte is passed over between objects.
