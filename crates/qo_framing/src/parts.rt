@@ -1,0 +1,180 @@
+//! The parts of a stream: what comes first, and the rest.
+
+ghost use Rattle.std.specs.Prelude.{◌≡◌, ◌+◌, ◌<◌, ◌≤◌, [], ◌∷◌, ◌++◌, IfOk, OnOk, length, option_copied, option_to_list, take};
+ghost use Rattle.qo_framing.specs.Cut.{behind_skipping, between_part, cut, first_part, followed, item_of, left_behind, object_part, skipping_part, state_behind};
+ghost use Rattle.qo_framing.specs.Fronts.{end_behind};
+ghost use Rattle.qo_framing.specs.Parts.{cut_to, part_view, state_of, ScansPart, ScansStop};
+
+use crate::bytes::{ends_skipping, trimmed};
+use crate::items::Item;
+use crate::scanner::{Ending, Scanned, Scanner, scan};
+use qo_values::Chars;
+use std::alloc::{AllocError, Global};
+
+/// Where a stream stands without an unfinished object.
+#[derive(Clone, Copy)]
+pub(crate) enum Gap {
+    /// Between objects.
+    Between,
+    /// Skipping to the end of a line.
+    Skipping,
+}
+
+/// Where a stream stops.
+#[derive(Clone, Copy)]
+pub(crate) enum Stop<'a> {
+    /// Outside an object.
+    In(Gap),
+    /// Inside an object that has these bytes so far.
+    Inside(&'a [u8], Scanner),
+}
+
+/// The first part of a stream.
+#[derive(Drop)]
+pub(crate) enum Part<'a> {
+    /// There is no other.
+    Stops(Stop<'a>),
+    /// An item, if it has one, and what follows.
+    GoesOn(Option<Item>, Gap, &'a [u8]),
+}
+
+/// The bytes behind the first one that ends the skipping.
+fn behind_skipping(bytes: &[u8]) -> Option<&[u8]>
+    ensures { option_copied result ≡ behind_skipping bytes.now }
+{
+    let mut left = bytes;
+    while let [byte, rest @ ..] = left {
+        if ends_skipping(*byte) {
+            return Some(rest);
+        }
+        left = rest;
+    }
+    None
+}
+
+/// The bytes of two slices.
+fn joined(alloc: Global, front: &[u8], back: &[u8]) -> Result<Chars, AllocError>
+    ensures { IfOk result (λ chars. chars ≡ front.now ++ back.now) }
+{
+    let mut bytes = Vec::with_capacity(alloc, front.len() + back.len())?;
+    bytes.extend_from_slice(front)?;
+    bytes.extend_from_slice(back)?;
+    Ok(Chars::from_vec(bytes))
+}
+
+/// The item of an object that ended, whose bytes are those of two slices.
+pub(crate) fn item_of(
+    alloc: Global,
+    ending: Ending,
+    front: &[u8],
+    back: &[u8],
+) -> Result<Item, AllocError>
+    requires { length front.now ≤ 262144 }
+    ensures { IfOk result (λ item. item ≡ item_of ending (front.now ++ back.now)) }
+{
+    Ok(match ending {
+        Ending::Whole => Item::Object(joined(alloc, front, back)?),
+        Ending::Broken => Item::Broken,
+        Ending::TooLong => Item::TooLong,
+        Ending::TooDeep => Item::TooDeep,
+    })
+}
+
+/// What follows an object that ended with so many of the bytes.
+pub(crate) fn rest_of(ending: Ending, count: usize, bytes: &[u8]) -> (Gap, &[u8])
+    requires some { 0 < count }
+    requires within { count ≤ length bytes.now }
+    ensures state { state_of result.0 ≡ state_behind ending }
+    ensures left { result.1.now ≡ left_behind ending count bytes.now }
+{
+    match ending {
+        Ending::Whole | Ending::Broken => (Gap::Between, &bytes[count..]),
+        Ending::TooLong | Ending::TooDeep => (Gap::Skipping, &bytes[count - 1..]),
+    }
+}
+
+/// The first part of a stream that skips.
+fn skipping_part(bytes: &[u8]) -> Part<'_>
+    ensures part { part_view result ≡ skipping_part (behind_skipping bytes.now) }
+    ensures scanned { ScansPart result }
+{
+    match behind_skipping(bytes) {
+        None => Part::Stops(Stop::In(Gap::Skipping)),
+        Some(rest) => Part::GoesOn(None, Gap::Between, rest),
+    }
+}
+
+/// The first part of bytes that begin an object, whose bytes behind the brace are `inner`.
+fn object_part<'a>(alloc: Global, bytes: &'a [u8], inner: &[u8]) -> Result<Part<'a>, AllocError>
+    requires { bytes.now ≡ 123 ∷ inner.now }
+    ensures part { IfOk result (λ p. part_view p ≡ object_part bytes.now (end_behind [] bytes.now)) }
+    ensures scanned { IfOk result ScansPart }
+{
+    match scan(Scanner::begun(), 1, inner) {
+        Scanned::Open(scanner) => Ok(Part::Stops(Stop::Inside(bytes, scanner))),
+        Scanned::Ended(ending, used) => {
+            let count = used + 1;
+            let item = item_of(alloc, ending, &[], &bytes[..count])?;
+            let (gap, rest) = rest_of(ending, count, bytes);
+            Ok(Part::GoesOn(Some(item), gap, rest))
+        }
+    }
+}
+
+/// The first part of bytes of which none in front is passed over.
+fn between_part(alloc: Global, bytes: &[u8]) -> Result<Part<'_>, AllocError>
+    ensures part { IfOk result (λ p. part_view p ≡ between_part bytes.now) }
+    ensures scanned { IfOk result ScansPart }
+{
+    match bytes.split_first() {
+        None => Ok(Part::Stops(Stop::In(Gap::Between))),
+        Some((b'{', inner)) => object_part(alloc, bytes, inner),
+        Some(_) => Ok(Part::GoesOn(Some(Item::Junk), Gap::Skipping, bytes)),
+    }
+}
+
+/// The first part of a stream.
+fn first_part(alloc: Global, gap: Gap, bytes: &[u8]) -> Result<Part<'_>, AllocError>
+    ensures part { IfOk result (λ p. part_view p ≡ first_part (state_of gap) bytes.now) }
+    ensures scanned { IfOk result ScansPart }
+{
+    match gap {
+        Gap::Between => between_part(alloc, trimmed(bytes)),
+        Gap::Skipping => Ok(skipping_part(bytes)),
+    }
+}
+
+/// Adds an item, if there is one.
+pub(crate) fn push_some(items: &mut Vec<Item>, item: Option<Item>) -> Result<(), AllocError>
+    ensures { OnOk result (items.new.items ≡ items.old.items ++ option_to_list item) }
+{
+    match item {
+        None => Ok(()),
+        Some(item) => Ok(items.push(item)?),
+    }
+}
+
+/// Adds the items of bytes, and answers where the stream stops behind them.
+pub(crate) fn add_items<'a>(
+    alloc: Global,
+    gap: Gap,
+    bytes: &'a [u8],
+    items: &mut Vec<Item>,
+) -> Result<Stop<'a>, AllocError>
+    ensures cut { IfOk result (λ stop. followed items.old.items (cut (state_of gap) bytes.now)
+        ≡ cut_to items.new.items stop) }
+    ensures scanned { IfOk result ScansStop }
+{
+    let mut gap = gap;
+    let mut left = bytes;
+    loop {
+        match first_part(alloc, gap, left)? {
+            Part::Stops(stop) => return Ok(stop),
+            Part::GoesOn(item, next, rest) => {
+                push_some(items, item)?;
+                gap = next;
+                left = rest;
+            }
+        }
+    }
+}
