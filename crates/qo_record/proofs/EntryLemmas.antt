@@ -9,7 +9,7 @@ use Rattle.qo_causes.specs.declared.inputs.What.{What}
 use Rattle.qo_causes.specs.declared.inputs.What.TheVariants.{Open, Bytes, Shut, Guest, Step, End}
 use Rattle.qo_record.specs.Laws.{EntriesAreSpelled}
 use Rattle.qo_record.specs.Reading.{◌>>=◌, or_else, behind, digits_of, number_until}
-use Rattle.qo_record.specs.Record.{bytes_at, entry_at, entry_of, guest_at, moment_at, open_at, piece_at, piece_of, shut_at, step_at}
+use Rattle.qo_record.specs.Record.{bytes_at, entry_at, entry_of, guest_at, moment_at, moment_behind, open_at, piece_at, piece_of, shut_at, step_at}
 use Rattle.qo_record.specs.Spelling.{Fits, FitsMoment, FitsPiece, FitsWhat, entry_text, is_open, last_digits, moment_text, piece_text, rest_text, word_text}
 use Rattle.qo_record.proofs.ReadingLemmas.{behind_again, behind_is, bind_some, digits_are_last, if_some, last_are_digits, none_some, number_again, number_taken, some_is, when_false, when_true}
 
@@ -136,10 +136,10 @@ entry_spelled word at said rest = append_assoc word (at ++ 32 ∷ said) rest ∙
 
 of_word : (word : List ℕ) (what_at : List ℕ → Option (What × List ℕ)) (opened : List Bool) (bytes : List ℕ) (e : Input × List ℕ) → ((left : List ℕ) (w : What × List ℕ) → what_at left ≡ Some w → IsWhat word opened left w.0 w.1) → entry_of word what_at bytes ≡ Some e → IsRead opened bytes e
 of_word word what_at opened bytes e taken h =
-    let s = bind_some (behind word bytes) _ e h in
-    let t = bind_some (moment_at s.0) _ e s.2 in
+    let t = bind_some (moment_behind word bytes) _ e h in
+    let s = bind_some (behind word bytes) (λ (rest : List ℕ). moment_at rest) t.0 t.1 in
     let u = bind_some (what_at t.0.1) _ e t.2 in
-    let moment = moment_taken s.0 t.0 t.1 in
+    let moment = moment_taken s.0 t.0 s.2 in
     let what = taken t.0.1 u.0 u.1 in
     let whole : bytes ≡ entry_text (record { at = t.0.0; what = u.0.0 }) ++ u.0.1 =
       behind_is word bytes s.0 s.1 ∙ ap (λ (l : List ℕ). word ++ l) (moment.1 ∙ ap (λ (l : List ℕ). moment_text t.0.0 ++ 32 ∷ l) what.spelled)

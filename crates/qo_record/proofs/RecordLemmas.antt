@@ -139,7 +139,7 @@ spelled_streams_are_read inputs fit =
       ∙ ap (λ (l : List Input). record { inputs = l; left = [] }) (append-nil inputs) in
     (ap (λ (r : Read). r.inputs) read, ap (λ (r : Read). place_before (length (header ++ text)) r.left) read)
 
-not_end : (opened : List Bool) (what : What) → FitsWhat opened what → is_end what ≡ false
+pub not_end : (opened : List Bool) (what : What) → FitsWhat opened what → is_end what ≡ false
 not_end opened (Open s) h = refl
 not_end opened (Bytes s piece) h = refl
 not_end opened (Shut s) h = refl

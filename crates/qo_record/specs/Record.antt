@@ -41,11 +41,14 @@ guest_at bytes = piece_at bytes >>= λ piece. Some (Guest piece.0, piece.1)
 abbrev pub step_at : List ℕ → Option (What × List ℕ)
 step_at bytes = number_until 10 (2 ^ 63 - 1) bytes >>= λ ns. (if ns.0 == 0 then None else Some (Step ns.0, ns.1))
 
+-- a word, and the moment behind it
+abbrev pub moment_behind : List ℕ → List ℕ → Option (Moment × List ℕ)
+moment_behind word bytes = behind word bytes >>= λ rest. moment_at rest
+
 -- an entry of one word
 abbrev pub entry_of : List ℕ → (List ℕ → Option (What × List ℕ)) → List ℕ → Option (Input × List ℕ)
 entry_of word what_at bytes =
-    behind word bytes
-    >>= λ rest. (moment_at rest >>= λ at. (what_at at.1 >>= λ what. Some (record { at = at.0; what = what.0 }, what.1)))
+    moment_behind word bytes >>= λ at. (what_at at.1 >>= λ what. Some (record { at = at.0; what = what.0 }, what.1))
 
 -- the entry at the front of the bytes, while these sessions are open, and the bytes behind it
 unfoldable pub entry_at : List Bool → List ℕ → Option (Input × List ℕ)
