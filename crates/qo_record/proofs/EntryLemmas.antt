@@ -25,8 +25,8 @@ moment_taken bytes m h =
     let space = behind_is (32 ∷ []) t.0.1 u.0 u.1 in
     let made : (record { seconds = s.0.0; micros = t.0.0 }, u.0) ≡ m = some_is u.2 in
     let whole : bytes ≡ (decimal s.0.0 ++ 46 ∷ last_digits 6 t.0.0) ++ 32 ∷ u.0 =
-      seconds.1 ∙ ap (λ (l : List ℕ). decimal s.0.0 ++ 46 ∷ l) (micros.1 ∙ ap (λ (l : List ℕ). last_digits 6 t.0.0 ++ l) space)
-      ∙ sym (append_assoc (decimal s.0.0) (46 ∷ last_digits 6 t.0.0) (32 ∷ u.0)) in
+    seconds.1 ∙ ap (λ (l : List ℕ). decimal s.0.0 ++ 46 ∷ l) (micros.1 ∙ ap (λ (l : List ℕ). last_digits 6 t.0.0 ++ l) space)
+    ∙ sym (append_assoc (decimal s.0.0) (46 ∷ last_digits 6 t.0.0) (32 ∷ u.0)) in
     let below : t.0.0 / 1000000 ≡ 0 = micros.0 in
     subst (λ (y : Moment × List ℕ). FitsMoment y.0 × (bytes ≡ moment_text y.0 ++ 32 ∷ y.1)) made ((omega (arith, seconds.0), omega (arith, below)), whole)
 
@@ -36,7 +36,7 @@ moment_again m rest fits =
     let seconds = number_again 46 (2 ^ 63 - 1) m.seconds (last_digits 6 m.micros ++ 32 ∷ rest) (omega arith) (omega arith) (omega (arith, fits.0)) in
     let none : m.micros / 10 ^ 6 ≡ 0 = omega (arith, fits.1) in
     let micros : digits_of 6 0 (last_digits 6 m.micros ++ 32 ∷ rest) ≡ Some (m.micros, 32 ∷ rest) =
-      ap (λ (k : ℕ). digits_of 6 k (last_digits 6 m.micros ++ 32 ∷ rest)) (sym none) ∙ last_are_digits 6 m.micros (32 ∷ rest) (omega (arith, fits.1)) in
+    ap (λ (k : ℕ). digits_of 6 k (last_digits 6 m.micros ++ 32 ∷ rest)) (sym none) ∙ last_are_digits 6 m.micros (32 ∷ rest) (omega (arith, fits.1)) in
     rw (spelled, seconds, micros) refl
 
 -- Some bytes behind their number.
@@ -55,10 +55,10 @@ piece_taken bytes p h =
     let line = behind_is (10 ∷ []) (drop len left) t.0 t.1 in
     let made : (take len left, t.0) ≡ p = some_is t.2 in
     let content : left ≡ (take len left ++ 10 ∷ []) ++ t.0 =
-      sym (take-append-drop len left) ∙ ap (λ (l : List ℕ). take len left ++ l) line ∙ sym (append_assoc (take len left) (10 ∷ []) t.0) in
+    sym (take-append-drop len left) ∙ ap (λ (l : List ℕ). take len left ++ l) line ∙ sym (append_assoc (take len left) (10 ∷ []) t.0) in
     let whole : bytes ≡ piece_text (take len left) ++ t.0 =
-      size.1 ∙ ap (λ (l : List ℕ). decimal len ++ 10 ∷ l) content ∙ ap (λ (k : ℕ). decimal k ++ 10 ∷ ((take len left ++ 10 ∷ []) ++ t.0)) (sym is)
-      ∙ sym (append_assoc (decimal (length (take len left))) (10 ∷ (take len left ++ 10 ∷ [])) t.0) in
+    size.1 ∙ ap (λ (l : List ℕ). decimal len ++ 10 ∷ l) content ∙ ap (λ (k : ℕ). decimal k ++ 10 ∷ ((take len left ++ 10 ∷ []) ++ t.0)) (sym is)
+    ∙ sym (append_assoc (decimal (length (take len left))) (10 ∷ (take len left ++ 10 ∷ [])) t.0) in
     subst (λ (y : List ℕ × List ℕ). FitsPiece y.0 × (bytes ≡ piece_text y.0 ++ y.1)) made ((omega (arith, is), omega (arith, is, size.0)), whole)
 
 piece_again : (piece rest : List ℕ) → FitsPiece piece → piece_at (piece_text piece ++ rest) ≡ Some (piece, rest)
@@ -66,7 +66,7 @@ piece_again piece rest fits =
     let len : ℕ = length piece in
     let content : (piece ++ 10 ∷ []) ++ rest ≡ piece ++ 10 ∷ rest = append_assoc piece (10 ∷ []) rest in
     let spelled : piece_text piece ++ rest ≡ decimal len ++ 10 ∷ (piece ++ 10 ∷ rest) =
-      append_assoc (decimal len) (10 ∷ (piece ++ 10 ∷ [])) rest ∙ ap (λ (l : List ℕ). decimal len ++ 10 ∷ l) content in
+    append_assoc (decimal len) (10 ∷ (piece ++ 10 ∷ [])) rest ∙ ap (λ (l : List ℕ). decimal len ++ 10 ∷ l) content in
     let size = number_again 10 65536 len (piece ++ 10 ∷ rest) (omega arith) (omega arith) fits.1 in
     let more : len ≤ length (piece ++ 10 ∷ rest) = omega (arith, length-append piece (10 ∷ rest)) in
     let test : ((len == 0) || nat_lt (length (piece ++ 10 ∷ rest)) len) ≡ false = grind (arith, nat_tests, more, fits.0) in
@@ -107,8 +107,8 @@ bytes_taken opened bytes w h =
       worded = refl;
       fits = (number.0, g.0, piece.0);
       spelled =
-        number.1 ∙ ap (λ (l : List ℕ). decimal s.0.0 ++ 32 ∷ l) piece.1
-        ∙ sym (append_assoc (decimal s.0.0) (32 ∷ piece_text t.0.0) t.0.1);
+          number.1 ∙ ap (λ (l : List ℕ). decimal s.0.0 ++ 32 ∷ l) piece.1
+          ∙ sym (append_assoc (decimal s.0.0) (32 ∷ piece_text t.0.0) t.0.1);
     }
 
 guest_taken : (opened : List Bool) (bytes : List ℕ) (w : What × List ℕ) → guest_at bytes ≡ Some w → IsWhat (codes "guest ") opened bytes w.0 w.1
@@ -142,9 +142,9 @@ of_word word what_at opened bytes e taken h =
     let moment = moment_taken s.0 t.0 s.2 in
     let what = taken t.0.1 u.0 u.1 in
     let whole : bytes ≡ entry_text (record { at = t.0.0; what = u.0.0 }) ++ u.0.1 =
-      behind_is word bytes s.0 s.1 ∙ ap (λ (l : List ℕ). word ++ l) (moment.1 ∙ ap (λ (l : List ℕ). moment_text t.0.0 ++ 32 ∷ l) what.spelled)
-      ∙ ap (λ (l : List ℕ). l ++ (moment_text t.0.0 ++ 32 ∷ (rest_text u.0.0 ++ u.0.1))) (sym what.worded)
-      ∙ sym (entry_spelled (word_text u.0.0) (moment_text t.0.0) (rest_text u.0.0) u.0.1) in
+    behind_is word bytes s.0 s.1 ∙ ap (λ (l : List ℕ). word ++ l) (moment.1 ∙ ap (λ (l : List ℕ). moment_text t.0.0 ++ 32 ∷ l) what.spelled)
+    ∙ ap (λ (l : List ℕ). l ++ (moment_text t.0.0 ++ 32 ∷ (rest_text u.0.0 ++ u.0.1))) (sym what.worded)
+    ∙ sym (entry_spelled (word_text u.0.0) (moment_text t.0.0) (rest_text u.0.0) u.0.1) in
     subst (λ (y : Input × List ℕ). IsRead opened bytes y) (some_is u.2) (whole, (moment.0, what.fits))
 
 or_else_some : {A : Type 0} (p q : Option A) (y : A) → or_else p q ≡ Some y → (p ≡ Some y) ⊎ (q ≡ Some y)
@@ -157,15 +157,15 @@ entry_taken opened bytes e h =
     elim (or_else_some (entry_of (codes "open ") (open_at opened) bytes) _ e h) [
       | inl p ↦ of_word (codes "open ") (open_at opened) opened bytes e (open_taken opened) p
       | inr p ↦ elim (or_else_some (entry_of (codes "bytes ") (bytes_at opened) bytes) _ e p) [
-          | inl q ↦ of_word (codes "bytes ") (bytes_at opened) opened bytes e (bytes_taken opened) q
-          | inr q ↦ elim (or_else_some (entry_of (codes "shut ") (shut_at opened) bytes) _ e q) [
-              | inl r ↦ of_word (codes "shut ") (shut_at opened) opened bytes e (shut_taken opened) r
-              | inr r ↦ elim (or_else_some (entry_of (codes "guest ") guest_at bytes) _ e r) [
-                  | inl t ↦ of_word (codes "guest ") guest_at opened bytes e (guest_taken opened) t
-                  | inr t ↦ of_word (codes "step ") step_at opened bytes e (step_taken opened) t
-                ]
-            ]
+        | inl q ↦ of_word (codes "bytes ") (bytes_at opened) opened bytes e (bytes_taken opened) q
+        | inr q ↦ elim (or_else_some (entry_of (codes "shut ") (shut_at opened) bytes) _ e q) [
+          | inl r ↦ of_word (codes "shut ") (shut_at opened) opened bytes e (shut_taken opened) r
+          | inr r ↦ elim (or_else_some (entry_of (codes "guest ") guest_at bytes) _ e r) [
+            | inl t ↦ of_word (codes "guest ") guest_at opened bytes e (guest_taken opened) t
+            | inr t ↦ of_word (codes "step ") step_at opened bytes e (step_taken opened) t
+          ]
         ]
+      ]
     ]
 
 -- Each entry that may stand is read again, whatever follows.
@@ -192,7 +192,7 @@ bytes_again opened s piece rest fits =
     let said : (decimal s ++ 32 ∷ piece_text piece) ++ rest ≡ decimal s ++ 32 ∷ (piece_text piece ++ rest) = append_assoc (decimal s) (32 ∷ piece_text piece) rest in
     record {
       read =
-        rw (said, number_again 32 15 s (piece_text piece ++ rest) (omega arith) (omega arith) fits.0, fits.1, piece_again piece rest fits.2) refl;
+          rw (said, number_again 32 15 s (piece_text piece ++ rest) (omega arith) (omega arith) fits.0, fits.1, piece_again piece rest fits.2) refl;
     }
 
 guest_again : (piece rest : List ℕ) → FitsPiece piece → IsAgain guest_at (Guest piece) rest

@@ -98,8 +98,8 @@ number_taken stop last (b ∷ bytes) x wide h =
           let s = bind_some (behind (stop ∷ []) bytes) (λ (rest : List ℕ). Some (0, rest)) x p.1 in
           let made : (0, s.0) ≡ x = some_is s.2 in
           let whole : b ∷ bytes ≡ decimal 0 ++ stop ∷ s.0 =
-            ap (λ (l : List ℕ). b ∷ l) (behind_is (stop ∷ []) bytes s.0 s.1) ∙ ap (λ (k : ℕ). k ∷ stop ∷ s.0) is
-            ∙ ap (λ (l : List ℕ). l ++ stop ∷ s.0) (sym (decimal_digit 0 (omega arith))) in
+          ap (λ (l : List ℕ). b ∷ l) (behind_is (stop ∷ []) bytes s.0 s.1) ∙ ap (λ (k : ℕ). k ∷ stop ∷ s.0) is
+          ∙ ap (λ (l : List ℕ). l ++ stop ∷ s.0) (sym (decimal_digit 0 (omega arith))) in
           subst (λ (y : ℕ × List ℕ). (y.0 ≤ last) × (b ∷ bytes ≡ decimal y.0 ++ stop ∷ y.1)) made (omega arith, whole)
           )
       | inr p ↦ (
@@ -168,5 +168,5 @@ last_are_digits (suc k) n rest few =
     let part : ℕ = n / 10 ^ k in
     let smaller : part ≤ n = div-le_self n (10 ^ k) in
     let made : next_of 999999 (part / 10) (48 + part % 10) ≡ Some part =
-      digit_takes 999999 (part / 10) (48 + part % 10) part (record { low = omega arith; high = omega arith; sum = omega arith; fits = omega arith }) in
+    digit_takes 999999 (part / 10) (48 + part % 10) part (record { low = omega arith; high = omega arith; sum = omega arith; fits = omega arith }) in
     rw (tenth n k, made) (last_are_digits k n rest few)

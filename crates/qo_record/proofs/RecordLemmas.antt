@@ -111,15 +111,15 @@ stream_longest bytes =
     record {
       left = r.left;
       entries =
-        record {
-          parts = ap (λ (l : List ℕ). header ++ l) p.parts;
-          fit = p.fit;
-          longest =
-            λ others rest fit same. (
-              (entries_from (opened_by_all none_open others) rest).inputs,
-              ap (λ (l : List ℕ). (entries_from none_open l).inputs) (ap (drop 7) same) ∙ ap (λ (q : Read). q.inputs) (goes_on others none_open rest fit),
-            );
-        };
+          record {
+            parts = ap (λ (l : List ℕ). header ++ l) p.parts;
+            fit = p.fit;
+            longest =
+                λ others rest fit same. (
+                  (entries_from (opened_by_all none_open others) rest).inputs,
+                  ap (λ (l : List ℕ). (entries_from none_open l).inputs) (ap (drop 7) same) ∙ ap (λ (q : Read). q.inputs) (goes_on others none_open rest fit),
+                );
+          };
       bad = refl;
     }
 
@@ -134,9 +134,9 @@ pub spelled_streams_are_read : SpelledStreamsAreRead
 spelled_streams_are_read inputs fit =
     let text : List ℕ = entries_text inputs in
     let read : entries_from none_open text ≡ record { inputs = inputs; left = [] } =
-      ap (entries_from none_open) (sym (append-nil text)) ∙ goes_on inputs none_open [] fit
-      ∙ ap (λ (r : Read). with_front inputs r) (nothing_left (opened_by_all none_open inputs))
-      ∙ ap (λ (l : List Input). record { inputs = l; left = [] }) (append-nil inputs) in
+    ap (entries_from none_open) (sym (append-nil text)) ∙ goes_on inputs none_open [] fit
+    ∙ ap (λ (r : Read). with_front inputs r) (nothing_left (opened_by_all none_open inputs))
+    ∙ ap (λ (l : List Input). record { inputs = l; left = [] }) (append-nil inputs) in
     (ap (λ (r : Read). r.inputs) read, ap (λ (r : Read). place_before (length (header ++ text)) r.left) read)
 
 pub not_end : (opened : List Bool) (what : What) → FitsWhat opened what → is_end what ≡ false

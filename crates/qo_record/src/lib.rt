@@ -9,3 +9,6 @@ mod streams;
 mod whole_hub;
 
 pub use whole_hub::WholeHub;
+
+#[cfg(test)]
+mod tests;
