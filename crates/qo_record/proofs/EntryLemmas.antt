@@ -1,5 +1,5 @@
 -- An entry is read exactly where it is spelled and may stand.
-use Rattle.std.proofs.Common.{◌≡◌, ℕ, zero, suc, ◌-◌, ◌/◌, ◌^◌, ◌<◌, ◌≤◌, ◌==◌, ◌||◌, nat_lt, nat_le, ◌⊎◌, inl, inr, Bool, true, false, if◌then◌else◌, List, [], ◌∷◌, ◌++◌, length, take, drop, refl, sym, ◌∙◌, ap, subst, arith, codes, length-append, append_assoc, Option, None, Some, decimal}
+use Rattle.std.proofs.Common.{◌≡◌, ℕ, ◌-◌, ◌/◌, ◌^◌, ◌≤◌, ◌==◌, ◌||◌, nat_lt, ◌⊎◌, inl, inr, Bool, false, List, [], ◌∷◌, ◌++◌, length, take, drop, refl, sym, ◌∙◌, ap, subst, arith, codes, length-append, append_assoc, Option, None, Some, decimal}
 use Rattle.std.proofs.Math.Seq.{take-append_seam, drop-append_seam}
 use Rattle.std.proofs.lemmas.Bool.Decides.{nat_tests}
 use Rattle.std.proofs.lemmas.List.{take-append-drop, length-take-le}
@@ -11,7 +11,7 @@ use Rattle.qo_record.specs.Laws.{EntriesAreSpelled}
 use Rattle.qo_record.specs.Reading.{◌>>=◌, or_else, behind, digits_of, number_until}
 use Rattle.qo_record.specs.Record.{bytes_at, entry_at, entry_of, guest_at, moment_at, moment_behind, open_at, piece_at, piece_of, shut_at, step_at}
 use Rattle.qo_record.specs.Spelling.{Fits, FitsMoment, FitsPiece, FitsWhat, entry_text, is_open, last_digits, moment_text, piece_text, rest_text, word_text}
-use Rattle.qo_record.proofs.ReadingLemmas.{behind_again, behind_is, bind_some, digits_are_last, if_some, last_are_digits, none_some, number_again, number_taken, some_is, when_false, when_true}
+use Rattle.qo_record.proofs.ReadingLemmas.{behind_again, behind_is, bind_some, digits_are_last, last_are_digits, number_again, number_taken, some_is, when_false, when_true}
 
 -- A moment, and the space behind it.
 

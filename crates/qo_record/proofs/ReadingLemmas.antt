@@ -7,7 +7,7 @@ use Rattle.std.proofs.lemmas.Fmt.{decimal_by_steps, decimal_digit, decimal_step}
 use Rattle.std.proofs.lemmas.List.{take-append-drop}
 use Rattle.std.proofs.lemmas.Slice.Eq.{bytes_eq-Decides}
 use Rattle.std.specs.Str.{bytes_eq}
-use Rattle.qo_record.specs.Reading.{◌>>=◌, or_else, behind, digits_of, digits_until, next_of, number_until}
+use Rattle.qo_record.specs.Reading.{◌>>=◌, behind, digits_of, digits_until, next_of, number_until}
 use Rattle.qo_record.specs.Spelling.{last_digits}
 
 -- Where something was read in the end, each part was read.

@@ -1,14 +1,14 @@
 -- The entries of a stream are the longest list of whole ones.
-use Rattle.std.proofs.Common.{◌≡◌, ℕ, zero, suc, ◌<◌, ◌≤◌, Bool, true, false, List, [], ◌∷◌, ◌++◌, length, drop, refl, sym, ◌∙◌, ap, subst, arith, length-append, append_assoc, append-nil, Option, None, Some}
+use Rattle.std.proofs.Common.{◌≡◌, ℕ, zero, suc, ◌<◌, ◌≤◌, Bool, false, List, [], ◌∷◌, ◌++◌, length, drop, refl, sym, ◌∙◌, ap, subst, arith, length-append, append_assoc, append-nil, Option, None, Some}
 use Rattle.std.specs.List.{AllByRecursion}
 use Rattle.qo_causes.specs.Hub.{is_end}
 use Rattle.qo_causes.specs.declared.inputs.Input.{Input}
 use Rattle.qo_causes.specs.declared.inputs.What.{What}
 use Rattle.qo_causes.specs.declared.inputs.What.TheVariants.{Open, Bytes, Shut, Guest, Step, End}
-use Rattle.qo_record.specs.Laws.{InputsAreFew, IsLongest, ReadsLongest, SpelledStreamsAreRead, StreamsAreLongest}
+use Rattle.qo_record.specs.Laws.{InputsAreFew, ReadsLongest, SpelledStreamsAreRead, StreamsAreLongest}
 use Rattle.qo_record.specs.Reading.{behind}
-use Rattle.qo_record.specs.Record.{Read, bad_place, entries_from, entries_within, entry_at, inputs_behind, place_before, stopped, stream_inputs, with_first}
-use Rattle.qo_record.specs.Spelling.{FitAll, Fits, FitsWhat, entries_text, entry_text, header, moment_text, none_open, opened_by, opened_by_all, rest_text, word_text}
+use Rattle.qo_record.specs.Record.{Read, entries_from, entries_within, entry_at, inputs_behind, place_before, stopped, with_first}
+use Rattle.qo_record.specs.Spelling.{FitAll, FitsWhat, entries_text, entry_text, header, moment_text, none_open, opened_by, opened_by_all, rest_text, word_text}
 use Rattle.qo_record.proofs.EntryLemmas.{entry_again, entry_taken}
 use Rattle.qo_record.proofs.ReadingLemmas.{behind_is}
 
