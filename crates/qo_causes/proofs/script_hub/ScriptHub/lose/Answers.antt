@@ -2,7 +2,7 @@
 use Rattle.std.proofs.Common.{◌≡◌, ◌≢◌, ◌≤◌, ◌<◌, ◌==◌, ℕ, Bool, true, false, List, length, slice_index_or, slice_set, arith, refl, subst, ap}
 use Rattle.std.proofs.lemmas.Bool.Decides.{nat_tests}
 use Rattle.std.proofs.lemmas.List.{get_or-set_same, get_or-set_other}
-use Rattle.qo_causes.specs.Cause.{Rose, counted}
+use Rattle.qo_causes.specs.Cause.{counted}
 use Rattle.qo_causes.specs.Hub.{Loses}
 use Rattle.qo_causes.specs.Script.{ScriptState}
 use Rattle.qo_causes.proofs.script_hub.ScriptHub.lose.Goals as goal
