@@ -3,3 +3,4 @@ pub mod Cause
 pub mod Edge
 pub mod Hub
 pub mod InMemory
+pub mod Script

@@ -8,6 +8,8 @@ mod edge;
 mod faults;
 mod hubs;
 mod inputs;
+mod script_hub;
+mod shelves;
 mod sinks;
 mod sources;
 #[cfg(test)]
@@ -19,5 +21,6 @@ pub use edge::{StdSink, StdSource};
 pub use faults::{Failed, Memory};
 pub use hubs::{Hub, Lane, NextError, SendError};
 pub use inputs::{Chunk, Input, Moment, What};
+pub use script_hub::ScriptHub;
 pub use sinks::{Sink, put_all};
 pub use sources::Source;

@@ -1,0 +1,5 @@
+pub mod EntryLemmas
+pub mod LineLemmas
+pub mod ReadingLemmas
+pub mod RecordLemmas
+pub mod StreamLemmas

@@ -1,0 +1,5 @@
+pub mod Laws
+pub mod Reading
+pub mod Record
+pub mod Spelling
+pub mod Streams

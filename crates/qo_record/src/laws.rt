@@ -1,0 +1,28 @@
+//! What holds of the definitions alone: how a recorded stream is read.
+
+ghost use Rattle.qo_record.specs.Laws.{EntriesAreSpelled, HeaderIsNeeded, InputsAreFew, SpelledStreamsAreRead, StreamsAreLongest};
+
+/// An entry is read exactly where it is spelled and may stand, whatever follows it.
+pub fn law_entries()
+    ensures { EntriesAreSpelled }
+{}
+
+/// Behind a header the inputs of a stream are the longest list of whole entries, and the bad place is that of what is left.
+pub fn law_streams()
+    ensures { StreamsAreLongest }
+{}
+
+/// Without a header a stream has no inputs, and its bad place is 0.
+pub fn law_header()
+    ensures { HeaderIsNeeded }
+{}
+
+/// Entries that may stand are read from the stream that spells them, with nothing left.
+pub fn law_spelled()
+    ensures { SpelledStreamsAreRead }
+{}
+
+/// The end is no input of a stream, and there are no more inputs than bytes.
+pub fn law_inputs()
+    ensures { InputsAreFew }
+{}

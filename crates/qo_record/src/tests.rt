@@ -1,0 +1,211 @@
+//! Streams with ample memory: which entries are read, where the reading stops, and the transcript's lines.
+
+use crate::WholeHub;
+use qo_causes::{ByteSink, Hub, Input, Lane, Moment, NextError, SendError, Sink, What};
+use std::test::Fail;
+
+/// A hub over these bytes, whose sink has room for 64 bytes and fails at its fourth put.
+fn hub(rt: &HostRuntime, bytes: &[u8]) -> Result<WholeHub<ByteSink>, Fail> {
+    let sink = ByteSink::new(rt.alloc(), 64, vec![in rt.alloc(); 4]?)?;
+    Ok(WholeHub::new(bytes.to_vec(rt.alloc())?, sink))
+}
+
+/// Where a hub stops behind so many inputs: its bad place, or none at the end.
+fn stop_of<K: Sink>(hub: &mut WholeHub<K>, count: usize) -> Result<Option<u64>, Fail> {
+    for _ in 0..count {
+        if let What::End = hub.next()?.what {
+            return Err("the end came early".into());
+        }
+    }
+    match hub.next() {
+        Ok(input) => match input.what {
+            What::End => Ok(None),
+            _ => Err("there is one input more".into()),
+        },
+        Err(NextError::Bad(place)) => Ok(Some(place)),
+        Err(error) => Err(error.into()),
+    }
+}
+
+/// Where a stream stops behind so many inputs.
+fn stop(rt: &HostRuntime, bytes: &[u8], count: usize) -> Result<Option<u64>, Fail> {
+    stop_of(&mut hub(rt, bytes)?, count)
+}
+
+fn is_at(input: &Input, seconds: u64, micros: u32) -> bool {
+    input.at == Moment { seconds, micros }
+}
+
+/// Whether it is these bytes of session 15.
+fn is_bytes(what: &What, piece: &[u8]) -> bool {
+    match what {
+        What::Bytes(15, chunk) => chunk.as_slice() == piece,
+        _ => false,
+    }
+}
+
+/// Whether the guest wrote these bytes.
+fn is_guest(what: &What, piece: &[u8]) -> bool {
+    match what {
+        What::Guest(chunk) => chunk.as_slice() == piece,
+        _ => false,
+    }
+}
+
+/// How many bytes the guest wrote.
+fn guest_size(what: &What) -> usize {
+    match what {
+        What::Guest(chunk) => chunk.as_slice().len(),
+        _ => 0,
+    }
+}
+
+const EACH_KIND: &[u8] =
+    b"qrec 1\nopen 1.000002 15\nbytes 1.999999 15 3\na\nb\nguest 0.000000 1\n\n\nstep 9223372036854775807.000010 12\nshut 10.100000 15\n";
+
+#[test]
+fn entries_come_in_order(rt: HostRuntime) -> Result<(), Fail> {
+    let mut hub = hub(&rt, EACH_KIND)?;
+    assert!(rt; hub.begin("s", 1).is_ok());
+    let opened = hub.next()?;
+    assert!(rt; is_at(&opened, 1, 2) && matches!(opened.what, What::Open(15)));
+    let sent = hub.next()?;
+    assert!(rt; is_at(&sent, 1, 999_999) && is_bytes(&sent.what, b"a\nb"));
+    let written = hub.next()?;
+    assert!(rt; is_at(&written, 0, 0) && is_guest(&written.what, b"\n"));
+    let stepped = hub.next()?;
+    assert!(rt; is_at(&stepped, 9_223_372_036_854_775_807, 10));
+    assert!(rt; matches!(stepped.what, What::Step(12)));
+    let shut = hub.next()?;
+    assert!(rt; is_at(&shut, 10, 100_000) && matches!(shut.what, What::Shut(15)));
+    let end = hub.next()?;
+    assert!(rt; is_at(&end, 0, 0) && matches!(end.what, What::End));
+    Ok(())
+}
+
+#[test]
+fn header_is_needed(rt: HostRuntime) -> Result<(), Fail> {
+    assert_eq!(rt; stop(&rt, b"qrec 1\n", 0)?, None);
+    assert_eq!(rt; stop(&rt, b"", 0)?, Some(0));
+    assert_eq!(rt; stop(&rt, b"qrec 1", 0)?, Some(0));
+    assert_eq!(rt; stop(&rt, b"qrec 2\n", 0)?, Some(0));
+    assert_eq!(rt; stop(&rt, b"qrec 1\r\n", 0)?, Some(0));
+    assert_eq!(rt; stop(&rt, b"open 1.000000 0\n", 0)?, Some(0));
+    assert_eq!(rt; stop(&rt, b"qrec 1\nqrec 1\n", 0)?, Some(7));
+    Ok(())
+}
+
+#[test]
+fn cut_entry_is_bad_at_its_first_byte(rt: HostRuntime) -> Result<(), Fail> {
+    let mut cut = hub(&rt, b"qrec 1\nopen 1.000000 0\nbytes 1.0")?;
+    assert_eq!(rt; stop_of(&mut cut, 1)?, Some(23));
+    assert_eq!(rt; stop_of(&mut cut, 0)?, Some(23));
+    assert_eq!(rt; stop(&rt, b"qrec 1\nopen 1.000000 0", 0)?, Some(7));
+    assert_eq!(rt; stop(&rt, b"qrec 1\nguest 0.000000 2\nab", 0)?, Some(7));
+    assert_eq!(rt; stop(&rt, b"qrec 1\nguest 0.000000 2\na\n", 0)?, Some(7));
+    assert_eq!(rt; stop(&rt, b"qrec 1\nguest 0.000000 2\nabc\n", 0)?, Some(7));
+    assert_eq!(rt; stop(&rt, b"qrec 1\nguest 0.000000 2\nab\n", 1)?, None);
+    Ok(())
+}
+
+#[test]
+fn words_are_exact(rt: HostRuntime) -> Result<(), Fail> {
+    assert_eq!(rt; stop(&rt, b"qrec 1\nopen  1.000000 0\n", 0)?, Some(7));
+    assert_eq!(rt; stop(&rt, b"qrec 1\nOpen 1.000000 0\n", 0)?, Some(7));
+    assert_eq!(rt; stop(&rt, b"qrec 1\nclose 1.000000 0\n", 0)?, Some(7));
+    assert_eq!(rt; stop(&rt, b"qrec 1\nopen 1.000000 0 \n", 0)?, Some(7));
+    assert_eq!(rt; stop(&rt, b"qrec 1\n\nopen 1.000000 0\n", 0)?, Some(7));
+    assert_eq!(rt; stop(&rt, b"qrec 1\nopen 1.000000 0\n\n", 1)?, Some(23));
+    Ok(())
+}
+
+#[test]
+fn numbers_are_within_their_ranges(rt: HostRuntime) -> Result<(), Fail> {
+    assert_eq!(rt; stop(&rt, b"qrec 1\nopen 0.000000 16\n", 0)?, Some(7));
+    assert_eq!(rt; stop(&rt, b"qrec 1\nopen 0.000000 00\n", 0)?, Some(7));
+    assert_eq!(rt; stop(&rt, b"qrec 1\nopen 0.000000 01\n", 0)?, Some(7));
+    assert_eq!(rt; stop(&rt, b"qrec 1\nopen 00.000000 1\n", 0)?, Some(7));
+    assert_eq!(rt; stop(&rt, b"qrec 1\nopen 0.00000 1\n", 0)?, Some(7));
+    assert_eq!(rt; stop(&rt, b"qrec 1\nopen 0.0000000 1\n", 0)?, Some(7));
+    assert_eq!(rt; stop(&rt, b"qrec 1\nopen .000000 1\n", 0)?, Some(7));
+    assert_eq!(rt;
+        stop(&rt, b"qrec 1\nopen 9223372036854775808.000000 1\n", 0)?,
+        Some(7)
+    );
+    assert_eq!(rt;
+        stop(&rt, b"qrec 1\nopen 18446744073709551616.000000 1\n", 0)?,
+        Some(7)
+    );
+    assert_eq!(rt; stop(&rt, b"qrec 1\nstep 0.000000 0\n", 0)?, Some(7));
+    assert_eq!(rt; stop(&rt, b"qrec 1\nstep 0.000000 1\n", 1)?, None);
+    assert_eq!(rt; stop(&rt, b"qrec 1\nstep 0.000000 +1\n", 0)?, Some(7));
+    assert_eq!(rt;
+        stop(&rt, b"qrec 1\nstep 0.000000 9223372036854775807\n", 1)?,
+        None
+    );
+    assert_eq!(rt;
+        stop(&rt, b"qrec 1\nstep 0.000000 9223372036854775808\n", 0)?,
+        Some(7)
+    );
+    assert_eq!(rt; stop(&rt, b"qrec 1\nguest 0.000000 0\n\n", 0)?, Some(7));
+    Ok(())
+}
+
+#[test]
+fn sessions_open_and_shut_in_turn(rt: HostRuntime) -> Result<(), Fail> {
+    assert_eq!(rt;
+        stop(&rt, b"qrec 1\nopen 0.000000 3\nopen 0.000000 3\n", 1)?,
+        Some(23)
+    );
+    assert_eq!(rt;
+        stop(&rt, b"qrec 1\nopen 0.000000 3\nopen 0.000000 4\n", 2)?,
+        None
+    );
+    assert_eq!(rt; stop(&rt, b"qrec 1\nshut 0.000000 3\n", 0)?, Some(7));
+    assert_eq!(rt; stop(&rt, b"qrec 1\nbytes 0.000000 3 1\na\n", 0)?, Some(7));
+    assert_eq!(rt;
+        stop(&rt, b"qrec 1\nopen 0.000000 3\nbytes 0.000000 4 1\na\n", 1)?,
+        Some(23)
+    );
+    let again =
+        b"qrec 1\nopen 0.000000 3\nshut 0.000000 3\nopen 0.000000 3\nshut 0.000000 3\nbytes 0.000000 3 1\na\n";
+    assert_eq!(rt; stop(&rt, again, 4)?, Some(71));
+    Ok(())
+}
+
+/// A stream with one piece of so many bytes, whose number is spelled so.
+fn stream_of_piece(rt: &HostRuntime, number: &[u8], len: usize) -> Result<Vec<u8>, Fail> {
+    let mut bytes = b"qrec 1\nguest 0.000000 ".to_vec(rt.alloc())?;
+    bytes.extend_from_slice(number)?;
+    bytes.push(b'\n')?;
+    for _ in 0..len {
+        bytes.push(b'x')?;
+    }
+    bytes.push(b'\n')?;
+    Ok(bytes)
+}
+
+#[test]
+fn pieces_have_at_most_65536_bytes(rt: HostRuntime) -> Result<(), Fail> {
+    let most = stream_of_piece(&rt, b"65536", 65_536)?;
+    assert_eq!(rt; stop(&rt, &most, 1)?, None);
+    let mut whole = hub(&rt, &most)?;
+    assert_eq!(rt; guest_size(&whole.next()?.what), 65_536);
+    let more = stream_of_piece(&rt, b"65537", 65_537)?;
+    assert_eq!(rt; stop(&rt, &more, 0)?, Some(7));
+    Ok(())
+}
+
+#[test]
+fn messages_go_into_the_sink_as_lines(rt: HostRuntime) -> Result<(), Fail> {
+    let mut hub = hub(&rt, b"qrec 1\n")?;
+    assert!(rt; hub.send(Lane::Session(15), b"one\r\n").is_ok());
+    assert!(rt; matches!(hub.send(Lane::Guest, b"two\n"), Err(SendError::Failed)));
+    assert!(rt; hub.send(Lane::Session(0), b"three\r\n").is_ok());
+    assert!(rt; hub.send(Lane::Guest, b"four\n").is_ok());
+    assert_eq!(rt;
+        hub.into_sink().held(),
+        b"15 one\r\ng 0 three\r\ng four\n".as_slice()
+    );
+    Ok(())
+}
