@@ -2,7 +2,7 @@
 use Rattle.std.proofs.Common.{◌≡◌, ℕ, List, [], refl, arith, Option, None, Err, unwrap_or}
 use Rattle.std.specs.Io.KnownBytes.{prepend_known}
 use Rattle.qo_machine.proofs.RunLemmas.{nothing_appended}
-use Rattle.qo_machine.specs.Record.{bad_place, stream_inputs}
+use Rattle.qo_record.specs.Record.{bad_place, stream_inputs}
 use Rattle.compose.specs.Reads.{ReadAll, read_status}
 use Rattle.compose.specs.Replay.{IsCut, Replayed, line_of}
 use Rattle.compose.specs.declared.reads.ReadError.{ReadError}

@@ -1,25 +1,19 @@
 -- What a run over the inputs of a stream did.
-use Rattle.std.proofs.Common.{◌≡◌, ℕ, ◌+◌, ◌<◌, ◌≤◌, Bool, true, false, if◌then◌else◌, ◌||◌, List, [], ◌∷◌, ◌++◌, length, nat_lt, refl, sym, ◌∙◌, ap, subst, arith, append_assoc, length-append, Option, None, Some, option_map, slice_index_or}
+use Rattle.std.proofs.Common.{◌≡◌, ℕ, ◌+◌, ◌<◌, ◌≤◌, Bool, true, false, if◌then◌else◌, ◌||◌, List, [], ◌∷◌, ◌++◌, length, refl, sym, ◌∙◌, ap, subst, arith, append_assoc, length-append, Option, None, Some, option_map, slice_index_or}
 use Rattle.std.proofs.lemmas.Bool.{true≢false}
 use Rattle.std.proofs.lemmas.List.{append-nil}
-use Rattle.std.specs.List.{AllByRecursion, cons_option}
-use Rattle.qo_causes.specs.Hub.{is_end}
+use Rattle.std.specs.List.{cons_option}
+use Rattle.qo_causes.specs.Hub.{AtEnd, is_end}
 use Rattle.qo_causes.specs.declared.hubs.Lane.{Lane}
 use Rattle.qo_causes.specs.declared.inputs.Input.{Input}
-use Rattle.qo_causes.specs.declared.inputs.What.{What}
-use Rattle.qo_causes.specs.declared.inputs.What.TheVariants.{Open, Bytes, Shut, Guest, Step, End}
-use Rattle.qo_machine.proofs.MachineLemmas.{step_on}
-use Rattle.qo_machine.proofs.RecordLemmas.{only_built, length-stream_inputs-le}
 use Rattle.qo_machine.proofs.RunLemmas.{has_end_ends}
-use Rattle.qo_machine.specs.Machine.{Choice, IsBuilt, State, Stepped, first, input_step, mode_of, opened, opening, served, unchanged}
-use Rattle.qo_machine.specs.Record.{bad_place, stream_inputs}
-use Rattle.qo_machine.specs.Requests.{Request, request_of}
-use Rattle.qo_machine.specs.Runs.{CutRun, RunMeets, Turn, Turns, after, has_end, last_input, risen, risen_by, state_after, told, turn_inputs}
+use Rattle.qo_machine.specs.Machine.{opening}
+use Rattle.qo_machine.specs.Runs.{CutRun, EndsAtLast, RunMeets, Turn, Turns, has_end, last_input, risen, risen_by, state_after, told, turn_inputs}
 use Rattle.qo_machine.specs.declared.running.Ending.{Ending}
 use Rattle.qo_machine.specs.declared.running.Ending.TheVariants as ending
-use Rattle.qo_machine.specs.declared.sessions.Session.{Session}
-use Rattle.qo_machine.specs.declared.sessions.Session.TheVariants.{Closed, Negotiating, Commanding}
-use Rattle.compose.specs.Replay.{DidRun, IsCut, NoneLost, WholeReplay}
+use Rattle.qo_record.proofs.RecordLemmas.{inputs_are_few}
+use Rattle.qo_record.specs.Record.{bad_place, stream_inputs}
+use Rattle.compose.specs.Replay.{DidRun, EndedReplay, IsCut, NoneLost, OpenReplay}
 
 -- No session is lost where no count rises.
 
@@ -43,48 +37,11 @@ none_lost (t ∷ ts) h = (here, none_lost ts (λ n. subst (λ (f : Bool). risen_
     here : (n : ℕ) → slice_index_or t.lost n false ≡ false
     here n = not_risen (slice_index_or t.lost n false) (omega (arith, h n, counts_up ts n (risen (slice_index_or t.lost n false) 0)))
 
--- The inputs that are defined so far end no run but by their end.
-
-goes_on : (s : State) (w : What) (cs : List Choice) → IsBuilt w → is_end w ≡ false → (input_step s w cs).state.ended ≡ s.ended
-goes_on s (Open n) cs built over = by (mode_of s n) (nat_lt n 16)
-  where
-    by : (mode : Session) (t : Bool) → (if t then opened s n mode else unchanged s).state.ended ≡ s.ended
-    by Closed true = refl
-    by Negotiating true = refl
-    by Commanding true = refl
-    by mode false = refl
-goes_on s (Bytes n bytes) cs built over = by (mode_of s n) (request_of bytes) (nat_lt n 16)
-  where
-    by : (mode : Session) (r : Option Request) (t : Bool) → (if t then served s n mode r (first cs) else unchanged s).state.ended ≡ s.ended
-    by Closed r true = refl
-    by Negotiating None true = refl
-    by Commanding None true = refl
-    by Negotiating (Some r) true = refl
-    by Commanding (Some r) true = refl
-    by mode r false = refl
-goes_on s End cs built over = absurd (true≢false over)
-goes_on s (Shut n) cs built over = absurd built
-goes_on s (Guest bytes) cs built over = absurd built
-goes_on s (Step ns) cs built over = absurd built
-
-abbrev AreBuilt : List Input → Type 0
-AreBuilt inputs = AllByRecursion (λ (i : Input). IsBuilt i.what) inputs
-
-first_built : (e : Bool) (i : Input) (rest : List Input) → e ≡ false → AreBuilt (cons_option (if e then None else Some i) rest) → IsBuilt i.what × AreBuilt rest
-first_built true i rest over h = absurd (true≢false over)
-first_built false i rest over h = h
+-- Each turn but the end takes an input.
 
 no_end : (e more : Bool) → (e || more) ≡ false → (e ≡ false) × (more ≡ false)
 no_end true more h = absurd (true≢false h)
 no_end false more h = (refl, h)
-
-not_over : (ts : List Turn) (s : State) → s.ended ≡ false → AreBuilt (turn_inputs ts) → has_end ts ≡ false → (state_after s ts).ended ≡ false
-not_over [] s going built none = going
-not_over (t ∷ ts) s going built none =
-    let ends = no_end (is_end t.input.what) (has_end ts) none in
-    let parts = first_built (is_end t.input.what) t.input (turn_inputs ts) ends.0 built in
-    not_over ts (after s t)
-    (ap (λ (x : Stepped). x.state.ended) (step_on s t.input t.input.what t.choices going refl) ∙ goes_on s t.input.what t.choices parts.0 ends.0 ∙ going) parts.1 ends.1
 
 first_length : (e : Bool) (i : Input) (rest : List Input) → e ≡ false → length (cons_option (if e then None else Some i) rest) ≡ length rest + 1
 first_length true i rest over = absurd (true≢false over)
@@ -101,39 +58,38 @@ split : (xs front : List Input) (m : Option (List Input)) → Some xs ≡ option
 split xs front None h = cc
 split xs front (Some back) h = (back, refl, cc)
 
-front_built : (xs ys : List Input) → AreBuilt (xs ++ ys) → AreBuilt xs
-front_built [] ys h = tt
-front_built (x ∷ xs) ys h = (h.0, front_built xs ys h.1)
-
-by_end : (e : Bool) → (e ≡ false → ⊥) → e ≡ true
-by_end true h = refl
-by_end false h = absurd (h refl)
-
 by_going : (e : Bool) → (e ≡ true → ⊥) → e ≡ false
 by_going true h = absurd (h refl)
 by_going false h = refl
 
 -- The run as a replay of the stream.
 
-whole : (bytes : List ℕ) (xs ys : List Input) (os ns : Option (List ℕ)) (og ng : Lane → Option (List ℕ)) (over : Bool) (ts : List Turn) → Turns opening (told (Some xs) os og (λ n. 0)) (told (Some ys) ns ng (λ n. 0)) ts → xs ≡ stream_inputs bytes → ys ≡ [] → has_end ts ≡ over → (state_after opening ts).ended ≡ over → WholeReplay bytes os ns over ts
-whole bytes xs ys os ns og ng over ts h is none ends ended =
+some_is : (ps qs : List Input) → Some ps ≡ Some qs → ps ≡ qs
+some_is ps qs e = cc
+
+-- a run that has ended
+ended : (bytes : List ℕ) (xs ys : List Input) (bad : Option ℕ) (os ns : Option (List ℕ)) (og ng : Lane → Option (List ℕ)) (ts : List Turn) → Turns opening (told (Some xs) os og (λ n. 0)) (told (Some ys) ns ng (λ n. 0)) ts → xs ≡ stream_inputs bytes → bad ≡ bad_place bytes → EndsAtLast ts → (has_end ts ≡ true → AtEnd (Some ys) (Some bad) None) → EndedReplay bytes os ns ts ys
+ended bytes xs ys bad os ns og ng ts h is place last over =
     record {
-      inputs = sym (append-nil (turn_inputs ts)) ∙ ap (λ (r : List Input). turn_inputs ts ++ r) (sym none) ∙ sym (some_is xs (turn_inputs ts ++ ys) h.took) ∙ is;
-      end = ends;
-      ended = ended;
+      inputs = sym is ∙ some_is xs (turn_inputs ts ++ ys) h.took;
+      last = last;
+      end = λ e. ((over e).0, sym place ∙ (over e).1);
       lost = none_lost ts h.losses;
       put = h.sent;
     }
-  where
-    some_is : (ps qs : List Input) → Some ps ≡ Some qs → ps ≡ qs
-    some_is ps qs e = cc
 
-built_in : (bytes : List ℕ) (xs ys : List Input) (ts : List Turn) → xs ≡ stream_inputs bytes → Some xs ≡ Some (turn_inputs ts ++ ys) → AreBuilt (turn_inputs ts)
-built_in bytes xs ys ts is took =
-    let parts : stream_inputs bytes ≡ turn_inputs ts ++ ys = cc in front_built (turn_inputs ts) ys (subst AreBuilt parts (only_built bytes))
+-- a run that has not
+going : (bytes : List ℕ) (xs ys : List Input) (os ns : Option (List ℕ)) (og ng : Lane → Option (List ℕ)) (ts : List Turn) → Turns opening (told (Some xs) os og (λ n. 0)) (told (Some ys) ns ng (λ n. 0)) ts → xs ≡ stream_inputs bytes → ys ≡ [] → (state_after opening ts).ended ≡ false → OpenReplay bytes os ns ts
+going bytes xs ys os ns og ng ts h is none on =
+    record {
+      inputs = sym (append-nil (turn_inputs ts)) ∙ ap (λ (r : List Input). turn_inputs ts ++ r) (sym none) ∙ sym (some_is xs (turn_inputs ts ++ ys) h.took) ∙ is;
+      going = on;
+      lost = none_lost ts h.losses;
+      put = h.sent;
+    }
 
-cut : (bytes : List ℕ) (xs ys : List Input) (os ns : Option (List ℕ)) (og ng : Lane → Option (List ℕ)) → xs ≡ stream_inputs bytes → CutRun (told (Some xs) os og (λ n. 0)) (told (Some ys) ns ng (λ n. 0)) → IsCut bytes os ns
-cut bytes xs ys os ns og ng is h =
+cut : (limit : ℕ) (bytes : List ℕ) (xs ys : List Input) (os ns : Option (List ℕ)) (og ng : Lane → Option (List ℕ)) → xs ≡ stream_inputs bytes → CutRun limit (told (Some xs) os og (λ n. 0)) (told (Some ys) ns ng (λ n. 0)) → IsCut bytes os ns
+cut limit bytes xs ys os ns og ng is h =
     let whole_part = h.3 in
     let cut_part = h.4 in
     let first_split = split xs (turn_inputs h.1) h.0.inputs whole_part.took in
@@ -151,19 +107,16 @@ cut bytes xs ys os ns og ng is h =
 
 pub run_did : (bytes : List ℕ) (e : Ending) (limit : ℕ) (xs ys : List Input) (bad : Option ℕ) (os ns : Option (List ℕ)) (og ng : Lane → Option (List ℕ)) → length bytes ≤ 16777216 → 16777216 < limit → xs ≡ stream_inputs bytes → bad ≡ bad_place bytes → (e ≡ ending.NextFailed → ⊥) → RunMeets e limit (told (Some xs) os og (λ n. 0)) (told (Some ys) ns ng (λ n. 0)) (Some bad) → DidRun e bytes os ns
 run_did bytes ending.Done limit xs ys bad os ns og ng short far is place fault h =
-    let ends : has_end h.0 ≡ true = by_end (has_end h.0) (λ none. true≢false (sym h.1.1 ∙ not_over h.0 opening refl (built_in bytes xs ys h.0 is h.1.0.took) none)) in
-    let over = h.2 ends in
-    (h.0, whole bytes xs ys os ns og ng true h.0 h.1.0 is over.0 ends h.1.1, sym place ∙ over.1)
+    (h.0, ys, ended bytes xs ys bad os ns og ng h.0 h.1 is place h.2 h.4)
 run_did bytes (ending.Bad n) limit xs ys bad os ns og ng short far is place fault h =
-    let ends : has_end h.0 ≡ false = by_going (has_end h.0) (λ over. true≢false (sym (has_end_ends h.0 opening over) ∙ h.1.1)) in
-    (h.0, whole bytes xs ys os ns og ng false h.0 h.1.0 is h.2.0 ends h.1.1, sym place ∙ h.2.1)
-run_did bytes ending.SendFailed limit xs ys bad os ns og ng short far is place fault h = cut bytes xs ys os ns og ng is h
-run_did bytes ending.Memory limit xs ys bad os ns og ng short far is place fault h = cut bytes xs ys os ns og ng is h
+    (h.0, going bytes xs ys os ns og ng h.0 h.1.0 is h.3.0 h.1.1, sym place ∙ h.3.1)
+run_did bytes ending.SendFailed limit xs ys bad os ns og ng short far is place fault h = cut limit bytes xs ys os ns og ng is h
+run_did bytes ending.Memory limit xs ys bad os ns og ng short far is place fault h = cut limit bytes xs ys os ns og ng is h
 run_did bytes ending.NextFailed limit xs ys bad os ns og ng short far is place fault h = absurd (fault refl)
 run_did bytes ending.Limit limit xs ys bad os ns og ng short far is place fault h =
     let ends : has_end h.0 ≡ false = by_going (has_end h.0) (λ over. true≢false (sym (has_end_ends h.0 opening over) ∙ h.1.1)) in
     let parts = split xs (turn_inputs h.0) (Some ys) h.1.0.took in
-    absurd (omega (arith, each_taken h.0 ends, h.2, ap length (sym is ∙ parts.2), length-append (turn_inputs h.0) parts.0, length-stream_inputs-le bytes))
+    absurd (omega (arith, each_taken h.0 ends, h.2, ap length (sym is ∙ parts.2), length-append (turn_inputs h.0) parts.0, (inputs_are_few bytes).1))
 
 -- the same at a sink that was given, and the one that comes back
 pub did_at : (bytes : List ℕ) (e : Ending) (os ns held_old held_new : Option (List ℕ)) → os ≡ held_old → held_new ≡ ns → DidRun e bytes os ns → DidRun e bytes held_old held_new

@@ -6,10 +6,10 @@ use Rattle.qo_causes.specs.Bytes.{AppendsPrefix}
 use Rattle.qo_causes.specs.Cause.{Rose}
 use Rattle.qo_causes.specs.declared.inputs.Input.{Input}
 use Rattle.qo_machine.specs.Machine.{opening}
-use Rattle.qo_machine.specs.Record.{bad_place, stream_inputs}
-use Rattle.qo_machine.specs.Runs.{Turn, has_end, last_input, last_outs, outs_of, state_after, transcript, turn_inputs}
+use Rattle.qo_machine.specs.Runs.{EndsAtLast, Turn, has_end, last_input, last_outs, outs_of, state_after, transcript, turn_inputs}
 use Rattle.qo_machine.specs.declared.running.Ending.{Ending}
 use Rattle.qo_machine.specs.declared.running.Ending.TheVariants as ending
+use Rattle.qo_record.specs.Record.{bad_place, stream_inputs}
 use Rattle.compose.specs.declared.statuses.Status.{Status}
 use Rattle.compose.specs.declared.statuses.Status.TheVariants.{Done, Usage, BadRecord, Memory, ReadFault, WriteFault, HubFault, InputLimit}
 
@@ -17,11 +17,18 @@ use Rattle.compose.specs.declared.statuses.Status.TheVariants.{Done, Usage, BadR
 abbrev pub NoneLost : List Turn → Type 0
 NoneLost turns = AllByRecursion (λ (t : Turn). (n : ℕ) → slice_index_or t.lost n false ≡ false) turns
 
--- a run of the whole stream, over at its end or still going; the whole transcript was put
-pub record WholeReplay (bytes : List ℕ) (held_old held_new : Option (List ℕ)) (over : Bool) (turns : List Turn) : Type 0 where
+-- a run that has ended with its last turn, at the end of a whole stream or by a command before; the whole transcript was put
+pub record EndedReplay (bytes : List ℕ) (held_old held_new : Option (List ℕ)) (turns : List Turn) (rest : List Input) : Type 0 where
+  pub inputs : stream_inputs bytes ≡ turn_inputs turns ++ rest
+  pub last : EndsAtLast turns
+  pub end : has_end turns ≡ true → (rest ≡ []) × (bad_place bytes ≡ None)
+  pub lost : NoneLost turns
+  pub put : held_new ≡ append_known held_old (transcript (outs_of opening turns))
+
+-- a run of all that is read of a stream, which has not ended; the whole transcript was put
+pub record OpenReplay (bytes : List ℕ) (held_old held_new : Option (List ℕ)) (turns : List Turn) : Type 0 where
   pub inputs : turn_inputs turns ≡ stream_inputs bytes
-  pub end : has_end turns ≡ over
-  pub ended : (state_after opening turns).ended ≡ over
+  pub going : (state_after opening turns).ended ≡ false
   pub lost : NoneLost turns
   pub put : held_new ≡ append_known held_old (transcript (outs_of opening turns))
 
@@ -42,9 +49,9 @@ IsCut bytes held_old held_new =
 -- what a run of these bytes did, by how it ended
 abbrev pub DidRun : Ending → List ℕ → Option (List ℕ) → Option (List ℕ) → Type 0
 DidRun ending.Done bytes held_old held_new =
-    (turns : List Turn) × WholeReplay bytes held_old held_new true turns × (bad_place bytes ≡ None)
+    (turns : List Turn) × (rest : List Input) × EndedReplay bytes held_old held_new turns rest
 DidRun (ending.Bad n) bytes held_old held_new =
-    (turns : List Turn) × WholeReplay bytes held_old held_new false turns × (bad_place bytes ≡ Some n)
+    (turns : List Turn) × OpenReplay bytes held_old held_new turns × (bad_place bytes ≡ Some n)
 DidRun ending.SendFailed bytes held_old held_new = IsCut bytes held_old held_new
 DidRun ending.Memory bytes held_old held_new = IsCut bytes held_old held_new
 DidRun ending.NextFailed bytes held_old held_new = ⊥
@@ -66,9 +73,9 @@ place_of e = 0
 -- what was done with the bytes that were taken, by the status; the source has this left
 abbrev pub DidReplay : Status → List ℕ → Option (List ℕ) → Option (List ℕ) → Option (List ℕ) → Type 0
 DidReplay Done bytes left held_old held_new =
-    (turns : List Turn) × WholeReplay bytes held_old held_new true turns × (bad_place bytes ≡ None) × IsAtEnd left
+    (turns : List Turn) × (rest : List Input) × EndedReplay bytes held_old held_new turns rest × IsAtEnd left
 DidReplay BadRecord bytes left held_old held_new =
-    (turns : List Turn) × WholeReplay bytes held_old held_new false turns × IsSome (bad_place bytes) × IsAtEnd left
+    (turns : List Turn) × OpenReplay bytes held_old held_new turns × IsSome (bad_place bytes) × IsAtEnd left
 DidReplay InputLimit bytes left held_old held_new = held_new ≡ held_old
 DidReplay ReadFault bytes left held_old held_new = held_new ≡ held_old
 DidReplay WriteFault bytes left held_old held_new = IsCut bytes held_old held_new

@@ -2,7 +2,7 @@
 
 ghost use Rattle.std.specs.Prelude.{◌≡◌, ◌≢◌, ◌↔◌, ◌≤◌, ℕ, List, None, Some, map, length, string_bytes, unwrap_or};
 ghost use Rattle.qo_causes.specs.Cause.{Rose};
-ghost use Rattle.qo_machine.specs.Record.{bad_place};
+ghost use Rattle.qo_record.specs.Record.{bad_place};
 ghost use Rattle.compose.specs.Reads.{read_status};
 ghost use Rattle.compose.specs.Replay.{Complained, Replayed, line_of, place_of, status_of};
 ghost use Rattle.compose.specs.Words.{order, replay as a_replay};

@@ -6,7 +6,8 @@ ghost use Rattle.qo_machine.specs.declared.running.Ending.TheVariants as Ending;
 ghost use Rattle.compose.specs.Replay.{DidRun};
 
 use qo_causes::Sink;
-use qo_machine::{Ending, WholeHub, run};
+use qo_machine::{Ending, run};
+use qo_record::WholeHub;
 use qo_values::INPUTS_MAX;
 use std::alloc::Global;
 

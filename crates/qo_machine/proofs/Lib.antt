@@ -1,8 +1,6 @@
-pub mod AnswerLemmas
-pub mod LineLemmas
+pub mod CommandLemmas
+pub mod LaneLemmas
 pub mod MachineLemmas
-pub mod RecordLemmas
 pub mod RunLemmas
 pub mod SendingLemmas
-pub mod StreamLemmas
 pub mod TreeLemmas

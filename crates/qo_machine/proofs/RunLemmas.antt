@@ -1,8 +1,9 @@
 -- Runs: one turn after another.
-use Rattle.std.proofs.Common.{◌≡◌, ℕ, zero, suc, ◌+◌, ◌<◌, ◌≤◌, Bool, true, false, if◌then◌else◌, ◌||◌, List, [], ◌∷◌, ◌++◌, length, take, refl, sym, ◌∙◌, ap, subst, add-one, arith, append_assoc, length-append, Option, None, Some, Ok, Err, option_map, slice_index_or, slice_set, nat_lt}
-use Rattle.std.proofs.lemmas.Bool.{ltb-true, true≢false}
+use Rattle.std.proofs.Common.{◌≡◌, ℕ, zero, suc, ◌+◌, ◌<◌, ◌≤◌, Bool, true, false, if◌then◌else◌, ◌||◌, List, [], ◌∷◌, ◌++◌, length, take, refl, sym, ◌∙◌, ap, subst, add-one, arith, append_assoc, length-append, Option, None, Some, Ok, Err, option_map, slice_index_or, slice_set, replicate}
+use Rattle.std.specs.Prelude.{option_to_list}
+use Rattle.std.proofs.lemmas.Bool.{true≢false}
 use Rattle.std.proofs.lemmas.Grind.{flat_map-append}
-use Rattle.std.proofs.lemmas.List.{append-nil}
+use Rattle.std.proofs.lemmas.List.{append-nil, length-set}
 use Rattle.std.specs.Io.KnownBytes.{append_known}
 use Rattle.std.specs.List.{cons_option}
 use Rattle.qo_machine.proofs.MachineLemmas.{step_ended, step_on}
@@ -12,35 +13,33 @@ use Rattle.qo_causes.specs.declared.hubs.Lane.{Lane}
 use Rattle.qo_causes.specs.declared.inputs.Input.{Input}
 use Rattle.qo_causes.specs.declared.inputs.What.{What}
 use Rattle.qo_causes.specs.declared.inputs.What.TheVariants.{Open, Bytes, Shut, Guest as GuestLine, Step, End}
-use Rattle.qo_machine.specs.Machine.{Message, State, Stepped, Choice, first, input_step, mode_of, opened, opening, served, step, unchanged, unless_ended}
-use Rattle.qo_machine.specs.Requests.{Request, request_of}
+use Rattle.qo_machine.specs.Machine.{Message, State, Stepped, Choice, opening, step}
 use Rattle.qo_machine.specs.Runs.{Cut, CutRun, RunMeets, Told, Turn, TurnMeets, Turns, after, close_lost, closed_where, cut_to, has_end, is_lost, lane_at, lane_bytes, lane_of, outs_at, outs_of, risen, risen_by, state_after, told, transcript, turn_inputs}
-use Rattle.qo_machine.specs.Sending.{AreToLanes, Sent, SentFront}
+use Rattle.qo_machine.specs.Sending.{Sent, SentFront}
 use Rattle.qo_machine.specs.declared.running.Ending.{Ending}
 use Rattle.qo_machine.specs.declared.running.Ending.TheVariants.{Done, Bad, Memory, NextFailed, SendFailed, Limit}
-use Rattle.qo_machine.specs.declared.sessions.Session.{Session as Mode}
-use Rattle.qo_machine.specs.declared.sessions.Session.TheVariants.{Closed, Negotiating, Commanding}
+use Rattle.qo_sessions.specs.Sessions.{State as Session, closed}
 
 -- one flag more
-pub closed_more : (i : ℕ) (lost : List Bool) (sessions : List Mode) → i < length lost → i < length sessions → closed_where (take (i + 1) lost) sessions ≡ (if slice_index_or lost i false then slice_set (closed_where (take i lost) sessions) i Closed else closed_where (take i lost) sessions)
+pub closed_more : (i : ℕ) (lost : List Bool) (sessions : List Session) → i < length lost → i < length sessions → closed_where (take (i + 1) lost) sessions ≡ (if slice_index_or lost i false then slice_set (closed_where (take i lost) sessions) i closed else closed_where (take i lost) sessions)
 unfolding closed_where
 closed_more i lost sessions below within = rw add-one (go i lost sessions below within)
   where
-    head : (flag : Bool) (mode : Mode) (modes : List Mode) → (if flag then Closed else mode) ∷ modes ≡ (if flag then Closed ∷ modes else mode ∷ modes)
+    head : (flag : Bool) (mode : Session) (modes : List Session) → (if flag then closed else mode) ∷ modes ≡ (if flag then closed ∷ modes else mode ∷ modes)
     head true mode modes = refl
     head false mode modes = refl
 
-    tail : (flag : Bool) (mode : Mode) (set kept : List Mode) → mode ∷ (if flag then set else kept) ≡ (if flag then mode ∷ set else mode ∷ kept)
+    tail : (flag : Bool) (mode : Session) (set kept : List Session) → mode ∷ (if flag then set else kept) ≡ (if flag then mode ∷ set else mode ∷ kept)
     tail true mode set kept = refl
     tail false mode set kept = refl
 
-    go : (k : ℕ) (ls : List Bool) (ss : List Mode) → k < length ls → k < length ss → closed_where (take (suc k) ls) ss ≡ (if slice_index_or ls k false then slice_set (closed_where (take k ls) ss) k Closed else closed_where (take k ls) ss)
+    go : (k : ℕ) (ls : List Bool) (ss : List Session) → k < length ls → k < length ss → closed_where (take (suc k) ls) ss ≡ (if slice_index_or ls k false then slice_set (closed_where (take k ls) ss) k closed else closed_where (take k ls) ss)
     go k [] ss b w = absurd (omega arith)
     go k (f ∷ ls) [] b w = absurd (omega arith)
     go zero (f ∷ ls) (s ∷ ss) b w = head f s ss
     go (suc k) (f ∷ ls) (s ∷ ss) b w =
-        ap (λ (rest : List Mode). (if f then Closed else s) ∷ rest) (go k ls ss (omega arith) (omega arith))
-        ∙ tail (slice_index_or ls k false) (if f then Closed else s) (slice_set (closed_where (take k ls) ss) k Closed) (closed_where (take k ls) ss)
+        ap (λ (rest : List Session). (if f then closed else s) ∷ rest) (go k ls ss (omega arith) (omega arith))
+        ∙ tail (slice_index_or ls k false) (if f then closed else s) (slice_set (closed_where (take k ls) ss) k closed) (closed_where (take k ls) ss)
 
 -- What some turns do, and then more.
 
@@ -102,15 +101,31 @@ turns_more s a b c ts us p q =
           rw (risen_more ts us n (a.losses n)) (omega (arith, q.losses n, risen_by_le us n (risen_by n (a.losses n) ts) (b.losses n) (p.losses n)));
     }
 
-pub closed_none : (sessions : List Mode) → sessions ≡ closed_where [] sessions
+pub closed_none : (sessions : List Session) → sessions ≡ closed_where [] sessions
 unfolding closed_where
 closed_none sessions = refl
 
-pub closed_then : (i : ℕ) (lost : List Bool) (sessions before now : List Mode) → i < length lost → i < length sessions → slice_index_or lost i false ≡ true → before ≡ closed_where (take i lost) sessions → now ≡ slice_set before i Closed → now ≡ closed_where (take (i + 1) lost) sessions
-closed_then i lost sessions before now below within flag was is =
-    is ∙ ap (λ (ms : List Mode). slice_set ms i Closed) was ∙ sym (rw flag at (closed_more i lost sessions below within))
+-- all flags set close all
+closed_all : (sessions : List Session) → closed_where (replicate (length sessions) true) sessions ≡ replicate (length sessions) closed
+unfolding closed_where
+closed_all [] = refl
+closed_all (s ∷ ss) = ap (λ (rest : List Session). closed ∷ rest) (closed_all ss)
 
-pub closed_else : (i : ℕ) (lost : List Bool) (sessions before now : List Mode) → i < length lost → i < length sessions → slice_index_or lost i false ≡ false → before ≡ closed_where (take i lost) sessions → now ≡ before → now ≡ closed_where (take (i + 1) lost) sessions
+pub closed_sixteen : (sessions : List Session) → length sessions ≡ 16 → closed_where (replicate 16 true) sessions ≡ replicate 16 closed
+closed_sixteen sessions size = subst (λ n. closed_where (replicate n true) sessions ≡ replicate n closed) size (closed_all sessions)
+
+-- one session was closed
+pub closed_one : (before now : List Session) (i : ℕ) (x : Session) → now ≡ slice_set before i x → x ≡ closed → now ≡ slice_set before i closed
+closed_one before now i x is shut = is ∙ ap (slice_set before i) shut
+
+pub still_sixteen : (before now : List Session) (i : ℕ) (x : Session) → now ≡ slice_set before i x → length before ≡ 16 → length now ≡ 16
+still_sixteen before now i x is size = ap length is ∙ length-set before i x ∙ size
+
+pub closed_then : (i : ℕ) (lost : List Bool) (sessions before now : List Session) → i < length lost → i < length sessions → slice_index_or lost i false ≡ true → before ≡ closed_where (take i lost) sessions → now ≡ slice_set before i closed → now ≡ closed_where (take (i + 1) lost) sessions
+closed_then i lost sessions before now below within flag was is =
+    is ∙ ap (λ (ms : List Session). slice_set ms i closed) was ∙ sym (rw flag at (closed_more i lost sessions below within))
+
+pub closed_else : (i : ℕ) (lost : List Bool) (sessions before now : List Session) → i < length lost → i < length sessions → slice_index_or lost i false ≡ false → before ≡ closed_where (take i lost) sessions → now ≡ before → now ≡ closed_where (take (i + 1) lost) sessions
 closed_else i lost sessions before now below within flag was is =
     is ∙ was ∙ sym (rw flag at (closed_more i lost sessions below within))
 
@@ -135,37 +150,6 @@ took_one : (old new : Option (List Input)) (bad : Option (Option ℕ)) (i : Opti
 took_one old new bad None h = sym h.0 ∙ none_taken new
 took_one old new bad (Some i) h = h
 
--- messages go to the lanes of the sixteen sessions
-pub to_lanes : (s : State) (i : Input) (cs : List Choice) → AreToLanes (step s i cs).outs
-unfolding step
-to_lanes s i cs = on s.ended
-  where
-    open_lanes : (n : ℕ) (mode : Mode) (t : Bool) → nat_lt n 16 ≡ t → AreToLanes (if t then opened s n mode else unchanged s).outs
-    open_lanes n Closed true h = (ltb-true n 16 h, tt)
-    open_lanes n Negotiating true h = tt
-    open_lanes n Commanding true h = tt
-    open_lanes n mode false h = tt
-
-    reply_lanes : (n : ℕ) (mode : Mode) (r : Option Request) (c : Choice) (t : Bool) → nat_lt n 16 ≡ t → AreToLanes (if t then served s n mode r c else unchanged s).outs
-    reply_lanes n Closed r c true h = tt
-    reply_lanes n Negotiating None c true h = tt
-    reply_lanes n Commanding None c true h = tt
-    reply_lanes n Negotiating (Some r) c true h = (ltb-true n 16 h, tt)
-    reply_lanes n Commanding (Some r) c true h = (ltb-true n 16 h, tt)
-    reply_lanes n mode r c false h = tt
-
-    what_lanes : (w : What) → AreToLanes (input_step s w cs).outs
-    what_lanes (Open n) = open_lanes n (mode_of s n) (nat_lt n 16) refl
-    what_lanes (Bytes n bytes) = reply_lanes n (mode_of s n) (request_of bytes) (first cs) (nat_lt n 16) refl
-    what_lanes (Shut n) = tt
-    what_lanes (GuestLine bytes) = tt
-    what_lanes (Step ns) = tt
-    what_lanes End = tt
-
-    on : (e : Bool) → AreToLanes (unless_ended e (unchanged s) (input_step s i.what cs)).outs
-    on true = tt
-    on false = what_lanes i.what
-
 -- an input was taken, and nothing sent
 abbrev pub taken_turn : Input → Turn
 taken_turn i = record { input = i; choices = []; lost = []; cut = λ l. 0 }
@@ -180,8 +164,8 @@ cut_taken s oi ni os ns og ng ol nl bad i given sent got losses =
     }
 
 -- an input was taken, and its messages were cut short
-pub cut_sent : (s : State) (i : Input) (cs : List Choice) (t : State) (slice outs : List Message) (oi mi ni : Option (List Input)) (os ms ns : Option (List ℕ)) (og mg ng : Lane → Option (List ℕ)) (ol ml nl : ℕ → ℕ) (bad : Option (Option ℕ)) → step s i cs ≡ record { outs = outs; state = t } → slice ≡ outs → Gives oi mi bad (given_by i) → ms ≡ os → ((l : Lane) → mg l ≡ og l) → ((n : ℕ) → ml n ≡ ol n) → SentFront (told mi ms mg ml) (told ni ns ng nl) slice → Cut s (told oi os og ol) (told ni ns ng nl) (Some (record { input = i; choices = cs; lost = []; cut = λ l. 0 }))
-cut_sent s i cs t slice outs oi mi ni os ms ns og mg ng ol ml nl bad is same given sent got losses h =
+pub cut_sent : (s : State) (i : Input) (cs : List Choice) (slice outs : List Message) (oi mi ni : Option (List Input)) (os ms ns : Option (List ℕ)) (og mg ng : Lane → Option (List ℕ)) (ol ml nl : ℕ → ℕ) (bad : Option (Option ℕ)) → (step s i cs).outs ≡ outs → slice ≡ outs → Gives oi mi bad (given_by i) → ms ≡ os → ((l : Lane) → mg l ≡ og l) → ((n : ℕ) → ml n ≡ ol n) → SentFront (told mi ms mg ml) (told ni ns ng nl) slice → Cut s (told oi os og ol) (told ni ns ng nl) (Some (record { input = i; choices = cs; lost = []; cut = λ l. 0 }))
+cut_sent s i cs slice outs oi mi ni os ms ns og mg ng ol ml nl bad is same given sent got losses h =
     record {
       took = took_one oi ni bad (given_by i) (rw h.inputs given);
       sent = rw (outs_is, ← sent) h.sent;
@@ -190,7 +174,7 @@ cut_sent s i cs t slice outs oi mi ni os ms ns og mg ng ol ml nl bad is same giv
     }
   where
     outs_is : (step s i cs).outs ≡ slice
-    outs_is = ap (λ (x : Stepped). x.outs) is ∙ sym same
+    outs_is = is ∙ sym same
 
 at_end : (oi mi ni : Option (List Input)) (bad : Option (Option ℕ)) (i : Input) → ni ≡ mi → Gives oi mi bad (given_by i) → is_end i.what ≡ true → AtEnd ni bad None
 at_end oi mi ni bad i same given over = subst (λ (x : Option (List Input)). AtEnd x bad None) (sym (same ∙ ended.0)) ended.1
@@ -199,8 +183,8 @@ at_end oi mi ni bad i same given over = subst (λ (x : Option (List Input)). AtE
     ended = rw over at given
 
 -- an input was taken, and what it makes was sent
-pub one_turn : (s u to : State) (i : Input) (cs : List Choice) (slice outs : List Message) (lost : List Bool) (oi mi ni : Option (List Input)) (os ms ns : Option (List ℕ)) (og mg ng : Lane → Option (List ℕ)) (ol ml nl : ℕ → ℕ) (bad : Option (Option ℕ)) → step s i cs ≡ record { outs = outs; state = u } → slice ≡ outs → Gives oi mi bad (given_by i) → ms ≡ os → ((l : Lane) → mg l ≡ og l) → ((n : ℕ) → ml n ≡ ol n) → Sent (told mi ms mg ml) (told ni ns ng nl) slice lost → to ≡ close_lost lost u → TurnMeets s to (told oi os og ol) (told ni ns ng nl) bad (Ok tt)
-one_turn s u to i cs slice outs lost oi mi ni os ms ns og mg ng ol ml nl bad is same given sent got losses h closed = (
+pub one_turn : (s u to : State) (i : Input) (cs : List Choice) (slice outs : List Message) (lost : List Bool) (oi mi ni : Option (List Input)) (os ms ns : Option (List ℕ)) (og mg ng : Lane → Option (List ℕ)) (ol ml nl : ℕ → ℕ) (bad : Option (Option ℕ)) → (step s i cs).outs ≡ outs → (step s i cs).state ≡ u → slice ≡ outs → Gives oi mi bad (given_by i) → ms ≡ os → ((l : Lane) → mg l ≡ og l) → ((n : ℕ) → ml n ≡ ol n) → Sent (told mi ms mg ml) (told ni ns ng nl) slice lost → to ≡ close_lost lost u → TurnMeets s to (told oi os og ol) (told ni ns ng nl) bad (Ok tt)
+one_turn s u to i cs slice outs lost oi mi ni os ms ns og mg ng ol ml nl bad is leads same given sent got losses h shut = (
   record { input = i; choices = cs; lost = lost; cut = h.lanes.0 },
   record {
     took = took_one oi ni bad (given_by i) (rw h.inputs given);
@@ -209,12 +193,12 @@ one_turn s u to i cs slice outs lost oi mi ni os ms ns og mg ng ol ml nl bad is 
         rw (append-nil (cut_to (is_lost lost l) (h.lanes.0 l) (lane_bytes l (step s i cs).outs)), outs_is, ← got l) (h.lanes.1.lanes l);
     losses = λ n. rw (← losses n) (h.losses n);
   },
-  closed ∙ ap (close_lost lost) (sym (ap (λ (x : Stepped). x.state) is)),
+  shut ∙ ap (close_lost lost) (sym leads),
   at_end oi mi ni bad i h.inputs given,
 )
   where
     outs_is : (step s i cs).outs ≡ slice
-    outs_is = ap (λ (x : Stepped). x.outs) is ∙ sym same
+    outs_is = is ∙ sym same
 
 -- Runs.
 
@@ -229,13 +213,14 @@ turns_none s i t g n =
     }
 
 -- nothing was done
-pub cut_none : (i : Option (List Input)) (t : Option (List ℕ)) (g : Lane → Option (List ℕ)) (n : ℕ → ℕ) → CutRun (told i t g n) (told i t g n)
-cut_none i t g n = (
+pub cut_none : (limit : ℕ) (i : Option (List Input)) (t : Option (List ℕ)) (g : Lane → Option (List ℕ)) (n : ℕ → ℕ) → CutRun limit (told i t g n) (told i t g n)
+cut_none limit i t g n = (
   told i t g n,
   [],
   None,
   turns_none opening i t g n,
   record { took = none_taken i; sent = (0, omega arith, nothing_appended t); lanes = λ l. (0, omega arith, nothing_appended (g l)); losses = λ k. omega arith },
+  omega arith,
 )
 
 pub gone_none : (s : State) (i : Option (List Input)) (t : Option (List ℕ)) (g : Lane → Option (List ℕ)) (n : ℕ → ℕ) → s ≡ opening → (turns : List Turn) × GoneOn (told i t g n) (told i t g n) s 0 turns
@@ -306,11 +291,28 @@ has_end_last (u ∷ ts) t s going over = go (is_end u.input.what) refl over (has
     go true is any rest = absurd (true≢false (sym (stays_ended ts (after s u) (end_ends s u is)) ∙ going))
     go false is any rest = rest any
 
-pub done : (a b c : Told) (s to : State) (count limit : ℕ) (bad other : Option (Option ℕ)) → bad ≡ other → (turns : List Turn) × GoneOn a b s count turns → TurnMeets s to b c bad (Ok tt) → to.ended ≡ true → RunMeets Done limit a c other
-done a b c s to count limit bad other is h p over =
+-- a turn behind fewer than a limit
+within : (ts : List Turn) (t : Turn) (count limit : ℕ) → length ts ≡ count → count < limit → length (ts ++ t ∷ []) ≤ limit
+within ts t count limit is few = rw (length-append ts (t ∷ [])) (omega (arith, is))
+
+-- turns and at most one more
+last_within : (ts : List Turn) (last : Option Turn) (count limit : ℕ) → length ts ≡ count → count < limit → length ts + length (option_to_list last) ≤ limit
+last_within ts None count limit is few = omega (arith, is)
+last_within ts (Some t) count limit is few = omega (arith, is)
+
+pub done : (a b c : Told) (s to : State) (count limit : ℕ) (bad other : Option (Option ℕ)) → bad ≡ other → count < limit → (turns : List Turn) × GoneOn a b s count turns → TurnMeets s to b c bad (Ok tt) → to.ended ≡ true → RunMeets Done limit a c other
+done a b c s to count limit bad other is few h p over =
     subst (RunMeets Done limit a c) is (
       h.0 ++ p.0 ∷ [],
-      (joined a b c s to count bad h.0 h.1 p, ap (λ (x : State). x.ended) (joined_state a b c s to count bad h.0 h.1 p) ∙ over),
+      joined a b c s to count bad h.0 h.1 p,
+      (
+        h.0,
+        p.0,
+        refl,
+        ap (λ (x : State). x.ended) h.1.state_is ∙ h.1.going,
+        ap (λ (x : State). x.ended) (joined_state a b c s to count bad h.0 h.1 p) ∙ over,
+      ),
+      within h.0 p.0 count limit h.1.count_is few,
       λ e. p.3 (has_end_last h.0 p.0 opening (ap (λ (x : State). x.ended) h.1.state_is ∙ h.1.going) e),
     )
 
@@ -320,13 +322,21 @@ also a b c s count ts h p =
     subst (λ (us : List Turn). Turns opening a c us) (append-nil ts) (turns_more opening a b c ts [] h.turns_are (subst (λ (x : State). Turns x b c []) (sym h.state_is) p))
 
 -- a turn that stopped the run
-pub stopped_by : (a b c : Told) (s to : State) (count limit : ℕ) (bad : Option (Option ℕ)) (e : Ending) → (turns : List Turn) × GoneOn a b s count turns → TurnMeets s to b c bad (Err e) → RunMeets e limit a c bad
-stopped_by a b c s to count limit bad Done h p = absurd p
-stopped_by a b c s to count limit bad Limit h p = absurd p
-stopped_by a b c s to count limit bad (Bad n) h p =
-    (h.0, (also a b c s count h.0 h.1 p.0, ap (λ (x : State). x.ended) h.1.state_is ∙ h.1.going), p.1)
-stopped_by a b c s to count limit bad NextFailed h p = (h.0, (also a b c s count h.0 h.1 p, ap (λ (x : State). x.ended) h.1.state_is ∙ h.1.going))
-stopped_by a b c s to count limit bad SendFailed h p =
-    (b, h.0, p.0, h.1.turns_are, subst (λ (x : State). Cut x b c p.0) (sym h.1.state_is) p.1)
-stopped_by a b c s to count limit bad Memory h p =
-    (b, h.0, p.0, h.1.turns_are, subst (λ (x : State). Cut x b c p.0) (sym h.1.state_is) p.1)
+pub stopped_by : (a b c : Told) (s to : State) (count limit : ℕ) (bad : Option (Option ℕ)) (e : Ending) → count < limit → (turns : List Turn) × GoneOn a b s count turns → TurnMeets s to b c bad (Err e) → RunMeets e limit a c bad
+stopped_by a b c s to count limit bad Done few h p = absurd p
+stopped_by a b c s to count limit bad Limit few h p = absurd p
+stopped_by a b c s to count limit bad (Bad n) few h p = (
+  h.0,
+  (also a b c s count h.0 h.1 p.0, ap (λ (x : State). x.ended) h.1.state_is ∙ h.1.going),
+  (let few_turns : length h.0 < limit = omega (arith, h.1.count_is) in few_turns),
+  p.1,
+)
+stopped_by a b c s to count limit bad NextFailed few h p = (
+  h.0,
+  (also a b c s count h.0 h.1 p, ap (λ (x : State). x.ended) h.1.state_is ∙ h.1.going),
+  (let few_turns : length h.0 < limit = omega (arith, h.1.count_is) in few_turns),
+)
+stopped_by a b c s to count limit bad SendFailed few h p =
+    (b, h.0, p.0, h.1.turns_are, subst (λ (x : State). Cut x b c p.0) (sym h.1.state_is) p.1, last_within h.0 p.0 count limit h.1.count_is few)
+stopped_by a b c s to count limit bad Memory few h p =
+    (b, h.0, p.0, h.1.turns_are, subst (λ (x : State). Cut x b c p.0) (sym h.1.state_is) p.1, last_within h.0 p.0 count limit h.1.count_is few)

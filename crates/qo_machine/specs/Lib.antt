@@ -1,10 +1,7 @@
+pub mod Commands
 pub mod Machine
-pub mod Reading
-pub mod Record
-pub mod Replies
-pub mod Requests
 pub mod Runs
 pub mod Sending
-pub mod Streams
+pub mod Serving
 pub mod Tree
 pub mod Views

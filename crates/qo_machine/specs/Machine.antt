@@ -1,20 +1,29 @@
 -- The machine: its state, and what one input does.
-use Rattle.std.specs.Prelude.{◌≡◌, ℕ, nat_lt, Bool, true, false, if◌then◌else◌, List, [], ◌∷◌, Option, Some, None, IsSome, replicate, slice_set, slice_index_or, codes}
+use Rattle.std.specs.Prelude.{◌≡◌, ℕ, zero, suc, nat_lt, Bool, true, false, if◌then◌else◌, List, [], ◌∷◌, ◌++◌, map, filter, Option, Some, None, Result, Ok, Err, replicate, slice_set, slice_index_or}
+use Rattle.std.specs.List.{flat_map}
+use Rattle.serde_json.specs.Data.{Data}
 use Rattle.qo_values.specs.declared.codes.Code.{Code}
-use Rattle.qo_values.specs.declared.codes.Code.TheVariants.{E8, E9, E10, E15, E99}
+use Rattle.qo_values.specs.declared.codes.Code.TheVariants.{E99}
 use Rattle.qo_causes.specs.declared.hubs.Lane.{Lane}
 use Rattle.qo_causes.specs.declared.hubs.Lane.TheVariants.{Session as to_session}
 use Rattle.qo_causes.specs.declared.inputs.Input.{Input}
+use Rattle.qo_causes.specs.declared.inputs.Moment.{Moment}
 use Rattle.qo_causes.specs.declared.inputs.What.{What}
-use Rattle.qo_causes.specs.declared.inputs.What.TheVariants.{Open, Bytes, End}
+use Rattle.qo_causes.specs.declared.inputs.What.TheVariants.{Open, Bytes, Shut, End}
+use Rattle.qo_framing.specs.declared.items.Item.{Item}
 use Rattle.qo_model.specs.Board.{Board}
-use Rattle.qo_model.specs.Listing.{listing}
 use Rattle.qo_model.specs.Opening.{opening_board}
-use Rattle.qo_model.specs.Paths.{resolve_absolute}
-use Rattle.qo_machine.specs.Replies.{greeting, empty_return, error_reply, listing_return}
-use Rattle.qo_machine.specs.Requests.{Request, qmp_capabilities, qom_list, other, request_of}
-use Rattle.qo_machine.specs.declared.sessions.Session.{Session}
-use Rattle.qo_machine.specs.declared.sessions.Session.TheVariants.{Closed, Negotiating, Commanding}
+use Rattle.qo_replies.specs.Events.{event_line}
+use Rattle.qo_replies.specs.Replies.{error_reply, greeting, return_reply}
+use Rattle.qo_replies.specs.declared.events.Event.{Event}
+use Rattle.qo_sessions.specs.Acts.{act}
+use Rattle.qo_sessions.specs.Sessions.{begun, closed, fed, in_mode}
+use Rattle.qo_sessions.specs.Sessions as sessions
+use Rattle.qo_sessions.specs.declared.acts.SessionAct.{SessionAct}
+use Rattle.qo_sessions.specs.declared.acts.SessionAct.TheVariants.{Answer, Negotiated, Do}
+use Rattle.qo_sessions.specs.declared.modes.Mode.{Mode}
+use Rattle.qo_sessions.specs.declared.modes.Mode.TheVariants.{Negotiating, Commanding, Closed}
+use Rattle.qo_machine.specs.Commands.{Done, empty, perform}
 
 -- a message: where it goes, and its bytes with their line end
 abbrev pub Message : Type 0
@@ -23,13 +32,13 @@ Message = Lane × List ℕ
 -- what the machine is: the board, sixteen sessions, the front of the unfinished guest line, and whether the run has ended
 pub record State : Type 0 where
   pub board : Board
-  pub sessions : List Session
+  pub sessions : List sessions.State
   pub guest_line : List ℕ
   pub ended : Bool
 
 -- the machine at first: the opening board, and all sessions closed
 abbrev pub opening : State
-opening = record { board = opening_board; sessions = replicate 16 Closed; guest_line = []; ended = false }
+opening = record { board = opening_board; sessions = replicate 16 closed; guest_line = []; ended = false }
 
 -- how an item is served: as it is defined, or refused for want of memory. A missing choice is `defined`.
 pub data Choice : Type 0 where
@@ -40,89 +49,147 @@ abbrev pub first : List Choice → Choice
 first [] = defined
 first (c ∷ cs) = c
 
--- what one item makes: the bytes of its reply, and the mode of its session
-pub record Answer : Type 0 where
-  pub reply : List ℕ
-  pub mode : Session
+abbrev pub others : List Choice → List Choice
+others [] = []
+others (c ∷ cs) = cs
 
-abbrev pub refuse : Code → Session → Answer
-refuse code mode = record { reply = error_reply code; mode = mode }
-
--- a listing, where the path exists
-abbrev pub listed : Board → Option ℕ → Answer
-listed board None = refuse E15 Commanding
-listed board (Some n) = record { reply = listing_return (listing board n); mode = Commanding }
-
--- the answer to a request in a mode (QMP specification, 4 "Capabilities Negotiation"): nothing else is served before the negotiation
-abbrev pub command : Board → Session → Request → Answer
-command board Commanding qmp_capabilities = refuse E9 Commanding
-command board Commanding (qom_list path) = listed board (resolve_absolute board path (codes "object"))
-command board Commanding (other word) = refuse E10 Commanding
-command board mode qmp_capabilities = record { reply = empty_return; mode = Commanding }
-command board mode (qom_list path) = refuse E8 mode
-command board mode (other word) = refuse E8 mode
-
--- the answer to an item: the defined one, or E99 with the mode as before
-abbrev pub answer : Choice → Board → Session → Request → Answer
-answer defined board mode request = command board mode request
-answer refused board mode request = refuse E99 mode
-
--- what a step sends, and the state behind it
+-- what is sent, the state behind it, and the choices that are left
 pub record Stepped : Type 0 where
   pub outs : List Message
   pub state : State
+  pub rest : List Choice
 
 -- nothing is sent, and nothing changes
-abbrev pub unchanged : State → Stepped
-unchanged s = record { outs = []; state = s }
+abbrev pub unchanged : State → List Choice → Stepped
+unchanged s choices = record { outs = []; state = s; rest = choices }
 
--- a session's mode
-abbrev pub mode_of : State → ℕ → Session
-mode_of s n = slice_index_or s.sessions n Closed
+-- some messages, and then those of a step
+abbrev pub behind : List Message → Stepped → Stepped
+behind outs r = record { outs = outs ++ r.outs; state = r.state; rest = r.rest }
 
-abbrev pub with_mode : State → ℕ → Session → State
-with_mode s n mode = record { board = s.board; sessions = slice_set s.sessions n mode; guest_line = s.guest_line; ended = s.ended }
+-- a session by its number, and its mode
+abbrev pub session_of : State → ℕ → sessions.State
+session_of s n = slice_index_or s.sessions n closed
 
--- a session opens, and is greeted
-abbrev pub opened : State → ℕ → Session → Stepped
-opened s n Closed = record { outs = (to_session n, greeting) ∷ []; state = with_mode s n Negotiating }
-opened s n mode = unchanged s
+abbrev pub mode_of : State → ℕ → Mode
+mode_of s n = (session_of s n).mode
 
--- an item of an open session is answered
-abbrev pub replied : State → ℕ → Answer → Stepped
-replied s n a = record { outs = (to_session n, a.reply) ∷ []; state = with_mode s n a.mode }
+abbrev pub with_session : State → ℕ → sessions.State → State
+with_session s n session =
+    record { board = s.board; sessions = slice_set s.sessions n session; guest_line = s.guest_line; ended = s.ended }
 
-abbrev pub served : State → ℕ → Session → Option Request → Choice → Stepped
-served s n Closed request choice = unchanged s
-served s n mode None choice = unchanged s
-served s n mode (Some request) choice = replied s n (answer choice s.board mode request)
+abbrev pub with_board : State → Board → State
+with_board s board = record { board = board; sessions = s.sessions; guest_line = s.guest_line; ended = s.ended }
 
 -- the run has ended: all sessions are closed, and no guest line is unfinished
 abbrev pub finished : State → State
-finished s = record { board = s.board; sessions = replicate 16 Closed; guest_line = []; ended = true }
+finished s = record { board = s.board; sessions = replicate 16 closed; guest_line = []; ended = true }
+
+-- the numbers below a number, rising
+abbrev pub numbers_below : ℕ → List ℕ
+numbers_below zero = []
+numbers_below (suc n) = numbers_below n ++ n ∷ []
+
+abbrev pub is_commanding : Mode → Bool
+is_commanding Commanding = true
+is_commanding mode = false
+
+-- of some sessions, those that have negotiated; and all of these, in rising order: they are told of events
+abbrev pub those_commanding : State → List ℕ → List ℕ
+those_commanding s numbers = filter (λ n. is_commanding (mode_of s n)) numbers
+
+abbrev pub commanding : State → List ℕ
+commanding s = those_commanding s (numbers_below 16)
+
+-- an event, to each of some sessions
+abbrev pub told_of : Event → Moment → List ℕ → List Message
+told_of event at numbers = map (λ (n : ℕ). (to_session n, event_line at event)) numbers
+
+-- event by event, to each session that has negotiated
+abbrev pub event_outs : Moment → State → List Event → List Message
+event_outs at s events = flat_map (λ (event : Event). told_of event at (commanding s)) events
+
+-- the reply with what a command returned, or with the code that refused it
+abbrev pub reply : Option (List ℕ) → Result Data Code → List ℕ
+reply id (Ok value) = return_reply id value
+reply id (Err code) = error_reply id code
+
+-- what one item makes: messages, and the state behind it
+pub record Made : Type 0 where
+  pub outs : List Message
+  pub state : State
+
+abbrev pub answered : State → ℕ → List ℕ → Made
+answered s n text = record { outs = (to_session n, text) ∷ []; state = s }
+
+-- the board behind a command; it may end the run
+abbrev pub behind_command : Bool → State → State
+behind_command true s = finished s
+behind_command false s = s
+
+-- a command was done: its events go first, then its reply
+abbrev pub done : Moment → ℕ → State → Option (List ℕ) → Done → Made
+done at n s id d =
+    record { outs = event_outs at s d.events ++ (to_session n, reply id d.result) ∷ []; state = behind_command d.ends (with_board s d.board) }
+
+-- what an item of a session makes, by what it comes to
+abbrev pub made : Moment → ℕ → State → SessionAct → Made
+made at n s (Answer code id) = answered s n (error_reply id code)
+made at n s (Negotiated id) = answered (with_session s n (in_mode Commanding (session_of s n))) n (return_reply id empty)
+made at n s (Do request id) = done at n s id (perform s.board request)
+
+-- the id of the message that an item is
+abbrev pub id_of : SessionAct → Option (List ℕ)
+id_of (Answer code id) = id
+id_of (Negotiated id) = id
+id_of (Do request id) = id
+
+-- refused for want of memory: E99 with the id, and nothing changes
+abbrev pub made_by : Choice → Moment → ℕ → State → SessionAct → Made
+made_by defined at n s what = made at n s what
+made_by refused at n s what = answered s n (error_reply (id_of what) E99)
+
+-- each item of a session makes exactly one reply
+unfoldable pub item_step : Choice → Moment → ℕ → State → Item → Made
+item_step choice at n s item = made_by choice at n s (act (mode_of s n) item)
+
+-- the items of a session in turn, until the run has ended
+abbrev pub serve_unless : Bool → Stepped → Stepped → Stepped
+serve_unless true ended on = ended
+serve_unless false ended on = on
+
+abbrev pub serve : Moment → ℕ → List Item → State → List Choice → Stepped
+serve at n [] s choices = unchanged s choices
+serve at n (item ∷ items) s choices =
+    serve_unless s.ended (unchanged s choices)
+    (behind (item_step (first choices) at n s item).outs (serve at n items (item_step (first choices) at n s item).state (others choices)))
+
+-- a session opens, and is greeted; an open one stays as it is
+abbrev pub opened : State → ℕ → Mode → List Choice → Stepped
+opened s n Closed choices = record { outs = (to_session n, greeting) ∷ []; state = with_session s n begun; rest = choices }
+opened s n mode choices = unchanged s choices
+
+-- bytes of a session come: their items are served; a session that is not open has none
+abbrev pub taken : Moment → State → ℕ → List ℕ → List Choice → Stepped
+taken at s n bytes choices =
+    let f = fed (session_of s n) bytes in
+    serve at n f.items (with_session s n f.session) choices
 
 -- one input; a session number above 15 changes nothing
-abbrev pub input_step : State → What → List Choice → Stepped
-input_step s (Open n) choices = if nat_lt n 16 then opened s n (mode_of s n) else unchanged s
-input_step s (Bytes n bytes) choices =
-    if nat_lt n 16 then served s n (mode_of s n) (request_of bytes) (first choices) else unchanged s
-input_step s End choices = record { outs = []; state = finished s }
-input_step s what choices = unchanged s
-
-abbrev pub unless_ended : Bool → Stepped → Stepped → Stepped
-unless_ended true same next = same
-unless_ended false same next = next
+abbrev pub input_step : State → Moment → What → List Choice → Stepped
+input_step s at (Open n) choices = if nat_lt n 16 then opened s n (mode_of s n) choices else unchanged s choices
+input_step s at (Bytes n bytes) choices = if nat_lt n 16 then taken at s n bytes choices else unchanged s choices
+input_step s at (Shut n) choices = if nat_lt n 16 then unchanged (with_session s n closed) choices else unchanged s choices
+input_step s at End choices = unchanged (finished s) choices
+input_step s at what choices = unchanged s choices
 
 -- one step of the machine; behind the end of the run nothing is served
 unfoldable pub step : State → Input → List Choice → Stepped
-step s input choices = unless_ended s.ended (unchanged s) (input_step s input.what choices)
+step s input choices = serve_unless s.ended (unchanged s choices) (input_step s input.at input.what choices)
 
--- the inputs that are defined so far: session 0 opens, a message of session 0, and the end
-abbrev pub IsBuilt : What → Type 0
-IsBuilt (Open n) = n ≡ 0
-IsBuilt (Bytes n bytes) = (n ≡ 0) × IsSome (request_of bytes)
-IsBuilt End = Unit {0}
-IsBuilt what = ⊥
+-- by some choices, a step sends this and leads there
+abbrev pub Answers : State → Input → List Message → State → Type 0
+Answers s input outs t = (choices : List Choice) × ((step s input choices).outs ≡ outs) × ((step s input choices).state ≡ t)
 
 -- what is seen of a machine: its state, and whether it ran out of memory
 pub record Seen : Type 0 where

@@ -1,15 +1,14 @@
 -- Runs: what a list of inputs sends to each lane, and what a hub tells of it.
-use Rattle.std.specs.Prelude.{◌≡◌, ℕ, ◌+◌, ◌-◌, ◌^◌, ◌≤◌, min, max, Bool, true, false, if◌then◌else◌, List, [], ◌∷◌, ◌++◌, length, take, Option, Some, None, Result, Ok, Err, option_map, slice_index_or}
-use Rattle.std.specs.List.{AllByRecursion, flat_map, filter_map, list_any}
+use Rattle.std.specs.Prelude.{◌≡◌, ℕ, ◌+◌, ◌-◌, ◌^◌, ◌<◌, ◌≤◌, min, max, Bool, true, false, if◌then◌else◌, List, [], ◌∷◌, ◌++◌, length, take, Option, Some, None, Result, Ok, Err, option_map, option_to_list, slice_index_or}
+use Rattle.std.specs.List.{flat_map, filter_map, list_any}
 use Rattle.std.specs.Io.KnownBytes.{append_known}
 use Rattle.qo_causes.specs.Bytes.{AppendsPrefix}
 use Rattle.qo_causes.specs.Hub.{AtEnd, given_by, is_end, line, part}
 use Rattle.qo_causes.specs.declared.hubs.Lane.{Lane}
 use Rattle.qo_causes.specs.declared.hubs.Lane.TheVariants.{Session, Guest}
 use Rattle.qo_causes.specs.declared.inputs.Input.{Input}
-use Rattle.qo_machine.specs.Machine.{Message, State, Choice, IsBuilt, step, opening}
-use Rattle.qo_machine.specs.declared.sessions.Session.{Session as Mode}
-use Rattle.qo_machine.specs.declared.sessions.Session.TheVariants.{Closed}
+use Rattle.qo_machine.specs.Machine.{Message, State, Choice, step, opening}
+use Rattle.qo_sessions.specs.Sessions.{State as SessionState, closed}
 use Rattle.qo_machine.specs.declared.running.Ending.{Ending}
 use Rattle.qo_machine.specs.declared.running.Ending.TheVariants.{Done, Bad, Memory, NextFailed, SendFailed, Limit}
 
@@ -26,10 +25,10 @@ is_lost lost (Session n) = slice_index_or lost n false
 is_lost lost Guest = false
 
 -- the sessions that are lost are closed
-unfoldable pub closed_where : List Bool → List Mode → List Mode
+unfoldable pub closed_where : List Bool → List SessionState → List SessionState
 closed_where [] sessions = sessions
 closed_where (flag ∷ lost) [] = []
-closed_where (flag ∷ lost) (mode ∷ sessions) = (if flag then Closed else mode) ∷ closed_where lost sessions
+closed_where (flag ∷ lost) (session ∷ sessions) = (if flag then closed else session) ∷ closed_where lost sessions
 
 abbrev pub close_lost : List Bool → State → State
 close_lost lost s =
@@ -122,14 +121,20 @@ pub record Cut (from : State) (old new : Told) (last : Option Turn) : Type 0 whe
   pub lanes : (l : Lane) → AppendsPrefix (old.got l) (new.got l) (lane_bytes l (last_outs from last))
   pub losses : (n : ℕ) → old.losses n ≤ new.losses n
 
--- whole turns, with the run ended behind them or not
-abbrev pub WholeRun : Told → Told → Bool → List Turn → Type 0
-WholeRun old new over turns = Turns opening old new turns × ((state_after opening turns).ended ≡ over)
+-- whole turns, behind which the run has not ended
+abbrev pub OpenRun : Told → Told → List Turn → Type 0
+OpenRun old new turns = Turns opening old new turns × ((state_after opening turns).ended ≡ false)
 
--- whole turns, and then one that was cut
-abbrev pub CutRun : Told → Told → Type 0
-CutRun old new =
+-- a run that has ended with its last turn, and not before
+abbrev pub EndsAtLast : List Turn → Type 0
+EndsAtLast turns =
+    (before : List Turn) × (last : Turn) × (turns ≡ before ++ last ∷ []) × ((state_after opening before).ended ≡ false) × ((state_after opening turns).ended ≡ true)
+
+-- whole turns, and then one that was cut, if any; at most so many
+abbrev pub CutRun : ℕ → Told → Told → Type 0
+CutRun limit old new =
     (mid : Told) × (turns : List Turn) × (last : Option Turn) × Turns opening old mid turns × Cut (state_after opening turns) mid new last
+    × (length turns + length (option_to_list last) ≤ limit)
 
 -- what one turn did by its answer; the hub has this bad place
 abbrev pub TurnMeets : State → State → Told → Told → Option (Option ℕ) → Result (Unit {0}) Ending → Type 0
@@ -145,14 +150,10 @@ TurnMeets from to old new bad (Err Limit) = ⊥
 -- what a run did by how it ended, of at most so many inputs; the hub had this bad place
 abbrev pub RunMeets : Ending → ℕ → Told → Told → Option (Option ℕ) → Type 0
 RunMeets Done limit old new bad =
-    (turns : List Turn) × WholeRun old new true turns × (has_end turns ≡ true → AtEnd new.inputs bad None)
-RunMeets (Bad n) limit old new bad = (turns : List Turn) × WholeRun old new false turns × AtEnd new.inputs bad (Some n)
-RunMeets Limit limit old new bad = (turns : List Turn) × WholeRun old new false turns × (length turns ≡ limit)
-RunMeets NextFailed limit old new bad = (turns : List Turn) × WholeRun old new false turns
-RunMeets SendFailed limit old new bad = CutRun old new
-RunMeets Memory limit old new bad = CutRun old new
-
--- the hub tells its inputs, and they are all defined so far
-abbrev pub OnlyBuilt : Option (List Input) → Type 0
-OnlyBuilt None = ⊥
-OnlyBuilt (Some inputs) = AllByRecursion (λ (i : Input). IsBuilt i.what) inputs
+    (turns : List Turn) × Turns opening old new turns × EndsAtLast turns × (length turns ≤ limit) × (has_end turns ≡ true → AtEnd new.inputs bad None)
+RunMeets (Bad n) limit old new bad =
+    (turns : List Turn) × OpenRun old new turns × (length turns < limit) × AtEnd new.inputs bad (Some n)
+RunMeets Limit limit old new bad = (turns : List Turn) × OpenRun old new turns × (length turns ≡ limit)
+RunMeets NextFailed limit old new bad = (turns : List Turn) × OpenRun old new turns × (length turns < limit)
+RunMeets SendFailed limit old new bad = CutRun limit old new
+RunMeets Memory limit old new bad = CutRun limit old new

@@ -1,16 +1,24 @@
--- What the code's requests and answers are.
-use Rattle.qo_machine.specs.declared.answers.Answer.{Answer}
-use Rattle.qo_machine.specs.declared.requests.Request.{Request}
-use Rattle.qo_machine.specs.declared.requests.Request.TheVariants.{Capabilities, QomList, Other}
-use Rattle.qo_machine.specs.Machine as machine
-use Rattle.qo_machine.specs.Requests as defined
+-- What the code's outcomes of commands are.
+use Rattle.std.specs.Prelude.{Bool, true, false, Result, Ok, Err}
+use Rattle.serde_json.specs.Data.{Data}
+use Rattle.serde_json.specs.View.{view}
+use Rattle.serde_json.specs.Written.{has_float}
+use Rattle.serde_json.specs.declared.value.Value.{Value}
+use Rattle.qo_values.specs.declared.codes.Code.{Code}
+use Rattle.qo_model.specs.Board.{Board}
+use Rattle.qo_machine.specs.Commands as defined
+use Rattle.qo_machine.specs.declared.commands.Done.{Done}
 
--- a request that borrows its path or name
-abbrev pub request_view : Request → defined.Request
-request_view Capabilities = defined.qmp_capabilities
-request_view (QomList path) = defined.qom_list path.now
-request_view (Other word) = defined.other word.now
+-- a value as its data
+abbrev pub data_of : Result Value Code → Result Data Code
+data_of (Ok value) = Ok (view value)
+data_of (Err code) = Err code
 
--- an answer
-abbrev pub answered : Answer → machine.Answer
-answered a = record { reply = a.reply; mode = a.mode }
+-- an outcome that leaves this board
+abbrev pub done_of : Board → Done → defined.Done
+done_of b d = record { result = data_of d.result; board = b; events = d.events.items; ends = d.ends }
+
+-- whether a number in what was returned has no text
+abbrev pub has_float_in : Result Data Code → Bool
+has_float_in (Ok d) = has_float d
+has_float_in (Err code) = false

@@ -1,12 +1,7 @@
 -- The run is over the inputs of the stream.
 use Rattle.std.proofs.Common.{sym, subst, arith}
-use Rattle.qo_machine.proofs.RecordLemmas.{only_built}
-use Rattle.qo_machine.specs.Runs.{OnlyBuilt}
 use Rattle.compose.proofs.ReplayLemmas.{did_at, run_did, told_is}
 use Rattle.compose.proofs.replays.run_bytes.Goals as goal
-
-pub run-ending-requires : goal.run-ending-requires
-run-ending-requires g c = subst OnlyBuilt (sym c.new-hub.ensures.inputs) (only_built c.args.bytes.items)
 
 pub returns-clause-did : goal.returns-clause-did
 returns-clause-did g c =

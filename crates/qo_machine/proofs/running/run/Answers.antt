@@ -4,13 +4,12 @@ use Rattle.qo_machine.proofs.RunLemmas.{cut_none, done, going_on, gone_none}
 use Rattle.qo_machine.proofs.running.run.Goals as goal
 
 pub returns-in_default-clause-meets : goal.returns-in_default-clause-meets
-returns-in_default-clause-meets g c = cut_none _ _ _ _
+returns-in_default-clause-meets g c = cut_none c.args.limit _ _ _ _
 
 pub loop-init : goal.loop-init
 loop-init g c =
     record {
       gone = gone_none _ _ _ _ _ c.in-Ok.ensures.state.0;
-      built = c.requires;
       bad = refl;
       asked = refl;
       next_count = omega arith;
@@ -20,13 +19,12 @@ loop-init g c =
 
 pub returns-then-ended-clause-meets : goal.returns-then-ended-clause-meets
 returns-then-ended-clause-meets g c =
-    done _ _ _ c.loop.machine.state c.turn.new.machine.state c.loop.counter c.args.limit (g.H.Hub.bad c.loop.hub) (g.H.Hub.bad c.args.hub.now) c.loop.invariant.bad c.loop.invariant.gone c.in_default-turn.ensures.meets (sym c.if-ended.ensures)
+    done _ _ _ c.loop.machine.state c.turn.new.machine.state c.loop.counter c.args.limit (g.H.Hub.bad c.loop.hub) (g.H.Hub.bad c.args.hub.now) c.loop.invariant.bad (omega arith) c.loop.invariant.gone c.in_default-turn.ensures.meets (sym c.if-ended.ensures)
 
 pub loop-preserved : goal.loop-preserved
 loop-preserved g c =
     record {
       gone = going_on _ _ _ c.loop.machine.state c.turn.new.machine.state c.loop.counter (g.H.Hub.bad c.loop.hub) c.loop.invariant.gone c.in_default-turn.ensures.meets (sym c.if-ended.ensures);
-      built = c.turn.ensures.built;
       bad = c.turn.ensures.bad ∙ c.loop.invariant.bad;
       asked = c.turn.ensures.asked ∙ c.loop.invariant.asked;
       next_count = omega arith;

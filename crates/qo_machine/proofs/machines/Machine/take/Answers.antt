@@ -1,8 +1,8 @@
--- The choice is that of the answer.
-use Rattle.std.proofs.Common.{[], ◌∷◌, refl, arith, rules}
-use Rattle.qo_machine.proofs.MachineLemmas.{taken}
+-- The items of the bytes are served.
+use Rattle.std.proofs.Common.{arith, ◌∙◌}
+use Rattle.qo_machine.proofs.MachineLemmas.{bytes_taken, if_ok}
 use Rattle.qo_machine.proofs.machines.Machine.take.Goals as goal
 
 pub returns-clause-answered : goal.returns-clause-answered
 returns-clause-answered c =
-    (c.in_ok-answer.ensures.0 ∷ [], rw (← c.self.view_is) (taken _ c.args.session c.args.bytes.now c.in_ok-answer.ensures.0 _ _ _ _ (omega arith) refl (search rules) c.in-Some.ensures c.in_ok-answer.ensures.1 c.in_ok-outs.ensures))
+    if_ok c.serve_items.result (λ outs h. bytes_taken c.args.at c.args.session c.args.self.now.state c.feed.new.self.state c.serve_items.new.machine.state c.args.bytes.now c.deref.result.now outs (omega arith) (c.deref.ensures.value ∙ c.in_ok-items.ensures.items) c.in_ok-items.ensures.state h) c.serve_items.ensures.served

@@ -1,0 +1,63 @@
+-- What commands return has a text: no number has a fraction.
+use Rattle.std.proofs.Common.{◌≡◌, ℕ, false, List, [], ◌∷◌, ◌++◌, map, refl, sym, ◌∙◌, ap, Option, None, Some, Result}
+use Rattle.std.proofs.lemmas.List.{map-append}
+use Rattle.std.specs.Prelude.{codes}
+use Rattle.serde_json.specs.Data.{Data, array}
+use Rattle.serde_json.specs.View.{items_of, view}
+use Rattle.serde_json.specs.Written.{has_float, items_have_float}
+use Rattle.serde_json.specs.declared.value.Value.{Value}
+use Rattle.qo_model.specs.Board.{Board}
+use Rattle.qo_model.specs.Listing.{listing}
+use Rattle.qo_model.specs.Paths.{resolve_absolute}
+use Rattle.qo_requests.specs.declared.requests.Request.{Request}
+use Rattle.qo_requests.specs.declared.requests.Request.TheVariants.{QmpCapabilities, QueryVersion, QueryCommands, QueryStatus, Stop, Cont, SystemReset, Quit, QomList, QomGet, QomSet, QomListTypes, DeviceListProperties, ObjectAdd, ObjectDel, DeviceAdd, DeviceDel, ChardevAdd, ChardevRemove, RingbufRead, RingbufWrite, XResetHold, XResetRelease, XSever, XQueryNotes, XQueryDetached, XGuest, XStep}
+use Rattle.qo_model.specs.Opening.{opening_board}
+use Rattle.qo_machine.proofs.TreeLemmas.{rows_listing}
+use Rattle.qo_machine.specs.Commands.{Done, listed, perform, property_data, returned}
+use Rattle.qo_machine.specs.Tree.{birth_of, rows_of}
+use Rattle.qo_machine.specs.declared.tree.Object.{Object}
+use Rattle.qo_machine.specs.Views.{has_float_in}
+
+rows_no_float : (rows : List (List ℕ × List ℕ)) → items_have_float (items_of (map property_data rows)) ≡ false
+rows_no_float [] = refl
+rows_no_float (r ∷ rs) = rows_no_float rs
+
+listed_no_float : (b : Board) (found : Option ℕ) → has_float_in (listed b found).result ≡ false
+listed_no_float b None = refl
+listed_no_float b (Some n) = rows_no_float (listing b n)
+
+pub no_float : (b : Board) (r : Request) → has_float_in (perform b r).result ≡ false
+unfolding perform
+no_float b (QmpCapabilities enable) = refl
+no_float b QueryVersion = refl
+no_float b QueryCommands = refl
+no_float b QueryStatus = refl
+no_float b Stop = refl
+no_float b Cont = refl
+no_float b SystemReset = refl
+no_float b Quit = refl
+no_float b (QomList path) = listed_no_float b (resolve_absolute b path (codes "object"))
+no_float b (QomGet path property) = refl
+no_float b (QomSet path property value) = refl
+no_float b (QomListTypes implements with_abstract) = refl
+no_float b (DeviceListProperties typename) = refl
+no_float b (ObjectAdd driver id props) = refl
+no_float b (ObjectDel id) = refl
+no_float b (DeviceAdd driver id bus props) = refl
+no_float b (DeviceDel id) = refl
+no_float b (ChardevAdd id kind size) = refl
+no_float b (ChardevRemove id) = refl
+no_float b (RingbufRead device size format) = refl
+no_float b (RingbufWrite device payload format) = refl
+no_float b (XResetHold path) = refl
+no_float b (XResetRelease path) = refl
+no_float b (XSever birth) = refl
+no_float b (XQueryNotes start) = refl
+no_float b XQueryDetached = refl
+no_float b (XGuest line) = refl
+no_float b (XStep ns) = refl
+
+-- the listing of an object is that of the opening board's
+pub listing_is : (path : List ℕ) (o : Object) (rows : List (List ℕ × List ℕ)) (value : Data) (d : Done) → Some (birth_of o) ≡ resolve_absolute opening_board path (codes "object") → rows ≡ rows_of o → value ≡ array (items_of (map property_data rows)) → d ≡ returned opening_board value → d ≡ listed opening_board (resolve_absolute opening_board path (codes "object"))
+listing_is path o rows value d found table listed_is is =
+    is ∙ ap (returned opening_board) (listed_is ∙ ap (λ (rs : List (List ℕ × List ℕ)). array (items_of (map property_data rs))) (table ∙ rows_listing o)) ∙ ap (listed opening_board) found

@@ -1,0 +1,89 @@
+-- The messages of a step go to lanes of the sixteen sessions.
+use Rattle.std.proofs.Common.{◌≡◌, ℕ, zero, suc, ◌<◌, ◌≤◌, Bool, true, false, if◌then◌else◌, List, [], ◌∷◌, ◌++◌, refl, subst, sym, arith, nat_lt, Option}
+use Rattle.std.proofs.lemmas.Bool.{ltb-true}
+use Rattle.std.specs.Prelude.{filter}
+use Rattle.qo_causes.specs.declared.inputs.Input.{Input}
+use Rattle.qo_causes.specs.declared.inputs.Moment.{Moment}
+use Rattle.qo_causes.specs.declared.inputs.What.{What}
+use Rattle.qo_causes.specs.declared.inputs.What.TheVariants.{Open, Bytes, Shut, Guest as GuestLine, Step, End}
+use Rattle.qo_framing.specs.declared.items.Item.{Item}
+use Rattle.qo_replies.specs.declared.events.Event.{Event}
+use Rattle.qo_sessions.specs.Acts.{act}
+use Rattle.qo_sessions.specs.Sessions.{fed}
+use Rattle.qo_sessions.specs.declared.acts.SessionAct.{SessionAct}
+use Rattle.qo_sessions.specs.declared.acts.SessionAct.TheVariants.{Answer, Negotiated, Do}
+use Rattle.qo_sessions.specs.declared.modes.Mode.{Mode}
+use Rattle.qo_sessions.specs.declared.modes.Mode.TheVariants.{Closed, Negotiating, Commanding}
+use Rattle.qo_machine.proofs.MachineLemmas.{told_more}
+use Rattle.qo_machine.specs.Commands.{perform}
+use Rattle.qo_machine.specs.Machine.{Choice, Message, State, Stepped, behind, defined, refused, event_outs, first, input_step, is_commanding, item_step, made_by, mode_of, numbers_below, opened, others, serve, serve_unless, session_of, step, taken, those_commanding, told_of, unchanged, with_session}
+use Rattle.qo_machine.specs.Sending.{AreToLanes}
+
+lanes_more : (a b : List Message) → AreToLanes a → AreToLanes b → AreToLanes (a ++ b)
+lanes_more [] b p q = q
+lanes_more (m ∷ a) b p q = (p.0, lanes_more a b p.1 q)
+
+one_told : (s : State) (e : Event) (at : Moment) (n : ℕ) (t : Bool) → n < 16 → is_commanding (mode_of s n) ≡ t → AreToLanes (told_of e at (if t then n ∷ [] else []))
+one_told s e at n true below is = (below, tt)
+one_told s e at n false below is = tt
+
+all_told : (k : ℕ) (s : State) (e : Event) (at : Moment) → k ≤ 16 → AreToLanes (told_of e at (those_commanding s (numbers_below k)))
+all_told zero s e at few = tt
+all_told (suc k) s e at few =
+    subst AreToLanes (sym (told_more s e at (numbers_below k) (k ∷ [])))
+    (lanes_more (told_of e at (those_commanding s (numbers_below k))) (told_of e at (those_commanding s (k ∷ []))) (all_told k s e at (omega arith)) (one_told s e at k (is_commanding (mode_of s k)) (omega arith) refl))
+
+events_told : (es : List Event) (s : State) (at : Moment) → AreToLanes (event_outs at s es)
+events_told [] s at = tt
+events_told (e ∷ es) s at = lanes_more (told_of e at (those_commanding s (numbers_below 16))) (event_outs at s es) (all_told 16 s e at (omega arith)) (events_told es s at)
+
+made_lanes : (choice : Choice) (at : Moment) (n : ℕ) (s : State) (what : SessionAct) → n < 16 → AreToLanes (made_by choice at n s what).outs
+made_lanes defined at n s (Answer code id) below = (below, tt)
+made_lanes defined at n s (Negotiated id) below = (below, tt)
+made_lanes defined at n s (Do request id) below = lanes_more (event_outs at s (perform s.board request).events) _ (events_told (perform s.board request).events s at) (below, tt)
+made_lanes refused at n s what below = (below, tt)
+
+item_lanes : (choice : Choice) (at : Moment) (n : ℕ) (s : State) (item : Item) → n < 16 → AreToLanes (item_step choice at n s item).outs
+unfolding item_step
+item_lanes choice at n s item below = made_lanes choice at n s (act (mode_of s n) item) below
+
+unless_lanes : (e : Bool) (a b : Stepped) → AreToLanes a.outs → AreToLanes b.outs → AreToLanes (serve_unless e a b).outs
+unless_lanes true a b p q = p
+unless_lanes false a b p q = q
+
+serve_lanes : (items : List Item) (at : Moment) (n : ℕ) (s : State) (cs : List Choice) → n < 16 → AreToLanes (serve at n items s cs).outs
+serve_lanes [] at n s cs below = tt
+serve_lanes (item ∷ items) at n s cs below =
+    unless_lanes s.ended (unchanged s cs) (behind (item_step (first cs) at n s item).outs (serve at n items (item_step (first cs) at n s item).state (others cs))) tt
+    (lanes_more (item_step (first cs) at n s item).outs (serve at n items (item_step (first cs) at n s item).state (others cs)).outs (item_lanes (first cs) at n s item below) (serve_lanes items at n (item_step (first cs) at n s item).state (others cs) below))
+
+-- messages go to the lanes of the sixteen sessions
+pub to_lanes : (s : State) (i : Input) (cs : List Choice) → AreToLanes (step s i cs).outs
+unfolding step
+to_lanes s i cs = on s.ended
+  where
+    open_lanes : (n : ℕ) (mode : Mode) (t : Bool) → nat_lt n 16 ≡ t → AreToLanes (if t then opened s n mode cs else unchanged s cs).outs
+    open_lanes n Closed true h = (ltb-true n 16 h, tt)
+    open_lanes n Negotiating true h = tt
+    open_lanes n Commanding true h = tt
+    open_lanes n mode false h = tt
+
+    bytes_lanes : (n : ℕ) (bytes : List ℕ) (t : Bool) → nat_lt n 16 ≡ t → AreToLanes (if t then taken i.at s n bytes cs else unchanged s cs).outs
+    bytes_lanes n bytes true h = serve_lanes (fed (session_of s n) bytes).items i.at n (with_session s n (fed (session_of s n) bytes).session) cs (ltb-true n 16 h)
+    bytes_lanes n bytes false h = tt
+
+    shut_lanes : (n : ℕ) (t : Bool) (a b : State) → AreToLanes (if t then unchanged a cs else unchanged b cs).outs
+    shut_lanes n true a b = tt
+    shut_lanes n false a b = tt
+
+    what_lanes : (w : What) → AreToLanes (input_step s i.at w cs).outs
+    what_lanes (Open n) = open_lanes n (mode_of s n) (nat_lt n 16) refl
+    what_lanes (Bytes n bytes) = bytes_lanes n bytes (nat_lt n 16) refl
+    what_lanes (Shut n) = shut_lanes n (nat_lt n 16) _ _
+    what_lanes (GuestLine bytes) = tt
+    what_lanes (Step ns) = tt
+    what_lanes End = tt
+
+    on : (e : Bool) → AreToLanes (serve_unless e (unchanged s cs) (input_step s i.at i.what cs)).outs
+    on true = tt
+    on false = what_lanes i.what

@@ -1,0 +1,12 @@
+//! Sessions: their modes, the items of their bytes, and what each item comes to.
+#![tactic(auto)]
+
+mod acts;
+mod modes;
+mod sessions;
+#[cfg(test)]
+mod tests;
+
+pub use acts::SessionAct;
+pub use modes::Mode;
+pub use sessions::{Memory, Session};
