@@ -14,4 +14,6 @@ pub use no_hub::NoHub;
 pub use statuses::{Ran, Status};
 
 #[cfg(test)]
+mod rows;
+#[cfg(test)]
 mod tests;

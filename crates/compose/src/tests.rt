@@ -23,14 +23,14 @@ const LIST_ROOT: &str =
 
 /// What a call left: its status, what its sink holds, and what was complained.
 #[derive(Drop)]
-struct Left {
-    status: Status,
-    held: Vec<u8>,
-    told: Vec<u8>,
+pub(crate) struct Left {
+    pub(crate) status: Status,
+    pub(crate) held: Vec<u8>,
+    pub(crate) told: Vec<u8>,
 }
 
 /// Calls `compose` with these words over a record in memory; the takes and puts of these numbers fail.
-fn call(
+pub(crate) fn call(
     alloc: Global,
     words: &[&str],
     record: &[u8],

@@ -4,6 +4,8 @@
 mod commands;
 mod machines;
 mod running;
+#[cfg(test)]
+mod tests;
 mod tree;
 
 pub use machines::{Machine, Outs};

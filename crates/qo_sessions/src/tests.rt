@@ -1,25 +1,59 @@
 //! Sessions with ample memory.
 
 use crate::{Mode, Session, SessionAct};
+use qo_framing::Item;
 use qo_requests::Request;
 use qo_values::Code;
 use std::alloc::Global;
 use std::test::Fail;
 
+/// A short word for what an item comes to.
+fn word(act: &SessionAct) -> &'static str {
+    match act {
+        SessionAct::Answer(Code::E12, Some(_)) => "E12+ ",
+        SessionAct::Answer(Code::E8, Some(_)) => "E8+ ",
+        SessionAct::Answer(code, _) => code_word(*code),
+        SessionAct::Negotiated(_) => "negotiated ",
+        SessionAct::Do(Request::QueryStatus, _) => "status ",
+        SessionAct::Do(_, _) => "other ",
+    }
+}
+
+/// A code as a word.
+fn code_word(code: Code) -> &'static str {
+    match code {
+        Code::E1 => "E1 ",
+        Code::E2 => "E2 ",
+        Code::E3 => "E3 ",
+        Code::E6 => "E6 ",
+        Code::E7 => "E7 ",
+        Code::E8 => "E8 ",
+        Code::E9 => "E9 ",
+        Code::E11 => "E11 ",
+        Code::E13 => "E13 ",
+        Code::E14 => "E14 ",
+        _ => "E? ",
+    }
+}
+
+/// Adds the word of one item.
+fn add_word(
+    alloc: Global,
+    session: &mut Session,
+    item: &Item,
+    words: &mut String,
+) -> Result<(), Fail> {
+    let act = session.act(alloc, item)?;
+    words.push_str(word(&act))?;
+    Ok(())
+}
+
 /// What some bytes of a session come to, as short words.
 fn acts(alloc: Global, session: &mut Session, bytes: &[u8]) -> Result<String, Fail> {
+    let items = session.feed(alloc, bytes)?;
     let mut words = String::new(alloc);
-    for item in &session.feed(alloc, bytes)? {
-        match session.act(alloc, item)? {
-            SessionAct::Answer(code, id) => {
-                words.push_str(code.description().split_once(' ').map_or("", |parts| parts.0))?;
-                words.push_str(if id.is_some() { "+" } else { "" })?;
-            }
-            SessionAct::Negotiated(_) => words.push_str("negotiated")?,
-            SessionAct::Do(Request::QueryStatus, _) => words.push_str("status")?,
-            SessionAct::Do(_, _) => words.push_str("other")?,
-        }
-        words.push_str(" ")?;
+    for item in &items {
+        add_word(alloc, session, item, &mut words)?;
     }
     Ok(words)
 }
