@@ -1,11 +1,13 @@
 //! The transcript's lines, put into a sink.
 
-ghost use Rattle.std.specs.Prelude.{◌≡◌, ℕ, [], ◌∷◌, ◌++◌, decimal};
+ghost use Rattle.std.specs.Prelude.{◌≡◌, ℕ, [], ◌∷◌, ◌++◌, decimal, OnOk};
 ghost use Rattle.qo_causes.specs.Bytes.{PutsAll};
 ghost use Rattle.qo_causes.specs.Cause.{HasCause};
 ghost use Rattle.qo_causes.specs.Hub.{lane_text, line};
 
+use itoa::Buffer;
 use qo_causes::{Failed, Lane, Sink, put_all};
+use std::alloc::AllocError;
 
 /// Puts a session's number and a space.
 fn put_number<K: Sink>(sink: &mut K, number: u8) -> Result<(), Failed>
@@ -35,7 +37,7 @@ fn put_lane<K: Sink>(sink: &mut K, lane: Lane) -> Result<(), Failed>
 }
 
 /// Puts the transcript's line of one message. It takes no memory.
-pub(crate) fn put_line<K: Sink>(sink: &mut K, lane: Lane, bytes: &[u8]) -> Result<(), Failed>
+fn put_line<K: Sink>(sink: &mut K, lane: Lane, bytes: &[u8]) -> Result<(), Failed>
     ensures bytes { PutsAll (K.held sink.old) (K.held sink.new) result (line lane bytes.now) }
     ensures cause { HasCause (K.faults sink.old) (K.faults sink.new) result }
 {
@@ -45,5 +47,53 @@ pub(crate) fn put_line<K: Sink>(sink: &mut K, lane: Lane, bytes: &[u8]) -> Resul
     match put_all(sink, bytes) {
         Ok(()) => Ok(()),
         Err(Failed) => Err(Failed),
+    }
+}
+
+/// Adds a lane's name to a buffer.
+fn add_lane(buffer: &mut Vec<u8>, lane: Lane) -> Result<(), AllocError>
+    ensures { OnOk result (buffer.new.items ≡ buffer.old.items ++ lane_text lane) }
+{
+    match lane {
+        Lane::Session(number) => {
+            let mut digits = Buffer::new();
+            buffer.extend_from_slice(digits.format(number).as_bytes())?;
+        }
+        Lane::Guest => buffer.extend_from_slice(b"g")?,
+    }
+    Ok(())
+}
+
+/// Makes a buffer the transcript's line of one message.
+fn spell_line(buffer: &mut Vec<u8>, lane: Lane, bytes: &[u8]) -> Result<(), AllocError>
+    ensures { OnOk result (buffer.new.items ≡ line lane bytes.now) }
+{
+    buffer.clear();
+    add_lane(buffer, lane)?;
+    buffer.push(b' ')?;
+    buffer.extend_from_slice(bytes)?;
+    Ok(())
+}
+
+/// Puts the transcript's line of one message: in one piece, which is made in the buffer, or where
+/// memory runs out for that in two. It does not fail for want of memory.
+pub(crate) fn put_message<K: Sink>(
+    sink: &mut K,
+    buffer: &mut Vec<u8>,
+    lane: Lane,
+    bytes: &[u8],
+) -> Result<(), Failed>
+    ensures bytes { PutsAll (K.held sink.old) (K.held sink.new) result (line lane bytes.now) }
+    ensures cause { HasCause (K.faults sink.old) (K.faults sink.new) result }
+{
+    match spell_line(buffer, lane, bytes) {
+        Ok(()) => match put_all(sink, buffer.as_slice()) {
+            Ok(()) => Ok(()),
+            Err(Failed) => Err(Failed),
+        },
+        Err(AllocError) => match put_line(sink, lane, bytes) {
+            Ok(()) => Ok(()),
+            Err(Failed) => Err(Failed),
+        },
     }
 }

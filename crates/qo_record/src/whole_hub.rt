@@ -3,7 +3,7 @@
 ghost use Rattle.std.specs.Prelude.{◌≡◌, ℕ, Option, None, Some};
 ghost use Rattle.qo_record.specs.Record.{bad_place, stream_inputs};
 
-use crate::lines::put_line;
+use crate::lines::put_message;
 use crate::streams::Stream;
 use qo_causes::{Failed, Hub, Input, Lane, NextError, SendError, Sink};
 
@@ -16,6 +16,8 @@ use qo_causes::{Failed, Hub, Input, Lane, NextError, SendError, Sink};
 pub struct WholeHub<K> {
     stream: Stream,
     sink: K,
+    // Where the line of a message is made.
+    buffer: Vec<u8>,
 }
 
 impl<K: Sink> WholeHub<K> {
@@ -26,9 +28,11 @@ impl<K: Sink> WholeHub<K> {
         ensures sent { ⟦<WholeHub<K> as Hub>⟧.sent result ≡ K.held sink }
         ensures faults { ⟦<WholeHub<K> as Hub>⟧.send_faults result ≡ K.faults sink }
     {
+        let buffer = Vec::new(*bytes.allocator());
         WholeHub {
             stream: Stream::new(bytes),
             sink,
+            buffer,
         }
     }
 
@@ -37,7 +41,11 @@ impl<K: Sink> WholeHub<K> {
         ensures held { K.held result ≡ ⟦<WholeHub<K> as Hub>⟧.sent self }
         ensures faults { K.faults result ≡ ⟦<WholeHub<K> as Hub>⟧.send_faults self }
     {
-        let WholeHub { stream: _, sink } = self;
+        let WholeHub {
+            stream: _,
+            sink,
+            buffer: _,
+        } = self;
         sink
     }
 }
@@ -71,9 +79,9 @@ impl<K: Sink> Hub for WholeHub<K> {
         self.stream.next()
     }
 
-    /// Puts the transcript's line of the message into the sink. It takes no memory.
+    /// Puts the transcript's line of the message into the sink, in one piece where there is memory for it.
     fn send(&mut self, lane: Lane, bytes: &[u8]) -> Result<(), SendError> {
-        match put_line(&mut self.sink, lane, bytes) {
+        match put_message(&mut self.sink, &mut self.buffer, lane, bytes) {
             Ok(()) => Ok(()),
             Err(Failed) => Err(SendError::Failed),
         }
