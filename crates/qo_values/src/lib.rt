@@ -9,6 +9,7 @@ mod kinds;
 mod limits;
 mod names;
 mod properties;
+mod ranges;
 #[cfg(test)]
 mod tests;
 
@@ -23,3 +24,4 @@ pub use limits::{
 };
 pub use names::{Chars, Name, Text};
 pub use properties::{Misfit, PropType, Val};
+pub use ranges::Range;
