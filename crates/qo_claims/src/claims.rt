@@ -143,7 +143,7 @@ impl Kept {
 }
 
 impl Claims {
-    ghost use Rattle.std.specs.Prelude.{◌≡◌, ◌≤◌, IsOkAnd};
+    ghost use Rattle.std.specs.Prelude.{◌≡◌, ◌≤◌, IfOk};
     ghost use Rattle.qo_claims.specs.declared.claims.Claimed.TheVariants as on;
     ghost use Rattle.qo_claims.specs.Answers.{Took, on_whole};
     ghost use Rattle.qo_claims.specs.Lists.{id_answer, birth_answer, slot_answer, range_answer};
@@ -151,7 +151,7 @@ impl Claims {
 
     /// A book in which nothing is held. It takes memory only by the calls `take_..`.
     pub fn new(alloc: Global) -> Result<Claims, Memory>
-        ensures { IsOkAnd result (λ claims. claims ≡ nothing_held) }
+        ensures { IfOk result (λ claims. claims ≡ nothing_held) }
     {
         Ok(Claims {
             devices: Ids::new(alloc),

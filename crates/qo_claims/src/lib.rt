@@ -11,6 +11,8 @@ mod ids;
 mod placing;
 mod ranges;
 mod slots;
+#[cfg(test)]
+mod tests;
 
 pub use claims::{Claim, Claims, Kept, Space, keep};
 pub use errors::{ClaimError, Memory};
