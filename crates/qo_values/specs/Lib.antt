@@ -4,6 +4,7 @@ pub mod Dimm
 pub mod Ids
 pub mod Kinds
 pub mod Names
+pub mod Placing
 pub mod Plain
 pub mod Properties
 pub mod Registers

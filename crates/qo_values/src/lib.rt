@@ -10,6 +10,7 @@ mod limits;
 mod names;
 mod plain;
 mod properties;
+mod ranges;
 #[cfg(test)]
 mod tests;
 
@@ -25,3 +26,4 @@ pub use limits::{
 pub use names::{Chars, Name, Text, TextList};
 pub use plain::{FromJson, from_json, to_json};
 pub use properties::{Misfit, PropList, PropType, Val};
+pub use ranges::Range;

@@ -1,0 +1,5 @@
+pub mod Laid
+pub mod LeastLemmas
+pub mod Multiples
+pub mod SetLemmas
+pub mod Walks

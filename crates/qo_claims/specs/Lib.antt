@@ -1,0 +1,4 @@
+pub mod Answers
+pub mod Gaps
+pub mod Held
+pub mod Lists

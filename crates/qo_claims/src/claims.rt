@@ -1,0 +1,252 @@
+//! Claims, and the book of them.
+
+ghost use Rattle.std.specs.Prelude.{◌≡◌};
+ghost use Rattle.qo_claims.specs.Held.{at_of};
+
+use crate::births::Births;
+use crate::errors::{ClaimError, Memory};
+use crate::ids::Ids;
+use crate::ranges::Ranges;
+use crate::slots::{BusSlot, Slots};
+use qo_values::{Id, Range, Text};
+use std::alloc::Global;
+use std::marker::Model;
+
+/// The spaces of ids.
+#[derive(Clone, Copy, Debug, PartialEq, Eq)]
+pub enum Space {
+    /// The ids of devices.
+    Device,
+    /// The ids of rings.
+    Ring,
+}
+
+/// What a claim is on.
+#[derive(Debug, Drop)]
+pub enum Claimed {
+    /// The id of a device.
+    Device(Text),
+    /// The id of a ring.
+    RingId(Text),
+    /// A slot of a bus.
+    Slot(BusSlot),
+    /// The ring of an id, for its bytes.
+    Ring(Text),
+    /// The memory backend of a birth.
+    Backend(u64),
+    /// A range of addresses.
+    Range(Range),
+}
+
+/// A claim that was taken. It can't be let go: it is spent by `keep` or `Claims::give_back`.
+pub struct Claim {
+    what: Claimed,
+}
+
+/// A claim that is kept. It can't be let go: it is spent by `Claims::free`.
+pub struct Kept {
+    what: Claimed,
+}
+
+/// What is held. A claim on it is made by one of the calls `take_..`, and ends by `give_back`, or
+/// by `free` where it was kept.
+#[derive(Drop)]
+pub struct Claims {
+    devices: Ids,
+    ring_ids: Ids,
+    slots: Slots,
+    rings: Ids,
+    backends: Births,
+    ranges: Ranges,
+}
+
+impl Model for Claim {
+    ghost use Rattle.qo_claims.specs.declared.claims.Claimed.{Claimed};
+
+    ghost Value = { Claimed };
+
+    ghost view = { λ c. c.what };
+}
+
+impl Model for Kept {
+    ghost use Rattle.qo_claims.specs.declared.claims.Claimed.{Claimed};
+
+    ghost Value = { Claimed };
+
+    ghost view = { λ k. k.what };
+}
+
+impl Model for Claims {
+    ghost use Rattle.qo_claims.specs.Held.{Held};
+
+    ghost Value = { Held };
+
+    ghost view = { λ c. record {
+      devices = c.devices;
+      ring_ids = c.ring_ids;
+      slots = c.slots;
+      rings = c.rings;
+      backends = c.backends;
+      ranges = c.ranges;
+    } };
+}
+
+/// The slot or the address that is claimed.
+fn at(what: &Claimed) -> u64
+    ensures { result ≡ at_of what.now }
+{
+    match what {
+        Claimed::Slot(slot) => u64::from(slot.slot),
+        Claimed::Range(range) => range.at,
+        _ => 0,
+    }
+}
+
+/// Keeps a claim. It takes no memory.
+pub fn keep(claim: Claim) -> Kept
+    ensures { result ≡ claim }
+{
+    let Claim { what } = claim;
+    Kept { what }
+}
+
+impl Claim {
+    ghost use Rattle.qo_claims.specs.Held.{at_of};
+
+    /// The slot or the address that is claimed, and 0 for any other claim. It takes no memory.
+    pub fn at(&self) -> u64
+        ensures { result ≡ at_of self.now }
+    {
+        at(&self.what)
+    }
+}
+
+impl Kept {
+    ghost use Rattle.qo_claims.specs.Held.{at_of, size_of};
+
+    /// The slot or the address that is claimed, and 0 for any other claim. It takes no memory.
+    pub fn at(&self) -> u64
+        ensures { result ≡ at_of self.now }
+    {
+        at(&self.what)
+    }
+
+    /// The size of the range that is claimed, and 0 for any other claim. It takes no memory.
+    pub fn size(&self) -> u64
+        ensures { result ≡ size_of self.now }
+    {
+        match &self.what {
+            Claimed::Range(range) => range.size,
+            _ => 0,
+        }
+    }
+}
+
+impl Claims {
+    ghost use Rattle.std.specs.Prelude.{◌≡◌, ◌≤◌, IfOk};
+    ghost use Rattle.qo_claims.specs.declared.claims.Claimed.TheVariants as on;
+    ghost use Rattle.qo_claims.specs.Answers.{Took, on_whole};
+    ghost use Rattle.qo_claims.specs.Lists.{id_answer, birth_answer, slot_answer, range_answer};
+    ghost use Rattle.qo_claims.specs.Held.{nothing_held, ids_of, id_claim, with_claim, without_claim};
+
+    /// A book in which nothing is held. It takes memory only by the calls `take_..`.
+    pub fn new(alloc: Global) -> Result<Claims, Memory>
+        ensures { IfOk result (λ claims. claims ≡ nothing_held) }
+    {
+        Ok(Claims {
+            devices: Ids::new(alloc),
+            ring_ids: Ids::new(alloc),
+            slots: Slots::new(alloc),
+            rings: Ids::new(alloc),
+            backends: Births::new(alloc),
+            ranges: Ranges::new(alloc),
+        })
+    }
+
+    /// Claims an id in a space; `Held` exactly where it is held. An error leaves all as it was.
+    pub fn take_id(&mut self, space: Space, id: &Id) -> Result<Claim, ClaimError>
+        ensures { Took (on_whole (id_claim space) (id_answer id.now (ids_of space self.old))) (λ claim. with_claim claim self.old) self.old self.new result }
+    {
+        let what = match space {
+            Space::Device => Claimed::Device(self.devices.take(id.as_str())?),
+            Space::Ring => Claimed::RingId(self.ring_ids.take(id.as_str())?),
+        };
+        Ok(Claim { what })
+    }
+
+    /// Claims a slot of a bus: the named one, or the least that is free. `Range` exactly where the
+    /// named one is above 7, `Held` exactly where it is held, `Full` exactly where none is named and
+    /// 0 to 7 are held. An error leaves all as it was.
+    pub fn take_slot(&mut self, bus: u64, slot: Option<u8>) -> Result<Claim, ClaimError>
+        ensures { Took (on_whole on.Slot (slot_answer bus slot self.old.slots)) (λ claim. with_claim claim self.old) self.old self.new result }
+    {
+        let slot = self.slots.take(bus, slot)?;
+        Ok(Claim {
+            what: Claimed::Slot(slot),
+        })
+    }
+
+    /// Claims the ring of an id; `Held` exactly where it is held. An error leaves all as it was.
+    pub fn take_ring(&mut self, id: &Id) -> Result<Claim, ClaimError>
+        ensures { Took (on_whole on.Ring (id_answer id.now self.old.rings)) (λ claim. with_claim claim self.old) self.old self.new result }
+    {
+        let id = self.rings.take(id.as_str())?;
+        Ok(Claim {
+            what: Claimed::Ring(id),
+        })
+    }
+
+    /// Claims the memory backend of a birth; `Held` exactly where it is held. An error leaves all as
+    /// it was.
+    pub fn take_backend(&mut self, birth: u64) -> Result<Claim, ClaimError>
+        ensures { Took (on_whole on.Backend (birth_answer birth self.old.backends)) (λ claim. with_claim claim self.old) self.old self.new result }
+    {
+        let birth = self.backends.take(birth)?;
+        Ok(Claim {
+            what: Claimed::Backend(birth),
+        })
+    }
+
+    /// Claims a range of `size` bytes: at the named address, or at its place, a multiple of 4,096.
+    /// `Range` exactly where the named one leaves the window, `Held` exactly where it overlaps one
+    /// that is held, `Full` exactly where none is named and there is no place. An error leaves all as
+    /// it was.
+    pub fn take_range(&mut self, at: Option<u64>, size: u64) -> Result<Claim, ClaimError>
+        requires { 1 ≤ size }
+        ensures { Took (on_whole on.Range (range_answer at size self.old.ranges)) (λ claim. with_claim claim self.old) self.old self.new result }
+    {
+        let range = self.ranges.take(at, size)?;
+        Ok(Claim {
+            what: Claimed::Range(range),
+        })
+    }
+
+    /// Ends a claim, where it is held. It takes no memory.
+    pub fn give_back(&mut self, claim: Claim)
+        ensures { self.new ≡ without_claim claim self.old }
+    {
+        let Claim { what } = claim;
+        self.end(what);
+    }
+
+    /// Ends a kept claim, where it is held. It takes no memory.
+    pub fn free(&mut self, kept: Kept)
+        ensures { self.new ≡ without_claim kept self.old }
+    {
+        let Kept { what } = kept;
+        self.end(what);
+    }
+
+    fn end(&mut self, what: Claimed)
+        ensures { self.new ≡ without_claim what self.old }
+    {
+        match what {
+            Claimed::Device(id) => self.devices.give_back(id.as_str()),
+            Claimed::RingId(id) => self.ring_ids.give_back(id.as_str()),
+            Claimed::Slot(slot) => self.slots.give_back(&slot),
+            Claimed::Ring(id) => self.rings.give_back(id.as_str()),
+            Claimed::Backend(birth) => self.backends.give_back(birth),
+            Claimed::Range(range) => self.ranges.give_back(range),
+        }
+    }
+}

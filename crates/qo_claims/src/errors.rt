@@ -1,0 +1,37 @@
+//! The errors of this crate's calls.
+
+use std::alloc::AllocError;
+use thiserror::Error;
+
+/// There was not enough memory.
+#[derive(Clone, Copy, Debug, PartialEq, Eq, Error)]
+#[error("not enough memory")]
+pub struct Memory;
+
+/// Why nothing was claimed.
+#[derive(Clone, Copy, Debug, PartialEq, Eq, Error)]
+pub enum ClaimError {
+    /// The slot is above 7, or the range leaves the window.
+    #[error("out of range")]
+    Range,
+    /// It is held already; of a range, that one held overlaps it.
+    #[error("held already")]
+    Held,
+    /// All slots of the bus are held, or no gap in the window is large enough.
+    #[error("nothing free")]
+    Full,
+    /// Memory ran out.
+    #[error("not enough memory")]
+    Memory,
+}
+
+impl From<AllocError> for ClaimError {
+    ghost use Rattle.std.specs.Prelude.{◌≡◌};
+    ghost use Rattle.qo_claims.specs.declared.errors.ClaimError.TheVariants as refusal;
+
+    ghost from_gives = { λ _ e. e ≡ refusal.Memory };
+
+    fn from(_error: AllocError) -> ClaimError {
+        ClaimError::Memory
+    }
+}

@@ -1,0 +1,192 @@
+//! What no clause says: that each call that takes memory succeeds where there is enough, and that
+//! the clauses mean what the profile says, at values written by hand.
+use crate::{Claim, ClaimError, Claims, Memory, Space, keep};
+use qo_values::Id;
+use std::alloc::Global;
+use std::test::Fail;
+
+const WINDOW: u64 = 0x1_0000_0000;
+
+const WINDOW_SIZE: u64 = 0x10_0000_0000;
+
+/// A book of claims, of which the tests' proofs know nothing.
+fn book(alloc: Global) -> Result<Claims, Memory> {
+    Claims::new(alloc)
+}
+
+/// What a take gave; a claim is given back at once.
+fn tried(claims: &mut Claims, taken: Result<Claim, ClaimError>) -> Result<u64, ClaimError> {
+    let claim = taken?;
+    let at = claim.at();
+    claims.give_back(claim);
+    Ok(at)
+}
+
+/// Tries a slot.
+fn slot(claims: &mut Claims, bus: u64, slot: Option<u8>) -> Result<u64, ClaimError> {
+    let taken = claims.take_slot(bus, slot);
+    tried(claims, taken)
+}
+
+/// Tries a range of at least one byte.
+fn range(claims: &mut Claims, at: Option<u64>, size: u64) -> Result<u64, ClaimError> {
+    let taken = claims.take_range(at, size.max(1));
+    tried(claims, taken)
+}
+
+/// Tries an id.
+fn id(claims: &mut Claims, space: Space, id: &Id) -> Result<u64, ClaimError> {
+    let taken = claims.take_id(space, id);
+    tried(claims, taken)
+}
+
+/// Tries a ring.
+fn ring(claims: &mut Claims, id: &Id) -> Result<u64, ClaimError> {
+    let taken = claims.take_ring(id);
+    tried(claims, taken)
+}
+
+/// Tries a memory backend.
+fn backend(claims: &mut Claims, birth: u64) -> Result<u64, ClaimError> {
+    let taken = claims.take_backend(birth);
+    tried(claims, taken)
+}
+
+/// Claims an id and a ring, tries them again and beside each other, and ends the claims.
+fn ids_again(claims: &mut Claims, first: &Id, second: &Id) -> Result<bool, ClaimError> {
+    let kept = keep(claims.take_id(Space::Device, first)?);
+    let again = id(claims, Space::Device, first);
+    let other = id(claims, Space::Device, second);
+    let space = id(claims, Space::Ring, first);
+    let apart = ring(claims, first);
+    claims.free(kept);
+    let held = claims.take_ring(second)?;
+    let ring_again = ring(claims, second);
+    let ring_other = ring(claims, first);
+    claims.give_back(held);
+    let refused = again == Err(ClaimError::Held) && ring_again == Err(ClaimError::Held);
+    Ok(refused && other == Ok(0) && space == Ok(0) && apart == Ok(0) && ring_other == Ok(0))
+}
+
+/// Runs it over a new book.
+fn ids_over(alloc: Global, first: &Id, second: &Id) -> Result<bool, Memory> {
+    let mut claims = book(alloc)?;
+    let once = ids_again(&mut claims, first, second);
+    Ok(matches!(once, Ok(true)))
+}
+
+#[test]
+fn ids_of_two_spaces_and_rings_are_apart(rt: HostRuntime) -> Result<(), Fail> {
+    let first = Id::parse(rt.alloc(), "u0")?;
+    let second = Id::parse(rt.alloc(), "u1")?;
+    assert!(rt; ids_over(rt.alloc(), &first, &second)?);
+    Ok(())
+}
+
+/// Claims a backend, tries it and another, and frees it.
+fn backend_again(claims: &mut Claims) -> Result<bool, ClaimError> {
+    let kept = keep(claims.take_backend(9)?);
+    let told = kept.at() == 0 && kept.size() == 0;
+    let again = backend(claims, 9);
+    let other = backend(claims, 10);
+    claims.free(kept);
+    Ok(told && again == Err(ClaimError::Held) && other == Ok(0))
+}
+
+/// Runs it twice over a new book.
+fn backend_twice(alloc: Global) -> Result<bool, Memory> {
+    let mut claims = book(alloc)?;
+    let first = backend_again(&mut claims);
+    let second = backend_again(&mut claims);
+    Ok(matches!((first, second), (Ok(true), Ok(true))))
+}
+
+#[test]
+fn backends_are_held_once(rt: HostRuntime) -> Result<(), Fail> {
+    assert!(rt; backend_twice(rt.alloc())?);
+    Ok(())
+}
+
+/// Takes the least free slots of a bus, so many of them, tries one more and the named one, and
+/// gives all back.
+fn slots_taken(
+    claims: &mut Claims,
+    more: &[u8],
+    named: u8,
+) -> (Result<u64, ClaimError>, Result<u64, ClaimError>) {
+    let [_, rest @ ..] = more else {
+        return (slot(claims, 3, None), slot(claims, 3, Some(named)));
+    };
+    match claims.take_slot(3, None) {
+        Ok(claim) => {
+            let found = slots_taken(claims, rest, named);
+            claims.give_back(claim);
+            found
+        }
+        Err(error) => (Err(error), Err(error)),
+    }
+}
+
+/// Whether the slots of a bus are given from the least, and refused in order.
+fn slots_agree(claims: &mut Claims) -> bool {
+    let ones = [1u8; 8];
+    let (held, full, out) = (ClaimError::Held, ClaimError::Full, ClaimError::Range);
+    slots_taken(claims, &ones[..0], 7) == (Ok(0), Ok(7))
+        && slots_taken(claims, &ones[..1], 0) == (Ok(1), Err(held))
+        && slots_taken(claims, &ones[..7], 6) == (Ok(7), Err(held))
+        && slots_taken(claims, &ones, 7) == (Err(full), Err(held))
+        && slots_taken(claims, &ones, 8) == (Err(full), Err(out))
+}
+
+/// Claims the second slot of a bus, and tries the least and that of another bus.
+fn second_slot(claims: &mut Claims) -> Result<bool, ClaimError> {
+    let second = keep(claims.take_slot(3, Some(1))?);
+    let told = second.at() == 1 && second.size() == 0;
+    let least = slot(claims, 3, None);
+    let other = slot(claims, 4, Some(1));
+    claims.free(second);
+    Ok(told && least == Ok(0) && other == Ok(1))
+}
+
+/// Runs both over a new book.
+fn slots_over(alloc: Global) -> Result<bool, Memory> {
+    let mut claims = book(alloc)?;
+    let second = second_slot(&mut claims);
+    let agree = slots_agree(&mut claims);
+    Ok(matches!(second, Ok(true)) && agree)
+}
+
+#[test]
+fn slots_are_given_from_the_least(rt: HostRuntime) -> Result<(), Fail> {
+    assert!(rt; slots_over(rt.alloc())?);
+    Ok(())
+}
+
+/// Claims a range, tries others, and frees it.
+fn range_again(claims: &mut Claims) -> Result<bool, ClaimError> {
+    let kept = keep(claims.take_range(Some(WINDOW + 8192), 4096)?);
+    let told = kept.at() == WINDOW + 8192 && kept.size() == 4096;
+    let before = range(claims, None, 8192);
+    let behind = range(claims, None, 8193);
+    let over = range(claims, Some(WINDOW), WINDOW_SIZE);
+    let out = range(claims, Some(WINDOW), WINDOW_SIZE + 1);
+    let full = range(claims, None, WINDOW_SIZE);
+    claims.free(kept);
+    let named = over == Err(ClaimError::Held) && out == Err(ClaimError::Range);
+    let placed = before == Ok(WINDOW) && behind == Ok(WINDOW + 12288);
+    Ok(told && named && placed && full == Err(ClaimError::Full))
+}
+
+/// Runs it twice over a new book.
+fn range_twice(alloc: Global) -> Result<bool, Memory> {
+    let mut claims = book(alloc)?;
+    let once = range_again(&mut claims);
+    let twice = range_again(&mut claims);
+    Ok(matches!((once, twice), (Ok(true), Ok(true))))
+}
+
+#[test]
+fn a_range_is_claimed_at_its_address_or_its_place(rt: HostRuntime) -> Result<(), Fail> {
+    assert!(rt; range_twice(rt.alloc())?);
+    Ok(())
+}
