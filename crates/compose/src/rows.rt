@@ -147,11 +147,10 @@ fn copies(alloc: Global, of: &str, count: usize) -> Result<String, Fail> {
 #[test]
 fn depth_has_its_limit(rt: HostRuntime) -> Result<(), Fail> {
     let alloc = rt.alloc();
-    let deep = joined(alloc, &["{\"execute\":", &copies(alloc, "[", 64)?, "\n"])?;
-    let flat = joined(
-        alloc,
-        &["{\"execute\":", &copies(alloc, "[", 63)?, &copies(alloc, "]", 63)?, "}\n"],
-    )?;
+    let opening = copies(alloc, "[", 63)?;
+    let closing = copies(alloc, "]", 63)?;
+    let deep = joined(alloc, &["{\"execute\":", &opening, "[\n"])?;
+    let flat = joined(alloc, &["{\"execute\":", &opening, &closing, "}\n"])?;
     let left = replayed(alloc, &[NEGOTIATE, &deep, &flat])?;
     let too_deep = error(alloc, "GenericError", "E5 object nested too deep", "")?;
     let no_command = error(alloc, "GenericError", "E6 not a command", "")?;

@@ -174,15 +174,8 @@ fn each_failing_take_is_a_read_fault(rt: HostRuntime) -> Result<(), Fail> {
 fn each_failing_put_is_a_write_fault(rt: HostRuntime) -> Result<(), Fail> {
     let record = joined(rt.alloc(), &[OPEN, NEGOTIATE, LIST_ROOT])?;
     let whole = joined(rt.alloc(), &[GREETING, EMPTY, ROOT])?;
-    // Each message is two puts: its lane and a space, and its bytes.
-    let fronts = [
-        0,
-        2,
-        GREETING.len(),
-        GREETING.len() + 2,
-        GREETING.len() + EMPTY.len(),
-        GREETING.len() + EMPTY.len() + 2,
-    ];
+    // Each message is one put.
+    let fronts = [0, GREETING.len(), GREETING.len() + EMPTY.len()];
     for (at, front) in fronts.iter().enumerate() {
         let left = call(
             rt.alloc(),
@@ -196,7 +189,7 @@ fn each_failing_put_is_a_write_fault(rt: HostRuntime) -> Result<(), Fail> {
         assert!(rt; whole.as_bytes().starts_with(left.held.as_slice()));
         assert_eq!(rt; left.told.as_slice(), b"compose: write fault\n".as_slice());
     }
-    let left = call(rt.alloc(), &["replay"], record.as_bytes(), &[], &[7])?;
+    let left = call(rt.alloc(), &["replay"], record.as_bytes(), &[], &[4])?;
     assert_eq!(rt; left.status, Status::Done);
     Ok(())
 }

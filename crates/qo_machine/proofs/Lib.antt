@@ -1,5 +1,7 @@
+pub mod ChunkLemmas
 pub mod CommandLemmas
 pub mod LaneLemmas
+pub mod LawLemmas
 pub mod MachineLemmas
 pub mod RunLemmas
 pub mod SendingLemmas

@@ -1,5 +1,5 @@
 -- One step of the machine.
-use Rattle.std.proofs.Common.{◌≡◌, ◌<◌, ◌+◌, ℕ, zero, suc, Bool, true, false, List, [], ◌∷◌, ◌++◌, length, map, refl, sym, subst, ◌∙◌, ap, arith, append_assoc, Option, Some, None, Result, Ok, Err, IfOk, slice_set, slice_index_or, take}
+use Rattle.std.proofs.Common.{◌≡◌, ◌<◌, ◌+◌, ℕ, zero, suc, Bool, true, false, List, [], ◌∷◌, ◌++◌, length, refl, sym, subst, ◌∙◌, ap, append_assoc, Option, Result, Ok, Err, IfOk, slice_set, slice_index_or, take}
 use Rattle.std.proofs.lemmas.Bool.{lt-ltb}
 use Rattle.std.proofs.lemmas.List.Elements.{filter-append}
 use Rattle.std.proofs.lemmas.Grind.{flat_map-append}
@@ -23,7 +23,7 @@ use Rattle.serde_json.specs.Written.{has_float}
 use Rattle.qo_values.specs.declared.codes.Code.{Code}
 use Rattle.qo_values.specs.declared.codes.Code.TheVariants.{E99}
 use Rattle.qo_machine.specs.Commands.{Done, empty, perform}
-use Rattle.qo_machine.specs.Machine.{Choice, Made, Message, Seen, State, Stepped, Answers, behind, behind_command, commanding, defined, refused, event_outs, finished, first, input_step, item_step, made_by, mode_of, numbers_below, others, reply, serve, serve_unless, session_of, step, those_commanding, told_of, unchanged, with_board, with_session}
+use Rattle.qo_machine.specs.Machine.{Choice, Made, Message, Seen, State, Stepped, Answers, behind, behind_command, commanding, defined, refused, event_outs, first, input_step, item_step, made_by, mode_of, others, reply, serve, serve_unless, session_of, step, those_commanding, told_of, unchanged, with_session}
 use Rattle.qo_machine.specs.Serving.{CommandServed, Serves, moved}
 
 -- behind the end nothing is served
@@ -85,11 +85,11 @@ pub events_more : (at : Moment) (s : State) (es : List Event) (i : ℕ) (e : Eve
 events_more at s es i e start old now below is was more =
     more ∙ ap (λ (outs : List Message). outs ++ told_of e at (commanding s)) was ∙ append_assoc start (event_outs at s (take i es)) (told_of e at (commanding s))
     ∙ ap (λ (outs : List Message). start ++ outs)
-      (ap (λ (outs : List Message). event_outs at s (take i es) ++ outs) (sym (append-nil (told_of e at (commanding s)))) ∙ sym (flat_map-append (λ (event : Event). told_of event at (commanding s)) (take i es) (e ∷ [])) ∙ ap (event_outs at s) (sym (take_one es i e below is)))
+    (ap (λ (outs : List Message). event_outs at s (take i es) ++ outs) (sym (append-nil (told_of e at (commanding s)))) ∙ sym (flat_map-append (λ (event : Event). told_of event at (commanding s)) (take i es) (e ∷ [])) ∙ ap (event_outs at s) (sym (take_one es i e below is)))
 
 -- Items.
 
-behind_twice : (a b : List Message) (r : Stepped) → behind a (behind b r) ≡ behind (a ++ b) r
+pub behind_twice : (a b : List Message) (r : Stepped) → behind a (behind b r) ≡ behind (a ++ b) r
 behind_twice a b r =
     ap (λ (outs : List Message). record { outs = outs; state = r.state; rest = r.rest }) (sym (append_assoc a b r.outs))
 
@@ -106,7 +106,7 @@ serves_more at n s t u is js a b p q = (
 )
 
 -- one
-serve_on : (at : Moment) (n : ℕ) (s : State) (item : Item) (items : List Item) (cs : List Choice) → s.ended ≡ false → serve at n (item ∷ items) s cs ≡ behind (item_step (first cs) at n s item).outs (serve at n items (item_step (first cs) at n s item).state (others cs))
+pub serve_on : (at : Moment) (n : ℕ) (s : State) (item : Item) (items : List Item) (cs : List Choice) → s.ended ≡ false → serve at n (item ∷ items) s cs ≡ behind (item_step (first cs) at n s item).outs (serve at n items (item_step (first cs) at n s item).state (others cs))
 serve_on at n s item items cs going =
     ap (λ (e : Bool). serve_unless e (unchanged s cs) (behind (item_step (first cs) at n s item).outs (serve at n items (item_step (first cs) at n s item).state (others cs)))) going
 
@@ -117,7 +117,7 @@ serves_one at n s t item choice outs going is = (
 )
 
 -- behind the end none is
-stopped : (at : Moment) (n : ℕ) (items : List Item) (s : State) (rest : List Choice) → s.ended ≡ true → serve at n items s rest ≡ unchanged s rest
+pub stopped : (at : Moment) (n : ℕ) (items : List Item) (s : State) (rest : List Choice) → s.ended ≡ true → serve at n items s rest ≡ unchanged s rest
 stopped at n [] s rest over = refl
 stopped at n (i ∷ is) s rest over = rw over refl
 

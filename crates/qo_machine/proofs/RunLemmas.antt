@@ -47,7 +47,7 @@ pub state_more : (ts us : List Turn) (s : State) → state_after s (ts ++ us) �
 state_more [] us s = refl
 state_more (t ∷ ts) us s = state_more ts us (after s t)
 
-outs_more : (ts us : List Turn) (s : State) → outs_of s (ts ++ us) ≡ outs_of s ts ++ outs_of (state_after s ts) us
+pub outs_more : (ts us : List Turn) (s : State) → outs_of s (ts ++ us) ≡ outs_of s ts ++ outs_of (state_after s ts) us
 outs_more [] us s = refl
 outs_more (t ∷ ts) us s =
     ap (λ (outs : List Message). outs_at s t ++ outs) (outs_more ts us (after s t)) ∙ sym (append_assoc (outs_at s t) (outs_of (after s t) ts) (outs_of (state_after (after s t) ts) us))

@@ -1,4 +1,5 @@
 pub mod Commands
+pub mod Laws
 pub mod Machine
 pub mod Runs
 pub mod Sending

@@ -255,12 +255,7 @@ impl Machine {
     }
 
     /// The items that bytes of a session complete.
-    fn feed(
-        &mut self,
-        alloc: Global,
-        session: u8,
-        bytes: &[u8],
-    ) -> Result<Vec<Item>, AllocError>
+    fn feed(&mut self, alloc: Global, session: u8, bytes: &[u8]) -> Result<Vec<Item>, AllocError>
         requires { session < 16 }
         ensures items { IfOk result (λ items. items.items ≡ (fed (session_of self.old.state session) bytes.now).items) }
         ensures state { IfOk result (λ items. self.new.state ≡ with_session self.old.state session (fed (session_of self.old.state session) bytes.now).session) }
@@ -281,12 +276,7 @@ impl Machine {
     }
 
     /// What an item of a session comes to; a negotiation changes its mode.
-    fn heed(
-        &mut self,
-        alloc: Global,
-        session: u8,
-        item: &Item,
-    ) -> Result<SessionAct, AllocError>
+    fn heed(&mut self, alloc: Global, session: u8, item: &Item) -> Result<SessionAct, AllocError>
         requires { session < 16 }
         ensures act { IfOk result (λ what. what ≡ act (mode_of self.old.state session) item.now) }
         ensures state { IfOk result (λ what. self.new.state ≡ moved self.old.state session what) }

@@ -12,7 +12,7 @@ returns-in_ok-push-in-Answer-clause-served c = (
   _,
   c.in_ok-push-in-Answer.ensures,
   item_answered c.args.at c.args.session c.args.machine.now.state c.heed.new.self.state c.args.item.now c.in-Answer.code c.in-Answer.id _ (sym c.if-ended.ensures) (sym c.in-Answer.is ∙ c.in_ok-code.ensures.act)
-  (c.in_ok-code.ensures.state ∙ ap (moved c.args.machine.now.state c.args.session) c.in-Answer.is) (rw c.as_ref.ensures.value at c.in_ok-error_text-in-Answer.ensures),
+      (c.in_ok-code.ensures.state ∙ ap (moved c.args.machine.now.state c.args.session) c.in-Answer.is) (rw c.as_ref.ensures.value at c.in_ok-error_text-in-Answer.ensures),
 )
 
 pub returns-in_ok-push-in-Negotiated-clause-served : goal.returns-in_ok-push-in-Negotiated-clause-served
@@ -20,8 +20,8 @@ returns-in_ok-push-in-Negotiated-clause-served c = (
   _,
   c.in_ok-push-in-Negotiated.ensures,
   item_negotiated c.args.at c.args.session c.args.machine.now.state c.heed.new.self.state c.args.item.now c.in-Negotiated.id _ (sym c.if-ended.ensures) (sym c.in-Negotiated.is ∙ c.in_ok-code.ensures.act)
-  (c.in_ok-code.ensures.state ∙ ap (moved c.args.machine.now.state c.args.session) c.in-Negotiated.is)
-  (negotiated_text c.in-Negotiated.id _ _ c.in_ok-empty-in-Negotiated.ensures (rw c.as_ref-in-Negotiated.ensures.value at c.in_ok-return_text-in-Negotiated.ensures)),
+      (c.in_ok-code.ensures.state ∙ ap (moved c.args.machine.now.state c.args.session) c.in-Negotiated.is)
+      (negotiated_text c.in-Negotiated.id _ _ c.in_ok-empty-in-Negotiated.ensures (rw c.as_ref-in-Negotiated.ensures.value at c.in_ok-return_text-in-Negotiated.ensures)),
 )
 
 pub returns-in_ok-serve_command-in-Do-clause-served : goal.returns-in_ok-serve_command-in-Do-clause-served
@@ -30,6 +30,6 @@ returns-in_ok-serve_command-in-Do-clause-served c =
       served.0,
       served.1,
       item_done c.args.at c.args.session c.args.machine.now.state c.heed.new.self.state c.serve_command.new.machine.state c.args.item.now c.in-Do.request c.in-Do.id served.0 (sym c.if-ended.ensures) (sym c.in-Do.is ∙ c.in_ok-code.ensures.act)
-      (c.in_ok-code.ensures.state ∙ ap (moved c.args.machine.now.state c.args.session) c.in-Do.is)
-      (subst (λ (id : Option (List ℕ)). CommandServed c.args.at c.args.session c.heed.new.self.state c.in-Do.request id served.0 c.serve_command.new.machine.state) c.as_ref-in-Do.ensures.value served.2),
+          (c.in_ok-code.ensures.state ∙ ap (moved c.args.machine.now.state c.args.session) c.in-Do.is)
+          (subst (λ (id : Option (List ℕ)). CommandServed c.args.at c.args.session c.heed.new.self.state c.in-Do.request id served.0 c.serve_command.new.machine.state) c.as_ref-in-Do.ensures.value served.2),
     )

@@ -1,5 +1,5 @@
 -- What a command comes to on the board that the machine has.
-use Rattle.std.proofs.Common.{ap, sym, ◌∙◌}
+use Rattle.std.proofs.Common.{ap, ◌∙◌}
 use Rattle.qo_model.specs.Opening.{opening_board}
 use Rattle.qo_machine.proofs.CommandLemmas.{no_float}
 use Rattle.qo_machine.specs.Commands.{Done}

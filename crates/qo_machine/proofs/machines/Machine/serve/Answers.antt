@@ -1,7 +1,7 @@
 -- An input does what it does by itself, while the run goes on.
-use Rattle.std.proofs.Common.{[], ◌∙◌, ap, sym, refl}
+use Rattle.std.proofs.Common.{[], ◌∙◌, ap, sym}
 use Rattle.qo_causes.specs.declared.inputs.What.TheVariants.{Bytes}
-use Rattle.qo_machine.specs.Machine.{finished, unchanged}
+use Rattle.qo_machine.specs.Machine.{unchanged}
 use Rattle.qo_machine.proofs.MachineLemmas.{answers_ended, answers_on, if_ok, leaves, state_ended}
 use Rattle.qo_machine.proofs.machines.Machine.serve.Goals as goal
 

@@ -1,0 +1,69 @@
+-- What holds of the machine alone.
+use Rattle.std.specs.Prelude.{◌≡◌, ◌≢◌, ℕ, List, [], ◌∷◌, ◌++◌, ⊤}
+use Rattle.std.specs.List.{AllByRecursion}
+use Rattle.qo_causes.specs.declared.hubs.Lane.TheVariants.{Session as to_session}
+use Rattle.qo_causes.specs.declared.inputs.Moment.{Moment}
+use Rattle.qo_causes.specs.declared.inputs.What.{What}
+use Rattle.qo_causes.specs.declared.inputs.What.TheVariants.{Open, Bytes, Shut, Guest}
+use Rattle.qo_framing.specs.declared.items.Item.{Item}
+use Rattle.qo_sessions.specs.Acts.{act}
+use Rattle.qo_sessions.specs.declared.acts.SessionAct.{SessionAct}
+use Rattle.qo_sessions.specs.declared.acts.SessionAct.TheVariants.{Answer, Negotiated, Do}
+use Rattle.qo_machine.specs.Machine.{Choice, Message, State, item_step, mode_of, opening, session_of, step}
+use Rattle.qo_machine.specs.Runs.{Turn, outs_of, state_after}
+
+-- only one session changes, and only it is sent anything
+pub record Alone (n : ℕ) (s : State) (outs : List Message) (t : State) : Type 0 where
+  pub board : t.board ≡ s.board
+  pub guest_line : t.guest_line ≡ s.guest_line
+  pub ended : t.ended ≡ s.ended
+  pub sessions : (m : ℕ) → m ≢ n → session_of t m ≡ session_of s m
+  pub lanes : AllByRecursion (λ (m : Message). m.0 ≡ to_session n) outs
+
+-- an item that is refused by itself, or negotiates; any other is a command
+abbrev pub IsOwn : SessionAct → Type 0
+IsOwn (Answer code id) = ⊤
+IsOwn (Negotiated id) = ⊤
+IsOwn (Do request id) = ⊥
+
+-- opening and shutting touch one session
+abbrev pub OpenAlone : Type 0
+OpenAlone = (s : State) (at : Moment) (n : ℕ) (choices : List Choice) →
+    Alone n s (step s (record { at = at; what = Open n }) choices).outs (step s (record { at = at; what = Open n }) choices).state
+
+abbrev pub ShutAlone : Type 0
+ShutAlone = (s : State) (at : Moment) (n : ℕ) (choices : List Choice) →
+    Alone n s (step s (record { at = at; what = Shut n }) choices).outs (step s (record { at = at; what = Shut n }) choices).state
+
+-- so does an item that is no command
+abbrev pub ItemAlone : Type 0
+ItemAlone = (s : State) (at : Moment) (n : ℕ) (item : Item) (choice : Choice) → IsOwn (act (mode_of s n) item) →
+    Alone n s (item_step choice at n s item).outs (item_step choice at n s item).state
+
+abbrev pub LanesAreApart : Type 0
+LanesAreApart = OpenAlone × ShutAlone × ItemAlone
+
+-- two lists of turns send the same, and lead to the same state
+abbrev pub Matches : List Turn → List Turn → Type 0
+Matches ts us = (outs_of opening ts ≡ outs_of opening us) × (state_after opening ts ≡ state_after opening us)
+
+-- a turn in which no session is lost
+abbrev pub quiet : Moment → What → List Choice → Turn
+quiet at what choices = record { input = record { at = at; what = what }; choices = choices; lost = []; cut = λ _. 0 }
+
+-- of a run, one piece that comes whole, or in two at the same moment
+abbrev pub in_one : (List ℕ → What) → List Turn → List Turn → Moment → List ℕ → List Choice → List Turn
+in_one piece before behind at bytes choices = before ++ quiet at (piece bytes) choices ∷ behind
+
+abbrev pub in_two : (List ℕ → What) → List Turn → List Turn → Moment → List ℕ → List ℕ → List Choice → List Choice → List Turn
+in_two piece before behind at a b first second = before ++ quiet at (piece a) first ∷ quiet at (piece b) second ∷ behind
+
+-- whichever way such a piece comes, there is a run of the other way that sends the same
+abbrev pub CutAnywhere : (List ℕ → What) → Type 0
+CutAnywhere piece = (before behind : List Turn) (at : Moment) (a b : List ℕ) →
+    ((choices : List Choice) → (first second : List Choice) × Matches (in_one piece before behind at (a ++ b) choices) (in_two piece before behind at a b first second))
+    × ((first second : List Choice) → (choices : List Choice) × Matches (in_one piece before behind at (a ++ b) choices) (in_two piece before behind at a b first second))
+
+-- bytes of a session, and of the guest, may be cut anywhere
+abbrev pub ChunksAreFree : Type 0
+ChunksAreFree = ((n : ℕ) → CutAnywhere (Bytes n)) × CutAnywhere Guest
