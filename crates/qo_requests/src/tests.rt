@@ -1,4 +1,4 @@
-use crate::{Command, Parsed, ReadError, read};
+use crate::{Command, Parsed, ReadError, Request, read};
 use qo_values::Code;
 use std::alloc::Global;
 use std::process::Abort;
@@ -579,4 +579,12 @@ fn refuses_bytes_that_are_no_text(rt: HostRuntime) {
         _ => false,
     };
     assert!(rt; refused);
+}
+
+#[test]
+fn reads_a_negotiation(rt: HostRuntime) -> Result<(), Fail> {
+    let Parsed { id, request } = read(rt.alloc(), b"{\"execute\":\"qmp_capabilities\"}")?;
+    assert!(rt; id.is_none());
+    assert!(rt; matches!(request, Request::QmpCapabilities { enable: None }));
+    Ok(())
 }
