@@ -1,4 +1,4 @@
-use crate::{Command, ReadError, read};
+use crate::{Command, Parsed, ReadError, Request, read};
 use qo_values::Code;
 use std::alloc::Global;
 use std::process::Abort;
@@ -7,9 +7,9 @@ use std::test::Fail;
 /// What a message is read into, in short: the request, or the code, each with the id.
 fn told(alloc: Global, message: &str) -> Result<String, Fail> {
     let text = match read(alloc, message.as_bytes()) {
-        Ok(parsed) => match parsed.id {
-            Some(id) => format!(in alloc; "{} {:?}", id.as_str(), parsed.request)?,
-            None => format!(in alloc; "{:?}", parsed.request)?,
+        Ok(Parsed { id, request }) => match id {
+            Some(id) => format!(in alloc; "{} {request:?}", id.as_str())?,
+            None => format!(in alloc; "{request:?}")?,
         },
         Err(
             ReadError::Refused {
@@ -61,6 +61,13 @@ fn names_are_in_byte_order(rt: HostRuntime) {
     }
 }
 
+/// A command without arguments: without the member, and with an empty object.
+fn reads_alone(rt: &impl Abort, alloc: Global, name: &str, want: &str) -> Result<(), Fail> {
+    let alone = format!(in alloc; "{{\"execute\":\"{name}\"}}")?;
+    gives(rt, alloc, alone.as_str(), want)?;
+    calls(rt, alloc, name, "{}", want)
+}
+
 #[test]
 fn reads_commands_without_arguments(rt: HostRuntime) -> Result<(), Fail> {
     let alloc = rt.alloc();
@@ -79,15 +86,7 @@ fn reads_commands_without_arguments(rt: HostRuntime) -> Result<(), Fail> {
         ),
         ("x-query-detached", "XQueryDetached"),
     ] {
-        let alone = format!(in alloc; "{{\"execute\":\"{name}\"}}")?;
-        gives(&rt, alloc, alone.as_str(), want)?;
-        calls(&rt, alloc, name, "{}", want)?;
-        let refused = if name == "qmp_capabilities" {
-            "E13 negotiates"
-        } else {
-            "E13"
-        };
-        calls(&rt, alloc, name, "{\"id\":null}", refused)?;
+        reads_alone(&rt, alloc, name, want)?;
     }
     Ok(())
 }
@@ -245,220 +244,221 @@ fn reads_commands(rt: HostRuntime) -> Result<(), Fail> {
 }
 
 #[test]
-fn refuses_arguments(rt: HostRuntime) -> Result<(), Fail> {
+fn refuses_arguments_of_a_negotiation(rt: HostRuntime) -> Result<(), Fail> {
     let alloc = rt.alloc();
-    for (name, arguments, want) in [
-        ("qmp_capabilities", "{\"x\":1}", "E13 negotiates"),
-        (
-            "qmp_capabilities",
-            "{\"enable\":[\"oob\"],\"x\":1}",
-            "E13 negotiates",
-        ),
-        ("qmp_capabilities", "{\"enable\":null}", "E14 negotiates"),
-        ("qmp_capabilities", "{\"enable\":\"oob\"}", "E14 negotiates"),
-        (
-            "qmp_capabilities",
-            "{\"enable\":[\"oob\",1]}",
-            "E14 negotiates",
-        ),
-        ("qom-list", "{}", "E12"),
-        ("qom-list", "{\"paths\":\"/\"}", "E12"),
-        ("qom-list", "{\"path\":1,\"x\":1}", "E13"),
-        ("qom-list", "{\"path\":1}", "E14"),
-        ("qom-list", "{\"path\":null}", "E14"),
-        ("qom-get", "{\"path\":\"/\"}", "E12"),
-        ("qom-get", "{\"property\":\"p\"}", "E12"),
-        ("qom-get", "{\"path\":\"/\",\"x\":1}", "E12"),
-        (
-            "qom-get",
-            "{\"path\":\"/\",\"property\":\"p\",\"value\":1}",
-            "E13",
-        ),
-        ("qom-get", "{\"path\":[],\"property\":\"p\"}", "E14"),
-        ("qom-get", "{\"path\":\"/\",\"property\":true}", "E14"),
-        ("qom-set", "{\"path\":\"/\",\"property\":\"p\"}", "E12"),
-        (
-            "qom-set",
-            "{\"path\":\"/\",\"property\":\"p\",\"value\":1,\"x\":1}",
-            "E13",
-        ),
-        (
-            "qom-set",
-            "{\"path\":\"/\",\"property\":\"p\",\"value\":null}",
-            "E14",
-        ),
-        (
-            "qom-set",
-            "{\"path\":\"/\",\"property\":\"p\",\"value\":[1]}",
-            "E14",
-        ),
-        (
-            "qom-set",
-            "{\"path\":\"/\",\"property\":\"p\",\"value\":{}}",
-            "E14",
-        ),
-        (
-            "qom-set",
-            "{\"path\":1,\"property\":\"p\",\"value\":1}",
-            "E14",
-        ),
-        (
-            "qom-set",
-            "{\"path\":\"/\",\"property\":1,\"value\":1}",
-            "E14",
-        ),
-        ("qom-list-types", "{\"abstracts\":true}", "E13"),
-        ("qom-list-types", "{\"abstract\":1}", "E14"),
-        ("qom-list-types", "{\"abstract\":null}", "E14"),
-        ("qom-list-types", "{\"implements\":null}", "E14"),
-        ("device-list-properties", "{}", "E12"),
-        (
-            "device-list-properties",
-            "{\"typename\":\"t\",\"x\":1}",
-            "E13",
-        ),
-        ("device-list-properties", "{\"typename\":1}", "E14"),
-        ("object-add", "{\"id\":\"t\"}", "E12"),
-        ("object-add", "{\"qom-type\":\"t\"}", "E12"),
-        ("object-add", "{\"qom-type\":1,\"id\":\"t\"}", "E14"),
-        ("object-add", "{\"qom-type\":\"t\",\"id\":1}", "E14"),
-        (
-            "object-add",
-            "{\"qom-type\":\"t\",\"id\":\"t\",\"p\":null}",
-            "E14",
-        ),
-        (
-            "object-add",
-            "{\"qom-type\":\"t\",\"id\":\"t\",\"p\":[]}",
-            "E14",
-        ),
-        ("object-del", "{}", "E12"),
-        ("object-del", "{\"id\":\"t\",\"x\":1}", "E13"),
-        ("object-del", "{\"id\":false}", "E14"),
-        ("device_add", "{\"id\":\"t\"}", "E12"),
-        ("device_add", "{\"driver\":1}", "E14"),
-        ("device_add", "{\"driver\":\"d\",\"id\":null}", "E14"),
-        ("device_add", "{\"driver\":\"d\",\"bus\":null}", "E14"),
-        ("device_add", "{\"driver\":\"d\",\"id\":1}", "E14"),
-        ("device_add", "{\"driver\":\"d\",\"p\":{}}", "E14"),
-        ("device_add", "{\"driver\":\"d\",\"backend\":{}}", "E14"),
-        ("device_del", "{}", "E12"),
-        ("device_del", "{\"id\":\"t\",\"x\":1}", "E13"),
-        ("device_del", "{\"id\":1}", "E14"),
-        ("chardev-add", "{\"id\":\"r\"}", "E12"),
-        (
-            "chardev-add",
-            "{\"backend\":{\"type\":\"x\",\"data\":{}}}",
-            "E12",
-        ),
+    for (arguments, want) in [
+        ("{\"x\":1}", "E13 negotiates"),
+        ("{\"enable\":[\"oob\"],\"x\":1}", "E13 negotiates"),
+        ("{\"enable\":null}", "E14 negotiates"),
+        ("{\"enable\":\"oob\"}", "E14 negotiates"),
+        ("{\"enable\":[\"oob\",1]}", "E14 negotiates"),
+    ] {
+        calls(&rt, alloc, "qmp_capabilities", arguments, want)?;
+    }
+    Ok(())
+}
+
+#[test]
+fn refuses_missing_arguments(rt: HostRuntime) -> Result<(), Fail> {
+    let alloc = rt.alloc();
+    for (name, arguments) in [
+        ("qom-list", "{}"),
+        ("qom-list", "{\"paths\":\"/\"}"),
+        ("qom-get", "{\"path\":\"/\"}"),
+        ("qom-get", "{\"property\":\"p\"}"),
+        ("qom-get", "{\"path\":\"/\",\"x\":1}"),
+        ("qom-set", "{\"path\":\"/\",\"property\":\"p\"}"),
+        ("device-list-properties", "{}"),
+        ("object-add", "{\"id\":\"t\"}"),
+        ("object-add", "{\"qom-type\":\"t\"}"),
+        ("object-del", "{}"),
+        ("device_add", "{\"id\":\"t\"}"),
+        ("device_del", "{}"),
+        ("chardev-add", "{\"id\":\"r\"}"),
+        ("chardev-add", "{\"backend\":{\"type\":\"x\",\"data\":{}}}"),
         (
             "chardev-add",
             "{\"id\":\"r\",\"backend\":{\"type\":\"x\"},\"q\":1}",
-            "E12",
         ),
+        ("chardev-add", "{\"id\":\"r\",\"backend\":{\"data\":{}}}"),
+        ("chardev-remove", "{}"),
+        ("ringbuf-read", "{\"device\":\"r\"}"),
+        ("ringbuf-read", "{\"size\":1}"),
+        ("ringbuf-write", "{\"device\":\"r\"}"),
+        ("ringbuf-write", "{\"data\":\"d\"}"),
+        ("x-reset-hold", "{}"),
+        ("x-reset-release", "{}"),
+        ("x-sever", "{}"),
+        ("x-query-notes", "{}"),
+        ("x-step", "{}"),
+        ("x-guest", "{}"),
+    ] {
+        calls(&rt, alloc, name, arguments, "E12")?;
+    }
+    Ok(())
+}
+
+#[test]
+fn refuses_unexpected_arguments(rt: HostRuntime) -> Result<(), Fail> {
+    let alloc = rt.alloc();
+    for (name, arguments) in [
+        ("qom-list", "{\"path\":1,\"x\":1}"),
+        ("qom-get", "{\"path\":\"/\",\"property\":\"p\",\"value\":1}"),
         (
-            "chardev-add",
-            "{\"id\":\"r\",\"backend\":{\"data\":{}}}",
-            "E12",
+            "qom-set",
+            "{\"path\":\"/\",\"property\":\"p\",\"value\":1,\"x\":1}",
         ),
+        ("qom-list-types", "{\"abstracts\":true}"),
+        ("device-list-properties", "{\"typename\":\"t\",\"x\":1}"),
+        ("object-del", "{\"id\":\"t\",\"x\":1}"),
+        ("device_del", "{\"id\":\"t\",\"x\":1}"),
         (
             "chardev-add",
             "{\"id\":5,\"backend\":{\"type\":\"x\",\"data\":{\"q\":1}}}",
-            "E13",
         ),
         (
             "chardev-add",
             "{\"id\":5,\"backend\":{\"type\":\"x\",\"data\":{},\"q\":1}}",
-            "E13",
         ),
-        ("chardev-add", "{\"id\":5,\"backend\":5,\"q\":1}", "E13"),
-        ("chardev-add", "{\"id\":\"r\",\"backend\":\"x\"}", "E14"),
-        ("chardev-add", "{\"id\":\"r\",\"backend\":null}", "E14"),
+        ("chardev-add", "{\"id\":5,\"backend\":5,\"q\":1}"),
+        ("chardev-remove", "{\"id\":\"r\",\"x\":1}"),
+        (
+            "ringbuf-read",
+            "{\"device\":\"r\",\"size\":1048577,\"x\":1}",
+        ),
+        (
+            "ringbuf-write",
+            "{\"device\":\"r\",\"data\":\"d\",\"size\":1}",
+        ),
+        ("x-reset-hold", "{\"path\":\"p\",\"x\":1}"),
+        ("x-reset-release", "{\"path\":\"p\",\"x\":1}"),
+        ("x-sever", "{\"birth\":1,\"x\":1}"),
+        ("x-query-notes", "{\"from\":1,\"x\":1}"),
+        ("x-step", "{\"ns\":1,\"x\":1}"),
+        ("x-guest", "{\"line\":\"l\",\"x\":1}"),
+        ("query-version", "{\"id\":null}"),
+        ("query-commands", "{\"id\":null}"),
+        ("query-status", "{\"id\":null}"),
+        ("stop", "{\"id\":null}"),
+        ("cont", "{\"id\":null}"),
+        ("system_reset", "{\"id\":null}"),
+        ("quit", "{\"id\":null}"),
+        ("x-query-detached", "{\"id\":null}"),
+    ] {
+        calls(&rt, alloc, name, arguments, "E13")?;
+    }
+    Ok(())
+}
+
+#[test]
+fn refuses_other_kinds_for_objects(rt: HostRuntime) -> Result<(), Fail> {
+    let alloc = rt.alloc();
+    for (name, arguments) in [
+        ("qom-list", "{\"path\":1}"),
+        ("qom-list", "{\"path\":null}"),
+        ("qom-get", "{\"path\":[],\"property\":\"p\"}"),
+        ("qom-get", "{\"path\":\"/\",\"property\":true}"),
+        (
+            "qom-set",
+            "{\"path\":\"/\",\"property\":\"p\",\"value\":null}",
+        ),
+        (
+            "qom-set",
+            "{\"path\":\"/\",\"property\":\"p\",\"value\":[1]}",
+        ),
+        (
+            "qom-set",
+            "{\"path\":\"/\",\"property\":\"p\",\"value\":{}}",
+        ),
+        ("qom-set", "{\"path\":1,\"property\":\"p\",\"value\":1}"),
+        ("qom-set", "{\"path\":\"/\",\"property\":1,\"value\":1}"),
+        ("qom-list-types", "{\"abstract\":1}"),
+        ("qom-list-types", "{\"abstract\":null}"),
+        ("qom-list-types", "{\"implements\":null}"),
+        ("device-list-properties", "{\"typename\":1}"),
+        ("object-add", "{\"qom-type\":1,\"id\":\"t\"}"),
+        ("object-add", "{\"qom-type\":\"t\",\"id\":1}"),
+        ("object-add", "{\"qom-type\":\"t\",\"id\":\"t\",\"p\":null}"),
+        ("object-add", "{\"qom-type\":\"t\",\"id\":\"t\",\"p\":[]}"),
+        ("object-del", "{\"id\":false}"),
+    ] {
+        calls(&rt, alloc, name, arguments, "E14")?;
+    }
+    Ok(())
+}
+
+#[test]
+fn refuses_other_kinds_for_devices(rt: HostRuntime) -> Result<(), Fail> {
+    let alloc = rt.alloc();
+    for (name, arguments) in [
+        ("device_add", "{\"driver\":1}"),
+        ("device_add", "{\"driver\":\"d\",\"id\":null}"),
+        ("device_add", "{\"driver\":\"d\",\"bus\":null}"),
+        ("device_add", "{\"driver\":\"d\",\"id\":1}"),
+        ("device_add", "{\"driver\":\"d\",\"p\":{}}"),
+        ("device_add", "{\"driver\":\"d\",\"backend\":{}}"),
+        ("device_del", "{\"id\":1}"),
+        ("x-reset-hold", "{\"path\":1}"),
+        ("x-reset-release", "{\"path\":1}"),
+        ("x-sever", "{\"birth\":-1}"),
+        ("x-sever", "{\"birth\":\"1\"}"),
+        ("x-query-notes", "{\"from\":-1}"),
+        ("x-query-notes", "{\"from\":\"1\"}"),
+        ("x-step", "{\"ns\":-1}"),
+        ("x-step", "{\"ns\":\"1\"}"),
+        ("x-guest", "{\"line\":1}"),
+    ] {
+        calls(&rt, alloc, name, arguments, "E14")?;
+    }
+    Ok(())
+}
+
+#[test]
+fn refuses_other_kinds_for_rings(rt: HostRuntime) -> Result<(), Fail> {
+    let alloc = rt.alloc();
+    for (name, arguments) in [
+        ("chardev-add", "{\"id\":\"r\",\"backend\":\"x\"}"),
+        ("chardev-add", "{\"id\":\"r\",\"backend\":null}"),
         (
             "chardev-add",
             "{\"id\":\"r\",\"backend\":{\"type\":\"x\",\"data\":\"size\"}}",
-            "E14",
         ),
         (
             "chardev-add",
             "{\"id\":\"r\",\"backend\":{\"type\":1,\"data\":{}}}",
-            "E14",
         ),
         (
             "chardev-add",
             "{\"id\":\"r\",\"backend\":{\"type\":\"x\",\"data\":{\"size\":null}}}",
-            "E14",
         ),
         (
             "chardev-add",
             "{\"id\":\"r\",\"backend\":{\"type\":\"x\",\"data\":{\"size\":-1}}}",
-            "E14",
         ),
         (
             "chardev-add",
             "{\"id\":1,\"backend\":{\"type\":\"x\",\"data\":{}}}",
-            "E14",
         ),
-        ("chardev-remove", "{}", "E12"),
-        ("chardev-remove", "{\"id\":\"r\",\"x\":1}", "E13"),
-        ("chardev-remove", "{\"id\":{}}", "E14"),
-        ("ringbuf-read", "{\"device\":\"r\"}", "E12"),
-        ("ringbuf-read", "{\"size\":1}", "E12"),
-        (
-            "ringbuf-read",
-            "{\"device\":\"r\",\"size\":1048577,\"x\":1}",
-            "E13",
-        ),
-        ("ringbuf-read", "{\"device\":\"r\",\"size\":1048577}", "E14"),
-        ("ringbuf-read", "{\"device\":\"r\",\"size\":-1}", "E14"),
-        ("ringbuf-read", "{\"device\":1,\"size\":1}", "E14"),
+        ("chardev-remove", "{\"id\":{}}"),
+        ("ringbuf-read", "{\"device\":\"r\",\"size\":1048577}"),
+        ("ringbuf-read", "{\"device\":\"r\",\"size\":-1}"),
+        ("ringbuf-read", "{\"device\":1,\"size\":1}"),
         (
             "ringbuf-read",
             "{\"device\":\"r\",\"size\":1,\"format\":\"hex\"}",
-            "E14",
         ),
         (
             "ringbuf-read",
             "{\"device\":\"r\",\"size\":1,\"format\":null}",
-            "E14",
         ),
-        ("ringbuf-write", "{\"device\":\"r\"}", "E12"),
-        ("ringbuf-write", "{\"data\":\"d\"}", "E12"),
-        (
-            "ringbuf-write",
-            "{\"device\":\"r\",\"data\":\"d\",\"size\":1}",
-            "E13",
-        ),
-        ("ringbuf-write", "{\"device\":1,\"data\":\"d\"}", "E14"),
-        ("ringbuf-write", "{\"device\":\"r\",\"data\":1}", "E14"),
+        ("ringbuf-write", "{\"device\":1,\"data\":\"d\"}"),
+        ("ringbuf-write", "{\"device\":\"r\",\"data\":1}"),
         (
             "ringbuf-write",
             "{\"device\":\"r\",\"data\":\"d\",\"format\":1}",
-            "E14",
         ),
-        ("x-reset-hold", "{}", "E12"),
-        ("x-reset-hold", "{\"path\":\"p\",\"x\":1}", "E13"),
-        ("x-reset-hold", "{\"path\":1}", "E14"),
-        ("x-reset-release", "{}", "E12"),
-        ("x-reset-release", "{\"path\":\"p\",\"x\":1}", "E13"),
-        ("x-reset-release", "{\"path\":1}", "E14"),
-        ("x-sever", "{}", "E12"),
-        ("x-sever", "{\"birth\":1,\"x\":1}", "E13"),
-        ("x-sever", "{\"birth\":-1}", "E14"),
-        ("x-sever", "{\"birth\":\"1\"}", "E14"),
-        ("x-query-notes", "{}", "E12"),
-        ("x-query-notes", "{\"from\":1,\"x\":1}", "E13"),
-        ("x-query-notes", "{\"from\":-1}", "E14"),
-        ("x-query-notes", "{\"from\":\"1\"}", "E14"),
-        ("x-step", "{}", "E12"),
-        ("x-step", "{\"ns\":1,\"x\":1}", "E13"),
-        ("x-step", "{\"ns\":-1}", "E14"),
-        ("x-step", "{\"ns\":\"1\"}", "E14"),
-        ("x-guest", "{}", "E12"),
-        ("x-guest", "{\"line\":\"l\",\"x\":1}", "E13"),
-        ("x-guest", "{\"line\":1}", "E14"),
     ] {
-        calls(&rt, alloc, name, arguments, want)?;
+        calls(&rt, alloc, name, arguments, "E14")?;
     }
     Ok(())
 }
@@ -579,4 +579,12 @@ fn refuses_bytes_that_are_no_text(rt: HostRuntime) {
         _ => false,
     };
     assert!(rt; refused);
+}
+
+#[test]
+fn reads_a_negotiation(rt: HostRuntime) -> Result<(), Fail> {
+    let Parsed { id, request } = read(rt.alloc(), b"{\"execute\":\"qmp_capabilities\"}")?;
+    assert!(rt; id.is_none());
+    assert!(rt; matches!(request, Request::QmpCapabilities { enable: None }));
+    Ok(())
 }

@@ -5,6 +5,8 @@ use crate::{
     Val, from_json, to_json,
 };
 use serde_json::Value;
+use std::alloc::Global;
+use std::process::Abort;
 use std::test::Fail;
 
 #[test]
@@ -171,11 +173,22 @@ fn lists_are_lent_as_given(rt: HostRuntime) -> Result<(), Fail> {
     Ok(())
 }
 
+/// A plain value is read, shown so, and told by the text that it was read from.
+fn is_told(rt: &impl Abort, alloc: Global, text: &str, shown: &str) -> Result<(), Fail> {
+    let val = from_json(alloc, &Value::from_str(alloc, text)?)?;
+    let given = format!(in alloc; "{val:?}")?;
+    assert!(rt; given.as_str() == shown, "{text}: {given}");
+    let told = to_json(alloc, &val)?.to_string(alloc)?;
+    assert!(rt; told.as_str() == text, "{text}: {told}");
+    Ok(())
+}
+
 #[test]
 fn plain_values_are_told_as_they_were_read(rt: HostRuntime) -> Result<(), Fail> {
     let alloc = rt.alloc();
     for (text, shown) in [
         ("true", "Bool(true)"),
+        ("false", "Bool(false)"),
         ("0", "Uint(0)"),
         ("18446744073709551615", "Uint(18446744073709551615)"),
         ("-1", "Int(-1)"),
@@ -183,11 +196,7 @@ fn plain_values_are_told_as_they_were_read(rt: HostRuntime) -> Result<(), Fail> 
         ("\"\"", "Text(Text { text: \"\" })"),
         ("\"é\"", "Text(Text { text: \"é\" })"),
     ] {
-        let val = from_json(alloc, &Value::from_str(alloc, text)?)?;
-        let given = format!(in alloc; "{val:?}")?;
-        assert_eq!(rt; given.as_str(), shown);
-        let told = to_json(alloc, &val)?.to_string(alloc)?;
-        assert_eq!(rt; told.as_str(), text);
+        is_told(&rt, alloc, text, shown)?;
     }
     Ok(())
 }
