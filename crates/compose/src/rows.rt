@@ -1,8 +1,8 @@
 //! Worked sessions over the whole recorded stream, byte for byte through the top call. Expected texts
 //! are written out by hand.
 
-use crate::tests::{Left, call};
 use crate::Status;
+use crate::tests::{Left, call};
 use std::alloc::Global;
 use std::test::Fail;
 
@@ -54,7 +54,15 @@ fn joined(alloc: Global, parts: &[&str]) -> Result<String, Fail> {
 fn error(alloc: Global, class: &str, description: &str, behind: &str) -> Result<String, Fail> {
     joined(
         alloc,
-        &["0 {\"error\":{\"class\":\"", class, "\",\"desc\":\"", description, "\"}", behind, "}\r\n"],
+        &[
+            "0 {\"error\":{\"class\":\"",
+            class,
+            "\",\"desc\":\"",
+            description,
+            "\"}",
+            behind,
+            "}\r\n",
+        ],
     )
 }
 
@@ -73,11 +81,19 @@ fn negotiation_stands_before_arguments(rt: HostRuntime) -> Result<(), Fail> {
             "{\"execute\":\"qmp_capabilities\"}\n",
         ],
     )?;
-    let early = error(alloc, "CommandNotFound", "E8 negotiation expected", ",\"id\":7")?;
+    let early = error(
+        alloc,
+        "CommandNotFound",
+        "E8 negotiation expected",
+        ",\"id\":7",
+    )?;
     let offered = error(alloc, "GenericError", "E11 capability not offered", "")?;
     let missing = error(alloc, "GenericError", "E12 argument missing", ",\"id\":7")?;
     let twice = error(alloc, "CommandNotFound", "E9 negotiation already done", "")?;
-    let want = joined(alloc, &[GREETING, &early, &offered, &early, EMPTY, &missing, &twice])?;
+    let want = joined(
+        alloc,
+        &[GREETING, &early, &offered, &early, EMPTY, &missing, &twice],
+    )?;
     assert_eq!(rt; left.status, Status::Done);
     assert_eq!(rt; left.held.as_slice(), want.as_bytes());
     Ok(())
@@ -105,7 +121,10 @@ const FRAMED: [(&str, &str); 4] = [
     ("{\"execute\":\"x\u{1}", "E3 object broken off"),
     ("\"}\n", "E2 input outside an object"),
     ("[1,{\"a\":2}]\n", "E2 input outside an object"),
-    ("{\"execute\":\"stop\",\"id\":1.5}\n", "E7 number not whole in 64 bits"),
+    (
+        "{\"execute\":\"stop\",\"id\":1.5}\n",
+        "E7 number not whole in 64 bits",
+    ),
 ];
 
 #[test]
@@ -229,15 +248,28 @@ fn commands_are_answered(rt: HostRuntime) -> Result<(), Fail> {
 #[test]
 fn quit_ends_the_run(rt: HostRuntime) -> Result<(), Fail> {
     let alloc = rt.alloc();
-    let record = "qrec 1\nopen 1.000000 0\nopen 1.000000 1\nopen 1.000000 2\nbytes 1.000000 0 30\n{\"execute\":\"qmp_capabilities\"}\nbytes 1.000000 1 30\n{\"execute\":\"qmp_capabilities\"}\nbytes 1.000000 1 18\n{\"execute\":\"quit\"}\nbytes 1.000000 0 26\n{\"execute\":\"query-status\"}\nwhat is no entry";
+    let record =
+        "qrec 1\nopen 1.000000 0\nopen 1.000000 1\nopen 1.000000 2\nbytes 1.000000 0 30\n{\"execute\":\"qmp_capabilities\"}\nbytes 1.000000 1 30\n{\"execute\":\"qmp_capabilities\"}\nbytes 1.000000 1 18\n{\"execute\":\"quit\"}\nbytes 1.000000 0 26\n{\"execute\":\"query-status\"}\nwhat is no entry";
     let left = call(alloc, &["replay"], record.as_bytes(), &[], &[])?;
     let greeting = GREETING.strip_prefix("0 ").unwrap_or("");
-    let shutdown = "{\"data\":{\"guest\":false,\"reason\":\"host-qmp-quit\"},\"event\":\"SHUTDOWN\",\"timestamp\":{\"microseconds\":0,\"seconds\":1}}\r\n";
+    let shutdown =
+        "{\"data\":{\"guest\":false,\"reason\":\"host-qmp-quit\"},\"event\":\"SHUTDOWN\",\"timestamp\":{\"microseconds\":0,\"seconds\":1}}\r\n";
     let want = joined(
         alloc,
         &[
-            "0 ", greeting, "1 ", greeting, "2 ", greeting, EMPTY, "1 {\"return\":{}}\r\n", "0 ", shutdown, "1 ",
-            shutdown, "1 {\"return\":{}}\r\n",
+            "0 ",
+            greeting,
+            "1 ",
+            greeting,
+            "2 ",
+            greeting,
+            EMPTY,
+            "1 {\"return\":{}}\r\n",
+            "0 ",
+            shutdown,
+            "1 ",
+            shutdown,
+            "1 {\"return\":{}}\r\n",
         ],
     )?;
     assert_eq!(rt; left.status, Status::Done);
@@ -249,7 +281,8 @@ fn quit_ends_the_run(rt: HostRuntime) -> Result<(), Fail> {
 #[test]
 fn entries_of_every_kind_are_taken(rt: HostRuntime) -> Result<(), Fail> {
     let alloc = rt.alloc();
-    let record = "qrec 1\nopen 0.000000 15\nguest 0.000001 5\npoll\n\nstep 2.000000 25\nshut 9223372036854775807.999999 15\nopen 1.000000 15\n";
+    let record =
+        "qrec 1\nopen 0.000000 15\nguest 0.000001 5\npoll\n\nstep 2.000000 25\nshut 9223372036854775807.999999 15\nopen 1.000000 15\n";
     let left = call(alloc, &["replay"], record.as_bytes(), &[], &[])?;
     let greeting = GREETING.strip_prefix("0 ").unwrap_or("");
     let want = joined(alloc, &["15 ", greeting, "15 ", greeting])?;

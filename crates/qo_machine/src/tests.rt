@@ -77,8 +77,14 @@ fn a_session_is_greeted_and_served(rt: HostRuntime) -> Result<(), Fail> {
     assert_eq!(rt; told(alloc, &opened)?, joined(alloc, &[b"0", GREETING])?);
     let again = machine.step(alloc, &input(What::Open(0)))?;
     assert_eq!(rt; again.as_slice().len(), 0);
-    let served = machine.step(alloc, &bytes(alloc, 0, &joined(alloc, &[NEGOTIATE, LIST_ROOT, STATUS])?)?)?;
-    assert_eq!(rt; told(alloc, &served)?, joined(alloc, &[b"0", EMPTY, b"0", ROOT, b"0", RUNNING])?);
+    let served = machine.step(
+        alloc,
+        &bytes(alloc, 0, &joined(alloc, &[NEGOTIATE, LIST_ROOT, STATUS])?)?,
+    )?;
+    assert_eq!(rt;
+        told(alloc, &served)?,
+        joined(alloc, &[b"0", EMPTY, b"0", ROOT, b"0", RUNNING])?
+    );
     let over = machine.step(alloc, &input(What::End))?;
     assert_eq!(rt; over.as_slice().len(), 0);
     assert!(rt; machine.ended());
@@ -90,14 +96,47 @@ fn inputs_that_change_nothing(rt: HostRuntime) -> Result<(), Fail> {
     let alloc = rt.alloc();
     let mut machine = Machine::start(alloc)?;
     for session in [16u8, 255] {
-        assert_eq!(rt; machine.step(alloc, &input(What::Open(session)))?.as_slice().len(), 0);
-        assert_eq!(rt; machine.step(alloc, &bytes(alloc, session, STATUS)?)?.as_slice().len(), 0);
-        assert_eq!(rt; machine.step(alloc, &input(What::Shut(session)))?.as_slice().len(), 0);
+        assert_eq!(rt;
+            machine
+                .step(alloc, &input(What::Open(session)))?
+                .as_slice()
+                .len(),
+            0
+        );
+        assert_eq!(rt;
+            machine
+                .step(alloc, &bytes(alloc, session, STATUS)?)?
+                .as_slice()
+                .len(),
+            0
+        );
+        assert_eq!(rt;
+            machine
+                .step(alloc, &input(What::Shut(session)))?
+                .as_slice()
+                .len(),
+            0
+        );
     }
-    assert_eq!(rt; machine.step(alloc, &input(What::Shut(3)))?.as_slice().len(), 0);
-    assert_eq!(rt; machine.step(alloc, &input(What::Step(25)))?.as_slice().len(), 0);
+    assert_eq!(rt;
+        machine.step(alloc, &input(What::Shut(3)))?.as_slice().len(),
+        0
+    );
+    assert_eq!(rt;
+        machine
+            .step(alloc, &input(What::Step(25)))?
+            .as_slice()
+            .len(),
+        0
+    );
     let guest = Chunk::from_vec(Vec::from_slice(alloc, b"poll\n")?);
-    assert_eq!(rt; machine.step(alloc, &input(What::Guest(guest)))?.as_slice().len(), 0);
+    assert_eq!(rt;
+        machine
+            .step(alloc, &input(What::Guest(guest)))?
+            .as_slice()
+            .len(),
+        0
+    );
     assert!(rt; !machine.ended());
     Ok(())
 }
@@ -107,13 +146,21 @@ fn a_session_that_shuts_loses_what_is_unfinished(rt: HostRuntime) -> Result<(), 
     let alloc = rt.alloc();
     let mut machine = Machine::start(alloc)?;
     machine.step(alloc, &input(What::Open(15)))?;
-    machine.step(alloc, &bytes(alloc, 15, &joined(alloc, &[NEGOTIATE, b"{\"execute\":"])?)?)?;
+    machine.step(
+        alloc,
+        &bytes(alloc, 15, &joined(alloc, &[NEGOTIATE, b"{\"execute\":"])?)?,
+    )?;
     machine.step(alloc, &input(What::Shut(15)))?;
     machine.step(alloc, &input(What::Open(15)))?;
     let served = machine.step(alloc, &bytes(alloc, 15, b"\"stop\"}\n")?)?;
     assert_eq!(rt;
         told(alloc, &served)?,
-        joined(alloc, &[b"5{\"error\":{\"class\":\"GenericError\",\"desc\":\"E2 input outside an object\"}}\r\n"])?
+        joined(
+            alloc,
+            &[
+                b"5{\"error\":{\"class\":\"GenericError\",\"desc\":\"E2 input outside an object\"}}\r\n"
+            ]
+        )?
     );
     Ok(())
 }
@@ -159,7 +206,10 @@ fn a_run_sends_each_message(rt: HostRuntime) -> Result<(), Fail> {
     let alloc = rt.alloc();
     let mut hub = listing_hub(alloc, &[], &[])?;
     assert_eq!(rt; run(alloc, &mut hub, 4), Ending::Done);
-    assert_eq!(rt; hub.lane(Lane::Session(0)), joined(alloc, &[GREETING, EMPTY, ROOT])?.as_slice());
+    assert_eq!(rt;
+        hub.lane(Lane::Session(0)),
+        joined(alloc, &[GREETING, EMPTY, ROOT])?.as_slice()
+    );
     assert_eq!(rt; hub.lane(Lane::Guest), b"".as_slice());
     Ok(())
 }
@@ -207,7 +257,10 @@ fn a_lost_session_is_sent_nothing_more(rt: HostRuntime) -> Result<(), Fail> {
         Vec::from_slice(alloc, &[4])?,
     )?;
     assert_eq!(rt; run(alloc, &mut hub, 99), Ending::Done);
-    assert_eq!(rt; hub.lane(Lane::Session(0)), joined(alloc, &[GREETING, EMPTY, RUNNING])?.as_slice());
+    assert_eq!(rt;
+        hub.lane(Lane::Session(0)),
+        joined(alloc, &[GREETING, EMPTY, RUNNING])?.as_slice()
+    );
     assert_eq!(rt; hub.lane(Lane::Session(1)), GREETING);
     Ok(())
 }

@@ -124,11 +124,13 @@ fn judged(alloc: Global, mode: Mode, bytes: &[u8]) -> Result<SessionAct, Memory>
 {
     match read(alloc, bytes) {
         Ok(parsed) => Ok(asked(mode, parsed)),
-        Err(ReadError::Refused {
-            code,
-            id,
-            negotiates,
-        }) => Ok(SessionAct::Answer(refusal_code(mode, negotiates, code), id)),
+        Err(
+            ReadError::Refused {
+                code,
+                id,
+                negotiates,
+            },
+        ) => Ok(SessionAct::Answer(refusal_code(mode, negotiates, code), id)),
         Err(ReadError::Memory) => Err(Memory),
     }
 }

@@ -98,7 +98,11 @@ fn refusals_of_a_negotiation(rt: HostRuntime) -> Result<(), Fail> {
 fn bad_items_have_their_codes_in_both_modes(rt: HostRuntime) -> Result<(), Fail> {
     let alloc = rt.alloc();
     let mut session = Session::begin(alloc)?;
-    let bad = acts(alloc, &mut session, b"x\n{\x01{\"execute\":\"qmp_capabilities\"}x\n{\x01")?;
+    let bad = acts(
+        alloc,
+        &mut session,
+        b"x\n{\x01{\"execute\":\"qmp_capabilities\"}x\n{\x01",
+    )?;
     assert_eq!(rt; bad.as_str(), "E2 E3 negotiated E2 E3 ");
     Ok(())
 }
