@@ -1,6 +1,6 @@
 //! What no clause says: that each call that takes memory succeeds where there is enough, and that
 //! the clauses mean what the profile says, at values written by hand.
-use crate::{Claim, ClaimError, Claims, Memory, Space, keep, place};
+use crate::{Claim, ClaimError, Claims, Memory, Range, Space, keep, place};
 use qo_values::Id;
 use std::alloc::Global;
 use std::test::Fail;
@@ -10,6 +10,9 @@ const WINDOW: u64 = 0x1_0000_0000;
 const WINDOW_SIZE: u64 = 0x10_0000_0000;
 
 const END: u64 = 0x11_0000_0000;
+
+/// A quarter of the window.
+const CELL: u64 = 0x4_0000_0000;
 
 /// A book of claims, of which the tests' proofs know nothing.
 fn book(alloc: Global) -> Result<Claims, Memory> {
@@ -323,4 +326,92 @@ fn a_place_is_aligned_and_in_the_window(rt: HostRuntime) {
     assert_eq!(rt; place(&[], 1, END - 1), Some(END - 1));
     assert_eq!(rt; place(&[], 2, END - 1), None);
     assert_eq!(rt; place(&[], 1, u64::MAX), None);
+}
+
+/// The ranges of the quarters of the window that a mask has, each `short` bytes short.
+fn quarters(mask: u8, short: u64) -> [Option<Range>; 4] {
+    [
+        quarter(mask & 1, 0, short),
+        quarter(mask & 2, 1, short),
+        quarter(mask & 4, 2, short),
+        quarter(mask & 8, 3, short),
+    ]
+}
+
+/// The range of a quarter of the window, `short` bytes short, where a bit of a mask has it.
+fn quarter(bit: u8, number: u64, short: u64) -> Option<Range> {
+    if bit == 0 {
+        return None;
+    }
+    let at = WINDOW.saturating_add(CELL.saturating_mul(number));
+    let size = CELL.saturating_sub(short);
+    Some(Range { at, size })
+}
+
+/// Whether bytes overlap a range.
+fn meets(held: &Option<Range>, at: u64, size: u64) -> bool {
+    let Some(range) = held else {
+        return false;
+    };
+    range.at < at.saturating_add(size) && at < range.at.saturating_add(range.size)
+}
+
+/// Whether bytes end in the window and overlap none of the ranges.
+fn is_free(held: &[Option<Range>], at: u64, size: u64) -> bool {
+    at.saturating_add(size) <= END && !held.iter().any(|range| meets(range, at, size))
+}
+
+/// The first quarter of the window at whose start bytes fit.
+fn searched(held: &[Option<Range>], size: u64) -> Option<u64> {
+    [0, 1, 2, 3]
+        .into_iter()
+        .map(|number| WINDOW.saturating_add(CELL.saturating_mul(number)))
+        .find(|at| is_free(held, *at, size))
+}
+
+/// Claims these ranges and then a range that names no address, and gives all back.
+fn placed(claims: &mut Claims, held: &[Option<Range>], size: u64) -> Result<u64, ClaimError> {
+    let [first, rest @ ..] = held else {
+        return range(claims, None, size);
+    };
+    let Some(first) = first else {
+        return placed(claims, rest, size);
+    };
+    match claims.take_range(Some(first.at), first.size.max(1)) {
+        Ok(claim) => {
+            let found = placed(claims, rest, size);
+            claims.give_back(claim);
+            found
+        }
+        Err(error) => Err(error),
+    }
+}
+
+/// Whether a range goes where the search finds it, beside the quarters of a mask.
+fn goes_where_found(claims: &mut Claims, mask: u8, short: u64, size: u64) -> bool {
+    let held = quarters(mask, short);
+    let found = placed(claims, &held, size);
+    match searched(&held, size) {
+        Some(at) => found == Ok(at),
+        None => found == Err(ClaimError::Full),
+    }
+}
+
+/// Runs it over a new book.
+fn goes_over(alloc: Global, mask: u8, short: u64, size: u64) -> Result<bool, Memory> {
+    let mut claims = book(alloc)?;
+    Ok(goes_where_found(&mut claims, mask, short, size))
+}
+
+#[test]
+fn a_range_goes_where_a_search_finds_it(rt: HostRuntime) -> Result<(), Fail> {
+    for mask in 0..16u8 {
+        for short in [0, 1, 4095] {
+            for size in [CELL - 4096, CELL, CELL + 1, 2 * CELL, 3 * CELL, 4 * CELL] {
+                let agrees = goes_over(rt.alloc(), mask, short, size)?;
+                assert!(rt; agrees, "mask {mask}, short {short}, size {size}");
+            }
+        }
+    }
+    Ok(())
 }
