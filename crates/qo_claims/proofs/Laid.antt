@@ -25,7 +25,7 @@ apart-without test from (r ∷ rs) apart = by (test r) (apart-without test (r.at
     by true rest = apart-earlier (r.at + r.size) from rs (omega (arith, apart.0)) apart.1
     by false rest = (apart.0, rest)
 
-or-false : (a b : Bool) → (a || b) ≡ false → (a ≡ false) × (b ≡ false)
+pub or-false : (a b : Bool) → (a || b) ≡ false → (a ≡ false) × (b ≡ false)
 or-false false b none = (refl, none)
 or-false true b none = cc
 

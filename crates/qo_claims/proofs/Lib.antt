@@ -1,3 +1,4 @@
+pub mod Back
 pub mod Laid
 pub mod LeastLemmas
 pub mod Multiples

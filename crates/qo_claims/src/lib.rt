@@ -8,6 +8,7 @@ mod births;
 mod claims;
 mod errors;
 mod ids;
+pub mod laws;
 mod placing;
 mod ranges;
 mod slots;

@@ -1,6 +1,6 @@
 //! What no clause says: that each call that takes memory succeeds where there is enough, and that
 //! the clauses mean what the profile says, at values written by hand.
-use crate::{Claim, ClaimError, Claims, Memory, Space, keep};
+use crate::{Claim, ClaimError, Claims, Memory, Range, Space, keep, place};
 use qo_values::Id;
 use std::alloc::Global;
 use std::test::Fail;
@@ -8,6 +8,11 @@ use std::test::Fail;
 const WINDOW: u64 = 0x1_0000_0000;
 
 const WINDOW_SIZE: u64 = 0x10_0000_0000;
+
+const END: u64 = 0x11_0000_0000;
+
+/// A quarter of the window.
+const CELL: u64 = 0x4_0000_0000;
 
 /// A book of claims, of which the tests' proofs know nothing.
 fn book(alloc: Global) -> Result<Claims, Memory> {
@@ -188,5 +193,225 @@ fn range_twice(alloc: Global) -> Result<bool, Memory> {
 #[test]
 fn a_range_is_claimed_at_its_address_or_its_place(rt: HostRuntime) -> Result<(), Fail> {
     assert!(rt; range_twice(rt.alloc())?);
+    Ok(())
+}
+
+/// Whether a named range is answered so.
+fn is_answered(claims: &mut Claims, at: u64, size: u64, answer: Result<u64, ClaimError>) -> bool {
+    range(claims, Some(at), size) == answer
+}
+
+/// Whether ranges that leave the window are out of range, one that is held or not.
+fn refuses_outside(claims: &mut Claims) -> bool {
+    let out = ClaimError::Range;
+    is_answered(claims, WINDOW - 1, 1, Err(out))
+        && is_answered(claims, WINDOW - 1, WINDOW_SIZE, Err(out))
+        && is_answered(claims, WINDOW, WINDOW_SIZE + 1, Err(out))
+        && is_answered(claims, 0, u64::MAX, Err(out))
+        && is_answered(claims, u64::MAX, u64::MAX, Err(out))
+}
+
+/// Whether the last bytes of the window are in it, and those behind are not.
+fn ends_at_its_end(claims: &mut Claims) -> bool {
+    let out = ClaimError::Range;
+    is_answered(claims, END - 1, 1, Ok(END - 1))
+        && is_answered(claims, END - 1, 2, Err(out))
+        && is_answered(claims, END, 1, Err(out))
+}
+
+/// Whether ranges that touch 4,096 bytes held at 8,192 are free, and those that overlap them held.
+fn refuses_what_overlaps(claims: &mut Claims) -> bool {
+    let held = ClaimError::Held;
+    is_answered(claims, WINDOW, 8192, Ok(WINDOW))
+        && is_answered(claims, WINDOW, 8193, Err(held))
+        && is_answered(claims, WINDOW, WINDOW_SIZE, Err(held))
+        && is_answered(claims, WINDOW + 12287, 1, Err(held))
+        && is_answered(claims, WINDOW + 12288, 1, Ok(WINDOW + 12288))
+}
+
+/// Claims a range, names others, and frees it.
+fn names_ranges(claims: &mut Claims) -> Result<bool, ClaimError> {
+    let kept = keep(claims.take_range(Some(WINDOW + 8192), 4096)?);
+    let outside = refuses_outside(claims);
+    let end = ends_at_its_end(claims);
+    let overlaps = refuses_what_overlaps(claims);
+    claims.free(kept);
+    Ok(outside && end && overlaps)
+}
+
+/// Runs it over a new book.
+fn names_over(alloc: Global) -> Result<bool, Memory> {
+    let mut claims = book(alloc)?;
+    let named = names_ranges(&mut claims);
+    Ok(matches!(named, Ok(true)))
+}
+
+#[test]
+fn a_named_range_is_refused_in_order(rt: HostRuntime) -> Result<(), Fail> {
+    assert!(rt; names_over(rt.alloc())?);
+    Ok(())
+}
+
+/// Ends three claims one after the other; whether those that were left were held until then.
+fn end_three(claims: &mut Claims, first: Claim, second: Claim, third: Claim) -> bool {
+    let (second_at, third_at) = (second.at(), third.at());
+    claims.give_back(first);
+    let second_held = is_answered(claims, second_at, 1, Err(ClaimError::Held));
+    claims.free(keep(second));
+    let third_held = is_answered(claims, third_at, 1, Err(ClaimError::Held));
+    claims.give_back(third);
+    second_held && third_held
+}
+
+/// Ends three claims in one of the six orders.
+fn end_in_order(claims: &mut Claims, order: u8, a: Claim, b: Claim, c: Claim) -> bool {
+    match order {
+        0 => end_three(claims, a, b, c),
+        1 => end_three(claims, a, c, b),
+        2 => end_three(claims, b, a, c),
+        3 => end_three(claims, b, c, a),
+        4 => end_three(claims, c, a, b),
+        _ => end_three(claims, c, b, a),
+    }
+}
+
+/// Claims two ranges more and ends all three in an order.
+fn two_more(claims: &mut Claims, order: u8, first: Claim) -> Result<bool, ClaimError> {
+    let second = match claims.take_range(None, 4096) {
+        Ok(second) => second,
+        Err(error) => {
+            claims.give_back(first);
+            return Err(error);
+        }
+    };
+    match claims.take_range(None, 4096) {
+        Ok(third) => Ok(end_in_order(claims, order, first, second, third)),
+        Err(error) => {
+            claims.give_back(first);
+            claims.give_back(second);
+            Err(error)
+        }
+    }
+}
+
+/// Claims three ranges and ends them in an order; whether nothing is left.
+fn leaves_nothing(claims: &mut Claims, order: u8) -> Result<bool, ClaimError> {
+    let first = claims.take_range(None, 4096)?;
+    let ended = two_more(claims, order, first)?;
+    let whole = is_answered(claims, WINDOW, WINDOW_SIZE, Ok(WINDOW));
+    Ok(ended && whole)
+}
+
+/// Runs an order over a new book.
+fn ends_over(alloc: Global, order: u8) -> Result<bool, Memory> {
+    let mut claims = book(alloc)?;
+    let left = leaves_nothing(&mut claims, order);
+    Ok(matches!(left, Ok(true)))
+}
+
+#[test]
+fn claims_end_in_every_order(rt: HostRuntime) -> Result<(), Fail> {
+    for order in 0..6u8 {
+        assert!(rt; ends_over(rt.alloc(), order)?, "order {order}");
+    }
+    Ok(())
+}
+
+#[test]
+fn a_place_is_aligned_and_in_the_window(rt: HostRuntime) {
+    assert_eq!(rt; place(&[], 1, 1), Some(WINDOW));
+    assert_eq!(rt; place(&[], WINDOW_SIZE, 4096), Some(WINDOW));
+    assert_eq!(rt; place(&[], WINDOW_SIZE + 1, 1), None);
+    assert_eq!(rt; place(&[], 1, 3), Some(WINDOW + 2));
+    assert_eq!(rt; place(&[], 1, END - 1), Some(END - 1));
+    assert_eq!(rt; place(&[], 2, END - 1), None);
+    assert_eq!(rt; place(&[], 1, u64::MAX), None);
+}
+
+/// The ranges of the quarters of the window that a mask has, each `short` bytes short.
+fn quarters(mask: u8, short: u64) -> [Option<Range>; 4] {
+    [
+        quarter(mask & 1, 0, short),
+        quarter(mask & 2, 1, short),
+        quarter(mask & 4, 2, short),
+        quarter(mask & 8, 3, short),
+    ]
+}
+
+/// The range of a quarter of the window, `short` bytes short, where a bit of a mask has it.
+fn quarter(bit: u8, number: u64, short: u64) -> Option<Range> {
+    if bit == 0 {
+        return None;
+    }
+    let at = WINDOW.saturating_add(CELL.saturating_mul(number));
+    let size = CELL.saturating_sub(short);
+    Some(Range { at, size })
+}
+
+/// Whether bytes overlap a range.
+fn meets(held: &Option<Range>, at: u64, size: u64) -> bool {
+    let Some(range) = held else {
+        return false;
+    };
+    range.at < at.saturating_add(size) && at < range.at.saturating_add(range.size)
+}
+
+/// Whether bytes end in the window and overlap none of the ranges.
+fn is_free(held: &[Option<Range>], at: u64, size: u64) -> bool {
+    at.saturating_add(size) <= END && !held.iter().any(|range| meets(range, at, size))
+}
+
+/// The first quarter of the window at whose start bytes fit.
+fn searched(held: &[Option<Range>], size: u64) -> Option<u64> {
+    [0, 1, 2, 3]
+        .into_iter()
+        .map(|number| WINDOW.saturating_add(CELL.saturating_mul(number)))
+        .find(|at| is_free(held, *at, size))
+}
+
+/// Claims these ranges and then a range that names no address, and gives all back.
+fn placed(claims: &mut Claims, held: &[Option<Range>], size: u64) -> Result<u64, ClaimError> {
+    let [first, rest @ ..] = held else {
+        return range(claims, None, size);
+    };
+    let Some(first) = first else {
+        return placed(claims, rest, size);
+    };
+    match claims.take_range(Some(first.at), first.size.max(1)) {
+        Ok(claim) => {
+            let found = placed(claims, rest, size);
+            claims.give_back(claim);
+            found
+        }
+        Err(error) => Err(error),
+    }
+}
+
+/// Whether a range goes where the search finds it, beside the quarters of a mask.
+fn goes_where_found(claims: &mut Claims, mask: u8, short: u64, size: u64) -> bool {
+    let held = quarters(mask, short);
+    let found = placed(claims, &held, size);
+    match searched(&held, size) {
+        Some(at) => found == Ok(at),
+        None => found == Err(ClaimError::Full),
+    }
+}
+
+/// Runs it over a new book.
+fn goes_over(alloc: Global, mask: u8, short: u64, size: u64) -> Result<bool, Memory> {
+    let mut claims = book(alloc)?;
+    Ok(goes_where_found(&mut claims, mask, short, size))
+}
+
+#[test]
+fn a_range_goes_where_a_search_finds_it(rt: HostRuntime) -> Result<(), Fail> {
+    for mask in 0..16u8 {
+        for short in [0, 1, 4095] {
+            for size in [CELL - 4096, CELL, CELL + 1, 2 * CELL, 3 * CELL, 4 * CELL] {
+                let agrees = goes_over(rt.alloc(), mask, short, size)?;
+                assert!(rt; agrees, "mask {mask}, short {short}, size {size}");
+            }
+        }
+    }
     Ok(())
 }
