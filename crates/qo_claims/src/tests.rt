@@ -1,5 +1,7 @@
 //! What no clause says: that each call that takes memory succeeds where there is enough, and that
 //! the clauses mean what the profile says, at values written by hand.
+ghost use Rattle.qo_values.specs.Placing.{LieApart};
+
 use crate::{Claim, ClaimError, Claims, Memory, Range, Space, keep, place};
 use qo_values::Id;
 use std::alloc::Global;
@@ -414,4 +416,63 @@ fn a_range_goes_where_a_search_finds_it(rt: HostRuntime) -> Result<(), Fail> {
         }
     }
     Ok(())
+}
+
+/// The least multiple of `align` of the first addresses of the window at which bytes overlap none of
+/// the ranges.
+fn least(held: &[Range], size: u64, align: u64) -> Option<u64> {
+    (0..32u64).map(|offset| WINDOW.saturating_add(offset)).find(|at| at.checked_rem(align)
+        == Some(0)
+        && is_beside(held, *at, size))
+}
+
+/// Whether bytes overlap none of the ranges.
+fn is_beside(held: &[Range], at: u64, size: u64) -> bool {
+    !held.iter().any(|range| meets(&Some(*range), at, size))
+}
+
+/// Whether bytes are placed where the search finds them.
+fn is_placed_least(held: &[Range], size: u64, align: u64) -> bool
+    requires { LieApart held.now }
+{
+    let (size, align) = (size.max(1), align.max(1));
+    place(held, size, align) == least(held, size, align)
+}
+
+/// Whether few bytes are, at each small alignment.
+fn are_placed_least(held: &[Range]) -> bool
+    requires { LieApart held.now }
+{
+    for size in 1..6u64 {
+        for align in 1..10u64 {
+            if !is_placed_least(held, size, align) {
+                return false;
+            }
+        }
+    }
+    true
+}
+
+#[test]
+fn a_place_is_the_least_at_each_alignment(rt: HostRuntime) {
+    let held = [
+        Range {
+            at: WINDOW,
+            size: 3,
+        },
+        Range {
+            at: WINDOW + 4,
+            size: 1,
+        },
+        Range {
+            at: WINDOW + 8,
+            size: 8,
+        },
+    ];
+    assert!(rt; are_placed_least(&[]));
+    assert!(rt; are_placed_least(&held));
+    assert!(rt; are_placed_least(&held[..1]));
+    assert!(rt; are_placed_least(&held[..2]));
+    assert!(rt; are_placed_least(&held[1..]));
+    assert!(rt; are_placed_least(&held[2..]));
 }
