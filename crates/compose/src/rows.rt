@@ -178,10 +178,10 @@ fn depth_has_its_limit(rt: HostRuntime) -> Result<(), Fail> {
     Ok(())
 }
 
-/// A record of a command that spaces inside its braces bring to so many bytes.
-fn padded(alloc: Global, spaces: usize) -> Result<Vec<u8>, Fail> {
+/// A record of a command that spaces behind its brace fill up to so many bytes, before the 25 of the rest.
+fn padded(alloc: Global, filled: usize) -> Result<Vec<u8>, Fail> {
     let mut command = Vec::from_slice(alloc, b"{")?;
-    command.resize(1 + spaces, b' ')?;
+    command.resize(filled, b' ')?;
     command.extend_from_slice(b"\"execute\":\"query-status\"}\n")?;
     let mut record = record_of(alloc, &[NEGOTIATE])?;
     for piece in command.chunks(65_536) {
@@ -193,12 +193,11 @@ fn padded(alloc: Global, spaces: usize) -> Result<Vec<u8>, Fail> {
 #[test]
 fn length_has_its_limit(rt: HostRuntime) -> Result<(), Fail> {
     let alloc = rt.alloc();
-    // The command has 26 bytes without the spaces.
-    let record = padded(alloc, 262_144 - 26)?;
+    let record = padded(alloc, 262_144 - 25)?;
     let left = call(alloc, &["replay"], record.as_slice(), &[], &[])?;
     let want = joined(alloc, &[GREETING, EMPTY, RUNNING])?;
     assert_eq!(rt; left.held.as_slice(), want.as_bytes());
-    let record = padded(alloc, 262_145 - 26)?;
+    let record = padded(alloc, 262_145 - 25)?;
     let left = call(alloc, &["replay"], record.as_slice(), &[], &[])?;
     let too_long = error(alloc, "GenericError", "E4 object too long", "")?;
     let want = joined(alloc, &[GREETING, EMPTY, &too_long])?;

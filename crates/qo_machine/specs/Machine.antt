@@ -1,5 +1,5 @@
 -- The machine: its state, and what one input does.
-use Rattle.std.specs.Prelude.{◌≡◌, ℕ, zero, suc, nat_lt, Bool, true, false, if◌then◌else◌, List, [], ◌∷◌, ◌++◌, map, filter, Option, Some, None, Result, Ok, Err, replicate, slice_set, slice_index_or}
+use Rattle.std.specs.Prelude.{◌≡◌, ℕ, zero, suc, nat_lt, Bool, true, false, if◌then◌else◌, List, [], ◌∷◌, ◌++◌, map, filter, Option, Result, Ok, Err, replicate, slice_set, slice_index_or}
 use Rattle.std.specs.List.{flat_map}
 use Rattle.serde_json.specs.Data.{Data}
 use Rattle.qo_values.specs.declared.codes.Code.{Code}
@@ -22,7 +22,7 @@ use Rattle.qo_sessions.specs.Sessions as sessions
 use Rattle.qo_sessions.specs.declared.acts.SessionAct.{SessionAct}
 use Rattle.qo_sessions.specs.declared.acts.SessionAct.TheVariants.{Answer, Negotiated, Do}
 use Rattle.qo_sessions.specs.declared.modes.Mode.{Mode}
-use Rattle.qo_sessions.specs.declared.modes.Mode.TheVariants.{Negotiating, Commanding, Closed}
+use Rattle.qo_sessions.specs.declared.modes.Mode.TheVariants.{Commanding, Closed}
 use Rattle.qo_machine.specs.Commands.{Done, empty, perform}
 
 -- a message: where it goes, and its bytes with their line end
