@@ -1,5 +1,5 @@
 -- What commands return has a text: no number has a fraction.
-use Rattle.std.proofs.Common.{◌≡◌, ℕ, false, List, [], ◌∷◌, map, refl, ◌∙◌, ap, Option, None, Some}
+use Rattle.std.proofs.Common.{◌≡◌, ℕ, true, false, List, [], ◌∷◌, map, refl, ◌∙◌, ap, Option, None, Some}
 use Rattle.std.specs.Prelude.{codes}
 use Rattle.serde_json.specs.Data.{Data, array}
 use Rattle.serde_json.specs.View.{items_of}
@@ -11,7 +11,10 @@ use Rattle.qo_requests.specs.declared.requests.Request.{Request}
 use Rattle.qo_requests.specs.declared.requests.Request.TheVariants.{QmpCapabilities, QueryVersion, QueryCommands, QueryStatus, Stop, Cont, SystemReset, Quit, QomList, QomGet, QomSet, QomListTypes, DeviceListProperties, ObjectAdd, ObjectDel, DeviceAdd, DeviceDel, ChardevAdd, ChardevRemove, RingbufRead, RingbufWrite, XResetHold, XResetRelease, XSever, XQueryNotes, XQueryDetached, XGuest, XStep}
 use Rattle.qo_model.specs.Opening.{opening_board}
 use Rattle.qo_machine.proofs.TreeLemmas.{rows_listing}
-use Rattle.qo_machine.specs.Commands.{Done, listed, perform, property_data, returned}
+use Rattle.std.specs.Str.{chars}
+use Rattle.serde_json.proofs.OnLiterals.{serde_json_on_literals}
+use Rattle.qo_replies.specs.Json.{ascii, json}
+use Rattle.qo_machine.specs.Commands.{Done, empty, listed, perform, property_data, returned, status_data}
 use Rattle.qo_machine.specs.Tree.{birth_of, rows_of}
 use Rattle.qo_machine.specs.declared.tree.Object.{Object}
 use Rattle.qo_machine.specs.Views.{has_float_in}
@@ -59,3 +62,17 @@ no_float b (XStep ns) = refl
 pub listing_is : (path : List ℕ) (o : Object) (rows : List (List ℕ × List ℕ)) (value : Data) (d : Done) → Some (birth_of o) ≡ resolve_absolute opening_board path (codes "object") → rows ≡ rows_of o → value ≡ array (items_of (map property_data rows)) → d ≡ returned opening_board value → d ≡ listed opening_board (resolve_absolute opening_board path (codes "object"))
 listing_is path o rows value d found table listed_is is =
     is ∙ ap (returned opening_board) (listed_is ∙ ap (λ (rs : List (List ℕ × List ℕ)). array (items_of (map property_data rs))) (table ∙ rows_listing o)) ∙ ap (listed opening_board) found
+
+-- The texts that are written already.
+
+pub empty_written : codes "{}" ≡ json empty
+unfolding json ascii chars serde_json_on_literals
+empty_written = refl
+
+pub running_written : codes "{\"running\":true,\"status\":\"running\"}" ≡ json (status_data true)
+unfolding json ascii chars serde_json_on_literals
+running_written = refl
+
+pub paused_written : codes "{\"running\":false,\"status\":\"paused\"}" ≡ json (status_data false)
+unfolding json ascii chars serde_json_on_literals
+paused_written = refl

@@ -18,8 +18,6 @@ use Rattle.qo_sessions.specs.Sessions.{closed, fed}
 use Rattle.qo_sessions.specs.Sessions as sessions
 use Rattle.qo_sessions.specs.declared.acts.SessionAct.{SessionAct}
 use Rattle.qo_sessions.specs.declared.acts.SessionAct.TheVariants.{Answer, Negotiated, Do}
-use Rattle.serde_json.specs.Data.{Data}
-use Rattle.serde_json.specs.Written.{has_float}
 use Rattle.qo_values.specs.declared.codes.Code.{Code}
 use Rattle.qo_values.specs.declared.codes.Code.TheVariants.{E99}
 use Rattle.qo_machine.specs.Commands.{Done, empty, perform}
@@ -171,7 +169,3 @@ bytes_taken at n s mid t bytes items outs below is to p =
     let start = with_session s n f.session in
     let q : Serves at n start f.items outs t = subst (λ (js : List Item). Serves at n start js outs t) is (subst (λ (m : State). Serves at n m items outs t) to p) in
     (q.0, rw (lt-ltb n 16 below) (serve_all at n start t f.items outs q))
-
--- the reply to a negotiation
-pub negotiated_text : (id : Option (List ℕ)) (text : List ℕ) (d : Data) → d ≡ empty → (has_float d ≡ false → text ≡ return_reply id d) → text ≡ return_reply id empty
-negotiated_text id text d is h = h (ap has_float is) ∙ ap (return_reply id) is

@@ -3,15 +3,21 @@ use Rattle.std.specs.Prelude.{Bool, false, Result, Ok, Err}
 use Rattle.serde_json.specs.Data.{Data}
 use Rattle.serde_json.specs.View.{view}
 use Rattle.serde_json.specs.Written.{has_float}
-use Rattle.serde_json.specs.declared.value.Value.{Value}
 use Rattle.qo_values.specs.declared.codes.Code.{Code}
 use Rattle.qo_model.specs.Board.{Board}
 use Rattle.qo_machine.specs.Commands as defined
+use Rattle.qo_machine.specs.declared.commands.Body.{Body}
+use Rattle.qo_machine.specs.declared.commands.Body.TheVariants.{Empty, Status, Value}
 use Rattle.qo_machine.specs.declared.commands.Done.{Done}
 
--- a value as its data
-abbrev pub data_of : Result Value Code → Result Data Code
-data_of (Ok value) = Ok (view value)
+-- what is returned, as data
+abbrev pub body_data : Body → Data
+body_data Empty = defined.empty
+body_data (Status running) = defined.status_data running
+body_data (Value value) = view value
+
+abbrev pub data_of : Result Body Code → Result Data Code
+data_of (Ok body) = Ok (body_data body)
 data_of (Err code) = Err code
 
 -- an outcome that leaves this board

@@ -5,9 +5,9 @@ ghost use Rattle.serde_json.specs.Data.{array};
 ghost use Rattle.serde_json.specs.View.{items_of, view};
 ghost use Rattle.qo_model.specs.Opening.{opening_board};
 ghost use Rattle.qo_model.specs.Paths.{resolve_absolute};
-ghost use Rattle.qo_machine.specs.Commands.{built, command_data, empty, listed, perform, property_data, refused_with, returned, status_data};
+ghost use Rattle.qo_machine.specs.Commands.{built, command_data, empty, listed, perform, property_data, refused_with, returned};
 ghost use Rattle.qo_machine.specs.Tree.{row};
-ghost use Rattle.qo_machine.specs.Views.{done_of};
+ghost use Rattle.qo_machine.specs.Views.{body_data, done_of};
 ghost use Rattle.qo_replies.specs.declared.events.Event.TheVariants as Event;
 
 use crate::tree::{self, Property};
@@ -17,23 +17,34 @@ use qo_values::Code;
 use serde_json::{Value, json};
 use std::alloc::{AllocError, Global};
 
+/// What a command returns.
+#[derive(Drop)]
+pub(crate) enum Body {
+    /// Nothing: an object without members.
+    Empty,
+    /// Whether the machine runs.
+    Status(bool),
+    /// A value of its own.
+    Value(Value),
+}
+
 /// What a command comes to.
 #[derive(Drop)]
 pub(crate) struct Done {
     /// What it returns, or the code that refuses it.
-    pub(crate) result: Result<Value, Code>,
+    pub(crate) result: Result<Body, Code>,
     /// Its events, in order.
     pub(crate) events: Vec<Event>,
     /// Whether it ends the run.
     pub(crate) ends: bool,
 }
 
-/// A command that returns a value.
-fn returned(alloc: Global, value: Value) -> Done
-    ensures { done_of opening_board result ≡ returned opening_board (view value) }
+/// A command that returns something.
+fn returned(alloc: Global, body: Body) -> Done
+    ensures { done_of opening_board result ≡ returned opening_board (body_data body) }
 {
     Done {
-        result: Ok(value),
+        result: Ok(body),
         events: Vec::new(alloc),
         ends: false,
     }
@@ -48,13 +59,6 @@ fn refused(alloc: Global, code: Code) -> Done
         events: Vec::new(alloc),
         ends: false,
     }
-}
-
-/// What a command returns that returns nothing.
-pub(crate) fn empty(alloc: Global) -> Result<Value, AllocError>
-    ensures { IfOk result (λ v. view v ≡ empty) }
-{
-    json!(in alloc; {})
 }
 
 /// A property by its name and type text.
@@ -95,7 +99,7 @@ fn list(alloc: Global, path: &str) -> Result<Done, AllocError>
     match tree::resolve(path.as_bytes()) {
         Some(object) => {
             let listing = listing(alloc, object.properties())?;
-            Ok(returned(alloc, listing))
+            Ok(returned(alloc, Body::Value(listing)))
         }
         None => Ok(refused(alloc, Code::E15)),
     }
@@ -115,14 +119,6 @@ fn commands(alloc: Global) -> Result<Value, AllocError>
     ])
 }
 
-/// Whether the machine runs.
-fn status(alloc: Global, running: bool) -> Result<Value, AllocError>
-    ensures { IfOk result (λ v. view v ≡ status_data running) }
-{
-    let word = if running { "running" } else { "paused" };
-    json!(in alloc; {"running": running, "status": word})
-}
-
 /// The run ends, and each session that commands is told so.
 fn quit(alloc: Global) -> Result<Done, AllocError>
     ensures { IfOk result (λ d. done_of opening_board d ≡ record { result = Ok empty; board = opening_board; events = Event.Shutdown false ∷ []; ends = true }) }
@@ -130,7 +126,7 @@ fn quit(alloc: Global) -> Result<Done, AllocError>
     let mut events = Vec::new(alloc);
     events.push(Event::Shutdown { guest: false })?;
     Ok(Done {
-        result: Ok(empty(alloc)?),
+        result: Ok(Body::Empty),
         events,
         ends: true,
     })
@@ -143,9 +139,9 @@ pub(crate) fn perform(alloc: Global, request: &Request) -> Result<Done, AllocErr
 {
     match request {
         Request::QomList { path } => list(alloc, path.as_str()),
-        Request::QueryVersion => Ok(returned(alloc, version(alloc)?)),
-        Request::QueryCommands => Ok(returned(alloc, commands(alloc)?)),
-        Request::QueryStatus => Ok(returned(alloc, status(alloc, true)?)),
+        Request::QueryVersion => Ok(returned(alloc, Body::Value(version(alloc)?))),
+        Request::QueryCommands => Ok(returned(alloc, Body::Value(commands(alloc)?))),
+        Request::QueryStatus => Ok(returned(alloc, Body::Status(true))),
         Request::Quit => quit(alloc),
         _ => Ok(refused(alloc, Code::E10)),
     }

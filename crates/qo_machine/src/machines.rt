@@ -10,16 +10,17 @@ ghost use Rattle.qo_machine.specs.Commands.{perform};
 ghost use Rattle.qo_machine.specs.Machine.{Choice, Message, commanding, event_outs, reply, those_commanding, told_of};
 ghost use Rattle.qo_machine.specs.Serving.{CommandServed, Serves};
 ghost use Rattle.qo_machine.specs.Runs.{closed_where};
-ghost use Rattle.qo_machine.specs.Views.{data_of, done_of, has_float_in};
+ghost use Rattle.qo_machine.specs.Views.{body_data, data_of, done_of, has_float_in};
+ghost use Rattle.serde_json.specs.Written.{has_float};
+ghost use Rattle.qo_replies.specs.Replies.{return_reply};
 
-use crate::commands::{Done, empty, perform};
+use crate::commands::{Body, Done, perform};
 use qo_causes::{Input, Lane, Memory, Moment, What};
 use qo_framing::Item;
-use qo_replies::{Event, error_text, event_text, return_text};
+use qo_replies::{Event, error_text, event_text, return_text, return_written};
 use qo_requests::Request;
 use qo_sessions::{Mode, Session, SessionAct};
 use qo_values::{Chars, Code, SESSIONS, Text};
-use serde_json::Value;
 use std::alloc::{AllocError, Global};
 use std::marker::Model;
 
@@ -325,17 +326,38 @@ impl Machine {
     }
 }
 
+/// The texts of what commands return most often.
+const EMPTY: &str = "{}";
+
+const RUNNING: &str = "{\"running\":true,\"status\":\"running\"}";
+
+const PAUSED: &str = "{\"running\":false,\"status\":\"paused\"}";
+
+/// The reply to a command that was done.
+#[tactic(auto, using(crate::proofs::CommandLemmas::empty_written, crate::proofs::CommandLemmas::running_written, crate::proofs::CommandLemmas::paused_written))]
+fn done_text(alloc: Global, id: Option<&Text>, body: &Body) -> Result<Chars, AllocError>
+    requires { has_float (body_data body.now) ≡ false }
+    ensures { IfOk result (λ text. text ≡ return_reply (option_map (λ id. id.now) id.entry) (body_data body.now)) }
+{
+    match body {
+        Body::Empty => return_written(alloc, id, EMPTY),
+        Body::Status(true) => return_written(alloc, id, RUNNING),
+        Body::Status(false) => return_written(alloc, id, PAUSED),
+        Body::Value(value) => return_text(alloc, id, value),
+    }
+}
+
 /// The text of a reply.
 fn reply_text(
     alloc: Global,
     id: Option<&Text>,
-    outcome: &Result<Value, Code>,
+    outcome: &Result<Body, Code>,
 ) -> Result<Chars, AllocError>
     requires { has_float_in (data_of outcome.now) ≡ false }
     ensures { IfOk result (λ text. text ≡ reply (option_map (λ id. id.now) id.entry) (data_of outcome.now)) }
 {
     match outcome {
-        Ok(value) => return_text(alloc, id, value),
+        Ok(body) => done_text(alloc, id, body),
         Err(code) => error_text(alloc, id, *code),
     }
 }
@@ -438,7 +460,7 @@ fn serve_item(
             outs.push(session, error_text(alloc, id.as_ref(), code)?)?;
         }
         SessionAct::Negotiated(id) => {
-            outs.push(session, return_text(alloc, id.as_ref(), &empty(alloc)?)?)?;
+            outs.push(session, return_written(alloc, id.as_ref(), EMPTY)?)?;
         }
         SessionAct::Do(request, id) => {
             serve_command(machine, alloc, at, session, &request, id.as_ref(), outs)?;

@@ -9,4 +9,4 @@ mod tests;
 
 pub use ascii::json_text;
 pub use events::{Event, event_text};
-pub use replies::{error_text, greeting, return_text, version};
+pub use replies::{error_text, greeting, return_text, return_written, version};

@@ -1,6 +1,7 @@
 //! The greeting and the replies.
 
-ghost use Rattle.std.specs.Prelude.{◌≡◌, ◌++◌, false, option_map, string_bytes, IfOk, OnOk};
+ghost use Rattle.std.specs.Prelude.{◌≡◌, ◌++◌, [], codes, false, option_map, string_bytes, IfOk, OnOk};
+ghost use Rattle.serde_json.specs.Data.{Data};
 ghost use Rattle.serde_json.specs.View.{view};
 ghost use Rattle.serde_json.specs.Written.{has_float};
 ghost use Rattle.qo_replies.specs.Json.{json};
@@ -66,16 +67,41 @@ fn push_id(
     Ok(())
 }
 
+/// Begins a reply to a command that was done, up to what it returns.
+fn push_opening(text: &mut String, id: Option<&Text>) -> Result<(), AllocError>
+    ensures { OnOk result (string_bytes text.new ≡ string_bytes text.old ++ (codes "{" ++ id_member (option_map (λ id. id.now) id.entry) [] (codes ",") ++ codes "\"return\":")) }
+{
+    match id {
+        Some(id) => {
+            text.push_str("{\"id\":")?;
+            text.push_str(id.as_str())?;
+            text.push_str(",\"return\":")?;
+        }
+        None => text.push_str("{\"return\":")?,
+    }
+    Ok(())
+}
+
 #[tactic(auto, unfolding(crate::specs::Replies::return_reply))]
 /// The reply to a command that was done. Its id is given as its text.
 pub fn return_text(alloc: Global, id: Option<&Text>, value: &Value) -> Result<Chars, AllocError>
     ensures { IfOk result (λ line. has_float (view value.now) ≡ false → line ≡ return_reply (option_map (λ id. id.now) id.entry) (view value.now)) }
 {
     let mut text = String::with_capacity(alloc, REPLY_BYTES)?;
-    text.push_str("{")?;
-    push_id(&mut text, id, "", ",")?;
-    text.push_str("\"return\":")?;
+    push_opening(&mut text, id)?;
     push_json(alloc, &mut text, value)?;
+    text.push_str("}\r\n")?;
+    Ok(Chars::from_vec(text.into_bytes()))
+}
+
+#[tactic(auto, unfolding(crate::specs::Replies::return_reply))]
+/// The reply to a command that was done, with a value whose text is written already. Its id is given as its text.
+pub fn return_written(alloc: Global, id: Option<&Text>, written: &str) -> Result<Chars, AllocError>
+    ensures { IfOk result (λ line. (value : Data) → written.now ≡ json value → line ≡ return_reply (option_map (λ id. id.now) id.entry) value) }
+{
+    let mut text = String::with_capacity(alloc, REPLY_BYTES)?;
+    push_opening(&mut text, id)?;
+    text.push_str(written)?;
     text.push_str("}\r\n")?;
     Ok(Chars::from_vec(text.into_bytes()))
 }

@@ -1,6 +1,7 @@
 //! The commands by name, and what they take.
 
-ghost use Rattle.std.specs.Prelude.{◌≡◌, ◌++◌};
+ghost use Rattle.std.specs.Prelude.{◌≡◌, ◌++◌, find};
+ghost use Rattle.std.specs.Str.{bytes_eq};
 ghost use Rattle.qo_requests.specs.Commands.{command_name, commands, command_of, required, optional, is_open};
 
 use crate::fields::Field;
@@ -139,14 +140,25 @@ impl Command {
         ]
     }
 
-    /// The command of a name.
-    pub fn named(name: &str) -> Option<Command>
-        ensures { result ≡ command_of name.now }
+    /// The first of some commands that has a name.
+    fn first_named(commands: &[Command], name: &str) -> Option<Command>
+        ensures { result ≡ find (λ command. bytes_eq (command_name command) name.now) commands.now }
     {
-        Command::all()
+        commands
             .iter()
             .copied()
             .find(|command| command.name() == name)
+    }
+
+    /// The command of a name. The commands stand in byte order, so a name with `q` passes over those before.
+    pub fn named(name: &str) -> Option<Command>
+        ensures { result ≡ command_of name.now }
+    {
+        if name.as_bytes().first().copied() == Some(b'q') {
+            Command::first_named(&Command::all()[8..], name)
+        } else {
+            Command::first_named(Command::all(), name)
+        }
     }
 
     /// The arguments that must stand there.

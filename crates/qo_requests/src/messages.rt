@@ -1,11 +1,14 @@
 //! Messages, read into requests.
 
-ghost use Rattle.std.specs.Prelude.{◌≡◌, option_map, IfOk};
+ghost use Rattle.std.specs.Prelude.{◌≡◌, ◌&&◌, [], ◌∷◌, is_some, option_and_then, option_map, unwrap_or, IfOk};
+ghost use Rattle.serde_json.specs.Data.{null};
 ghost use Rattle.serde_json.specs.View.{view, items_view, members_view};
 ghost use Rattle.serde_json.specs.Written.{has_float, items_have_float, members_have_float};
 ghost use Rattle.qo_requests.specs.Kinds.{text_at};
-ghost use Rattle.qo_requests.specs.declared.fields.Field.TheVariants.{Execute};
-ghost use Rattle.qo_requests.specs.Messages.{arguments_fit, is_message, backend_complete, is_complete, payload_closed, backend_closed, is_closed, call_of, call_in, request_in, id_text, negotiates, with_id, command, Reads, GivesCode};
+ghost use Rattle.qo_requests.specs.declared.fields.Field.TheVariants.{Arguments, Execute, Id};
+ghost use Rattle.qo_requests.specs.Commands.{command_of};
+ghost use Rattle.qo_requests.specs.Fields.{has_only};
+ghost use Rattle.qo_requests.specs.Messages.{arguments_fit, backend_complete, is_complete, payload_closed, backend_closed, is_closed, call_of, request_in, id_text, negotiates, with_id, command, Reads, GivesCode};
 
 use crate::building::request_of;
 use crate::commands::Command;
@@ -80,13 +83,13 @@ fn name_of(value: &Value) -> Option<&str>
     argument(value, Field::Execute).and_then(Value::as_str)
 }
 
-/// Whether a value has the members of a message.
-fn is_message(value: &Value) -> bool
-    ensures { result ≡ is_message (view value.now) }
+/// Whether a value has the members of a message, where these are its name and its arguments.
+fn is_message(value: &Value, name: Option<&str>, arguments: Option<&Value>) -> bool
+    ensures { result ≡ (has_only (Execute ∷ Arguments ∷ Id ∷ []) (view value.now) && is_some name.entry && arguments_fit (option_map (λ v. view v.now) arguments.entry)) }
 {
     has_only(&[Field::Execute, Field::Arguments, Field::Id], value)
-        && name_of(value).is_some()
-        && arguments_fit(argument(value, Field::Arguments))
+        && name.is_some()
+        && arguments_fit(arguments)
 }
 
 /// Whether `backend`, where it is an object, has `type` and `data`.
@@ -164,12 +167,12 @@ fn call_of(alloc: Global, command: Option<Command>, args: &Value) -> Result<Requ
     }
 }
 
-/// The call that a message makes.
-fn call_in(alloc: Global, value: &Value) -> Result<Request, Refusal>
-    ensures { GivesCode result (call_in (view value.now)) }
+/// The call that a message with this name and these arguments makes.
+fn call_in(alloc: Global, name: Option<&str>, arguments: Option<&Value>) -> Result<Request, Refusal>
+    ensures { GivesCode result (call_of (option_and_then command_of (option_map (λ s. s.now) name.entry)) (unwrap_or (option_map (λ v. view v.now) arguments.entry) null)) }
 {
-    let command = name_of(value).and_then(Command::named);
-    match argument(value, Field::Arguments) {
+    let command = name.and_then(Command::named);
+    match arguments {
         Some(args) => call_of(alloc, command, args),
         None => call_of(alloc, command, &Value::Null),
     }
@@ -179,13 +182,15 @@ fn call_in(alloc: Global, value: &Value) -> Result<Request, Refusal>
 fn request_in(alloc: Global, value: &Value) -> Result<Request, Refusal>
     ensures { GivesCode result (request_in (view value.now)) }
 {
+    let name = name_of(value);
+    let arguments = argument(value, Field::Arguments);
     if has_float(value) {
         return Err(Refusal::Code(Code::E7));
     }
-    if !is_message(value) {
+    if !is_message(value, name, arguments) {
         return Err(Refusal::Code(Code::E6));
     }
-    call_in(alloc, value)
+    call_in(alloc, name, arguments)
 }
 
 /// An id as its text in a reply, where no number of it is refused.

@@ -1,6 +1,8 @@
 -- An item is served by what it comes to.
 use Rattle.std.proofs.Common.{ℕ, List, [], sym, ap, subst, ◌∙◌, append-nil, Option}
-use Rattle.qo_machine.proofs.MachineLemmas.{item_answered, item_done, item_negotiated, negotiated_text, serves_ended}
+use Rattle.qo_machine.proofs.MachineLemmas.{item_answered, item_done, item_negotiated, serves_ended}
+use Rattle.qo_machine.proofs.CommandLemmas.{empty_written}
+use Rattle.qo_machine.specs.Commands.{empty}
 use Rattle.qo_machine.specs.Serving.{CommandServed, moved}
 use Rattle.qo_machine.proofs.machines.serve_item.Goals as goal
 
@@ -21,7 +23,7 @@ returns-in_ok-push-in-Negotiated-clause-served c = (
   c.in_ok-push-in-Negotiated.ensures,
   item_negotiated c.args.at c.args.session c.args.machine.now.state c.heed.new.self.state c.args.item.now c.in-Negotiated.id _ (sym c.if-ended.ensures) (sym c.in-Negotiated.is ∙ c.in_ok-code.ensures.act)
       (c.in_ok-code.ensures.state ∙ ap (moved c.args.machine.now.state c.args.session) c.in-Negotiated.is)
-      (negotiated_text c.in-Negotiated.id _ _ c.in_ok-empty-in-Negotiated.ensures (rw c.as_ref-in-Negotiated.ensures.value at c.in_ok-return_text-in-Negotiated.ensures)),
+      (rw c.as_ref-in-Negotiated.ensures.value at (c.in_ok-return_written-in-Negotiated.ensures empty empty_written)),
 )
 
 pub returns-in_ok-serve_command-in-Do-clause-served : goal.returns-in_ok-serve_command-in-Do-clause-served
