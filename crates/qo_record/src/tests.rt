@@ -4,9 +4,9 @@ use crate::WholeHub;
 use qo_causes::{ByteSink, Hub, Input, Lane, Moment, NextError, SendError, Sink, What};
 use std::test::Fail;
 
-/// A hub over these bytes, whose sink has room for 64 bytes and fails at its fourth put.
+/// A hub over these bytes, whose sink has room for 64 bytes and fails at its second put.
 fn hub(rt: &HostRuntime, bytes: &[u8]) -> Result<WholeHub<ByteSink>, Fail> {
-    let sink = ByteSink::new(rt.alloc(), 64, vec![in rt.alloc(); 4]?)?;
+    let sink = ByteSink::new(rt.alloc(), 64, vec![in rt.alloc(); 2]?)?;
     Ok(WholeHub::new(bytes.to_vec(rt.alloc())?, sink))
 }
 
@@ -205,7 +205,7 @@ fn messages_go_into_the_sink_as_lines(rt: HostRuntime) -> Result<(), Fail> {
     assert!(rt; hub.send(Lane::Guest, b"four\n").is_ok());
     assert_eq!(rt;
         hub.into_sink().held(),
-        b"15 one\r\ng 0 three\r\ng four\n".as_slice()
+        b"15 one\r\n0 three\r\ng four\n".as_slice()
     );
     Ok(())
 }
