@@ -57,9 +57,8 @@ pub record Board : Type 0 where
   pub rings : List Ring
   -- the objects that are held from outside the tree, with repeats
   pub pins : List ℕ
-  -- how many notes there were, and the last 65,536 of them
-  pub total : ℕ
-  pub tail : List Note
+  -- what was noted of the objects since the machine began, in order
+  pub notes : List Note
   -- the events on devices that are not yet sent
   pub events : List DeviceEvent
 

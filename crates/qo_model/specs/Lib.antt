@@ -6,6 +6,7 @@ pub mod Notes
 pub mod Opening
 pub mod Paths
 pub mod References
+pub mod Release
 pub mod Sound
 pub mod SoundEvents
 pub mod SoundGraph

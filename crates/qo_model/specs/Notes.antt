@@ -1,5 +1,5 @@
 -- The texts of notes.
-use Rattle.std.specs.Prelude.{ℕ, List, ◌∷◌, codes, decimal, Option, None, Some, option_map, option_to_list}
+use Rattle.std.specs.Prelude.{ℕ, ◌-◌, ◌^◌, min, List, ◌∷◌, length, drop, codes, decimal, Option, None, Some, option_map, option_to_list}
 use Rattle.std.specs.List.{join_with_byte}
 use Rattle.qo_values.specs.Kinds.{type_name}
 use Rattle.qo_values.specs.declared.kinds.Act.TheVariants.{Init, Realize, Unrealize, Enter, Hold, Exit, Pre, Update}
@@ -29,3 +29,11 @@ deed_type (Final t) = Some t
 -- a note's text: the word, the birth, and for init and final the type's name, with a space between each two
 abbrev pub note_text : Note → List ℕ
 note_text n = join_with_byte 32 (deed_word n.deed ∷ decimal n.birth ∷ option_to_list (option_map type_name (deed_type n.deed)))
+
+-- how many notes there were; the number stays at 2^64 - 1 once it is there
+abbrev pub total_of : List Note → ℕ
+total_of notes = min (length notes) (2 ^ 64 - 1)
+
+-- the notes that are kept: the last 65,536
+abbrev pub kept_of : List Note → List Note
+kept_of notes = drop (length notes - 65536) notes

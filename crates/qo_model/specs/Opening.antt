@@ -77,7 +77,6 @@ opening_board =
       notices = [];
       rings = [];
       pins = 1 ∷ [];
-      total = 0;
-      tail = [];
+      notes = [];
       events = [];
     }

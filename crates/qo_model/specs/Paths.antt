@@ -92,3 +92,26 @@ only_of b wanted n = if is_of b wanted n then Some n else None
 -- the object of an absolute path: where its components lead from birth 1, if that is of the wanted type
 abbrev pub resolve_absolute : Board → List ℕ → List ℕ → Option ℕ
 resolve_absolute b path wanted = if is_absolute path then option_and_then (only_of b wanted) (walk b 1 (components path)) else None
+
+-- what a path leads to from the objects that it may begin at: one object, none, or several, also where these are the same object
+pub data Place : Type 0 where
+  found : ℕ → Place
+  missing : Place
+  several : Place
+
+-- the objects that a path begins at: birth 1 for an absolute one, else each attached object
+abbrev pub starts : Board → List ℕ → List ℕ
+starts b path = if is_absolute path then 1 ∷ [] else filter (attached b) (births b)
+
+-- the objects of the wanted type that a path ends at, for each of its beginnings that leads to one
+abbrev pub ends : Board → List ℕ → List ℕ → List ℕ
+ends b path wanted = filter_map (λ n. option_and_then (only_of b wanted) (walk b n (components path))) (starts b path)
+
+abbrev pub the_one : List ℕ → Place
+the_one [] = missing
+the_one (n ∷ []) = found n
+the_one _ = several
+
+-- what a path leads to
+abbrev pub resolve : Board → List ℕ → List ℕ → Place
+resolve b path wanted = the_one (ends b path wanted)

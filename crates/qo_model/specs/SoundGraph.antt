@@ -34,8 +34,7 @@ graph_of b =
       notices = [];
       rings = [];
       pins = b.pins;
-      total = 0;
-      tail = [];
+      notes = [];
       events = [];
     }
 
