@@ -1,0 +1,73 @@
+-- What contracts see of the heap: the objects in the order of births, and the log of notes.
+use Rattle.std.specs.Prelude.{◌≡◌, ℕ, ◌+◌, ◌≤◌, ◌==◌, Bool, true, false, List, [], ◌∷◌, map, filter_map, sum_by, find, Option, Some, None, is_some, option_map}
+use Rattle.std.specs.List.{AllByRecursion, list_any}
+use Rattle.std.specs.Option.{option_map_or}
+use Rattle.qo_values.specs.declared.kinds.TypeId.{TypeId}
+use Rattle.qo_values.specs.declared.kinds.Act.TheVariants.{Init}
+use Rattle.qo_slots.specs.declared.keys.Key.{Key}
+use Rattle.qo_object.specs.declared.slots.Slot.{Slot}
+use Rattle.qo_object.specs.Slots.{target_of}
+use Rattle.qo_object.specs.Content.{Content, IsObject, forgotten, holding, is_parent}
+use Rattle.qo_model.specs.declared.notes.Deed.TheVariants.{Did, Final}
+use Rattle.qo_model.specs.declared.notes.Note.{Note}
+use Rattle.qo_model.specs.Types.{finals}
+use Rattle.qo_notes.specs.Log.{Log, noted, noted_all}
+use Rattle.qo_table.specs.Rows.{IsLive, Rises, births, edit, object_at, without}
+
+-- the objects with their names, the births so far, and the log of notes
+pub record Objects : Type 0 where
+  pub rows : List (Key × Content)
+  pub born : ℕ
+  pub log : Log
+
+-- the heap with one object changed
+abbrev pub with_edit : ℕ → (Content → Content) → Objects → Objects
+with_edit n change v = record v { rows = edit n change v.rows }
+
+-- the heap with a note more
+abbrev pub with_note : Note → Objects → Objects
+with_note note v = record v { log = noted note v.log }
+
+-- the object of a birth, if it is there
+abbrev pub content_of : Objects → ℕ → Option Content
+content_of v n = object_at v.rows n
+
+-- its slots by name; none where it is not there
+abbrev pub slots_of : Objects → ℕ → List (List ℕ × Slot)
+slots_of v n = option_map_or (λ (c : Content). c.slots) (content_of v n) []
+
+-- the references of an object: how many slots hold it, and how often it is pinned
+abbrev pub pins_of : Objects → ℕ → ℕ
+pins_of v n = option_map_or (λ (c : Content). c.pins) (content_of v n) 0
+
+abbrev pub refs_of : Objects → ℕ → ℕ
+refs_of v n = sum_by (λ (row : Key × Content). holding n row.1) v.rows + pins_of v n
+
+-- the parent of an object: the first that has it as a child
+abbrev pub parent_of : Objects → ℕ → Option Key
+parent_of v n = option_map (λ (row : Key × Content). row.0) (find (λ (row : Key × Content). is_parent n row.1) v.rows)
+
+-- the final notes of an object of a type, derived first
+abbrev pub final_notes : ℕ → TypeId → List Note
+final_notes n kind = map (λ (t : TypeId). record { birth = n; deed = Final t }) (finals kind)
+
+-- the heap without an object: its final notes are added, the weak links that name it are emptied, and it is gone
+abbrev pub forgets : ℕ → Key × Content → Key × Content
+forgets n row = (row.0, forgotten n row.1)
+
+abbrev pub ended : ℕ → TypeId → Objects → Objects
+ended n kind v = record v { rows = map (forgets n) (without n v.rows); log = noted_all (final_notes n kind) v.log }
+
+-- what is named by the slots of an object as a child or as the target of a link
+abbrev pub targets : Content → List Key
+targets c = filter_map (λ (s : List ℕ × Slot). target_of s.1) c.slots
+
+-- each object that is named so is there
+abbrev pub AreLinked : List (Key × Content) → Type 0
+AreLinked rows = AllByRecursion (λ (row : Key × Content). AllByRecursion (IsLive rows) (targets row.1)) rows
+
+-- what is so of every heap: births rise up to those so far, there are at most 4,096 objects, and what slots name is there
+pub record IsHeap (v : Objects) : Type 0 where
+  pub rising : Rises 0 (births v.rows) v.born
+  pub few : length v.rows ≤ 4096
+  pub linked : AreLinked v.rows

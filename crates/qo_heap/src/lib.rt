@@ -1,0 +1,16 @@
+//! The objects of the tree, each under a name that is never given twice, with the log of notes: how
+//! objects are made, read, changed and ended (docs/devel/qom.rst, "The QEMU Object Model"). Nothing
+//! is finalised here: `qo_life` does this over these calls.
+#![tactic(auto)]
+
+mod errors;
+mod heap;
+mod links;
+mod reads;
+mod slots;
+
+pub use errors::{MakeError, SlotError};
+pub use heap::Heap;
+pub use qo_notes::Memory;
+pub use qo_object::{Oid, Slot, SlotView};
+pub use qo_table::Steps;
