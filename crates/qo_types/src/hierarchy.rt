@@ -101,11 +101,7 @@ pub(crate) fn is_abstract(t: TypeId) -> bool
 {
     matches!(
         t,
-        TypeId::Object
-            | TypeId::Device
-            | TypeId::SlotDevice
-            | TypeId::Bus
-            | TypeId::MemoryBackend
+        TypeId::Object | TypeId::Device | TypeId::SlotDevice | TypeId::Bus | TypeId::MemoryBackend
     )
 }
 

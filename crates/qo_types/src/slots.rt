@@ -251,9 +251,7 @@ static SLOT_BRIDGE: [SlotRow; 9] = [
     BUS,
 ];
 
-static MEM_DIMM: [SlotRow; 8] = [
-    TYPE, REALIZED, PARENT_BUS, SLOT, PEER, WATCH, MEMDEV, ADDR,
-];
+static MEM_DIMM: [SlotRow; 8] = [TYPE, REALIZED, PARENT_BUS, SLOT, PEER, WATCH, MEMDEV, ADDR];
 
 static CLOCK: [SlotRow; 5] = [TYPE, PERIOD, MUL, DIV, SOURCE];
 

@@ -41,14 +41,28 @@ fn types(rt: HostRuntime) {
     assert!(rt; has_row("mem-bus", Some(TypeId::Bus), false, &[]));
     assert!(rt; has_row("clock", object, false, &[]));
     assert!(rt; has_row("memory-backend", object, true, &creatable));
-    assert!(rt; has_row("memory-backend-ram", Some(TypeId::MemoryBackend), false, &[]));
+    assert!(rt;
+        has_row(
+            "memory-backend-ram",
+            Some(TypeId::MemoryBackend),
+            false,
+            &[]
+        )
+    );
     assert!(rt; has_row("tag", object, false, &creatable));
 }
 
 #[test]
 fn no_types(rt: HostRuntime) {
     let table = TypeTable::board();
-    for name in ["", "resettable", "user-creatable", "Object", "slot-uar", "slot-uart "] {
+    for name in [
+        "",
+        "resettable",
+        "user-creatable",
+        "Object",
+        "slot-uar",
+        "slot-uart ",
+    ] {
         assert!(rt; table.find(name).is_none());
     }
 }
@@ -83,7 +97,12 @@ fn slot_order(rt: HostRuntime) {
     assert!(rt; has_slots(TypeId::Clock, &["type", "period", "mul", "div", "source"]));
     assert!(rt; has_slots(TypeId::MemoryBackend, &["type", "size"]));
     assert!(rt; has_slots(TypeId::MemoryBackendRam, &["type", "size"]));
-    assert!(rt; has_slots(TypeId::Tag, &["type", "text", "number", "flag", "next", "seen"]));
+    assert!(rt;
+        has_slots(
+            TypeId::Tag,
+            &["type", "text", "number", "flag", "next", "seen"]
+        )
+    );
 }
 
 #[test]
@@ -140,7 +159,7 @@ fn slot_order_of_devices(rt: HostRuntime) {
 /// Whether a row is of this mark, and its kind prints so.
 fn row_is(alloc: Global, row: SlotRow, mark: Mark, kind: &str) -> Result<bool, AllocError> {
     let printed = format!(in alloc; "{:?}", row.kind)?;
-    Ok(row.mark == mark && printed == kind)
+    Ok(row.mark == mark && printed.as_str() == kind)
 }
 
 /// Whether a type has a property of a name, of this mark and kind.
@@ -161,16 +180,56 @@ fn has_slot(
 fn slots(rt: HostRuntime) {
     let rows = [
         (TypeId::Object, "type", Mark::Never, "Plain(Text, TypeName)"),
-        (TypeId::Device, "realized", Mark::Never, "Plain(Bool, Bool(false))"),
-        (TypeId::Device, "parent_bus", Mark::Never, "Link { ty: Bus, strong: true }"),
-        (TypeId::Device, "slot", Mark::Add, "Plain(Uint { lo: 0, hi: 255, step: 1 }, Nothing)"),
-        (TypeId::Device, "peer", Mark::Both, "Link { ty: Device, strong: true }"),
-        (TypeId::Device, "watch", Mark::Both, "Link { ty: Device, strong: false }"),
+        (
+            TypeId::Device,
+            "realized",
+            Mark::Never,
+            "Plain(Bool, Bool(false))",
+        ),
+        (
+            TypeId::Device,
+            "parent_bus",
+            Mark::Never,
+            "Link { ty: Bus, strong: true }",
+        ),
+        (
+            TypeId::Device,
+            "slot",
+            Mark::Add,
+            "Plain(Uint { lo: 0, hi: 255, step: 1 }, Nothing)",
+        ),
+        (
+            TypeId::Device,
+            "peer",
+            Mark::Both,
+            "Link { ty: Device, strong: true }",
+        ),
+        (
+            TypeId::Device,
+            "watch",
+            Mark::Both,
+            "Link { ty: Device, strong: false }",
+        ),
         (TypeId::SlotDevice, "clk", Mark::Never, "Child(Clock)"),
-        (TypeId::SlotDevice, "clock-period", Mark::Set, "Alias { child: \"clk\", of: \"period\" }"),
-        (TypeId::SlotUart, "chardev", Mark::Add, "Plain(Text, NoText)"),
+        (
+            TypeId::SlotDevice,
+            "clock-period",
+            Mark::Set,
+            "Alias { child: \"clk\", of: \"period\" }",
+        ),
+        (
+            TypeId::SlotUart,
+            "chardev",
+            Mark::Add,
+            "Plain(Text, NoText)",
+        ),
         (TypeId::SlotBridge, "bus.0", Mark::Never, "Child(SlotBus)"),
-        (TypeId::MemDimm, "memdev", Mark::Add, "Link { ty: MemoryBackend, strong: true }"),
+        (
+            TypeId::MemDimm,
+            "memdev",
+            Mark::Add,
+            "Link { ty: MemoryBackend, strong: true }",
+        ),
     ];
     for (t, name, mark, kind) in rows {
         let found = has_slot(rt.alloc(), t, name, mark, kind).expect(&rt, "ample memory");
@@ -181,17 +240,62 @@ fn slots(rt: HostRuntime) {
 #[test]
 fn more_slots(rt: HostRuntime) {
     let rows = [
-        (TypeId::MemDimm, "addr", Mark::Add, "Plain(Uint { lo: 0, hi: 18446744073709551615, step: 4096 }, Nothing)"),
-        (TypeId::Clock, "period", Mark::Set, "Plain(Uint { lo: 0, hi: 18446744073709551615, step: 1 }, Uint(0))"),
-        (TypeId::Clock, "mul", Mark::Set, "Plain(Uint { lo: 0, hi: 4294967295, step: 1 }, Uint(1))"),
-        (TypeId::Clock, "div", Mark::Set, "Plain(Uint { lo: 0, hi: 4294967295, step: 1 }, Uint(1))"),
-        (TypeId::Clock, "source", Mark::Never, "Link { ty: Clock, strong: false }"),
-        (TypeId::MemoryBackend, "size", Mark::Add, "Plain(Uint { lo: 4096, hi: 1099511627776, step: 4096 }, Uint(1048576))"),
+        (
+            TypeId::MemDimm,
+            "addr",
+            Mark::Add,
+            "Plain(Uint { lo: 0, hi: 18446744073709551615, step: 4096 }, Nothing)",
+        ),
+        (
+            TypeId::Clock,
+            "period",
+            Mark::Set,
+            "Plain(Uint { lo: 0, hi: 18446744073709551615, step: 1 }, Uint(0))",
+        ),
+        (
+            TypeId::Clock,
+            "mul",
+            Mark::Set,
+            "Plain(Uint { lo: 0, hi: 4294967295, step: 1 }, Uint(1))",
+        ),
+        (
+            TypeId::Clock,
+            "div",
+            Mark::Set,
+            "Plain(Uint { lo: 0, hi: 4294967295, step: 1 }, Uint(1))",
+        ),
+        (
+            TypeId::Clock,
+            "source",
+            Mark::Never,
+            "Link { ty: Clock, strong: false }",
+        ),
+        (
+            TypeId::MemoryBackend,
+            "size",
+            Mark::Add,
+            "Plain(Uint { lo: 4096, hi: 1099511627776, step: 4096 }, Uint(1048576))",
+        ),
         (TypeId::Tag, "text", Mark::Both, "Plain(Text, NoText)"),
-        (TypeId::Tag, "number", Mark::Both, "Plain(Int { lo: -9223372036854775808, hi: 9223372036854775807 }, Uint(0))"),
+        (
+            TypeId::Tag,
+            "number",
+            Mark::Both,
+            "Plain(Int { lo: -9223372036854775808, hi: 9223372036854775807 }, Uint(0))",
+        ),
         (TypeId::Tag, "flag", Mark::Both, "Plain(Bool, Bool(false))"),
-        (TypeId::Tag, "next", Mark::Both, "Link { ty: Object, strong: true }"),
-        (TypeId::Tag, "seen", Mark::Both, "Link { ty: Object, strong: false }"),
+        (
+            TypeId::Tag,
+            "next",
+            Mark::Both,
+            "Link { ty: Object, strong: true }",
+        ),
+        (
+            TypeId::Tag,
+            "seen",
+            Mark::Both,
+            "Link { ty: Object, strong: false }",
+        ),
     ];
     for (t, name, mark, kind) in rows {
         let found = has_slot(rt.alloc(), t, name, mark, kind).expect(&rt, "ample memory");
@@ -243,12 +347,7 @@ fn chains(rt: HostRuntime) {
 }
 
 /// Whether the types of a name are these.
-fn lists(
-    alloc: Global,
-    name: &str,
-    with_abstract: bool,
-    want: &[TypeId],
-) -> Result<bool, Memory> {
+fn lists(alloc: Global, name: &str, with_abstract: bool, want: &[TypeId]) -> Result<bool, Memory> {
     let ids = TypeTable::board().list(alloc, name, with_abstract)?;
     Ok(ids.as_slice() == want)
 }
