@@ -1,5 +1,5 @@
 -- The code's tables say what the definitions say.
-use Rattle.std.proofs.Common.{◌≡◌, ℕ, Bool, true, false, cond, List, [], ◌∷◌, map, find, refl, sym, ◌∙◌, ap, Option, None, Some, option_map}
+use Rattle.std.proofs.Common.{◌≡◌, ℕ, Bool, true, false, List, [], ◌∷◌, map, find, refl, sym, ◌∙◌, ap, Option, None, Some, option_map}
 use Rattle.std.specs.List.{list_any, slice_get}
 use Rattle.std.specs.Option.{option_copied, option_map_or}
 use Rattle.std.specs.Slice.{IsItemAt}
@@ -12,7 +12,6 @@ use Rattle.qo_values.specs.declared.kinds.TypeId.TheVariants.{Object, Container,
 use Rattle.qo_model.specs.Types.{Property, Kind, TypeRow, types, chain, property, row_of, row_named, interfaces_of}
 use Rattle.qo_types.specs.Rows.{Told, type_told_of, type_ids, is_abstract, property_told, kind_told, mark_told}
 use Rattle.qo_types.specs.declared.rows.SlotRow.{SlotRow}
-use Rattle.qo_types.specs.declared.rows.RowKind.{RowKind}
 
 -- a test of what is read off each element
 pub list_any_map : {X Y : Type 0} (p : Y → Bool) (v : X → Y) (xs : List X) → list_any p (map v xs) ≡ list_any (λ x. p (v x)) xs

@@ -1,5 +1,5 @@
 -- What the rows of the code tell, in the words of the definitions.
-use Rattle.std.specs.Prelude.{ℕ, Bool, true, false, not, ◌&&◌, ◌||◌, List, map, filter, Option, Some, None, option_map}
+use Rattle.std.specs.Prelude.{ℕ, Bool, false, not, ◌&&◌, ◌||◌, List, map, filter, Option, Some, None, option_map}
 use Rattle.std.specs.Option.{option_map_or}
 use Rattle.qo_values.specs.Kinds.{type_name}
 use Rattle.qo_values.specs.declared.kinds.TypeId.{TypeId}

@@ -1,6 +1,5 @@
 -- The rows tell the properties, so the one at a place does.
-use Rattle.std.proofs.Common.{◌∙◌, ◌≡◌}
-use Rattle.std.specs.List.{slice_get}
+use Rattle.std.proofs.Common.{◌∙◌}
 use Rattle.qo_model.specs.Types.{slots_of}
 use Rattle.qo_types.proofs.TableLemmas.{copied_item, told_at}
 use Rattle.qo_types.proofs.table.TypeTable.prop.Goals as goal
