@@ -41,7 +41,7 @@ type_told r = record { name = r.name.now; parent = option_map type_name r.parent
 abbrev pub type_told_of : model.TypeRow → Told
 type_told_of r = record { name = type_name r.id; parent = r.parent; is_abstract = r.is_abstract; interfaces = r.interfaces }
 
--- what a plain property holds at first; a number below 0 is no definition's
+-- what a plain property holds at first; none begins with a number below 0
 abbrev pub first_told : First → Option model.First
 first_told first.TypeName = Some model.own_name
 first_told first.Nothing = Some model.nothing
