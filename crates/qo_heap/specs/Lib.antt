@@ -1,3 +1,4 @@
 pub mod Board
 pub mod Errors
 pub mod Objects
+pub mod Places

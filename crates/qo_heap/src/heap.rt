@@ -1,13 +1,12 @@
 //! The heap, and the calls that make and end objects.
 
+use crate::ends::{forget_all, note_end};
 use crate::errors::MakeError;
 use qo_model::{Deed, Note};
 use qo_notes::{Memory, NoteLog};
 use qo_object::{Object, Oid};
 use qo_table::{ObjectTable, Steps};
-use qo_types::TypeTable;
-use qo_values::{Act, TypeId};
-use qo_values::limits::LIVE_OBJECTS_MAX;
+use qo_values::{Act, LIVE_OBJECTS_MAX, TypeId};
 use std::alloc::Global;
 use std::marker::Model;
 use std::sync::ledger::Ledger;
@@ -103,7 +102,8 @@ impl Heap {
         requires bare { option_map held_count (content_of self.old o.birth) ≡ Some 0 }
         ensures { option_map (λ c. ended o.birth c.kind self.old) (content_of self.old o.birth) ≡ Some self.new }
     {
-        let kind = self.remove(o, steps);
-        self.note_end(o, kind);
+        let object = self.table.take(o, steps);
+        forget_all(&mut self.table, o.birth, steps);
+        note_end(&mut self.log, o.birth, object.kind());
     }
 }

@@ -3,6 +3,7 @@
 //! is finalised here: `qo_life` does this over these calls.
 #![tactic(auto)]
 
+mod ends;
 mod errors;
 mod heap;
 mod links;

@@ -1,0 +1,49 @@
+//! What ends with an object: the weak links that name it, and its final notes.
+
+ghost use Rattle.std.specs.Prelude.{◌≡◌, ◌<◌, length, map, find};
+ghost use Rattle.qo_notes.specs.Log.{noted_all};
+ghost use Rattle.qo_heap.specs.Objects.{final_notes, forgets};
+ghost use Rattle.qo_heap.specs.Places.{changed_at};
+
+use qo_model::{Deed, Note};
+use qo_notes::NoteLog;
+use qo_object::Object;
+use qo_table::{ObjectTable, Steps};
+use qo_types::TypeTable;
+use qo_values::TypeId;
+use std::sync::ledger::Ledger;
+
+/// Empties the weak links of the object at a place that name the object of a birth.
+fn forget_at<L: Ledger>(table: &mut ObjectTable<Object>, place: usize, birth: u64, steps: &mut Steps<L>)
+    ensures { table.new ≡ record table.old { rows = changed_at (forgets birth) place table.old.rows } }
+{
+    if let Some(key) = table.key_at(place) {
+        table.change(key, steps).forget(birth);
+    }
+}
+
+/// Empties the weak links of all objects that name the object of a birth.
+pub fn forget_all<L: Ledger>(table: &mut ObjectTable<Object>, birth: u64, steps: &mut Steps<L>)
+    ensures { table.new ≡ record table.old { rows = map (forgets birth) table.old.rows } }
+{
+    for place in 0..table.len() {
+        forget_at(table, place, birth, steps);
+    }
+}
+
+/// Adds the final notes of an object of a type, derived first.
+pub fn note_end(log: &mut NoteLog, birth: u64, kind: TypeId)
+    ensures { log.new ≡ noted_all (final_notes birth kind) log.old }
+{
+    let types = TypeTable::board();
+    let mut place = 0usize;
+    while let Some(of) = types.chain(kind, place) {
+        if types.has_finaliser(of) {
+            log.add(Note {
+                birth,
+                deed: Deed::Final(of),
+            });
+        }
+        place += 1;
+    }
+}

@@ -1,0 +1,71 @@
+//! Changing the slots and the pins of an object of the heap. None of these calls takes memory, and
+//! none finalises.
+
+use crate::heap::Heap;
+use qo_object::Oid;
+use qo_table::Steps;
+use qo_values::Val;
+use std::sync::ledger::Ledger;
+
+impl Heap {
+    ghost use Rattle.std.specs.Prelude.{◌≡◌, ◌<◌, ◌^◌, true, Some, option_map, option_and_then};
+    ghost use Rattle.qo_object.specs.Content.{dropped_at, named_at, empty_link_at, takes_at, pointed_at, set_at, cut_at, with_pin, without_pin};
+    ghost use Rattle.qo_table.specs.Rows.{IsLive};
+    ghost use Rattle.qo_heap.specs.Objects.{content_of, pins_of, with_edit};
+
+    /// Lets the slot of an object at a place go, and answers what it named: a child slot is removed,
+    /// a link is left without a target; a plain slot and an alias stay, as all does past the end.
+    pub fn empty<L: Ledger>(&mut self, o: Oid, at: usize, steps: &mut Steps<L>) -> Option<Oid>
+        requires live { IsLive self.old.rows o }
+        ensures now { self.new ≡ with_edit o.birth (dropped_at at) self.old }
+        ensures answer { result ≡ option_and_then (λ c. named_at c at) (content_of self.old o.birth) }
+    {
+        self.table.change(o, steps).empty(at)
+    }
+
+    /// Points the link at a place, which has no target, at an object.
+    pub fn point<L: Ledger>(&mut self, o: Oid, at: usize, target: Oid, steps: &mut Steps<L>)
+        requires live { IsLive self.old.rows o }
+        requires target { IsLive self.old.rows target }
+        requires link { option_map (λ c. empty_link_at c at) (content_of self.old o.birth) ≡ Some true }
+        ensures { self.new ≡ with_edit o.birth (pointed_at target at) self.old }
+    {
+        self.table.change(o, steps).point(at, target);
+    }
+
+    /// Gives the plain slot at a place a value that its type takes.
+    pub fn set<L: Ledger>(&mut self, o: Oid, at: usize, val: Val, steps: &mut Steps<L>)
+        requires live { IsLive self.old.rows o }
+        requires takes { option_map (λ c. takes_at val c at) (content_of self.old o.birth) ≡ Some true }
+        ensures { self.new ≡ with_edit o.birth (set_at val at) self.old }
+    {
+        self.table.change(o, steps).set(at, val);
+    }
+
+    /// Removes the link at a place, which has no target.
+    pub fn cut<L: Ledger>(&mut self, o: Oid, at: usize, steps: &mut Steps<L>)
+        requires live { IsLive self.old.rows o }
+        requires link { option_map (λ c. empty_link_at c at) (content_of self.old o.birth) ≡ Some true }
+        ensures { self.new ≡ with_edit o.birth (cut_at at) self.old }
+    {
+        self.table.change(o, steps).cut(at);
+    }
+
+    /// Holds an object from outside the tree once more; it may be so held 2^32 times.
+    pub fn pin<L: Ledger>(&mut self, o: Oid, steps: &mut Steps<L>)
+        requires live { IsLive self.old.rows o }
+        requires room { pins_of self.old o.birth < 2 ^ 32 }
+        ensures { self.new ≡ with_edit o.birth with_pin self.old }
+    {
+        self.table.change(o, steps).pin();
+    }
+
+    /// Holds an object from outside the tree once less.
+    pub fn unpin<L: Ledger>(&mut self, o: Oid, steps: &mut Steps<L>)
+        requires live { IsLive self.old.rows o }
+        requires pinned { 0 < pins_of self.old o.birth }
+        ensures { self.new ≡ with_edit o.birth without_pin self.old }
+    {
+        self.table.change(o, steps).unpin();
+    }
+}

@@ -1,0 +1,166 @@
+//! Reading the heap. None of these calls takes memory but `notes`.
+
+ghost use Rattle.std.specs.Prelude.{◌≡◌, ◌≤◌, ◌^◌, false, length, find, slice_get, sum_by};
+ghost use Rattle.std.specs.Option.{option_map_or};
+ghost use Rattle.qo_object.specs.Content.{holding, is_parent};
+
+use crate::heap::Heap;
+use qo_model::Note;
+use qo_notes::Memory;
+use qo_object::{Object, Oid, SlotView};
+use qo_table::{ObjectTable, Steps};
+use qo_values::TypeId;
+use std::alloc::Global;
+use std::sync::ledger::Ledger;
+
+/// How many slots of the object at a place hold the object of a birth; 0 past the last.
+fn holding_at<L: Ledger>(table: &ObjectTable<Object>, place: usize, birth: u64, steps: &mut Steps<L>) -> u64
+    ensures count { result ≡ option_map_or (λ row. holding birth row.1) (slice_get table.now.rows place) 0 }
+    ensures few { result ≤ 2 ^ 32 }
+{
+    match table.key_at(place) {
+        Some(key) => {
+            let object = table.look(key, steps);
+            object.facts();
+            object.holding(birth)
+        }
+        None => 0,
+    }
+}
+
+/// How many slots of all objects hold the object of a birth.
+fn holding_in<L: Ledger>(table: &ObjectTable<Object>, birth: u64, steps: &mut Steps<L>) -> u64
+    requires few { length table.now.rows ≤ 4096 }
+    ensures count { result ≡ sum_by (λ row. holding birth row.1) table.now.rows }
+    ensures bound { result ≤ 2 ^ 44 }
+{
+    let mut count = 0u64;
+    for place in 0..table.len() {
+        count += holding_at(table, place, birth, steps);
+    }
+    count
+}
+
+/// Whether the object at a place has the object of a birth as a child; not past the last.
+fn is_parent_at<L: Ledger>(table: &ObjectTable<Object>, place: usize, birth: u64, steps: &mut Steps<L>) -> bool
+    ensures { result ≡ option_map_or (λ row. is_parent birth row.1) (slice_get table.now.rows place) false }
+{
+    match table.key_at(place) {
+        Some(key) => table.look(key, steps).is_parent(birth),
+        None => false,
+    }
+}
+
+/// The first place at which an object has the object of a birth as a child; past the last where none has.
+fn parent_place<L: Ledger>(table: &ObjectTable<Object>, birth: u64, steps: &mut Steps<L>) -> usize
+    ensures { slice_get table.now.rows result ≡ find (λ row. is_parent birth row.1) table.now.rows }
+{
+    let len = table.len();
+    for place in 0..len {
+        if is_parent_at(table, place, birth, steps) {
+            return place;
+        }
+    }
+    len
+}
+
+impl Heap {
+    ghost use Rattle.std.specs.Prelude.{Some, option_map, option_and_then, length, find, leb, slice_get, position, IfSome, IfOk};
+    ghost use Rattle.std.specs.Str.{bytes_eq};
+    ghost use Rattle.qo_notes.specs.Log.{given_from, first_from};
+    ghost use Rattle.qo_table.specs.Rows.{IsLive};
+    ghost use Rattle.qo_heap.specs.Objects.{content_of, parent_of, pins_of, refs_of, slots_of};
+
+    /// How many objects are live.
+    pub fn live(&self) -> usize
+        ensures { result ≡ length self.now.rows }
+    {
+        self.table.len()
+    }
+
+    /// The type of an object.
+    pub fn kind<L: Ledger>(&self, o: Oid, steps: &mut Steps<L>) -> TypeId
+        requires { IsLive self.now.rows o }
+        ensures { option_map (λ c. c.kind) (content_of self.now o.birth) ≡ Some result }
+    {
+        self.table.look(o, steps).kind()
+    }
+
+    /// The slot of a name of an object, by one look-up; `None` exactly where it has none.
+    pub fn slot<L: Ledger>(&self, o: Oid, name: &str, steps: &mut Steps<L>) -> Option<SlotView<'_>>
+        requires { IsLive self.now.rows o }
+        ensures slot { option_map (λ v. (v.name.now, v.what.now)) result ≡ find (λ s. bytes_eq name.now s.0) (slots_of self.now o.birth) }
+        ensures at { option_map (λ v. v.at) result ≡ position (λ s. bytes_eq name.now s.0) (slots_of self.now o.birth) }
+    {
+        let object = self.table.look(o, steps);
+        match object.find(name) {
+            Some(at) => object.slot_at(at),
+            None => None,
+        }
+    }
+
+    /// The slot of an object at a place, from 0; `None` exactly past the last.
+    pub fn slot_at<L: Ledger>(&self, o: Oid, at: usize, steps: &mut Steps<L>) -> Option<SlotView<'_>>
+        requires { IsLive self.now.rows o }
+        ensures slot { option_map (λ v. (v.name.now, v.what.now)) result ≡ slice_get (slots_of self.now o.birth) at }
+        ensures at { IfSome result (λ v. v.at ≡ at) }
+    {
+        self.table.look(o, steps).slot_at(at)
+    }
+
+    /// How often an object is pinned.
+    fn pins<L: Ledger>(&self, o: Oid, steps: &mut Steps<L>) -> u64
+        requires { IsLive self.now.rows o }
+        ensures pins { result ≡ pins_of self.now o.birth }
+        ensures few { result ≤ 2 ^ 32 }
+    {
+        let object = self.table.look(o, steps);
+        object.facts();
+        object.pins()
+    }
+
+    /// The references of an object: the child slots and strong links that name it, and its pins.
+    pub fn refs<L: Ledger>(&self, o: Oid, steps: &mut Steps<L>) -> u64
+        requires { IsLive self.now.rows o }
+        ensures { result ≡ refs_of self.now o.birth }
+    {
+        let pins = self.pins(o, steps);
+        pins + holding_in(&self.table, o.birth, steps)
+    }
+
+    /// The parent of an object; `None` exactly where it has none.
+    pub fn parent<L: Ledger>(&self, o: Oid, steps: &mut Steps<L>) -> Option<Oid>
+        ensures { result ≡ parent_of self.now o.birth }
+    {
+        let place = parent_place(&self.table, o.birth, steps);
+        self.table.key_at(place)
+    }
+
+    /// The live object of the least birth from this one on; `None` where none is as high.
+    pub fn from_birth(&self, birth: u64) -> Option<Oid>
+        ensures { result ≡ option_map (λ row. row.0) (find (λ row. leb birth row.0.birth) self.now.rows) }
+    {
+        self.table.from_birth(birth)
+    }
+
+    /// How many notes there were; it stays at 2^64 - 1 once there.
+    pub fn notes_total(&self) -> u64
+        ensures { result ≡ self.now.log.total }
+    {
+        self.log.total()
+    }
+
+    /// The number of the first note that a reading from a number gives.
+    pub fn notes_first(&self, from: u64) -> u64
+        ensures { result ≡ first_from from self.now.log }
+    {
+        self.log.first_from(from)
+    }
+
+    /// The notes that a reading from a number gives, at most 256. The error is want of memory.
+    pub fn notes(&self, from: u64, alloc: Global) -> Result<Vec<Note>, Memory>
+        ensures { IfOk result (λ notes. notes.items ≡ given_from from self.now.log) }
+    {
+        self.log.get(from, alloc)
+    }
+}

@@ -1,0 +1,98 @@
+//! Adding slots to an object of the heap.
+
+use crate::errors::SlotError;
+use crate::heap::Heap;
+use qo_object::{Oid, Slot};
+use qo_table::Steps;
+use qo_values::{Name, PropType, TypeId, Val};
+use std::sync::ledger::Ledger;
+
+impl Heap {
+    ghost use Rattle.std.specs.Prelude.{◌≡◌, ◌≢◌, true, false, Err, Some, None, IfSome, OnOk, OnErr, is_some};
+    ghost use Rattle.qo_object.specs.Content.{with_slot};
+    ghost use Rattle.qo_object.specs.Slots.{has_name, target_of};
+    ghost use Rattle.qo_object.specs.declared.slots.Slot.TheVariants.{Plain, Child, Link, Alias};
+    ghost use Rattle.qo_table.specs.Rows.{IsLive};
+    ghost use Rattle.qo_heap.specs.Objects.{parent_of, slots_of, with_edit};
+    ghost use Rattle.qo_heap.specs.declared.errors.SlotError.TheVariants.{Duplicate, HasParent, Memory};
+
+    /// Adds a slot to an object, behind the others. What it names must be there.
+    fn add<L: Ledger>(&mut self, o: Oid, name: Name, slot: Slot, steps: &mut Steps<L>) -> Result<(), SlotError>
+        requires live { IsLive self.old.rows o }
+        requires target { IfSome (target_of slot) (IsLive self.old.rows) }
+        ensures added { OnOk result (self.new ≡ with_edit o.birth (with_slot name slot) self.old) }
+        ensures absent { OnOk result (has_name name (slots_of self.old o.birth) ≡ false) }
+        ensures duplicate { result ≡ Err Duplicate → has_name name (slots_of self.old o.birth) ≡ true }
+        ensures memory { result ≡ Err Memory → has_name name (slots_of self.old o.birth) ≡ false }
+        ensures parent { result ≢ Err HasParent }
+        ensures err { OnErr result (self.new ≡ self.old) }
+    {
+        self.table.change(o, steps).add(name, slot)?;
+        Ok(())
+    }
+
+    /// Adds a plain property with the values that it takes and its value. `Duplicate` comes exactly
+    /// where the object has a slot of that name. An error leaves the heap as it was.
+    pub fn add_plain<L: Ledger>(&mut self, o: Oid, name: Name, ty: PropType, val: Val, steps: &mut Steps<L>) -> Result<(), SlotError>
+        requires live { IsLive self.old.rows o }
+        ensures added { OnOk result (self.new ≡ with_edit o.birth (with_slot name (Plain ty val)) self.old) }
+        ensures absent { OnOk result (has_name name (slots_of self.old o.birth) ≡ false) }
+        ensures duplicate { result ≡ Err Duplicate → has_name name (slots_of self.old o.birth) ≡ true }
+        ensures memory { result ≡ Err Memory → has_name name (slots_of self.old o.birth) ≡ false }
+        ensures parent { result ≢ Err HasParent }
+        ensures err { OnErr result (self.new ≡ self.old) }
+    {
+        self.add(o, name, Slot::Plain(ty, val), steps)
+    }
+
+    /// Adds a child slot. `Duplicate` comes exactly where the owner has a slot of that name, else
+    /// `HasParent` exactly where the child has a parent. An error leaves the heap as it was.
+    pub fn add_child<L: Ledger>(&mut self, o: Oid, name: Name, child: Oid, steps: &mut Steps<L>) -> Result<(), SlotError>
+        requires live { IsLive self.old.rows o }
+        requires target { IsLive self.old.rows child }
+        ensures added { OnOk result (self.new ≡ with_edit o.birth (with_slot name (Child child)) self.old) }
+        ensures absent { OnOk result (has_name name (slots_of self.old o.birth) ≡ false) }
+        ensures free { OnOk result (parent_of self.old child.birth ≡ None) }
+        ensures duplicate { result ≡ Err Duplicate → has_name name (slots_of self.old o.birth) ≡ true }
+        ensures parent { result ≡ Err HasParent → (has_name name (slots_of self.old o.birth) ≡ false) × (is_some (parent_of self.old child.birth) ≡ true) }
+        ensures memory { result ≡ Err Memory → (has_name name (slots_of self.old o.birth) ≡ false) × (parent_of self.old child.birth ≡ None) }
+        ensures err { OnErr result (self.new ≡ self.old) }
+    {
+        if self.slot(o, name.as_str(), steps).is_some() {
+            return Err(SlotError::Duplicate);
+        }
+        if self.parent(child, steps).is_some() {
+            return Err(SlotError::HasParent);
+        }
+        self.add(o, name, Slot::Child(child), steps)
+    }
+
+    /// Adds a link to objects of a type, which keeps its target alive where it is strong. `Duplicate`
+    /// comes exactly where the owner has a slot of that name. An error leaves the heap as it was.
+    pub fn add_link<L: Ledger>(&mut self, o: Oid, name: Name, ty: TypeId, strong: bool, target: Option<Oid>, steps: &mut Steps<L>) -> Result<(), SlotError>
+        requires live { IsLive self.old.rows o }
+        requires target { IfSome target (IsLive self.old.rows) }
+        ensures added { OnOk result (self.new ≡ with_edit o.birth (with_slot name (Link ty strong target)) self.old) }
+        ensures absent { OnOk result (has_name name (slots_of self.old o.birth) ≡ false) }
+        ensures duplicate { result ≡ Err Duplicate → has_name name (slots_of self.old o.birth) ≡ true }
+        ensures memory { result ≡ Err Memory → has_name name (slots_of self.old o.birth) ≡ false }
+        ensures parent { result ≢ Err HasParent }
+        ensures err { OnErr result (self.new ≡ self.old) }
+    {
+        self.add(o, name, Slot::Link { ty, strong, target }, steps)
+    }
+
+    /// Adds another name for the property `of` of an object. `Duplicate` comes exactly where the
+    /// owner has a slot of that name. An error leaves the heap as it was.
+    pub fn add_alias<L: Ledger>(&mut self, o: Oid, name: Name, target: Oid, of: Name, steps: &mut Steps<L>) -> Result<(), SlotError>
+        requires live { IsLive self.old.rows o }
+        ensures added { OnOk result (self.new ≡ with_edit o.birth (with_slot name (Alias target of)) self.old) }
+        ensures absent { OnOk result (has_name name (slots_of self.old o.birth) ≡ false) }
+        ensures duplicate { result ≡ Err Duplicate → has_name name (slots_of self.old o.birth) ≡ true }
+        ensures memory { result ≡ Err Memory → has_name name (slots_of self.old o.birth) ≡ false }
+        ensures parent { result ≢ Err HasParent }
+        ensures err { OnErr result (self.new ≡ self.old) }
+    {
+        self.add(o, name, Slot::Alias(target, of), steps)
+    }
+}
