@@ -72,6 +72,13 @@ impl SlotMap {
         self.map.get_index_of(name)
     }
 
+    /// Whether there is a slot of a name.
+    pub fn has(&self, name: &str) -> bool
+        ensures { result ≡ has_name name.now self.now }
+    {
+        self.map.contains_key(name)
+    }
+
     /// The slot at a place; None past the end.
     pub fn slot_at(&self, at: usize) -> Option<SlotView<'_>>
         ensures slot { option_map (λ v. (v.name.now, v.what.now)) result ≡ slice_get self.now at }
@@ -107,7 +114,10 @@ impl SlotMap {
     fn child_at(&self, at: usize) -> Option<Key>
         ensures { result ≡ option_and_then child_of (slot_in self.now at) }
     {
-        self.slot_at(at)?.what.child()
+        let Some(slot) = self.slot_at(at) else {
+            return None;
+        };
+        slot.what.child()
     }
 
     /// Takes the target out of the link at a place.
@@ -116,7 +126,10 @@ impl SlotMap {
         ensures now { self.new ≡ changed_at unlinked at self.old }
         ensures answer { result ≡ named_in self.old at }
     {
-        self.map.get_index_mut(at)?.slot.unlink()
+        let Some(named) = self.map.get_index_mut(at) else {
+            return None;
+        };
+        named.slot.unlink()
     }
 
     /// Lets the slot at a place go, and answers what it named.
@@ -135,27 +148,30 @@ impl SlotMap {
     pub fn point(&mut self, at: usize, target: Key)
         ensures { self.new ≡ changed_at (pointed target) at self.old }
     {
-        if let Some(named) = self.map.get_index_mut(at) {
-            named.slot.point(target);
-        }
+        let Some(named) = self.map.get_index_mut(at) else {
+            return;
+        };
+        named.slot.point(target);
     }
 
     /// Gives the plain slot at a place a value.
     pub fn set(&mut self, at: usize, val: Val)
         ensures { self.new ≡ changed_at (with_val val) at self.old }
     {
-        if let Some(named) = self.map.get_index_mut(at) {
-            named.slot.set(val);
-        }
+        let Some(named) = self.map.get_index_mut(at) else {
+            return;
+        };
+        named.slot.set(val);
     }
 
     /// Empties the slot at a place, where it is a weak link to the object of a birth.
     pub fn forget(&mut self, at: usize, birth: u64)
         ensures { self.new ≡ changed_at (forgotten_in birth) at self.old }
     {
-        if let Some(named) = self.map.get_index_mut(at) {
-            named.slot.forget(birth);
-        }
+        let Some(named) = self.map.get_index_mut(at) else {
+            return;
+        };
+        named.slot.forget(birth);
     }
 
     /// How many hold the object of a birth.

@@ -106,7 +106,7 @@ impl Object {
         ensures memory { result ≡ Err Memory → has_name name self.old.slots ≡ false }
         ensures err { OnErr result (self.new ≡ self.old) }
     {
-        if self.slots.find(name.as_str()).is_some() {
+        if self.slots.has(name.as_str()) {
             return Err(AddError::Duplicate);
         }
         if self.slots.len() >= SLOTS_MAX {
