@@ -1,0 +1,148 @@
+-- What an object is on the board, after each change.
+use Rattle.std.proofs.Common.{◌≡◌, ℕ, zero, suc, ◌+◌, Bool, true, false, ◌||◌, ◌==◌, cond, find, List, [], ◌∷◌, map, length, slice_get, Option, Some, None, option_map, is_some, count_by, sum_by, refl, sym, ap, ◌∙◌, arith}
+use Rattle.std.proofs.lemmas.List.Sums.{sum_by-cons}
+use Rattle.std.specs.List.{list_any}
+use Rattle.qo_slots.specs.declared.keys.Key.{Key}
+use Rattle.qo_model.specs.Board as board
+use Rattle.qo_model.specs.References as references
+use Rattle.qo_model.specs.Release as release
+use Rattle.qo_model.specs.Paths as paths
+use Rattle.qo_object.specs.declared.slots.Slot.{Slot}
+use Rattle.qo_object.specs.declared.slots.Slot.TheVariants.{Plain, Child, Link, Alias}
+use Rattle.qo_object.specs.Slots.{Named, target_of, held, holds, names_child, unless_born, forgotten_in, left_of, let_go_at, each_changed}
+use Rattle.qo_object.specs.Content.{Content, dropped_at, forgotten, holding, is_parent, held_count}
+use Rattle.qo_object.specs.Shown.{birth_of, shown_slot, shown_slots, shown}
+
+-- one slot
+
+pub shown-target : (s : Slot) → board.target_of (shown_slot s) ≡ birth_of (target_of s)
+shown-target (Plain ty val) = refl
+shown-target (Child key) = refl
+shown-target (Link ty true target) = refl
+shown-target (Link ty false target) = refl
+shown-target (Alias key name) = refl
+
+pub shown-held : (s : Slot) → board.held (shown_slot s) ≡ birth_of (held s)
+shown-held (Plain ty val) = refl
+shown-held (Child key) = refl
+shown-held (Link ty true target) = refl
+shown-held (Link ty false target) = refl
+shown-held (Alias key name) = refl
+
+some-held : (s : Slot) → is_some (board.held (shown_slot s)) ≡ is_some (held s)
+some-held s = rw (shown-held s) (by (held s))
+  where
+    by : (key : Option Key) → is_some (birth_of key) ≡ is_some key
+    by None = refl
+    by (Some key) = refl
+
+pub shown-holds : (n : ℕ) (s : Slot) → references.holds_it n (shown_slot s) ≡ holds n s
+shown-holds n (Plain ty val) = refl
+shown-holds n (Child key) = refl
+shown-holds n (Link ty true None) = refl
+shown-holds n (Link ty true (Some key)) = refl
+shown-holds n (Link ty false target) = refl
+shown-holds n (Alias key name) = refl
+
+unless-shown : (n : ℕ) (key : Key) → birth_of (unless_born n (Some key)) ≡ cond (key.birth == n) None (Some key.birth)
+unless-shown n key = by (key.birth == n)
+  where
+    by : (b : Bool) → birth_of (cond b None (Some key)) ≡ cond b None (Some key.birth)
+    by true = refl
+    by false = refl
+
+pub shown-forgotten : (n : ℕ) (s : Slot) → shown_slot (forgotten_in n s) ≡ release.forgotten_in n (shown_slot s)
+shown-forgotten n (Plain ty val) = refl
+shown-forgotten n (Child key) = refl
+shown-forgotten n (Link ty true None) = refl
+shown-forgotten n (Link ty true (Some key)) = refl
+shown-forgotten n (Link ty false None) = refl
+shown-forgotten n (Link ty false (Some key)) = ap (board.weak ty) (unless-shown n key)
+shown-forgotten n (Alias key name) = refl
+
+pub shown-left : (s : Slot) → release.emptied (shown_slot s) ≡ option_map shown_slot (left_of s)
+shown-left (Plain ty val) = refl
+shown-left (Child key) = refl
+shown-left (Link ty true target) = refl
+shown-left (Link ty false target) = refl
+shown-left (Alias key name) = refl
+
+-- the slots
+
+pub length-shown : (slots : List Named) → length (shown_slots slots) ≡ length slots
+length-shown [] = refl
+length-shown (s ∷ slots) = ap suc (length-shown slots)
+
+pub slice_get-shown : (slots : List Named) (i : ℕ) → slice_get (shown_slots slots) i ≡ option_map (λ (s : Named). (s.0, shown_slot s.1)) (slice_get slots i)
+slice_get-shown [] i = refl
+slice_get-shown (s ∷ slots) zero = refl
+slice_get-shown (s ∷ slots) (suc i) = slice_get-shown slots i
+
+let_go-shown : (i : ℕ) (slots : List Named) → shown_slots (let_go_at i slots) ≡ release.without_hold i (shown_slots slots)
+let_go-shown i [] = refl
+let_go-shown zero ((name, Plain ty val) ∷ slots) = refl
+let_go-shown zero ((name, Child key) ∷ slots) = refl
+let_go-shown zero ((name, Link ty true target) ∷ slots) = refl
+let_go-shown zero ((name, Link ty false target) ∷ slots) = refl
+let_go-shown zero ((name, Alias key property) ∷ slots) = refl
+let_go-shown (suc i) (s ∷ slots) = ap (λ ss. (s.0, shown_slot s.1) ∷ ss) (let_go-shown i slots)
+
+forgotten-shown : (n : ℕ) (slots : List Named) → shown_slots (each_changed (forgotten_in n) slots) ≡ map (λ (s : List ℕ × board.Slot). (s.0, release.forgotten_in n s.1)) (shown_slots slots)
+forgotten-shown n [] = refl
+forgotten-shown n (s ∷ slots) = λ j. (s.0, shown-forgotten n s.1 j) ∷ forgotten-shown n slots j
+
+holding-shown : (n : ℕ) (slots : List Named) → count_by (λ (s : List ℕ × board.Slot). references.holds_it n s.1) (shown_slots slots) ≡ count_by (λ (s : Named). holds n s.1) slots
+holding-shown n [] = refl
+holding-shown n (s ∷ slots) =
+    let rest : count_by (λ (t : List ℕ × board.Slot). references.holds_it n t.1) (shown_slots slots) ≡ count_by (λ (t : Named). holds n t.1) slots = holding-shown n slots in
+    rw (sum_by-cons (λ (t : List ℕ × board.Slot). cond {A = ℕ} (references.holds_it n t.1) 1 0) (s.0, shown_slot s.1) (shown_slots slots), sum_by-cons (λ (t : Named). cond {A = ℕ} (holds n t.1) 1 0) s slots, shown-holds n s.1, rest) refl
+
+-- the object
+
+pub shown-dropped : (n i : ℕ) (c : Content) → shown n (dropped_at i c) ≡ release.with_dropped i (shown n c)
+shown-dropped n i c = ap (λ slots. record (shown n c) { slots = slots }) (let_go-shown i c.slots)
+
+pub forgotten_is_shown : (n m : ℕ) (c : Content) → shown n (forgotten m c) ≡ release.forgotten m (shown n c)
+forgotten_is_shown n m c = ap (λ slots. record (shown n c) { slots = slots }) (forgotten-shown m c.slots)
+
+pub refs-shown : (n m : ℕ) (c : Content) → references.refs_in m (shown n c) ≡ holding m c
+refs-shown n m c = holding-shown m c.slots
+
+pub held_count-shown : (n : ℕ) (c : Content) → count_by (λ (s : List ℕ × board.Slot). is_some (board.held s.1)) (shown n c).slots ≡ held_count c
+held_count-shown n c = go c.slots
+  where
+    go : (slots : List Named) → count_by (λ (s : List ℕ × board.Slot). is_some (board.held s.1)) (shown_slots slots) ≡ count_by (λ (s : Named). is_some (held s.1)) slots
+    go [] = refl
+    go (s ∷ slots) =
+        let rest : count_by (λ (t : List ℕ × board.Slot). is_some (board.held t.1)) (shown_slots slots) ≡ count_by (λ (t : Named). is_some (held t.1)) slots = go slots in
+        rw (sum_by-cons (λ (t : List ℕ × board.Slot). cond {A = ℕ} (is_some (board.held t.1)) 1 0) (s.0, shown_slot s.1) (shown_slots slots), sum_by-cons (λ (t : Named). cond {A = ℕ} (is_some (held t.1)) 1 0) s slots, some-held s.1, rest) refl
+
+some-mapped : {A B : Type 0} (f : A → B) (o : Option A) → is_some (option_map f o) ≡ is_some o
+some-mapped f None = refl
+some-mapped f (Some x) = refl
+
+pub parent-shown : (n m : ℕ) (c : Content) → is_some (paths.place_in m (shown n c)) ≡ is_parent m c
+parent-shown n m c = some-mapped _ (find (λ s. paths.is_child m s.1) (shown_slots c.slots)) ∙ go c.slots
+  where
+    one : (s : Slot) → paths.is_child m (shown_slot s) ≡ names_child m s
+    one (Plain ty val) = refl
+    one (Child key) = refl
+    one (Link ty true target) = refl
+    one (Link ty false target) = refl
+    one (Alias key name) = refl
+
+    go : (slots : List Named) → is_some (find (λ s. paths.is_child m s.1) (shown_slots slots)) ≡ list_any (λ (s : Named). names_child m s.1) slots
+    go [] = refl
+    go (s ∷ slots) = rw (one s.1) (by (names_child m s.1) (go slots))
+      where
+        by : (b : Bool) → is_some (find (λ t. paths.is_child m t.1) (shown_slots slots)) ≡ list_any (λ (t : Named). names_child m t.1) slots → is_some (cond b (Some (s.0, shown_slot s.1)) (find (λ t. paths.is_child m t.1) (shown_slots slots))) ≡ b || list_any (λ (t : Named). names_child m t.1) slots
+        by true rest = refl
+        by false rest = rest
+
+pub child-shown : (m : ℕ) (slots : List Named) → list_any (λ (k : ℕ). k == m) (paths.children_in (shown_slots slots)) ≡ list_any (λ (s : Named). names_child m s.1) slots
+child-shown m [] = refl
+child-shown m ((name, Plain ty val) ∷ slots) = child-shown m slots
+child-shown m ((name, Child key) ∷ slots) = ap (λ b. (key.birth == m) || b) (child-shown m slots)
+child-shown m ((name, Link ty true target) ∷ slots) = child-shown m slots
+child-shown m ((name, Link ty false target) ∷ slots) = child-shown m slots
+child-shown m ((name, Alias key property) ∷ slots) = child-shown m slots

@@ -1,0 +1,17 @@
+use Rattle.std.proofs.Common.{◌∙◌, Bool, is_some, rules, tests}
+use Rattle.std.proofs.lemmas.Iterator.Consumers.{YieldsList-from_rest}
+use Rattle.std.proofs.lemmas.Iterator.Search.{any_from_yields_List}
+use Rattle.std.specs.Map.{values_of}
+use Rattle.qo_object.specs.declared.named.Named.{Named}
+use Rattle.qo_object.specs.declared.slots.Slot.{Slot}
+use Rattle.qo_object.specs.Slots.{held, names_child}
+use Rattle.qo_object.proofs.MapLemmas.{any-slot}
+use Rattle.qo_object.proofs.named.SlotMap.holds_any.Goals as goal
+
+pub returns : goal.returns
+returns c =
+    let test : Slot → Bool = (λ (s : Slot). is_some (held s)) in
+    rw (← c.self.view_is) (
+    any_from_yields_List (λ (n : Named). test n.slot) _ _ _ c.any.ensures.ran (YieldsList-from_rest (values_of c.self.inside.map.entries) c.values.ensures.rest) (λ x b q k. search (rules, tests))
+    ∙ any-slot test c.self.inside.map.entries
+    )

@@ -1,0 +1,25 @@
+use Rattle.std.proofs.Common.{◌≡◌, ◌∙◌, ◌≤◌, refl, sym, ap, arith, length}
+use Rattle.qo_object.specs.Slots.{forgotten_in, changed_at, each_changed}
+use Rattle.qo_object.proofs.SlotLemmas.{first_changed, first-none, first-more, first-all, length-first}
+use Rattle.qo_object.proofs.objects.Object.forget.Goals as goal
+
+pub loop-at-init : goal.loop-at-init
+loop-at-init c = record { kind = refl; slots = sym (first-none (forgotten_in c.args.birth) c.self.inside.slots); pins = refl }
+
+pub invariant_of-self : goal.invariant_of-self
+invariant_of-self c =
+    (rw (c.loop-at.invariant.slots, length-first (forgotten_in c.args.birth) c.loop-at.at c.self.inside.slots) c.self.invariant.0, rw c.loop-at.invariant.pins c.self.invariant.1)
+
+pub loop-at-preserved : goal.loop-at-preserved
+loop-at-preserved c = record {
+  kind = c.loop-at.invariant.kind;
+  slots = c.forget.ensures ∙ ap (changed_at (forgotten_in c.args.birth) c.loop-at.at) c.loop-at.invariant.slots ∙ first-more (forgotten_in c.args.birth) c.loop-at.at c.self.inside.slots;
+  pins = c.loop-at.invariant.pins;
+}
+
+pub returns : goal.returns
+returns c =
+    let change = forgotten_in c.args.birth in
+    let end : c.loop-at.at ≡ length c.self.inside.slots = omega (arith, c.loop-at-test.false, c.loop-at.auto.at-end, c.len-at-end.ensures) in
+    let slots : c.loop-at.self-inside.slots ≡ each_changed change c.self.inside.slots = c.loop-at.invariant.slots ∙ ap (λ n. first_changed change n c.self.inside.slots) end ∙ first-all change c.self.inside.slots in
+    rw (← c.self.view_is) (λ j. record { kind = c.loop-at.invariant.kind j; slots = slots j; pins = c.loop-at.invariant.pins j })

@@ -1,0 +1,7 @@
+use Rattle.std.proofs.Common.{◌≡◌}
+use Rattle.qo_object.specs.Slots.{forgotten_in}
+use Rattle.qo_object.proofs.SlotLemmas.{first_changed}
+use Rattle.qo_object.proofs.objects.Object.forget.Given as goal
+
+abbrev pub invariant-loop-at : goal.invariant-loop-at
+invariant-loop-at l = record { kind : l.self-inside.kind ≡ l.initial.self-inside.kind; slots : l.self-inside.slots ≡ first_changed (forgotten_in l.birth) l.at l.initial.self-inside.slots; pins : l.self-inside.pins ≡ l.initial.self-inside.pins }

@@ -1,0 +1,76 @@
+-- An object by itself.
+use Rattle.std.specs.Prelude.{ℕ, ◌+◌, ◌-◌, ◌≤◌, ◌^◌, Bool, false, List, [], ◌∷◌, ◌++◌, map, length, remove, count_by, Option, Some, None, is_some}
+use Rattle.std.specs.List.{list_any, IsDistinct}
+use Rattle.std.specs.Option.{option_map_or}
+use Rattle.std.specs.Str.{bytes_eq}
+use Rattle.qo_values.specs.declared.kinds.TypeId.{TypeId}
+use Rattle.qo_values.specs.declared.properties.Val.{Val}
+use Rattle.qo_slots.specs.declared.keys.Key.{Key}
+use Rattle.qo_object.specs.declared.slots.Slot.{Slot}
+use Rattle.qo_object.specs.Slots.{named_in, slot_in, changed_at, let_go_at, each_changed, held, holds, names_child, is_empty_link, takes, pointed, with_val, forgotten_in}
+
+-- its type, its slots by name in the order of adding, and how often it is held from outside the tree
+pub record Content : Type 0 where
+  pub kind : TypeId
+  pub slots : List (List ℕ × Slot)
+  pub pins : ℕ
+
+-- what is so of every object: the names of its slots differ, and there are not too many slots and pins to count
+pub record IsObject (c : Content) : Type 0 where
+  pub named : IsDistinct bytes_eq (map (λ (s : List ℕ × Slot). s.0) c.slots)
+  pub few_slots : length c.slots ≤ 2 ^ 32
+  pub few_pins : c.pins ≤ 2 ^ 32
+
+-- a new object: no slots, held once from outside
+abbrev pub fresh : TypeId → Content
+fresh kind = record { kind = kind; slots = []; pins = 1 }
+
+-- a slot more, behind the others
+abbrev pub with_slot : List ℕ → Slot → Content → Content
+with_slot name slot c = record c { slots = c.slots ++ (name, slot) ∷ [] }
+
+-- the object that the slot at a place names; none past the end
+abbrev pub named_at : Content → ℕ → Option Key
+named_at c i = named_in c.slots i
+
+-- the slot at a place is let go: of a child nothing is left, a link is left without a target, a plain slot and an alias stay
+abbrev pub dropped_at : ℕ → Content → Content
+dropped_at i c = record c { slots = let_go_at i c.slots }
+
+-- whether a link without a target stands at a place, and whether a plain slot that takes a value does
+abbrev pub empty_link_at : Content → ℕ → Bool
+empty_link_at c i = option_map_or is_empty_link (slot_in c.slots i) false
+
+abbrev pub takes_at : Val → Content → ℕ → Bool
+takes_at val c i = option_map_or (takes val) (slot_in c.slots i) false
+
+-- the link at a place points at a target; the plain slot at a place has a value; the slot at a place is removed
+abbrev pub pointed_at : Key → ℕ → Content → Content
+pointed_at target i c = record c { slots = changed_at (pointed target) i c.slots }
+
+abbrev pub set_at : Val → ℕ → Content → Content
+set_at val i c = record c { slots = changed_at (with_val val) i c.slots }
+
+abbrev pub cut_at : ℕ → Content → Content
+cut_at i c = record c { slots = remove c.slots i }
+
+-- held from outside once more, and once less
+abbrev pub with_pin : Content → Content
+with_pin c = record c { pins = c.pins + 1 }
+
+abbrev pub without_pin : Content → Content
+without_pin c = record c { pins = c.pins - 1 }
+
+-- the weak links that name the object of a birth are emptied
+abbrev pub forgotten : ℕ → Content → Content
+forgotten birth c = record c { slots = each_changed (forgotten_in birth) c.slots }
+
+-- how many slots hold the object of a birth, whether one has it as a child, and how many slots hold any
+abbrev pub holding : ℕ → Content → ℕ
+holding birth c = count_by (λ (s : List ℕ × Slot). holds birth s.1) c.slots
+
+abbrev pub is_parent : ℕ → Content → Bool
+is_parent birth c = list_any (λ (s : List ℕ × Slot). names_child birth s.1) c.slots
+
+abbrev pub held_count : Content → ℕ
+held_count c = count_by (λ (s : List ℕ × Slot). is_some (held s.1)) c.slots

@@ -1,0 +1,4 @@
+pub mod Content
+pub mod Shown
+pub mod Slots
+pub mod Stored

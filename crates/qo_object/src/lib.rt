@@ -1,0 +1,16 @@
+//! One object of the tree, by itself: its type, its slots by name in the order of adding, and how
+//! often it is pinned. What stands in the slots of other objects, and whether an object that is
+//! named is there, is the table's to know, which keeps these objects.
+#![tactic(auto)]
+
+mod errors;
+mod named;
+mod objects;
+mod slots;
+#[cfg(test)]
+mod tests;
+
+pub use errors::AddError;
+pub use objects::Object;
+pub use qo_slots::Key as Oid;
+pub use slots::{Slot, SlotView};

@@ -1,0 +1,199 @@
+//! An object.
+
+use crate::errors::AddError;
+use crate::named::SlotMap;
+use crate::slots::{Slot, SlotView};
+use qo_slots::Key;
+use qo_values::{Name, TypeId, Val};
+use std::alloc::Global;
+use std::marker::Model;
+
+/// The most slots of an object, so that each count of them fits.
+const SLOTS_MAX: usize = 0x1_0000_0000;
+
+/// An object by itself (docs/devel/qom.rst, "The QEMU Object Model"). Letting it go says nothing to
+/// the objects that it names.
+#[derive(Drop)]
+pub struct Object {
+    kind: TypeId,
+    slots: SlotMap,
+    pins: u64,
+}
+
+impl Model for Object {
+    ghost use Rattle.std.specs.Prelude.{◌≤◌, ◌^◌, length};
+    ghost use Rattle.qo_object.specs.Content.{Content};
+
+    ghost Value = { Content };
+
+    ghost view = { λ o. record {
+      kind = o.kind;
+      slots = o.slots;
+      pins = o.pins;
+    } };
+
+    ghost invariant = { λ o. (length o.slots ≤ 2 ^ 32) × (o.pins ≤ 2 ^ 32) };
+}
+
+impl Object {
+    ghost use Rattle.std.specs.Prelude.{◌≡◌, ◌<◌, ◌≤◌, ◌^◌, ◌==◌, true, false, IfSome, OnOk, OnErr, length, position, slice_get, option_map};
+    ghost use Rattle.std.specs.Str.{bytes_eq};
+    ghost use Rattle.qo_object.specs.Slots.{has_name};
+    ghost use Rattle.qo_object.specs.Content.{IsObject, fresh, with_slot, named_at, dropped_at, empty_link_at, takes_at, pointed_at, set_at, cut_at, with_pin, without_pin, forgotten, holding, is_parent, held_count};
+    ghost use Rattle.qo_object.specs.declared.errors.AddError.TheVariants.{Duplicate, Memory};
+
+    /// An object of a type, without slots, pinned once. It takes no memory.
+    pub fn new(alloc: Global, kind: TypeId) -> Object
+        ensures { result ≡ fresh kind }
+    {
+        Object {
+            kind,
+            slots: SlotMap::new(alloc),
+            pins: 1,
+        }
+    }
+
+    /// What is so of every object: its slots' names differ, and it has at most 2^32 slots and pins.
+    pub fn facts(&self)
+        ensures { IsObject self.now }
+    {
+        self.slots.facts();
+    }
+
+    /// Its type. It takes no memory.
+    pub fn kind(&self) -> TypeId
+        ensures { result ≡ self.now.kind }
+    {
+        self.kind
+    }
+
+    /// How often it is held from outside the tree. It takes no memory.
+    pub fn pins(&self) -> u64
+        ensures { result ≡ self.now.pins }
+    {
+        self.pins
+    }
+
+    /// How many slots it has. It takes no memory.
+    pub fn len(&self) -> usize
+        ensures { result ≡ length self.now.slots }
+    {
+        self.slots.len()
+    }
+
+    /// The place of the slot of a name, by one look-up. It takes no memory.
+    pub fn find(&self, name: &str) -> Option<usize>
+        ensures { result ≡ position (λ s. bytes_eq name.now s.0) self.now.slots }
+    {
+        self.slots.find(name)
+    }
+
+    /// The slot at a place, from 0; None exactly past the end. It takes no memory.
+    pub fn slot_at(&self, at: usize) -> Option<SlotView<'_>>
+        ensures slot { option_map (λ v. (v.name.now, v.what.now)) result ≡ slice_get self.now.slots at }
+        ensures at { IfSome result (λ v. v.at ≡ at) }
+    {
+        self.slots.slot_at(at)
+    }
+
+    /// Adds a slot behind the others. `Duplicate` comes exactly where there is a slot of that name;
+    /// `Memory` where memory runs out, or where there are 2^32 slots. An error leaves the object as
+    /// it was, and lets the slot go.
+    pub fn add(&mut self, name: Name, slot: Slot) -> Result<(), AddError>
+        ensures added { OnOk result (self.new ≡ with_slot name slot self.old) }
+        ensures absent { OnOk result (has_name name self.old.slots ≡ false) }
+        ensures duplicate { result ≡ Err Duplicate → has_name name self.old.slots ≡ true }
+        ensures memory { result ≡ Err Memory → has_name name self.old.slots ≡ false }
+        ensures err { OnErr result (self.new ≡ self.old) }
+    {
+        if self.slots.has(name.as_str()) {
+            return Err(AddError::Duplicate);
+        }
+        if self.slots.len() >= SLOTS_MAX {
+            return Err(AddError::Memory);
+        }
+        self.slots.add(name, slot)?;
+        Ok(())
+    }
+
+    /// Lets the slot at a place go, and answers the object that it named: a child slot is removed, a
+    /// link is left without a target; a plain slot and an alias stay, as all does past the end, and
+    /// the answer is None. It takes no memory.
+    pub fn empty(&mut self, at: usize) -> Option<Key>
+        ensures now { self.new ≡ dropped_at at self.old }
+        ensures answer { result ≡ named_at self.old at }
+    {
+        self.slots.empty(at)
+    }
+
+    /// Points the link at a place, which has no target, at an object. It takes no memory.
+    pub fn point(&mut self, at: usize, target: Key)
+        requires { empty_link_at self.old at ≡ true }
+        ensures { self.new ≡ pointed_at target at self.old }
+    {
+        self.slots.point(at, target);
+    }
+
+    /// Gives the plain slot at a place a value that its type takes. It takes no memory.
+    pub fn set(&mut self, at: usize, val: Val)
+        requires { takes_at val self.old at ≡ true }
+        ensures { self.new ≡ set_at val at self.old }
+    {
+        self.slots.set(at, val);
+    }
+
+    /// Removes the link at a place, which has no target. It takes no memory.
+    pub fn cut(&mut self, at: usize)
+        requires { empty_link_at self.old at ≡ true }
+        ensures { self.new ≡ cut_at at self.old }
+    {
+        self.slots.remove(at);
+    }
+
+    /// Holds it from outside the tree once more. It takes no memory.
+    pub fn pin(&mut self)
+        requires { self.old.pins < 2 ^ 32 }
+        ensures { self.new ≡ with_pin self.old }
+    {
+        self.pins += 1;
+    }
+
+    /// Holds it from outside the tree once less. It takes no memory.
+    pub fn unpin(&mut self)
+        requires { 0 < self.old.pins }
+        ensures { self.new ≡ without_pin self.old }
+    {
+        self.pins -= 1;
+    }
+
+    /// Empties the weak links that name the object of a birth. It takes no memory.
+    pub fn forget(&mut self, birth: u64)
+        ensures { self.new ≡ forgotten birth self.old }
+    {
+        for at in 0..self.slots.len() {
+            self.slots.forget(at, birth);
+        }
+    }
+
+    /// How many of its slots hold the object of a birth, as a child or by a strong link. It takes no
+    /// memory.
+    pub fn holding(&self, birth: u64) -> u64
+        ensures { result ≡ holding birth self.now }
+    {
+        self.slots.holding(birth) as u64
+    }
+
+    /// Whether it has the object of a birth as a child. It takes no memory.
+    pub fn is_parent(&self, birth: u64) -> bool
+        ensures { result ≡ is_parent birth self.now }
+    {
+        self.slots.is_parent(birth)
+    }
+
+    /// Whether none of its slots holds an object. It takes no memory.
+    pub fn is_bare(&self) -> bool
+        ensures { result ≡ (held_count self.now == 0) }
+    {
+        !self.slots.holds_any()
+    }
+}
