@@ -1,5 +1,5 @@
 -- The heap as a part of the board: the objects, the births, the pins and the notes.
-use Rattle.std.specs.Prelude.{◌≡◌, ℕ, List, [], ◌++◌, map, flat_map, replicate}
+use Rattle.std.specs.Prelude.{◌≡◌, ℕ, List, [], ◌∷◌, ◌++◌, map, replicate}
 use Rattle.qo_slots.specs.declared.keys.Key.{Key}
 use Rattle.qo_object.specs.Content.{Content}
 use Rattle.qo_object.specs.Shown.{shown}

@@ -1,5 +1,5 @@
 -- What contracts see of the heap: the objects in the order of births, and the log of notes.
-use Rattle.std.specs.Prelude.{◌≡◌, ℕ, ◌+◌, ◌≤◌, ◌==◌, Bool, true, false, List, [], ◌∷◌, map, filter_map, sum_by, find, Option, Some, None, is_some, option_map}
+use Rattle.std.specs.Prelude.{◌≡◌, ℕ, ◌+◌, ◌≤◌, ◌==◌, Bool, true, false, List, [], map, length, filter_map, sum_by, find, Option, Some, None, is_some, option_map}
 use Rattle.std.specs.List.{AllByRecursion, list_any}
 use Rattle.std.specs.Option.{option_map_or}
 use Rattle.qo_values.specs.declared.kinds.TypeId.{TypeId}

@@ -40,7 +40,7 @@ impl Heap {
     ghost use Rattle.std.specs.Prelude.{◌≡◌, ◌+◌, ◌<◌, [], ◌∷◌, ◌++◌, length, IfOk, OnErr, Err, Some, option_map};
     ghost use Rattle.qo_values.specs.declared.kinds.Act.TheVariants.{Init};
     ghost use Rattle.qo_model.specs.declared.notes.Deed.TheVariants.{Did};
-    ghost use Rattle.qo_notes.specs.Log.{empty};
+    ghost use Rattle.qo_notes.specs.Log.{empty_log};
     ghost use Rattle.qo_object.specs.Content.{fresh, held_count};
     ghost use Rattle.qo_table.specs.Rows.{IsLive};
     ghost use Rattle.qo_heap.specs.Objects.{IsHeap, content_of, ended, refs_of, with_note};
@@ -48,7 +48,7 @@ impl Heap {
 
     /// A heap without objects. The error is want of memory.
     pub fn new(alloc: Global) -> Result<Heap, Memory>
-        ensures { IfOk result (λ h. h ≡ record { rows = []; born = 0; log = empty }) }
+        ensures { IfOk result (λ h. h ≡ record { rows = []; born = 0; log = empty_log }) }
     {
         let log = NoteLog::new(alloc)?;
         match ObjectTable::new(alloc) {

@@ -1,0 +1,187 @@
+-- What an edit of one object leaves of the heap.
+use Rattle.std.proofs.Common.{◌≡◌, refl, ap, sym, subst, ◌∙◌, ℕ, zero, suc, ◌+◌, ◌≤◌, Bool, true, false, cond, List, [], ◌∷◌, ◌++◌, map, length, filter_map, eqb, Option, Some, None, find, option_map, remove, IsSomeAnd}
+use Rattle.std.specs.Bool.{⊤}
+use Rattle.std.specs.List.{AllByRecursion, cons_option}
+use Rattle.qo_values.specs.declared.properties.Val.{Val}
+use Rattle.std.specs.Option.{option_map_or}
+use Rattle.std.proofs.lemmas.Bool.{eqb-true}
+use Rattle.std.proofs.lemmas.List.Elements.{filter_map-append}
+use Rattle.qo_slots.specs.declared.keys.Key.{Key}
+use Rattle.qo_object.specs.declared.slots.Slot.{Slot}
+use Rattle.qo_object.specs.declared.slots.Slot.TheVariants.{Plain, Child, Link, Alias}
+use Rattle.qo_object.specs.Slots.{target_of, changed_at, let_go_at, left_of, pointed, with_val, forgotten_in, unless_born}
+use Rattle.qo_object.specs.Content.{Content, with_slot, dropped_at, pointed_at, set_at, cut_at, forgotten}
+use Rattle.qo_table.specs.Rows.{IsLive, Rises, births, edited, edit, is_at, object_at, row_at}
+use Rattle.qo_table.proofs.RowsLemmas.{edit-as}
+use Rattle.qo_heap.specs.Objects.{AreLinked, IsHeap, Objects, content_of, targets, with_edit}
+
+module _ {T : Type 0} (n : ℕ) (f : T → T) where
+  -- an edited row has its name
+  pub edited-key : (row : Key × T) → (edited n f row).0 ≡ row.0
+  edited-key row = by (is_at n row)
+    where
+      by : (b : Bool) → (cond b (row.0, f row.1) row).0 ≡ row.0
+      by true = refl
+      by false = refl
+
+  -- births, the number of objects and who is there stay
+  pub births-edit : (rows : List (Key × T)) → births (edit n f rows) ≡ births rows
+  births-edit [] = refl
+  births-edit (row ∷ rows) = rw (edited-key row) (ap (λ (l : List ℕ). row.0.birth ∷ l) (births-edit rows))
+
+  pub length-edit : (rows : List (Key × T)) → length (edit n f rows) ≡ length rows
+  length-edit [] = refl
+  length-edit (row ∷ rows) = ap suc (length-edit rows)
+
+  pub live-edit : (rows : List (Key × T)) (key : Key) → IsLive rows key → IsLive (edit n f rows) key
+  live-edit [] key live = live
+  live-edit (row ∷ rows) key live = by (eqb row.0.birth key.birth) refl (live-edit rows key)
+    where
+      by : (b : Bool) → eqb row.0.birth key.birth ≡ b → (IsLive rows key → IsLive (edit n f rows) key) → IsLive (edit n f (row ∷ rows)) key
+      by true is rest = let here : row.0.index ≡ key.index = rw is at live in rw (edited-key row, is, edited-key row) here
+      by false is rest = rw (edited-key row, is) (rest (rw is at live))
+
+-- what an option has, if anything, has a property
+abbrev pub Holds : (Key → Type 0) → Option Key → Type 0
+Holds P None = ⊤
+Holds P (Some key) = P key
+
+-- the targets of slots
+abbrev pub targets_in : List (List ℕ × Slot) → List Key
+targets_in slots = filter_map (λ (s : List ℕ × Slot). target_of s.1) slots
+
+module _ (P : Key → Type 0) where
+  holds-first : (o : Option Key) (keys : List Key) → AllByRecursion P (cons_option o keys) → Holds P o × AllByRecursion P keys
+  holds-first None keys all = (tt, all)
+  holds-first (Some key) keys all = (all.0, all.1)
+
+  holds-cons : (o : Option Key) (keys : List Key) → Holds P o → AllByRecursion P keys → AllByRecursion P (cons_option o keys)
+  holds-cons None keys here rest = rest
+  holds-cons (Some key) keys here rest = (here, rest)
+
+  -- targets of a slot that was changed, let go, added, removed
+  pub targets-changed : (g : Slot → Slot) → ((s : Slot) → Holds P (target_of s) → Holds P (target_of (g s))) → (i : ℕ) (slots : List (List ℕ × Slot)) → AllByRecursion P (targets_in slots) → AllByRecursion P (targets_in (changed_at g i slots))
+  targets-changed g keeps i [] all = all
+  targets-changed g keeps zero (s ∷ slots) all =
+      let (here, rest) = holds-first (target_of s.1) (targets_in slots) all in
+      holds-cons (target_of (g s.1)) (targets_in slots) (keeps s.1 here) rest
+  targets-changed g keeps (suc i) (s ∷ slots) all =
+      let (here, rest) = holds-first (target_of s.1) (targets_in slots) all in
+      holds-cons (target_of s.1) (targets_in (changed_at g i slots)) here (targets-changed g keeps i slots rest)
+
+  pub targets-let_go : (i : ℕ) (slots : List (List ℕ × Slot)) → AllByRecursion P (targets_in slots) → AllByRecursion P (targets_in (let_go_at i slots))
+  targets-let_go i [] all = all
+  targets-let_go zero ((name, Plain ty val) ∷ slots) all = all
+  targets-let_go zero ((name, Child key) ∷ slots) all = all.1
+  targets-let_go zero ((name, Link ty strong None) ∷ slots) all = all
+  targets-let_go zero ((name, Link ty strong (Some key)) ∷ slots) all = all.1
+  targets-let_go zero ((name, Alias key of) ∷ slots) all = all
+  targets-let_go (suc i) (s ∷ slots) all =
+      let (here, rest) = holds-first (target_of s.1) (targets_in slots) all in
+      holds-cons (target_of s.1) (targets_in (let_go_at i slots)) here (targets-let_go i slots rest)
+
+  pub targets-removed : (i : ℕ) (slots : List (List ℕ × Slot)) → AllByRecursion P (targets_in slots) → AllByRecursion P (targets_in (remove slots i))
+  targets-removed i [] all = rw (remove-nil i) tt
+    where
+      remove-nil : (i : ℕ) → remove {X = List ℕ × Slot} [] i ≡ []
+      remove-nil zero = refl
+      remove-nil (suc i) = refl
+  targets-removed zero (s ∷ slots) all = (holds-first (target_of s.1) (targets_in slots) all).1
+  targets-removed (suc i) (s ∷ slots) all =
+      let (here, rest) = holds-first (target_of s.1) (targets_in slots) all in
+      holds-cons (target_of s.1) (targets_in (remove slots i)) here (targets-removed i slots rest)
+
+  pub targets-added : (name : List ℕ) (slot : Slot) (slots : List (List ℕ × Slot)) → AllByRecursion P (targets_in slots) → Holds P (target_of slot) → AllByRecursion P (targets_in (slots ++ (name, slot) ∷ []))
+  targets-added name slot [] all new = holds-cons (target_of slot) [] new tt
+  targets-added name slot (s ∷ slots) all new =
+      let (here, rest) = holds-first (target_of s.1) (targets_in slots) all in
+      holds-cons (target_of s.1) (targets_in (slots ++ (name, slot) ∷ [])) here (targets-added name slot slots rest new)
+
+  -- a link pointed at what has the property; a value set
+  pub pointed-holds : (key : Key) → P key → (s : Slot) → Holds P (target_of s) → Holds P (target_of (pointed key s))
+  pointed-holds key new (Plain ty val) h = h
+  pointed-holds key new (Child k) h = h
+  pointed-holds key new (Link ty strong target) h = new
+  pointed-holds key new (Alias k of) h = h
+
+  pub valued-holds : (val : Val) (s : Slot) → Holds P (target_of s) → Holds P (target_of (with_val val s))
+  valued-holds val (Plain ty old) h = h
+  valued-holds val (Child k) h = h
+  valued-holds val (Link ty strong target) h = h
+  valued-holds val (Alias k of) h = h
+
+-- what all have, all have by a weaker property
+pub all-weaker : {X : Type 0} (P Q : X → Type 0) → ((x : X) → P x → Q x) → (xs : List X) → AllByRecursion P xs → AllByRecursion Q xs
+all-weaker P Q weaker [] all = tt
+all-weaker P Q weaker (x ∷ xs) all = (weaker x all.0, all-weaker P Q weaker xs all.1)
+
+-- the targets of an object of linked ones
+abbrev LinkedBy : List (Key × Content) → List (Key × Content) → Type 0
+LinkedBy by rows = AllByRecursion (λ (row : Key × Content). AllByRecursion (IsLive by) (targets row.1)) rows
+
+linked-at-by : (by rows : List (Key × Content)) → LinkedBy by rows → (n : ℕ) (c : Content) → object_at rows n ≡ Some c → AllByRecursion (IsLive by) (targets c)
+linked-at-by by [] linked n c there = cc
+linked-at-by by (row ∷ rows) linked n c there = go (eqb row.0.birth n) refl (linked-at-by by rows linked.1 n c)
+  where
+    go : (b : Bool) → eqb row.0.birth n ≡ b → (object_at rows n ≡ Some c → AllByRecursion (IsLive by) (targets c)) → AllByRecursion (IsLive by) (targets c)
+    go true is later = let same : row.1 ≡ c = cc (rw is at there) in subst (λ (x : Content). AllByRecursion (IsLive by) (targets x)) same linked.0
+    go false is later = later (rw is at there)
+
+pub linked-at : (v : Objects) → IsHeap v → (n : ℕ) (c : Content) → content_of v n ≡ Some c → AllByRecursion (IsLive v.rows) (targets c)
+linked-at v good n c there = linked-at-by v.rows v.rows good.linked n c there
+
+linked-edit-by : (by rows : List (Key × Content)) (n : ℕ) (d : Content) → LinkedBy by rows → AllByRecursion (IsLive by) (targets d) → LinkedBy by (edit n (λ _. d) rows)
+linked-edit-by by [] n d linked new = tt
+linked-edit-by by (row ∷ rows) n d linked new = (go (eqb row.0.birth n) refl, linked-edit-by by rows n d linked.1 new)
+  where
+    go : (b : Bool) → eqb row.0.birth n ≡ b → AllByRecursion (IsLive by) (targets (edited n (λ _. d) row).1)
+    go true is = rw is new
+    go false is = rw is linked.0
+
+-- a heap whose object was changed to one that names objects which are there
+pub heap-edited : (v : Objects) → IsHeap v → (n : ℕ) (d : Content) → AllByRecursion (IsLive v.rows) (targets d) → IsHeap (record v { rows = edit n (λ _. d) v.rows })
+heap-edited v good n d new =
+    record {
+      rising = rw (births-edit n (λ _. d) v.rows) good.rising;
+      few = rw (length-edit n (λ _. d) v.rows) good.few;
+      linked =
+          all-weaker (λ (row : Key × Content). AllByRecursion (IsLive v.rows) (targets row.1)) (λ (row : Key × Content). AllByRecursion (IsLive (edit n (λ _. d) v.rows)) (targets row.1))
+          (λ row all. all-weaker (IsLive v.rows) (IsLive (edit n (λ _. d) v.rows)) (λ key live. live-edit n (λ _. d) v.rows key live) (targets row.1) all)
+          (edit n (λ _. d) v.rows)
+          (linked-edit-by v.rows v.rows n d good.linked new);
+    }
+
+-- the object that was written is the edit of what was there
+pub edit-is : (v : Objects) → IsHeap v → (n : ℕ) (f : Content → Content) (c d : Content) → content_of v n ≡ Some c → d ≡ f c → record v { rows = edit n (λ _. d) v.rows } ≡ with_edit n f v
+edit-is v good n f c d there is = ap (λ (rows : List (Key × Content)). record v { rows = rows }) (edit-as n f c d 0 v.born v.rows good.rising there is)
+
+-- the targets of an object of the heap that was edited
+abbrev pub AreThere : Objects → Content → Type 0
+AreThere v c = AllByRecursion (IsLive v.rows) (targets c)
+
+pub dropped-there : (v : Objects) (i : ℕ) (c : Content) → AreThere v c → AreThere v (dropped_at i c)
+dropped-there v i c all = targets-let_go (IsLive v.rows) i c.slots all
+
+pub pointed-there : (v : Objects) (key : Key) (i : ℕ) (c : Content) → IsLive v.rows key → AreThere v c → AreThere v (pointed_at key i c)
+pointed-there v key i c live all = targets-changed (IsLive v.rows) (pointed key) (pointed-holds (IsLive v.rows) key live) i c.slots all
+
+pub set-there : (v : Objects) (val : Val) (i : ℕ) (c : Content) → AreThere v c → AreThere v (set_at val i c)
+set-there v val i c all = targets-changed (IsLive v.rows) (with_val val) (valued-holds (IsLive v.rows) val) i c.slots all
+
+pub cut-there : (v : Objects) (i : ℕ) (c : Content) → AreThere v c → AreThere v (cut_at i c)
+cut-there v i c all = targets-removed (IsLive v.rows) i c.slots all
+
+pub added-there : (v : Objects) (name : List ℕ) (slot : Slot) (c : Content) → Holds (IsLive v.rows) (target_of slot) → AreThere v c → AreThere v (with_slot name slot c)
+added-there v name slot c new all = targets-added (IsLive v.rows) name slot c.slots all new
+
+-- a heap whose object was changed by an edit that names what is there
+pub record Edited (v : Objects) (n : ℕ) (f : Content → Content) (d : Content) : Type 0 where
+  pub good : IsHeap (record v { rows = edit n (λ _. d) v.rows })
+  pub now : record v { rows = edit n (λ _. d) v.rows } ≡ with_edit n f v
+
+pub edited-heap : (v : Objects) → IsHeap v → (n : ℕ) (f : Content → Content) (c d : Content) → content_of v n ≡ Some c → d ≡ f c → ((x : Content) → AreThere v x → AreThere v (f x)) → Edited v n f d
+edited-heap v good n f c d there is keeps =
+    record {
+      good = heap-edited v good n d (subst (λ (x : Content). AreThere v x) (sym is) (keeps c (linked-at v good n c there)));
+      now = edit-is v good n f c d there is;
+    }
