@@ -17,6 +17,7 @@ use std::sync::ledger::Ledger;
 fn forget_at<L: Ledger>(table: &mut ObjectTable<Object>, place: usize, birth: u64, steps: &mut Steps<L>)
     ensures { table.new ≡ record table.old { rows = changed_at (forgets birth) place table.old.rows } }
 {
+    table.facts();
     if let Some(key) = table.key_at(place) {
         table.change(key, steps).forget(birth);
     }
@@ -36,14 +37,14 @@ pub fn note_end(log: &mut NoteLog, birth: u64, kind: TypeId)
     ensures { log.new ≡ noted_all (final_notes birth kind) log.old }
 {
     let types = TypeTable::board();
-    let mut place = 0usize;
-    while let Some(of) = types.chain(kind, place) {
+    let ancestry = types.ancestry(kind);
+    for place in 0..ancestry.len() {
+        let of = ancestry[place];
         if types.has_finaliser(of) {
             log.add(Note {
                 birth,
                 deed: Deed::Final(of),
             });
         }
-        place += 1;
     }
 }

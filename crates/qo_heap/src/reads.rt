@@ -15,6 +15,7 @@ fn holding_at<L: Ledger>(table: &ObjectTable<Object>, place: usize, birth: u64, 
     ensures count { result ≡ option_map_or (λ row. holding birth row.1) (slice_get table.now.rows place) 0 }
     ensures few { result ≤ 2 ^ 32 }
 {
+    table.facts();
     match table.key_at(place) {
         Some(key) => {
             let object = table.look(key, steps);
@@ -42,6 +43,7 @@ fn holding_in<L: Ledger>(table: &ObjectTable<Object>, birth: u64, steps: &mut St
 fn is_parent_at<L: Ledger>(table: &ObjectTable<Object>, place: usize, birth: u64, steps: &mut Steps<L>) -> bool
     ensures { result ≡ option_map_or (λ row. is_parent birth row.1) (slice_get table.now.rows place) false }
 {
+    table.facts();
     match table.key_at(place) {
         Some(key) => table.look(key, steps).is_parent(birth),
         None => false,

@@ -38,6 +38,13 @@ impl TypeTable {
         ancestry(t).iter().any(|a| answers_to(*a, name))
     }
 
+    /// A type, its parent and so on to `object`.
+    pub fn ancestry(&self, t: TypeId) -> &'static [TypeId]
+        ensures { result.now ≡ chain t }
+    {
+        ancestry(t)
+    }
+
     /// The type itself at 0, its parent at 1, and so on to `object`; `None` behind that.
     pub fn chain(&self, t: TypeId, i: usize) -> Option<TypeId>
         ensures { result ≡ slice_get (chain t) i }

@@ -1,0 +1,107 @@
+-- Lists by place, and rows by place and by birth.
+use Rattle.std.proofs.Common.{◌≡◌, refl, ap, sym, subst, ◌∙◌, ℕ, zero, suc, ◌+◌, ◌*◌, ◌<◌, ◌≤◌, Bool, true, false, cond, List, [], ◌∷◌, ◌++◌, map, length, drop, eqb, Option, Some, None, find, sum_by, option_map, slice_get, arith}
+use Rattle.std.specs.Option.{option_map_or}
+use Rattle.std.proofs.lemmas.List.Sums.{sum_by-cons}
+use Rattle.qo_slots.specs.declared.keys.Key.{Key}
+use Rattle.qo_table.specs.Rows.{IsLive, Rises, births, edit, edited, is_at, row_at, object_at}
+use Rattle.qo_heap.specs.Places.{changed_at, first_changed, sum_first}
+
+module _ {X : Type 0} where
+  pub changed_at-past : (f : X → X) (i : ℕ) (xs : List X) → slice_get xs i ≡ None → changed_at f i xs ≡ xs
+  changed_at-past f i [] none = refl
+  changed_at-past f zero (x ∷ xs) none = cc
+  changed_at-past f (suc i) (x ∷ xs) none = ap (λ (l : List X). x ∷ l) (changed_at-past f i xs none)
+
+  -- one more is changed
+  pub first_changed-step : (f : X → X) (i : ℕ) (xs : List X) → changed_at f i (first_changed f i xs) ≡ first_changed f (suc i) xs
+  first_changed-step f i [] = refl
+  first_changed-step f zero (x ∷ []) = refl
+  first_changed-step f zero (x ∷ y ∷ xs) = refl
+  first_changed-step f (suc i) (x ∷ xs) = ap (λ (l : List X). f x ∷ l) (first_changed-step f i xs)
+
+  pub first_changed-none : (f : X → X) (xs : List X) → first_changed f 0 xs ≡ xs
+  first_changed-none f [] = refl
+  first_changed-none f (x ∷ xs) = refl
+
+  pub first_changed-all : (f : X → X) (xs : List X) → first_changed f (length xs) xs ≡ map f xs
+  first_changed-all f [] = refl
+  first_changed-all f (x ∷ xs) = ap (λ (l : List X). f x ∷ l) (first_changed-all f xs)
+
+  -- one more is counted
+  pub sum_first-step : (h : X → ℕ) (i : ℕ) (xs : List X) → sum_first h i xs + option_map_or h (slice_get xs i) 0 ≡ sum_first h (suc i) xs
+  sum_first-step h i [] = refl
+  sum_first-step h zero (x ∷ []) = omega arith
+  sum_first-step h zero (x ∷ y ∷ xs) = omega arith
+  sum_first-step h (suc i) (x ∷ xs) = let rest = sum_first-step h i xs in omega arith
+
+  pub sum_first-none : (h : X → ℕ) (xs : List X) → sum_first h 0 xs ≡ 0
+  sum_first-none h [] = refl
+  sum_first-none h (x ∷ xs) = refl
+
+  pub sum_first-all : (h : X → ℕ) (xs : List X) → sum_first h (length xs) xs ≡ sum_by h xs
+  sum_first-all h [] = refl
+  sum_first-all h (x ∷ xs) = omega (arith, sum_by-cons h x xs, sum_first-all h xs)
+
+  -- a search goes on behind a member that does not pass
+  pub find-drop : (p : X → Bool) (i : ℕ) (xs : List X) → option_map_or p (slice_get xs i) false ≡ false → find p (drop i xs) ≡ find p (drop (suc i) xs)
+  find-drop p i [] none = drop-nil i
+    where
+      drop-nil : (i : ℕ) → find p (drop i []) ≡ find p (drop (suc i) [])
+      drop-nil zero = refl
+      drop-nil (suc i) = refl
+  find-drop p zero (x ∷ xs) none = rw none refl
+  find-drop p (suc i) (x ∷ xs) none = find-drop p i xs none
+
+  pub find-here : (p : X → Bool) (i : ℕ) (xs : List X) → option_map_or p (slice_get xs i) false ≡ true → find p (drop i xs) ≡ slice_get xs i
+  find-here p i [] here = cc
+  find-here p zero (x ∷ xs) here = rw here refl
+  find-here p (suc i) (x ∷ xs) here = find-here p i xs here
+
+  pub find-past : (p : X → Bool) (xs : List X) → find p (drop (length xs) xs) ≡ slice_get xs (length xs)
+  find-past p [] = refl
+  find-past p (x ∷ xs) = find-past p xs
+
+module _ {T : Type 0} where
+  -- along rising births a later row has a higher birth
+  later-above : (above last : ℕ) (rows : List (Key × T)) (i : ℕ) (row : Key × T) → Rises above (births rows) last → slice_get rows i ≡ Some row → above < row.0.birth
+  later-above above last [] i row rises there = cc
+  later-above above last (r ∷ rows) zero row rises there =
+      let same : r ≡ row = cc there in subst (λ (x : Key × T). above < x.0.birth) same rises.0
+  later-above above last (r ∷ rows) (suc i) row rises there =
+      let up : above < r.0.birth = rises.0 in
+      let more : r.0.birth < row.0.birth = later-above r.0.birth last rows i row rises.1 there in
+      omega arith
+
+  -- the row at a place is that of its birth, and its name is live
+  pub row-at-place : (above last : ℕ) (rows : List (Key × T)) (i : ℕ) (row : Key × T) → Rises above (births rows) last → slice_get rows i ≡ Some row → row_at rows row.0.birth ≡ Some row
+  row-at-place above last [] i row rises there = cc
+  row-at-place above last (r ∷ rows) zero row rises there =
+      let same : r ≡ row = cc there in
+      let here : eqb r.0.birth row.0.birth ≡ true = rw same (grind arith) in
+      rw here (ap Some same)
+  row-at-place above last (r ∷ rows) (suc i) row rises there =
+      let more : r.0.birth < row.0.birth = later-above r.0.birth last rows i row rises.1 there in
+      let other : eqb r.0.birth row.0.birth ≡ false = grind arith in
+      rw other (row-at-place r.0.birth last rows i row rises.1 there)
+
+  pub live-at-place : (above last : ℕ) (rows : List (Key × T)) (i : ℕ) (row : Key × T) → Rises above (births rows) last → slice_get rows i ≡ Some row → IsLive rows row.0
+  live-at-place above last rows i row rises there = rw (row-at-place above last rows i row rises there) refl
+
+  -- an edit by the birth of the row at a place is an edit at the place
+  edit-high : (n : ℕ) (f : T → T) (above last : ℕ) (rows : List (Key × T)) → n ≤ above → Rises above (births rows) last → edit n f rows ≡ rows
+  edit-high n f above last [] le rises = refl
+  edit-high n f above last (row ∷ rows) le rises =
+      let up : above < row.0.birth = rises.0 in
+      let other : eqb row.0.birth n ≡ false = grind arith in
+      rw other (ap (λ (l : List (Key × T)). row ∷ l) (edit-high n f row.0.birth last rows (omega arith) rises.1))
+
+  pub edit-at-place : (f : T → T) (w : T) (above last : ℕ) (rows : List (Key × T)) (i : ℕ) (row : Key × T) → Rises above (births rows) last → slice_get rows i ≡ Some row → w ≡ f row.1 → edit row.0.birth (λ _. w) rows ≡ changed_at (λ (r : Key × T). (r.0, f r.1)) i rows
+  edit-at-place f w above last [] i row rises there is = cc
+  edit-at-place f w above last (r ∷ rows) zero row rises there is =
+      let same : r ≡ row = cc there in
+      let here : eqb r.0.birth row.0.birth ≡ true = rw same (grind arith) in
+      rw (here, edit-high row.0.birth (λ _. w) r.0.birth last rows (rw same (omega arith)) rises.1, is, same) refl
+  edit-at-place f w above last (r ∷ rows) (suc i) row rises there is =
+      let more : r.0.birth < row.0.birth = later-above r.0.birth last rows i row rises.1 there in
+      let other : eqb r.0.birth row.0.birth ≡ false = grind arith in
+      rw other (ap (λ (l : List (Key × T)). r ∷ l) (edit-at-place f w r.0.birth last rows i row rises.1 there is))
