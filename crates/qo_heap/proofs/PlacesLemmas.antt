@@ -105,3 +105,34 @@ module _ {T : Type 0} where
       let more : r.0.birth < row.0.birth = later-above r.0.birth last rows i row rises.1 there in
       let other : eqb r.0.birth row.0.birth ≡ false = grind arith in
       rw other (ap (λ (l : List (Key × T)). r ∷ l) (edit-at-place f w r.0.birth last rows i row rises.1 there is))
+
+  -- the row whose name stands at a place
+  pub at-key : (rows : List (Key × T)) (i : ℕ) (key : Key) → option_map (λ (row : Key × T). row.0) (slice_get rows i) ≡ Some key → (v : T) × (slice_get rows i ≡ Some (key, v))
+  at-key rows i key e = go (slice_get rows i) e
+    where
+      go : (o : Option (Key × T)) → option_map (λ (row : Key × T). row.0) o ≡ Some key → (v : T) × (o ≡ Some (key, v))
+      go None none = cc
+      go (Some row) some = let same : row.0 ≡ key = cc some in (row.1, ap (λ (k : Key). Some (k, row.1)) same)
+
+  no-key : (o : Option (Key × T)) → option_map (λ (row : Key × T). row.0) o ≡ None → o ≡ None
+  no-key None none = refl
+  no-key (Some row) none = cc
+
+  pub past-last : (rows : List (Key × T)) (i : ℕ) → option_map (λ (row : Key × T). row.0) (slice_get rows i) ≡ None → slice_get rows i ≡ None
+  past-last rows i none = no-key (slice_get rows i) none
+
+  -- what stands at a place with its name, by its birth
+  pub object-at-place : (last : ℕ) (rows : List (Key × T)) (i : ℕ) (key : Key) (v : T) → Rises 0 (births rows) last → slice_get rows i ≡ Some (key, v) → object_at rows key.birth ≡ Some v
+  object-at-place last rows i key v rises there = rw (row-at-place 0 last rows i (key, v) rises there) refl
+
+  -- the object read by the name at a place is the one at the place
+  pub read-at-place : (last : ℕ) (rows : List (Key × T)) (i : ℕ) (key : Key) (w : T) → Rises 0 (births rows) last → option_map (λ (row : Key × T). row.0) (slice_get rows i) ≡ Some key → object_at rows key.birth ≡ Some w → slice_get rows i ≡ Some (key, w)
+  read-at-place last rows i key w rises named read =
+      let (v, there) = at-key rows i key named in
+      let same : v ≡ w = cc (object-at-place last rows i key v rises there, read) in
+      rw (← same) there
+
+  pub key-live : (last : ℕ) (rows : List (Key × T)) (i : ℕ) (key : Key) → Rises 0 (births rows) last → option_map (λ (row : Key × T). row.0) (slice_get rows i) ≡ Some key → IsLive rows key
+  key-live last rows i key rises named =
+      let (v, there) = at-key rows i key named in
+      live-at-place 0 last rows i (key, v) rises there
