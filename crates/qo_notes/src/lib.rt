@@ -1,7 +1,0 @@
-//! The log of the notes on objects: how many there were, and the last 65,536.
-#![tactic(auto)]
-
-mod log;
-
-pub use log::{Memory, NoteLog};
-
