@@ -85,6 +85,10 @@ left_of s = Some s
 abbrev pub Named : Type 0
 Named = List ℕ × Slot
 
+-- the names
+abbrev pub names_of : List Named → List (List ℕ)
+names_of slots = map (λ (s : Named). s.0) slots
+
 -- whether there is a slot of a name
 abbrev pub has_name : List ℕ → List Named → Bool
 has_name name slots = list_any (λ s. bytes_eq name s.0) slots
