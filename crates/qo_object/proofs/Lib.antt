@@ -1,3 +1,4 @@
+pub mod KeptLemmas
 pub mod MapLemmas
 pub mod ShownLemmas
 pub mod SlotLemmas

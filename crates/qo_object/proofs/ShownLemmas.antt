@@ -1,5 +1,6 @@
 -- What an object is on the board, after each change.
-use Rattle.std.proofs.Common.{◌≡◌, ℕ, zero, suc, ◌+◌, Bool, true, false, ◌||◌, ◌==◌, cond, find, List, [], ◌∷◌, map, length, slice_get, Option, Some, None, option_map, is_some, count_by, sum_by, refl, sym, ap, ◌∙◌, arith}
+use Rattle.std.proofs.Common.{◌≡◌, ℕ, zero, suc, Bool, true, false, ◌||◌, ◌==◌, cond, find, List, [], ◌∷◌, ◌++◌, map, length, slice_get, Option, Some, None, option_map, is_some, count_by, refl, ap, ◌∙◌}
+use Rattle.std.proofs.lemmas.List.{map-append}
 use Rattle.std.proofs.lemmas.List.Sums.{sum_by-cons}
 use Rattle.std.specs.List.{list_any}
 use Rattle.qo_slots.specs.declared.keys.Key.{Key}
@@ -9,8 +10,8 @@ use Rattle.qo_model.specs.Release as release
 use Rattle.qo_model.specs.Paths as paths
 use Rattle.qo_object.specs.declared.slots.Slot.{Slot}
 use Rattle.qo_object.specs.declared.slots.Slot.TheVariants.{Plain, Child, Link, Alias}
-use Rattle.qo_object.specs.Slots.{Named, target_of, held, holds, names_child, unless_born, forgotten_in, left_of, let_go_at, each_changed}
-use Rattle.qo_object.specs.Content.{Content, dropped_at, forgotten, holding, is_parent, held_count}
+use Rattle.qo_object.specs.Slots.{Named, names_of, target_of, held, holds, names_child, unless_born, forgotten_in, left_of, let_go_at, each_changed}
+use Rattle.qo_object.specs.Content.{Content, with_slot, dropped_at, forgotten, holding, is_parent, held_count}
 use Rattle.qo_object.specs.Shown.{birth_of, shown_slot, shown_slots, shown}
 
 -- one slot
@@ -78,6 +79,10 @@ slice_get-shown [] i = refl
 slice_get-shown (s ∷ slots) zero = refl
 slice_get-shown (s ∷ slots) (suc i) = slice_get-shown slots i
 
+pub names-shown : (slots : List Named) → map (λ (s : List ℕ × board.Slot). s.0) (shown_slots slots) ≡ names_of slots
+names-shown [] = refl
+names-shown (s ∷ slots) = ap (λ names. s.0 ∷ names) (names-shown slots)
+
 let_go-shown : (i : ℕ) (slots : List Named) → shown_slots (let_go_at i slots) ≡ release.without_hold i (shown_slots slots)
 let_go-shown i [] = refl
 let_go-shown zero ((name, Plain ty val) ∷ slots) = refl
@@ -104,6 +109,9 @@ shown-dropped n i c = ap (λ slots. record (shown n c) { slots = slots }) (let_g
 
 pub forgotten_is_shown : (n m : ℕ) (c : Content) → shown n (forgotten m c) ≡ release.forgotten m (shown n c)
 forgotten_is_shown n m c = ap (λ slots. record (shown n c) { slots = slots }) (forgotten-shown m c.slots)
+
+pub shown-with_slot : (n : ℕ) (name : List ℕ) (s : Slot) (c : Content) → shown n (with_slot name s c) ≡ record (shown n c) { slots = shown_slots c.slots ++ (name, shown_slot s) ∷ [] }
+shown-with_slot n name s c = ap (λ slots. record (shown n c) { slots = slots }) (map-append (λ (t : Named). (t.0, shown_slot t.1)) c.slots ((name, s) ∷ []))
 
 pub refs-shown : (n m : ℕ) (c : Content) → references.refs_in m (shown n c) ≡ holding m c
 refs-shown n m c = holding-shown m c.slots

@@ -1,12 +1,12 @@
 -- Slots by place.
-use Rattle.std.proofs.Common.{◌≡◌, ℕ, zero, suc, ◌+◌, ◌≤◌, ◌<◌, nat_lt, Bool, true, false, not, cond, ◌||◌, ◌==◌, List, [], ◌∷◌, ◌++◌, map, position, length, take, drop, remove, slice_get, Option, Some, None, option_map, is_some, count_by, sum_by, refl, sym, ap, ◌∙◌, arith}
+use Rattle.std.proofs.Common.{◌≡◌, ℕ, zero, suc, ◌+◌, ◌≤◌, nat_lt, Bool, true, false, not, cond, ◌||◌, ◌==◌, List, [], ◌∷◌, position, length, remove, Some, None, is_some, count_by, refl, ap, ◌∙◌, arith}
 use Rattle.std.proofs.lemmas.List.Sums.{sum_by-cons}
 use Rattle.std.specs.List.{list_any, position_or_len}
 use Rattle.std.specs.Option.{option_and_then}
 use Rattle.qo_slots.specs.declared.keys.Key.{Key}
 use Rattle.qo_object.specs.declared.slots.Slot.{Slot}
 use Rattle.qo_object.specs.declared.slots.Slot.TheVariants.{Plain, Child, Link, Alias}
-use Rattle.qo_object.specs.Slots.{Named, slot_in, named_in, child_of, target_of, unlinked, changed_at, let_go_at, left_of, each_changed}
+use Rattle.qo_object.specs.Slots.{Named, slot_in, named_in, child_of, unlinked, changed_at, let_go_at, each_changed}
 
 -- a child that is let go is removed
 pub child-gone : (slots : List Named) (i : ℕ) (key : Key) → option_and_then child_of (slot_in slots i) ≡ Some key → remove slots i ≡ let_go_at i slots

@@ -1,5 +1,5 @@
 -- An object by itself.
-use Rattle.std.specs.Prelude.{ℕ, ◌+◌, ◌-◌, ◌≤◌, ◌^◌, Bool, false, List, [], ◌∷◌, ◌++◌, map, length, remove, count_by, Option, Some, None, is_some}
+use Rattle.std.specs.Prelude.{ℕ, ◌+◌, ◌-◌, ◌≤◌, ◌^◌, Bool, false, List, [], ◌∷◌, ◌++◌, length, remove, count_by, Option, is_some}
 use Rattle.std.specs.List.{list_any, IsDistinct}
 use Rattle.std.specs.Option.{option_map_or}
 use Rattle.std.specs.Str.{bytes_eq}
@@ -7,7 +7,7 @@ use Rattle.qo_values.specs.declared.kinds.TypeId.{TypeId}
 use Rattle.qo_values.specs.declared.properties.Val.{Val}
 use Rattle.qo_slots.specs.declared.keys.Key.{Key}
 use Rattle.qo_object.specs.declared.slots.Slot.{Slot}
-use Rattle.qo_object.specs.Slots.{named_in, slot_in, changed_at, let_go_at, each_changed, held, holds, names_child, is_empty_link, takes, pointed, with_val, forgotten_in}
+use Rattle.qo_object.specs.Slots.{names_of, named_in, slot_in, changed_at, let_go_at, each_changed, held, holds, names_child, is_empty_link, takes, pointed, with_val, forgotten_in}
 
 -- its type, its slots by name in the order of adding, and how often it is held from outside the tree
 pub record Content : Type 0 where
@@ -17,7 +17,7 @@ pub record Content : Type 0 where
 
 -- what is so of every object: the names of its slots differ, and there are not too many slots and pins to count
 pub record IsObject (c : Content) : Type 0 where
-  pub named : IsDistinct bytes_eq (map (λ (s : List ℕ × Slot). s.0) c.slots)
+  pub named : IsDistinct bytes_eq (names_of c.slots)
   pub few_slots : length c.slots ≤ 2 ^ 32
   pub few_pins : c.pins ≤ 2 ^ 32
 

@@ -1,13 +1,13 @@
 -- What a slot names and holds, and what slots by place are once one of them changed (docs/devel/qom.rst, "The QEMU Object Model").
 use Rattle.std.specs.Prelude.{ℕ, zero, suc, Bool, true, false, ◌==◌, if◌then◌else◌, List, [], ◌∷◌, map, slice_get, Option, Some, None, option_map}
 use Rattle.std.specs.List.{list_any}
-use Rattle.std.specs.Option.{option_and_then, option_map_or}
+use Rattle.std.specs.Option.{option_and_then}
 use Rattle.std.specs.Str.{bytes_eq}
 use Rattle.qo_values.specs.Properties.{admits}
 use Rattle.qo_values.specs.declared.properties.Val.{Val}
 use Rattle.qo_slots.specs.declared.keys.Key.{Key}
 use Rattle.qo_object.specs.declared.slots.Slot.{Slot}
-use Rattle.qo_object.specs.declared.slots.Slot.TheVariants.{Plain, Child, Link, Alias}
+use Rattle.qo_object.specs.declared.slots.Slot.TheVariants.{Plain, Child, Link}
 
 -- one slot
 
@@ -84,6 +84,10 @@ left_of s = Some s
 
 abbrev pub Named : Type 0
 Named = List ℕ × Slot
+
+-- the names
+abbrev pub names_of : List Named → List (List ℕ)
+names_of slots = map (λ (s : Named). s.0) slots
 
 -- whether there is a slot of a name
 abbrev pub has_name : List ℕ → List Named → Bool

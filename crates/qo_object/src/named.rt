@@ -40,7 +40,7 @@ impl SlotMap {
     ghost use Rattle.std.specs.List.{list_any, IsDistinct};
     ghost use Rattle.std.specs.Option.{option_and_then};
     ghost use Rattle.std.specs.Str.{bytes_eq};
-    ghost use Rattle.qo_object.specs.Slots.{has_name, slot_in, named_in, child_of, held, holds, names_child, changed_at, let_go_at, unlinked, pointed, with_val, forgotten_in};
+    ghost use Rattle.qo_object.specs.Slots.{names_of, has_name, slot_in, named_in, child_of, held, holds, names_child, changed_at, let_go_at, unlinked, pointed, with_val, forgotten_in};
 
     /// No slots.
     pub fn new(alloc: Global) -> SlotMap
@@ -60,7 +60,7 @@ impl SlotMap {
 
     /// The names differ.
     pub fn facts(&self)
-        ensures { IsDistinct bytes_eq (map (λ s. s.0) self.now) }
+        ensures { IsDistinct bytes_eq (names_of self.now) }
     {
         let _len = self.map.len();
     }

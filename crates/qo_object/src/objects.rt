@@ -102,6 +102,7 @@ impl Object {
     pub fn add(&mut self, name: Name, slot: Slot) -> Result<(), AddError>
         ensures added { OnOk result (self.new ≡ with_slot name slot self.old) }
         ensures absent { OnOk result (has_name name self.old.slots ≡ false) }
+        ensures room { OnOk result (length self.old.slots < 2 ^ 32) }
         ensures duplicate { result ≡ Err Duplicate → has_name name self.old.slots ≡ true }
         ensures memory { result ≡ Err Memory → has_name name self.old.slots ≡ false }
         ensures err { OnErr result (self.new ≡ self.old) }

@@ -1,6 +1,5 @@
-use Rattle.std.proofs.Common.{◌≡◌, ◌∙◌, [], ◌∷◌, ◌++◌, string_bytes}
+use Rattle.std.proofs.Common.{◌≡◌, ◌∙◌, string_bytes}
 use Rattle.std.proofs.lemmas.List.{map-append}
-use Rattle.qo_object.specs.Stored.{slots_of}
 use Rattle.qo_object.proofs.MapLemmas.{names-append, entry-added}
 use Rattle.qo_object.proofs.named.SlotMap.add.Goals as goal
 

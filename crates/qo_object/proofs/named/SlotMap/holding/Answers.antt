@@ -13,7 +13,7 @@ returns c =
     let test : Slot → Bool = holds c.args.birth in
     let values = values_of c.self.inside.map.entries in
     rw (← c.self.view_is) (
-    count_from_yields_List c.filter.result _ c.count.ensures.ran (YieldsList-from_filter _ (λ (n : Named). test n.slot) (YieldsList-at c.filter.ensures.source (YieldsList-from_rest values c.values.ensures.rest)) c.filter.ensures.closure (λ x b q k. search (rules, tests)))
+    count_from_yields_List c.filter.result c.count.result c.count.ensures.ran (YieldsList-from_filter _ (λ (n : Named). test n.slot) (YieldsList-at c.filter.ensures.source (YieldsList-from_rest values c.values.ensures.rest)) c.filter.ensures.closure (λ x b q k. search (rules, tests)))
     ∙ length-filter (λ (n : Named). test n.slot) values
     ∙ count-slots test c.self.inside.map.entries
     )

@@ -4,7 +4,7 @@ use Rattle.std.proofs.lemmas.Iterator.Search.{any_from_yields_List}
 use Rattle.std.specs.Map.{values_of}
 use Rattle.qo_object.specs.declared.named.Named.{Named}
 use Rattle.qo_object.specs.declared.slots.Slot.{Slot}
-use Rattle.qo_object.specs.Slots.{held, names_child}
+use Rattle.qo_object.specs.Slots.{held}
 use Rattle.qo_object.proofs.MapLemmas.{any-slot}
 use Rattle.qo_object.proofs.named.SlotMap.holds_any.Goals as goal
 

@@ -1,10 +1,10 @@
-use Rattle.std.proofs.Common.{◌∙◌, Bool, is_some, rules, tests}
+use Rattle.std.proofs.Common.{◌∙◌, Bool, rules, tests}
 use Rattle.std.proofs.lemmas.Iterator.Consumers.{YieldsList-from_rest}
 use Rattle.std.proofs.lemmas.Iterator.Search.{any_from_yields_List}
 use Rattle.std.specs.Map.{values_of}
 use Rattle.qo_object.specs.declared.named.Named.{Named}
 use Rattle.qo_object.specs.declared.slots.Slot.{Slot}
-use Rattle.qo_object.specs.Slots.{held, names_child}
+use Rattle.qo_object.specs.Slots.{names_child}
 use Rattle.qo_object.proofs.MapLemmas.{any-slot}
 use Rattle.qo_object.proofs.named.SlotMap.is_parent.Goals as goal
 

@@ -1,4 +1,4 @@
-use Rattle.std.proofs.Common.{◌≡◌, ◌∙◌, ◌≤◌, refl, sym, ap, arith, length}
+use Rattle.std.proofs.Common.{◌≡◌, ◌∙◌, refl, sym, ap, arith, length}
 use Rattle.qo_object.specs.Slots.{forgotten_in, changed_at, each_changed}
 use Rattle.qo_object.proofs.SlotLemmas.{first_changed, first-none, first-more, first-all, length-first}
 use Rattle.qo_object.proofs.objects.Object.forget.Goals as goal
