@@ -1,5 +1,7 @@
 pub mod DepthLemmas
+pub mod EditLemmas
 pub mod GraphLemmas
 pub mod OpeningLemmas
+pub mod ReleaseLemmas
 mod Rows
 pub mod TreeLemmas
