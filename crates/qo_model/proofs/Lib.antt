@@ -2,6 +2,7 @@ pub mod DepthLemmas
 pub mod EditLemmas
 pub mod GraphLemmas
 pub mod OpeningLemmas
+pub mod ReleaseKeepsLemmas
 pub mod ReleaseLemmas
 mod Rows
 pub mod TreeLemmas

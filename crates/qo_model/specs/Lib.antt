@@ -7,6 +7,7 @@ pub mod Opening
 pub mod Paths
 pub mod References
 pub mod Release
+pub mod ReleaseKeeps
 pub mod Sound
 pub mod SoundEvents
 pub mod SoundGraph
