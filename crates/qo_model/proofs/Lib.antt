@@ -5,4 +5,5 @@ pub mod OpeningLemmas
 pub mod ReleaseKeepsLemmas
 pub mod ReleaseLemmas
 mod Rows
+pub mod StepLemmas
 pub mod TreeLemmas

@@ -57,7 +57,7 @@ drop-shorter b n i m e =
     sum-edit_lt width_in n (with_dropped i) (dropped-width i) b.records at.owner at.found (dropped-shorter i at.owner at.entry m at.at at.is)
 
 -- the number of a record that is found is within the sum
-found-within : (f : Record → ℕ) (n : ℕ) (rs : List Record) (x : Record) → find (λ (r : Record). r.birth == n) rs ≡ Some x → f x ≤ sum_by f rs
+pub found-within : (f : Record → ℕ) (n : ℕ) (rs : List Record) (x : Record) → find (λ (r : Record). r.birth == n) rs ≡ Some x → f x ≤ sum_by f rs
 found-within f n [] x e = cc
 found-within f n (r ∷ rs) x e = go (r.birth == n) refl (found-within f n rs x)
   where
