@@ -3,6 +3,7 @@ pub mod EditLemmas
 pub mod GraphLemmas
 pub mod OpeningLemmas
 pub mod ReleaseKeepsLemmas
+pub mod ReleaseLeavesLemmas
 pub mod ReleaseLemmas
 mod Rows
 pub mod StepLemmas
