@@ -1,10 +1,10 @@
 -- One small change of a board, the slot of an object let go or an object ended: what it does to sums over the records.
-use Rattle.std.proofs.Common.{◌≡◌, refl, ap, ap₂, sym, subst, ◌∙◌, ℕ, zero, suc, ◌+◌, ◌<◌, ◌≤◌, Bool, true, false, cond, not, ◌==◌, if◌then◌else◌, List, [], ◌∷◌, ◌++◌, map, filter, length, find, slice_get, sum_by, count_by, Option, Some, None, is_some, option_map, arith}
+use Rattle.std.proofs.Common.{◌≡◌, refl, ap, sym, subst, ℕ, zero, suc, ◌+◌, ◌<◌, ◌≤◌, Bool, true, false, cond, ◌==◌, List, [], ◌∷◌, map, filter, length, find, slice_get, sum_by, Option, Some, None, is_some, option_map, arith}
 use Rattle.std.specs.Option.{option_map_or}
 use Rattle.std.proofs.lemmas.List.Sums.{sum_by-cons}
 use Rattle.std.proofs.lemmas.Option.{same_Some}
-use Rattle.qo_model.specs.Board.{Board, Record, Slot, plain, child, strong, weak, alias, record_of, slots_at, slot_at, held}
-use Rattle.qo_model.specs.Release.{edited, edit, emptied, without_hold, with_dropped, drop_slot, next_place, forgotten_in, forgotten, finish, holding, width}
+use Rattle.qo_model.specs.Board.{Board, Record, Slot, plain, child, strong, weak, alias, record_of, slot_at, held}
+use Rattle.qo_model.specs.Release.{edited, emptied, without_hold}
 
 -- where an edit raises no record's number, it raises no sum of them
 pub sum-edit_le : (f : Record → ℕ) (n : ℕ) (change : Record → Record) → ((r : Record) → f (change r) ≤ f r) → (rs : List Record) → sum_by f (map (edited n change) rs) ≤ sum_by f rs

@@ -1,12 +1,12 @@
 -- Release induction: what each turn of the work keeps, a release keeps.
-use Rattle.std.proofs.Common.{◌≡◌, refl, ap, ap₂, sym, subst, ◌∙◌, ℕ, zero, suc, ◌+◌, ◌<◌, ◌≤◌, Bool, true, false, cond, not, ◌==◌, eqb, if◌then◌else◌, List, [], ◌∷◌, ◌++◌, map, filter, length, find, slice_get, sum_by, count_by, Option, Some, None, is_some, option_map, arith}
-use Rattle.std.proofs.lemmas.Bool.{eqb-true, eqb-false}
-use Rattle.std.proofs.lemmas.Option.{slice_get_within, same_Some}
-use Rattle.qo_model.specs.Board.{Board, Record, Slot, plain, child, strong, weak, alias, record_of, slots_at, slot_at, held}
+use Rattle.std.proofs.Common.{◌≡◌, refl, sym, subst, ◌∙◌, ℕ, zero, suc, ◌+◌, ◌<◌, ◌≤◌, Bool, true, false, ◌==◌, List, ◌∷◌, Option, Some, None, arith}
+use Rattle.std.proofs.lemmas.Bool.{eqb-true}
+use Rattle.std.proofs.lemmas.Option.{same_Some}
+use Rattle.qo_model.specs.Board.{Board, Slot, slot_at, held}
 use Rattle.qo_model.specs.References.{refs}
-use Rattle.qo_model.specs.Release.{drop_slot, next_place, finish, holding, width, after, from_place, finalise_by, finalise}
+use Rattle.qo_model.specs.Release.{drop_slot, next_place, finish, holding, width, after, from_place, finalise}
 use Rattle.qo_model.specs.ReleaseKeeps.{KeepsRelease, Keeps}
-use Rattle.qo_model.proofs.ReleaseLemmas.{drop-holding, drop-falls, IsShrinking, after-holding, place-falls, past-width, from_place-none, from_place-some, finalise-shrinks, finalise-is}
+use Rattle.qo_model.proofs.ReleaseLemmas.{drop-holding, drop-falls, after-holding, place-falls, past-width, from_place-none, from_place-some, finalise-shrinks, finalise-is}
 
 -- a number that is not 0
 pub above-zero : (k : ℕ) → (k == 0) ≡ false → 0 < k

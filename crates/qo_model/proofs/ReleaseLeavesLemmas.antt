@@ -1,17 +1,15 @@
 -- What a release leaves as it was.
-use Rattle.std.proofs.Common.{◌≡◌, refl, ap, ap₂, sym, subst, ◌∙◌, ℕ, zero, suc, ◌+◌, ◌<◌, ◌≤◌, Bool, true, false, cond, not, ◌&&◌, ◌||◌, ◌==◌, eqb, if◌then◌else◌, List, [], ◌∷◌, ◌++◌, map, filter, length, find, Option, Some, None, is_some, option_map, option_and_then, option_to_list, append_assoc, append-nil, arith}
+use Rattle.std.proofs.Common.{◌≡◌, refl, ap, ap₂, sym, ◌∙◌, ℕ, Bool, true, false, cond, not, ◌&&◌, ◌==◌, eqb, List, [], ◌∷◌, ◌++◌, map, filter, Option, Some, None, is_some, option_map, option_and_then, option_to_list, append_assoc, append-nil, arith}
 use Rattle.std.specs.Option.{option_map_or}
-use Rattle.std.proofs.lemmas.Bool.{eqb-true, eq-eqb}
-use Rattle.std.proofs.Math.Bool.{or-true, or-false}
-use Rattle.qo_model.specs.declared.notes.Note.{Note}
-use Rattle.qo_model.specs.Board.{Board, Record, Slot, DeviceEvent, record_of, is_live, slot_at, held}
+use Rattle.std.proofs.lemmas.Bool.{eq-eqb}
+use Rattle.std.proofs.Math.Bool.{or-true}
+use Rattle.qo_model.specs.Board.{Board, Record, record_of, is_live}
 use Rattle.qo_model.specs.Depth.{among}
 use Rattle.qo_model.specs.Paths.{births}
-use Rattle.qo_model.specs.References.{refs}
 use Rattle.qo_model.specs.Release.{edited, with_dropped, drop_slot, forgotten, finish, finalise, final_notes, deleted_event}
 use Rattle.qo_model.specs.ReleaseKeeps.{KeepsRelease, without_slots, Leaves}
 use Rattle.qo_model.proofs.ReleaseKeepsLemmas.{release_keeps}
-use Rattle.qo_model.proofs.StepLemmas.{found_at, drop-record, drop-live, finish-gone, finish-record, finish-live, drop-births, finish-births}
+use Rattle.qo_model.proofs.StepLemmas.{found_at, drop-record, drop-live, finish-record, finish-live, drop-births, finish-births}
 
 -- filters
 filter-same : (p : ℕ → Bool) (xs : List ℕ) → ((x : ℕ) → among xs x ≡ true → p x ≡ true) → filter p xs ≡ xs

@@ -1,10 +1,10 @@
 -- The law of release: one finalisation is each slot let go, in order, and the end of the object, where what comes free is finalised by the same rule.
-use Rattle.std.proofs.Common.{◌≡◌, refl, ap, ap₂, sym, subst, ◌∙◌, ℕ, zero, suc, ◌+◌, ◌<◌, ◌≤◌, Bool, true, false, cond, not, ◌==◌, if◌then◌else◌, List, [], ◌∷◌, ◌++◌, map, filter, length, find, slice_get, sum_by, count_by, Option, Some, None, is_some, option_map, arith}
+use Rattle.std.proofs.Common.{◌≡◌, refl, ap, sym, ◌∙◌, ℕ, zero, suc, ◌+◌, ◌<◌, ◌≤◌, Bool, true, false, cond, not, ◌==◌, List, [], ◌∷◌, map, length, find, slice_get, sum_by, count_by, Option, Some, None, is_some, arith}
 use Rattle.std.proofs.lemmas.Option.{slice_get_within}
 use Rattle.std.proofs.lemmas.List.Sums.{sum_by-cons}
-use Rattle.qo_model.specs.Board.{Board, Record, Slot, plain, child, strong, weak, alias, record_of, slots_at, slot_at, held}
+use Rattle.qo_model.specs.Board.{Board, Record, Slot, plain, child, strong, weak, alias, slot_at, held}
 use Rattle.qo_model.specs.References.{refs}
-use Rattle.qo_model.specs.Release.{edited, edit, emptied, without_hold, with_dropped, drop_slot, next_place, forgotten_in, forgotten, finish, holding, width, after, from_place, finalise_by, finalise_within, finalise}
+use Rattle.qo_model.specs.Release.{without_hold, with_dropped, drop_slot, next_place, forgotten_in, forgotten, finish, holding, width, after, from_place, finalise_by, finalise_within, finalise}
 use Rattle.qo_model.proofs.EditLemmas.{sum-edit_le, sum-edit_lt, sum-filter_le, left_of, sum-without_hold, sum-without_hold_le, one_held, left-held, one_slot, left-slot, length-sum, StandsAt, stands-at}
 
 -- the two numbers of one record
@@ -260,23 +260,33 @@ finalise-is b n =
     let below : AgreeBelow (holding b) (finalise_within (holding b)) finalise = record { agree = λ c m few. enough (holding b) c m few } in
     (finalise_by-agree (finalise_within (holding b)) finalise (holding b) (within-shrinks (holding b)) below).agree b n (omega arith)
 
+-- the slots of n from a place on are let go
+abbrev pub slots_from : Board → ℕ → ℕ → Board
+slots_from b n i = from_place finalise (width b) b n i
+
+pub slots_from-none : (b : Board) (n i : ℕ) → slot_at b n i ≡ None → slots_from b n i ≡ b
+slots_from-none b n i e = from_place-none finalise (width b) b n i e
+
+-- a slot that stands is let go first
+pub slots_from-some : (b : Board) (n i : ℕ) (s : Slot) → slot_at b n i ≡ Some s → slots_from b n i ≡ slots_from (after finalise (drop_slot b n i) (held s)) n (next_place s i)
+slots_from-some b n i s e =
+    let c : Board = after finalise (drop_slot b n i) (held s) in
+    let j : ℕ = next_place s i in
+    let one_more : slots_from b n i ≡ from_place finalise (suc (width b)) b n i = enough_places finalise finalise-shrinks (width b) (suc (width b)) b n i (omega arith) (omega arith) in
+    let room : width c ≤ width b + j = place-falls finalise finalise-shrinks b n i s (width b) e (omega arith) in
+    let as_many : from_place finalise (width b) c n j ≡ slots_from c n j = enough_places finalise finalise-shrinks (width b) (width c) c n j room (omega arith) in
+    one_more ∙ from_place-some finalise (width b) b n i s e ∙ as_many
+
 -- what is left of a finalisation of n whose slots before a place were let go
 abbrev pub end_of : Board → ℕ → ℕ → Board
-end_of b n i = finish (from_place finalise (width b) b n i) n
+end_of b n i = finish (slots_from b n i) n
 
 pub end_of-first : (b : Board) (n : ℕ) → finalise b n ≡ end_of b n 0
 end_of-first b n = finalise-is b n
 
 -- behind the last slot the object ends
 pub end_of-none : (b : Board) (n i : ℕ) → slot_at b n i ≡ None → end_of b n i ≡ finish b n
-end_of-none b n i e = ap (λ (c : Board). finish c n) (from_place-none finalise (width b) b n i e)
+end_of-none b n i e = ap (λ (c : Board). finish c n) (slots_from-none b n i e)
 
--- a slot that stands is let go first
 pub end_of-some : (b : Board) (n i : ℕ) (s : Slot) → slot_at b n i ≡ Some s → end_of b n i ≡ end_of (after finalise (drop_slot b n i) (held s)) n (next_place s i)
-end_of-some b n i s e =
-    let c : Board = after finalise (drop_slot b n i) (held s) in
-    let j : ℕ = next_place s i in
-    let one_more : from_place finalise (width b) b n i ≡ from_place finalise (suc (width b)) b n i = enough_places finalise finalise-shrinks (width b) (suc (width b)) b n i (omega arith) (omega arith) in
-    let room : width c ≤ width b + j = place-falls finalise finalise-shrinks b n i s (width b) e (omega arith) in
-    let as_many : from_place finalise (width b) c n j ≡ from_place finalise (width c) c n j = enough_places finalise finalise-shrinks (width b) (width c) c n j room (omega arith) in
-    ap (λ (d : Board). finish d n) (one_more ∙ from_place-some finalise (width b) b n i s e ∙ as_many)
+end_of-some b n i s e = ap (λ (d : Board). finish d n) (slots_from-some b n i s e)

@@ -1,16 +1,16 @@
 -- What a slot let go and the end of an object do to look-ups and to references.
-use Rattle.std.proofs.Common.{◌≡◌, refl, ap, ap₂, sym, subst, ◌∙◌, ℕ, zero, suc, ◌+◌, ◌<◌, ◌≤◌, Bool, true, false, cond, not, ◌&&◌, ◌==◌, eqb, if◌then◌else◌, List, [], ◌∷◌, ◌++◌, map, filter, length, find, slice_get, sum_by, count_by, Option, Some, None, is_some, option_map, arith}
+use Rattle.std.proofs.Common.{◌≡◌, refl, ap, ap₂, sym, ◌∙◌, ℕ, zero, suc, ◌<◌, ◌≤◌, Bool, true, false, cond, not, ◌&&◌, ◌==◌, List, [], ◌∷◌, map, filter, find, slice_get, sum_by, Option, Some, None, is_some, option_map, arith}
 use Rattle.std.proofs.lemmas.Bool.{eqb-true, eq-eqb}
 use Rattle.std.proofs.lemmas.Option.{same_Some}
 use Rattle.std.proofs.lemmas.List.Sums.{sum_by-cons}
-use Rattle.qo_model.specs.Board.{Board, Record, Slot, plain, child, strong, weak, alias, record_of, is_live, slots_at, slot_at, held}
+use Rattle.qo_model.specs.Board.{Board, Record, Slot, plain, child, strong, weak, alias, record_of, is_live, slot_at, held}
 use Rattle.qo_model.specs.Paths.{births}
 use Rattle.qo_model.specs.References.{refs, refs_in, holds_it}
-use Rattle.qo_model.specs.Release.{edited, edit, emptied, without_hold, with_dropped, drop_slot, forgotten_in, forgotten, finish, after, finalise}
+use Rattle.qo_model.specs.Release.{edited, with_dropped, drop_slot, forgotten_in, forgotten, finish, finalise}
 use Rattle.qo_model.specs.ReleaseKeeps.{KeepsRelease}
 use Rattle.qo_model.proofs.EditLemmas.{sum-edit_le, sum-filter_le, left_of, sum-without_hold_le, StandsAt, stands-at}
 use Rattle.qo_model.proofs.ReleaseLemmas.{found-within}
-use Rattle.qo_model.proofs.ReleaseKeepsLemmas.{release_keeps, above-zero}
+use Rattle.qo_model.proofs.ReleaseKeepsLemmas.{release_keeps}
 
 -- the record of x among records
 abbrev pub found_at : ℕ → List Record → Option Record

@@ -1,5 +1,5 @@
 -- What a release keeps. The work of a release is a list: each object that is being finalised, and the place from which its slots are still to be let go, the one that is finalised first at the front.
-use Rattle.std.specs.Prelude.{◌≡◌, ℕ, ◌<◌, Bool, true, List, [], ◌∷◌, ◌++◌, filter, Option, Some, None, option_map}
+use Rattle.std.specs.Prelude.{◌≡◌, ℕ, ◌<◌, true, List, [], ◌∷◌, ◌++◌, filter, Some, None, option_map}
 use Rattle.qo_model.specs.declared.notes.Note.{Note}
 use Rattle.qo_model.specs.Board.{Board, Record, Slot, DeviceEvent, record_of, is_live, slot_at, held}
 use Rattle.qo_model.specs.Paths.{births}
