@@ -5,6 +5,7 @@ pub mod OpeningLemmas
 pub mod ReleaseKeepsLemmas
 pub mod ReleaseLeavesLemmas
 pub mod ReleaseLemmas
+pub mod ReleaseNotesLemmas
 pub mod ReleaseRulesLemmas
 mod Rows
 pub mod StepLemmas

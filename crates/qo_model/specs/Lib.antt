@@ -8,6 +8,7 @@ pub mod Paths
 pub mod References
 pub mod Release
 pub mod ReleaseKeeps
+pub mod ReleaseNotes
 pub mod ReleaseRules
 pub mod Sound
 pub mod SoundEvents
