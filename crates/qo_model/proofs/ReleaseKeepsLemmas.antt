@@ -49,3 +49,12 @@ module _ (P : List (ℕ × ℕ) → Board → Type 0) (keeps : KeepsRelease P) w
 
   pub release_keeps : Keeps P
   release_keeps b n work p = below (suc (holding b)) b n work (omega arith) p
+
+-- what follows a slot that was let go keeps P, where P holds of what is next: what it held, as the front of the work, where this is free, and else the work alone
+pub after_keeps : (P : List (ℕ × ℕ) → Board → Type 0) → KeepsRelease P → (c : Board) (o : Option ℕ) (work : List (ℕ × ℕ)) → ((m : ℕ) → o ≡ Some m → refs c m ≡ 0 → P ((m, 0) ∷ work) c) → (((m : ℕ) → o ≡ Some m → 0 < refs c m) → P work c) → P work (after finalise c o)
+after_keeps P keeps c None work free held_on = held_on (λ m e. absurd (let clash : None ≡ Some m = e in cc))
+after_keeps P keeps c (Some m) work free held_on = go (refs c m == 0) refl
+  where
+    go : (t : Bool) → (refs c m == 0) ≡ t → P work (after finalise c (Some m))
+    go true p = rw (after, p) (release_keeps P keeps c m work (free m refl (eqb-true (refs c m) 0 p)))
+    go false p = rw (after, p) (held_on (λ k e. subst (λ x. 0 < refs c x) (same_Some m k e) (above-zero (refs c m) p)))

@@ -1,14 +1,16 @@
 -- What a release leaves as it was.
-use Rattle.std.proofs.Common.{◌≡◌, refl, ap, ap₂, sym, ◌∙◌, ℕ, Bool, true, false, cond, not, ◌&&◌, ◌==◌, eqb, List, [], ◌∷◌, ◌++◌, map, filter, Option, Some, None, is_some, option_map, option_and_then, option_to_list, append_assoc, append-nil, arith}
+use Rattle.std.specs.List.{list_any}
+use Rattle.std.proofs.Common.{nat_eq, ◌≡◌, refl, ap, ap₂, sym, ◌∙◌, ℕ, Bool, true, false, cond, not, ◌&&◌, ◌==◌, eqb, List, [], ◌∷◌, ◌++◌, map, filter, Option, Some, None, is_some, option_map, option_and_then, option_to_list, append_assoc, append-nil, arith}
 use Rattle.std.specs.Option.{option_map_or}
 use Rattle.std.proofs.lemmas.Bool.{eq-eqb}
 use Rattle.std.proofs.Math.Bool.{or-true}
-use Rattle.qo_model.specs.Board.{Board, Record, record_of, is_live}
+use Rattle.qo_model.specs.Board.{Slot, slot_at, held, Board, Record, record_of, is_live}
 use Rattle.qo_model.specs.Depth.{among}
 use Rattle.qo_model.specs.Paths.{births}
-use Rattle.qo_model.specs.Release.{edited, with_dropped, drop_slot, forgotten, finish, finalise, final_notes, deleted_event}
+use Rattle.qo_model.specs.Release.{after, let_go, unpin, without_pin, edited, with_dropped, drop_slot, forgotten, finish, finalise, final_notes, deleted_event}
+use Rattle.qo_model.specs.Laws.{LeavesLaw}
 use Rattle.qo_model.specs.ReleaseKeeps.{KeepsRelease, without_slots, Leaves}
-use Rattle.qo_model.proofs.ReleaseKeepsLemmas.{release_keeps}
+use Rattle.qo_model.proofs.ReleaseKeepsLemmas.{release_keeps, after_keeps}
 use Rattle.qo_model.proofs.StepLemmas.{found_at, drop-record, drop-live, finish-record, finish-live, drop-births, finish-births}
 
 -- filters
@@ -127,14 +129,41 @@ leaves-finish b c n h =
         let there : is_live c x ≡ true = sym (rw p at (finish-live c n x)) ∙ e in
         ap (option_map without_slots) (finish-record c n x p) ∙ without-forgotten n (record_of c x) ∙ h.same x there
 
+-- each turn of a release leaves the same
+leaves-keeps : (b : Board) → KeepsRelease (λ (work : List (ℕ × ℕ)) (c : Board). Leaves b c)
+leaves-keeps b =
+    record {
+      ended = λ c m j work h e. leaves-finish b c m h;
+      freed = λ c m j work s k h e q free. leaves-drop b c m j h;
+      kept = λ c m j work s h e held_on. leaves-drop b c m j h;
+    }
+
 -- what a release leaves
 pub release_leaves : (b : Board) (n : ℕ) → Leaves b (finalise b n)
-release_leaves b n = release_keeps (λ (work : List (ℕ × ℕ)) (c : Board). Leaves b c) keeps b n [] (leaves-none b)
+release_leaves b n = release_keeps (λ (work : List (ℕ × ℕ)) (c : Board). Leaves b c) (leaves-keeps b) b n [] (leaves-none b)
+
+pub after-leaves : (b c : Board) (o : Option ℕ) → Leaves b c → Leaves b (after finalise c o)
+after-leaves b c o h = after_keeps (λ (work : List (ℕ × ℕ)) (d : Board). Leaves b d) (leaves-keeps b) c o [] (λ m e free. h) (λ held_on. h)
+
+-- what a slot leaves that is let go with all that follows
+pub let_go-leaves : (b : Board) (owner i : ℕ) → Leaves b (let_go b owner i)
+unfolding let_go
+let_go-leaves b owner i = go (slot_at b owner i) refl
   where
-    keeps : KeepsRelease (λ (work : List (ℕ × ℕ)) (c : Board). Leaves b c)
-    keeps =
-        record {
-          ended = λ c m j work h e. leaves-finish b c m h;
-          freed = λ c m j work s k h e q free. leaves-drop b c m j h;
-          kept = λ c m j work s h e held_on. leaves-drop b c m j h;
-        }
+    go : (o : Option Slot) → slot_at b owner i ≡ o → Leaves b (let_go b owner i)
+    go None p = rw (let_go, p) (leaves-none b)
+    go (Some s) p = rw (let_go, p) (after-leaves b (drop_slot b owner i) (held s) (leaves-drop b b owner i (leaves-none b)))
+
+-- and the end of a pin, but for the pins
+pub unpin-leaves : (b : Board) (n : ℕ) → Leaves (record b { pins = (unpin b n).pins }) (unpin b n)
+unfolding unpin
+unpin-leaves b n = go (list_any (nat_eq n) b.pins) refl
+  where
+    go : (t : Bool) → list_any (nat_eq n) b.pins ≡ t → Leaves (record b { pins = (unpin b n).pins }) (unpin b n)
+    go false p = rw (unpin, p) (leaves-none b)
+    go true p =
+        let h : Leaves (without_pin b n) (after finalise (without_pin b n) (Some n)) = after-leaves (without_pin b n) (without_pin b n) (Some n) (leaves-none (without_pin b n)) in
+        rw (unpin, p) (rw h.pins h)
+
+pub leaves_lem : LeavesLaw
+leaves_lem = record { finalised = release_leaves; slot_let_go = let_go-leaves; unpinned = unpin-leaves }

@@ -1,5 +1,6 @@
 -- A release notes the end of each object that it ends, once, and nothing else.
-use Rattle.std.proofs.Common.{◌≡◌, refl, ap, ap₂, sym, subst, ◌∙◌, ℕ, zero, suc, ◌+◌, ◌<◌, ◌≤◌, Bool, true, false, cond, not, ◌&&◌, ◌||◌, ◌==◌, eqb, if◌then◌else◌, List, [], ◌∷◌, ◌++◌, map, filter, length, find, Option, Some, None, is_some, option_map, append_assoc, append-nil, arith}
+use Rattle.std.specs.List.{list_any}
+use Rattle.std.proofs.Common.{nat_eq, ◌≡◌, refl, ap, ap₂, sym, subst, ◌∙◌, ℕ, zero, suc, ◌+◌, ◌<◌, ◌≤◌, Bool, true, false, cond, not, ◌&&◌, ◌||◌, ◌==◌, eqb, if◌then◌else◌, List, [], ◌∷◌, ◌++◌, map, filter, length, find, Option, Some, None, is_some, option_map, append_assoc, append-nil, arith}
 use Rattle.std.specs.Option.{option_map_or}
 use Rattle.std.proofs.lemmas.Bool.{eqb-true, eq-eqb}
 use Rattle.std.proofs.lemmas.Option.{same_Some}
@@ -9,10 +10,11 @@ use Rattle.qo_model.specs.declared.notes.Deed.TheVariants.{Final}
 use Rattle.qo_model.specs.declared.notes.Note.{Note}
 use Rattle.qo_model.specs.Board.{Board, Record, Slot, record_of, is_live, slot_at, held}
 use Rattle.qo_model.specs.Types.{finals}
-use Rattle.qo_model.specs.Release.{edited, with_dropped, drop_slot, forgotten, finish, finalise, final_notes}
+use Rattle.qo_model.specs.Release.{after, let_go, unpin, without_pin, edited, with_dropped, drop_slot, forgotten, finish, finalise, final_notes}
 use Rattle.qo_model.specs.ReleaseKeeps.{KeepsRelease}
+use Rattle.qo_model.specs.Laws.{FinalNotesLaw}
 use Rattle.qo_model.specs.ReleaseNotes.{notes_on, finals_of, NotesEnds}
-use Rattle.qo_model.proofs.ReleaseKeepsLemmas.{release_keeps}
+use Rattle.qo_model.proofs.ReleaseKeepsLemmas.{release_keeps, after_keeps}
 use Rattle.qo_model.proofs.StepLemmas.{found_at, drop-record, drop-live, finish-gone, finish-record, finish-live}
 
 -- a record that is found has the birth
@@ -141,14 +143,41 @@ notes-finish b c n h = record { living = λ x e. living x (x == n) refl e; to_co
     ended x true p e = rw (eqb-true x n p) (finish-notes-own c n ∙ own (is_live c n) refl)
     ended x false p e = finish-notes-other c n x p ∙ h.ended x (sym (as_before x p) ∙ e)
 
--- a release notes ends alone
+-- each turn of a release notes ends alone
+notes-keeps : (b : Board) → KeepsRelease (λ (work : List (ℕ × ℕ)) (c : Board). NotesEnds b c)
+notes-keeps b =
+    record {
+      ended = λ c m j work h e. notes-finish b c m h;
+      freed = λ c m j work s k h e q free. notes-drop b c m j h;
+      kept = λ c m j work s h e held_on. notes-drop b c m j h;
+    }
+
+-- and so does a release
 pub release_notes : (b : Board) (n : ℕ) → NotesEnds b (finalise b n)
-release_notes b n = release_keeps (λ (work : List (ℕ × ℕ)) (c : Board). NotesEnds b c) keeps b n [] (notes-none b)
+release_notes b n = release_keeps (λ (work : List (ℕ × ℕ)) (c : Board). NotesEnds b c) (notes-keeps b) b n [] (notes-none b)
+
+pub after-notes : (b c : Board) (o : Option ℕ) → NotesEnds b c → NotesEnds b (after finalise c o)
+after-notes b c o h = after_keeps (λ (work : List (ℕ × ℕ)) (d : Board). NotesEnds b d) (notes-keeps b) c o [] (λ m e free. h) (λ held_on. h)
+
+-- a slot that is let go with all that follows
+pub let_go-notes : (b : Board) (owner i : ℕ) → NotesEnds b (let_go b owner i)
+unfolding let_go
+let_go-notes b owner i = go (slot_at b owner i) refl
   where
-    keeps : KeepsRelease (λ (work : List (ℕ × ℕ)) (c : Board). NotesEnds b c)
-    keeps =
-        record {
-          ended = λ c m j work h e. notes-finish b c m h;
-          freed = λ c m j work s k h e q free. notes-drop b c m j h;
-          kept = λ c m j work s h e held_on. notes-drop b c m j h;
-        }
+    go : (o : Option Slot) → slot_at b owner i ≡ o → NotesEnds b (let_go b owner i)
+    go None p = rw (let_go, p) (notes-none b)
+    go (Some s) p = rw (let_go, p) (after-notes b (drop_slot b owner i) (held s) (notes-drop b b owner i (notes-none b)))
+
+-- and the end of a pin
+pub unpin-notes : (b : Board) (n : ℕ) → NotesEnds b (unpin b n)
+unfolding unpin
+unpin-notes b n = go (list_any (nat_eq n) b.pins) refl
+  where
+    go : (t : Bool) → list_any (nat_eq n) b.pins ≡ t → NotesEnds b (unpin b n)
+    go false p = rw (unpin, p) (notes-none b)
+    go true p =
+        let none : NotesEnds b (without_pin b n) = let h : NotesEnds b b = notes-none b in record { living = h.living; to_come = h.to_come; ended = h.ended } in
+        rw (unpin, p) (after-notes b (without_pin b n) (Some n) none)
+
+pub final_notes_lem : FinalNotesLaw
+final_notes_lem = record { finalised = release_notes; slot_let_go = let_go-notes; unpinned = unpin-notes }

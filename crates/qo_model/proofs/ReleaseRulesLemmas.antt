@@ -5,6 +5,7 @@ use Rattle.std.proofs.lemmas.Option.{same_Some}
 use Rattle.qo_model.specs.Board.{Board, Slot, slot_at, held}
 use Rattle.qo_model.specs.References.{refs}
 use Rattle.qo_model.specs.Release.{drop_slot, next_place, finish, holding, width, after, from_place, finalise}
+use Rattle.qo_model.specs.Laws.{ReleaseLaw}
 use Rattle.qo_model.specs.ReleaseRules.{Finalises, SlotsFrom, all_slots, past, kept, freed}
 use Rattle.qo_model.proofs.ReleaseLemmas.{drop-holding, drop-falls, after-holding, place-falls, past-width, from_place-none, from_place-some, finalise-shrinks, finalise-is, slots_from, slots_from-none, slots_from-some}
 use Rattle.qo_model.proofs.ReleaseKeepsLemmas.{above-zero}
@@ -67,3 +68,6 @@ reached-below (suc c) b n few = rw (finalise-is b n) (all_slots (slots-reached c
 
 pub finalises : (b : Board) (n : ℕ) → Finalises b n (finalise b n)
 finalises b n = reached-below (suc (holding b)) b n (omega arith)
+
+pub release_lem : ReleaseLaw
+release_lem = record { one_rule = finalise-is; reached = finalises; only = λ b c n f. finalises-is f }

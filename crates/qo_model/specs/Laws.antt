@@ -3,6 +3,10 @@ use Rattle.std.specs.Prelude.{◌≡◌, ℕ, List, [], ◌∷◌, map, codes, S
 use Rattle.qo_model.specs.Board.{Board}
 use Rattle.qo_model.specs.Opening.{opening_board}
 use Rattle.qo_model.specs.Paths.{attached, attached_turn, steps_to, steps_turn, canonical, resolve_absolute}
+use Rattle.qo_model.specs.Release.{finalise, finalise_by, let_go, unpin}
+use Rattle.qo_model.specs.ReleaseKeeps.{Leaves}
+use Rattle.qo_model.specs.ReleaseNotes.{NotesEnds}
+use Rattle.qo_model.specs.ReleaseRules.{Finalises}
 use Rattle.qo_model.specs.Sound.{IsSound}
 use Rattle.qo_model.specs.SoundEvents.{SoundEvents}
 use Rattle.qo_model.specs.SoundGraph.{SoundGraph, graph_of}
@@ -43,3 +47,23 @@ pub record PathsLaw : Type 0 where
 pub record FrameLaw : Type 0 where
   pub graph : (b c : Board) → graph_of b ≡ graph_of c → SoundGraph b → SoundGraph c
   pub events : (b c : Board) → b.events ≡ c.events → SoundEvents b → SoundEvents c
+
+-- what a release is, on every board
+pub record ReleaseLaw : Type 0 where
+  -- a finalisation is one finalisation by the same rule: no depth bounds it
+  pub one_rule : (b : Board) (n : ℕ) → finalise b n ≡ finalise_by finalise b n
+  -- the rules of release lead from each board to what `finalise` gives, and to nothing else
+  pub reached : (b : Board) (n : ℕ) → Finalises b n (finalise b n)
+  pub only : (b c : Board) (n : ℕ) → Finalises b n c → finalise b n ≡ c
+
+-- what a release leaves as it was: a finalisation; a slot that is let go; a pin that ends, but for the pins
+pub record LeavesLaw : Type 0 where
+  pub finalised : (b : Board) (n : ℕ) → Leaves b (finalise b n)
+  pub slot_let_go : (b : Board) (owner i : ℕ) → Leaves b (let_go b owner i)
+  pub unpinned : (b : Board) (n : ℕ) → Leaves (record b { pins = (unpin b n).pins }) (unpin b n)
+
+-- each of these notes the ends of objects, and nothing else
+pub record FinalNotesLaw : Type 0 where
+  pub finalised : (b : Board) (n : ℕ) → NotesEnds b (finalise b n)
+  pub slot_let_go : (b : Board) (owner i : ℕ) → NotesEnds b (let_go b owner i)
+  pub unpinned : (b : Board) (n : ℕ) → NotesEnds b (unpin b n)
