@@ -6,6 +6,7 @@ pub mod ReleaseKeepsLemmas
 pub mod ReleaseLeavesLemmas
 pub mod ReleaseLemmas
 pub mod ReleaseNotesLemmas
+mod ReleaseRows
 pub mod ReleaseRulesLemmas
 mod Rows
 pub mod StepLemmas
