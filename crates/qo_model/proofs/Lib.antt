@@ -1,3 +1,4 @@
+pub mod CycleLemmas
 pub mod DepthLemmas
 pub mod EditLemmas
 pub mod GraphLemmas

@@ -11,7 +11,7 @@ use Rattle.qo_model.specs.Release.{after, let_go, unpin, without_pin, edited, wi
 use Rattle.qo_model.specs.Laws.{LeavesLaw}
 use Rattle.qo_model.specs.ReleaseKeeps.{KeepsRelease, without_slots, Leaves}
 use Rattle.qo_model.proofs.ReleaseKeepsLemmas.{release_keeps, after_keeps}
-use Rattle.qo_model.proofs.StepLemmas.{found_at, drop-record, drop-live, finish-record, finish-live, drop-births, finish-births}
+use Rattle.qo_model.proofs.StepLemmas.{live-among, drop-record, drop-live, finish-record, finish-live, drop-births, finish-births}
 
 -- filters
 filter-same : (p : ℕ → Bool) (xs : List ℕ) → ((x : ℕ) → among xs x ≡ true → p x ≡ true) → filter p xs ≡ xs
@@ -34,19 +34,6 @@ filter-twice p q (x ∷ xs) = go (p x) refl (q x) refl (filter-twice p q xs)
     go true e false d rest = rw (e, d) rest
     go false e true d rest = rw (e, d) (rw e rest)
     go false e false d rest = rw (e, d) rest
-
--- an object is there exactly where its birth is among the births
-pub live-among : (b : Board) (x : ℕ) → is_live b x ≡ among (births b) x
-live-among b x = go b.records
-  where
-    flip : (m : ℕ) → (m == x) ≡ eqb x m
-    flip m = grind arith
-    step : (r : Record) (rs : List Record) (t : Bool) → (r.birth == x) ≡ t → is_some (found_at x rs) ≡ among (map (λ (y : Record). y.birth) rs) x → is_some (found_at x (r ∷ rs)) ≡ among (map (λ (y : Record). y.birth) (r ∷ rs)) x
-    step r rs true p rest = rw (p, sym (flip r.birth) ∙ p) refl
-    step r rs false p rest = rw (p, sym (flip r.birth) ∙ p) rest
-    go : (rs : List Record) → is_some (found_at x rs) ≡ among (map (λ (y : Record). y.birth) rs) x
-    go [] = refl
-    go (r ∷ rs) = step r rs (r.birth == x) refl (go rs)
 
 -- an edit of slots, as one sees records without them
 without-edited : (n : ℕ) (i : ℕ) (o : Option Record) → option_map without_slots (option_map (edited n (with_dropped i)) o) ≡ option_map without_slots o

@@ -1,9 +1,10 @@
 -- What a slot let go and the end of an object do to look-ups and to references.
-use Rattle.std.proofs.Common.{◌≡◌, refl, ap, ap₂, sym, ◌∙◌, ℕ, zero, suc, ◌<◌, ◌≤◌, Bool, true, false, cond, not, ◌&&◌, ◌==◌, List, [], ◌∷◌, map, filter, find, slice_get, sum_by, Option, Some, None, is_some, option_map, arith}
+use Rattle.std.proofs.Common.{eqb, ◌≡◌, refl, ap, ap₂, sym, ◌∙◌, ℕ, zero, suc, ◌<◌, ◌≤◌, Bool, true, false, cond, not, ◌&&◌, ◌==◌, List, [], ◌∷◌, map, filter, find, slice_get, sum_by, Option, Some, None, is_some, option_map, arith}
 use Rattle.std.proofs.lemmas.Bool.{eqb-true, eq-eqb}
 use Rattle.std.proofs.lemmas.Option.{same_Some}
 use Rattle.std.proofs.lemmas.List.Sums.{sum_by-cons}
 use Rattle.qo_model.specs.Board.{Board, Record, Slot, plain, child, strong, weak, alias, record_of, is_live, slot_at, held}
+use Rattle.qo_model.specs.Depth.{among}
 use Rattle.qo_model.specs.Paths.{births}
 use Rattle.qo_model.specs.References.{refs, refs_in, holds_it}
 use Rattle.qo_model.specs.Release.{edited, with_dropped, drop_slot, forgotten_in, forgotten, finish, finalise}
@@ -15,6 +16,20 @@ use Rattle.qo_model.proofs.ReleaseKeepsLemmas.{release_keeps}
 -- the record of x among records
 abbrev pub found_at : ℕ → List Record → Option Record
 found_at x rs = find (λ (r : Record). r.birth == x) rs
+
+-- an object is there exactly where its birth is among the births
+pub found-among : (x : ℕ) (rs : List Record) → is_some (found_at x rs) ≡ among (map (λ (r : Record). r.birth) rs) x
+found-among x [] = refl
+found-among x (r ∷ rs) = go (r.birth == x) refl (found-among x rs)
+  where
+    flip : (r.birth == x) ≡ eqb x r.birth
+    flip = grind arith
+    go : (t : Bool) → (r.birth == x) ≡ t → is_some (found_at x rs) ≡ among (map (λ (y : Record). y.birth) rs) x → is_some (found_at x (r ∷ rs)) ≡ among (map (λ (y : Record). y.birth) (r ∷ rs)) x
+    go true p rest = rw (p, sym flip ∙ p) refl
+    go false p rest = rw (p, sym flip ∙ p) rest
+
+pub live-among : (b : Board) (x : ℕ) → is_live b x ≡ among (births b) x
+live-among b x = found-among x b.records
 
 -- an edit that keeps births changes what is found, and nothing else
 pub found-edited : (n : ℕ) (change : Record → Record) → ((r : Record) → (change r).birth ≡ r.birth) → (x : ℕ) (rs : List Record) → found_at x (map (edited n change) rs) ≡ option_map (edited n change) (found_at x rs)

@@ -1,6 +1,7 @@
 -- The laws of the definitions, each the contract of a function of `laws`.
-use Rattle.std.specs.Prelude.{◌≡◌, ℕ, List, [], ◌∷◌, map, codes, Some, is_some}
-use Rattle.qo_model.specs.Board.{Board}
+use Rattle.std.specs.Prelude.{◌≡◌, ℕ, true, false, List, [], ◌∷◌, map, codes, Some, is_some}
+use Rattle.qo_model.specs.Board.{Board, is_live}
+use Rattle.qo_model.specs.Holders.{HeldFrom}
 use Rattle.qo_model.specs.Opening.{opening_board}
 use Rattle.qo_model.specs.Paths.{attached, attached_turn, steps_to, steps_turn, canonical, resolve_absolute}
 use Rattle.qo_model.specs.Release.{finalise, finalise_by, let_go, unpin}
@@ -67,3 +68,7 @@ pub record FinalNotesLaw : Type 0 where
   pub finalised : (b : Board) (n : ℕ) → NotesEnds b (finalise b n)
   pub slot_let_go : (b : Board) (owner i : ℕ) → NotesEnds b (let_go b owner i)
   pub unpinned : (b : Board) (n : ℕ) → NotesEnds b (unpin b n)
+
+-- on a sound board an object that is there and not attached is held from a cycle or from an attached object
+abbrev pub CycleLaw : Type 0
+CycleLaw = (b : Board) → SoundGraph b → (n : ℕ) → is_live b n ≡ true → attached b n ≡ false → HeldFrom b n

@@ -1,5 +1,6 @@
 pub mod Board
 pub mod Depth
+pub mod Holders
 pub mod Laws
 pub mod Listing
 pub mod Notes

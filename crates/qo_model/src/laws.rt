@@ -3,7 +3,7 @@
 ghost use Rattle.std.specs.Prelude.{ℕ, List};
 ghost use Rattle.qo_model.specs.Board.{Board};
 ghost use Rattle.qo_model.specs.Laws.{
-    OpeningLaw, PathsLaw, FrameLaw, ReleaseLaw, LeavesLaw, FinalNotesLaw,
+    OpeningLaw, PathsLaw, FrameLaw, ReleaseLaw, LeavesLaw, FinalNotesLaw, CycleLaw,
 };
 ghost use Rattle.qo_model.specs.ReleaseKeeps.{KeepsRelease, Keeps};
 
@@ -58,4 +58,10 @@ pub fn law_release_leaves()
 #[tactic(auto, using(crate::proofs::ReleaseNotesLemmas::final_notes_lem))]
 pub fn law_final_notes()
     ensures { FinalNotesLaw }
+{}
+
+/// On a sound board an object that is there and not attached is held, by child slots and strong
+/// links, from an object on a cycle of these, or from an attached object.
+pub fn law_cycle()
+    ensures { CycleLaw }
 {}
