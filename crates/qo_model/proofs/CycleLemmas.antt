@@ -1,19 +1,18 @@
 -- A detached object of a sound board is held from a cycle or from an attached object: its holders are followed until one is met again.
-use Rattle.std.proofs.Common.{◌≡◌, ◌≢◌, refl, ap, ap₂, sym, subst, ◌∙◌, ℕ, zero, suc, ◌+◌, ◌<◌, ◌≤◌, Bool, true, false, cond, ◌==◌, eqb, List, [], ◌∷◌, map, length, find, filter_map, sum_by, count_by, Option, Some, None, is_some, arith}
+use Rattle.std.proofs.Common.{◌≡◌, ◌≢◌, refl, ap, sym, subst, ◌∙◌, ℕ, zero, suc, ◌+◌, ◌<◌, ◌≤◌, Bool, true, false, cond, ◌==◌, eqb, List, [], ◌∷◌, map, length, filter_map, sum_by, count_by, Option, Some, None, is_some, arith}
 use Rattle.std.specs.List.{AllByRecursion, IsDistinct}
 use Rattle.std.specs.Cmp.{nat_eq_equiv}
 use Rattle.std.proofs.lemmas.Bool.{eqb-true, eq-eqb}
 use Rattle.std.proofs.lemmas.List.Sums.{sum_by-cons}
 use Rattle.std.proofs.lemmas.Map.Made.{length-le_from_is_member}
 use Rattle.std.proofs.Math.Bool.{or-true}
-use Rattle.qo_model.specs.Board.{Board, Record, Slot, plain, child, strong, weak, alias, record_of, is_live, held}
+use Rattle.qo_model.specs.Board.{Board, Record, Slot, plain, child, strong, weak, alias, held}
 use Rattle.qo_model.specs.Depth.{among, leads, Leads, one, more}
 use Rattle.qo_model.specs.Holders.{held_by, HeldFrom, a_cycle, an_attached}
 use Rattle.qo_model.specs.Laws.{CycleLaw}
 use Rattle.qo_model.specs.Paths.{births, attached, attached_turn}
 use Rattle.qo_model.specs.References.{refs, refs_in, holds_it}
 use Rattle.qo_model.specs.SoundGraph.{graph_of, without_value, without_values, Rises, SoundGraph}
-use Rattle.qo_model.proofs.DepthLemmas.{Leads-push}
 use Rattle.qo_model.proofs.GraphLemmas.{among-above, births-graph_of}
 use Rattle.qo_model.proofs.StepLemmas.{found_at, found-among, live-among}
 
@@ -44,11 +43,14 @@ refs-graph_of b n = let same : sum_by (refs_in n) (map without_values b.records)
     slot (strong t target) = refl
     slot (weak t target) = refl
     slot (alias m name) = refl
+
     one_same : (s : List ℕ × Slot) → one_of n (s.0, without_value s.1) ≡ one_of n s
     one_same s = ap (λ (o : Option ℕ). cond {A = ℕ} (elim o as (λ _. Bool) [ None ↦ false | Some m ↦ m == n ]) 1 0) (slot s.1)
+
     slots : (ss : List (List ℕ × Slot)) → sum_by (one_of n) (map (λ (s : List ℕ × Slot). (s.0, without_value s.1)) ss) ≡ sum_by (one_of n) ss
     slots [] = refl
     slots (s ∷ ss) = omega (arith, slots ss, one_same s, sum_by-cons (one_of n) (s.0, without_value s.1) (map (λ (x : List ℕ × Slot). (x.0, without_value x.1)) ss), sum_by-cons (one_of n) s ss)
+
     go : (rs : List Record) → sum_by (refs_in n) (map without_values rs) ≡ sum_by (refs_in n) rs
     go [] = refl
     go (r ∷ rs) = omega (arith, go rs, slots r.slots, sum_by-cons (refs_in n) (without_values r) (map without_values rs), sum_by-cons (refs_in n) r rs)
@@ -70,6 +72,7 @@ counted-held n (s ∷ slots) h = go (held s.1) refl (counted-held n slots)
       where
         flip : (m == n) ≡ eqb n m
         flip = grind arith
+
         choose : (t : Bool) → (m == n) ≡ t → among (m ∷ held_in slots) n ≡ true
         choose true q = rw (sym flip ∙ q) refl
         choose false q =
@@ -175,6 +178,7 @@ follow b sound n (suc room) m passed enough w there e way = go (among passed m) 
     step : (x : HasHolder b m) → among passed m ≡ false → (t : Bool) → attached b x.holder ≡ t → ((k : ℕ) (ks : List ℕ) → length (births b) ≤ length ks + room → IsBack b ks k → among (births b) k ≡ true → attached b k ≡ false → Leads (held_by b) k n → HeldFrom b n) → HeldFrom b n
     step x p true q rest = an_attached x.holder q (more x.holds way)
     step x p false q rest = rest x.holder (m ∷ passed) (omega arith) (back-more b x.holder m passed w p there x.holds) x.there q (more x.holds way)
+
     go : (t : Bool) → among passed m ≡ t → ((k : ℕ) (ks : List ℕ) → length (births b) ≤ length ks + room → IsBack b ks k → among (births b) k ≡ true → attached b k ≡ false → Leads (held_by b) k n → HeldFrom b n) → HeldFrom b n
     go true p rest = closed b n m passed w p way
     go false p rest = let x : HasHolder b m = has-holder b sound m there e in step x p (attached b x.holder) refl rest

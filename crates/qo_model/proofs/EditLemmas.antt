@@ -106,6 +106,7 @@ stands-at b n i s e = go (record_of b n) refl e
     at_entry : (r : Record) → record_of b n ≡ Some r → (o : Option (List ℕ × Slot)) → slice_get r.slots i ≡ o → option_map (λ (x : List ℕ × Slot). x.1) o ≡ Some s → StandsAt b n i s
     at_entry r p None q h = cc
     at_entry r p (Some x) q h = record { owner = r; entry = x; found = p; at = q; is = same_Some x.1 s h }
+
     go : (o : Option Record) → record_of b n ≡ o → option_map (λ (x : List ℕ × Slot). x.1) (slice_get (option_map_or (λ (r : Record). r.slots) o []) i) ≡ Some s → StandsAt b n i s
     go None p h = cc
     go (Some r) p h = at_entry r p (slice_get r.slots i) refl h

@@ -27,6 +27,7 @@ module _ (P : List (ℕ × ℕ) → Board → Type 0) (keeps : KeepsRelease P) w
           rw (after, free) (below (drop_slot b n i) m ((n, next_place s i) ∷ work) (omega arith) (keeps.freed b n i work s m p e q (eqb-true (refs (drop_slot b n i) m) 0 free)))
       choose m q false held_on =
           rw (after, held_on) (keeps.kept b n i work s p e (λ k h. subst (λ x. 0 < refs (drop_slot b n i) x) (same_Some m k (sym q ∙ h)) (above-zero (refs (drop_slot b n i) m) held_on)))
+
       go : (o : Option ℕ) → held s ≡ o → P ((n, next_place s i) ∷ work) (after finalise (drop_slot b n i) o)
       go None q = keeps.kept b n i work s p e (λ m h. absurd (let clash : None ≡ Some m = sym q ∙ h in cc))
       go (Some m) q = choose m q (refs (drop_slot b n i) m == 0) refl

@@ -1,6 +1,6 @@
 -- What a release leaves as it was.
 use Rattle.std.specs.List.{list_any}
-use Rattle.std.proofs.Common.{nat_eq, ◌≡◌, refl, ap, ap₂, sym, ◌∙◌, ℕ, Bool, true, false, cond, not, ◌&&◌, ◌==◌, eqb, List, [], ◌∷◌, ◌++◌, map, filter, Option, Some, None, is_some, option_map, option_and_then, option_to_list, append_assoc, append-nil, arith}
+use Rattle.std.proofs.Common.{nat_eq, ◌≡◌, refl, ap, ap₂, sym, ◌∙◌, ℕ, Bool, true, false, cond, not, ◌&&◌, ◌==◌, eqb, List, [], ◌∷◌, ◌++◌, filter, Option, Some, None, option_map, option_and_then, option_to_list, append_assoc, append-nil}
 use Rattle.std.specs.Option.{option_map_or}
 use Rattle.std.proofs.lemmas.Bool.{eq-eqb}
 use Rattle.std.proofs.Math.Bool.{or-true}
@@ -110,6 +110,7 @@ leaves-finish b c n h =
   where
     gained : {A : Type 0} (xs ys more : List A) → (zs : List A) × (xs ≡ ys ++ zs) → (zs : List A) × (xs ++ more ≡ ys ++ zs)
     gained xs ys more p = (p.0 ++ more, ap (λ us. us ++ more) p.1 ∙ append_assoc ys p.0 more)
+
     same : (x : ℕ) (t : Bool) → (x == n) ≡ t → is_live (finish c n) x ≡ true → option_map without_slots (record_of (finish c n) x) ≡ option_map without_slots (record_of b x)
     same x true p e = absurd (let gone : is_live (finish c n) x ≡ false = rw p at (finish-live c n x) in let clash : true ≡ false = sym e ∙ gone in cc)
     same x false p e =

@@ -85,8 +85,10 @@ kept-holding n r = go r.slots
     same (weak t None) = refl
     same (weak t (Some m)) = refl
     same (alias m property) = refl
+
     one : (s : List ℕ × Slot) → one_held (s.0, forgotten_in n s.1) ≡ one_held s
     one s = ap (λ (o : Option ℕ). cond {A = ℕ} (is_some o) 1 0) (same s.1)
+
     go : (slots : List (List ℕ × Slot)) → sum_by one_held (map (λ (s : List ℕ × Slot). (s.0, forgotten_in n s.1)) slots) ≤ sum_by one_held slots
     go [] = omega arith
     go (s ∷ slots) = omega (arith, go slots, one s, sum_by-cons one_held (s.0, forgotten_in n s.1) (map (λ (x : List ℕ × Slot). (x.0, forgotten_in n x.1)) slots), sum_by-cons one_held s slots)
@@ -218,6 +220,7 @@ after-agree f g c h b n i s e few = go (held s) refl
     freed : (m : ℕ) → held s ≡ Some m → (t : Bool) → (refs (drop_slot b n i) m == 0) ≡ t → after f (drop_slot b n i) (Some m) ≡ after g (drop_slot b n i) (Some m)
     freed m p true q = let falls : holding (drop_slot b n i) < holding b = drop-falls b n i s m e p in rw (after, q) (h.agree (drop_slot b n i) m (omega arith))
     freed m p false q = rw (after, q) refl
+
     go : (o : Option ℕ) → held s ≡ o → after f (drop_slot b n i) o ≡ after g (drop_slot b n i) o
     go None p = refl
     go (Some m) p = freed m p (refs (drop_slot b n i) m == 0) refl

@@ -1,6 +1,6 @@
 -- A release notes the end of each object that it ends, once, and nothing else.
 use Rattle.std.specs.List.{list_any}
-use Rattle.std.proofs.Common.{nat_eq, ◌≡◌, refl, ap, ap₂, sym, subst, ◌∙◌, ℕ, zero, suc, ◌+◌, ◌<◌, ◌≤◌, Bool, true, false, cond, not, ◌&&◌, ◌||◌, ◌==◌, eqb, if◌then◌else◌, List, [], ◌∷◌, ◌++◌, map, filter, length, find, Option, Some, None, is_some, option_map, append_assoc, append-nil, arith}
+use Rattle.std.proofs.Common.{nat_eq, ◌≡◌, refl, ap, ap₂, sym, ◌∙◌, ℕ, Bool, true, false, ◌==◌, List, [], ◌∷◌, ◌++◌, map, Option, Some, None, is_some, option_map, append-nil, arith}
 use Rattle.std.specs.Option.{option_map_or}
 use Rattle.std.proofs.lemmas.Bool.{eqb-true, eq-eqb}
 use Rattle.std.proofs.lemmas.Option.{same_Some}
@@ -15,7 +15,7 @@ use Rattle.qo_model.specs.ReleaseKeeps.{KeepsRelease}
 use Rattle.qo_model.specs.Laws.{FinalNotesLaw}
 use Rattle.qo_model.specs.ReleaseNotes.{notes_on, finals_of, NotesEnds}
 use Rattle.qo_model.proofs.ReleaseKeepsLemmas.{release_keeps, after_keeps}
-use Rattle.qo_model.proofs.StepLemmas.{found_at, drop-record, drop-live, finish-gone, finish-record, finish-live}
+use Rattle.qo_model.proofs.StepLemmas.{found_at, drop-record, drop-live, finish-record, finish-live}
 
 -- a record that is found has the birth
 found-birth : (n : ℕ) (rs : List Record) (x : Record) → found_at n rs ≡ Some x → x.birth ≡ n
@@ -128,17 +128,22 @@ notes-finish b c n h = record { living = λ x e. living x (x == n) refl e; to_co
   where
     gone : (x : ℕ) → (x == n) ≡ true → is_live (finish c n) x ≡ true → ⊥
     gone x p e = let dead : is_live (finish c n) x ≡ false = rw p at (finish-live c n x) in let clash : true ≡ false = sym e ∙ dead in cc
+
     as_before : (x : ℕ) → (x == n) ≡ false → is_live (finish c n) x ≡ is_live c x
     as_before x p = rw p at (finish-live c n x)
+
     living : (x : ℕ) (t : Bool) → (x == n) ≡ t → is_live (finish c n) x ≡ true → notes_on x (finish c n).notes ≡ notes_on x b.notes
     living x true p e = absurd (gone x p e)
     living x false p e = finish-notes-other c n x p ∙ h.living x (sym (as_before x p) ∙ e)
+
     to_come : (x : ℕ) (t : Bool) → (x == n) ≡ t → is_live (finish c n) x ≡ true → finals_of (finish c n) x ≡ finals_of b x
     to_come x true p e = absurd (gone x p e)
     to_come x false p e = finish-finals c n x p ∙ h.to_come x (sym (as_before x p) ∙ e)
+
     own : (t : Bool) → is_live c n ≡ t → notes_on n c.notes ++ finals_of c n ≡ notes_on n b.notes ++ finals_of b n
     own true e = ap₂ (λ (xs ys : List Note). xs ++ ys) (h.living n e) (h.to_come n e)
     own false e = ap (λ (xs : List Note). notes_on n c.notes ++ xs) (finals-none c n e) ∙ append-nil (notes_on n c.notes) ∙ h.ended n e
+
     ended : (x : ℕ) (t : Bool) → (x == n) ≡ t → is_live (finish c n) x ≡ false → notes_on x (finish c n).notes ≡ notes_on x b.notes ++ finals_of b x
     ended x true p e = rw (eqb-true x n p) (finish-notes-own c n ∙ own (is_live c n) refl)
     ended x false p e = finish-notes-other c n x p ∙ h.ended x (sym (as_before x p) ∙ e)

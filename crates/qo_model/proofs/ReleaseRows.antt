@@ -1,8 +1,7 @@
 -- Worked rows of release: two devices that hold each other, let go one after the other, and then severed.
-use Rattle.std.proofs.Common.{◌≡◌, refl, ℕ, List, [], ◌∷◌, ◌++◌, map, codes, true, ◌==◌, if◌then◌else◌, Option, Some, None}
+use Rattle.std.proofs.Common.{◌≡◌, refl, ℕ, List, [], ◌∷◌, ◌++◌, map, codes, true, ◌==◌, if◌then◌else◌, Some, None}
 use Rattle.std.specs.Str.{bytes_eq}
 use Rattle.qo_values.specs.declared.kinds.TypeId.TheVariants.{Object, Device, SlotDevice, SlotUart, Clock, Tag}
-use Rattle.qo_model.specs.declared.notes.Note.{Note}
 use Rattle.qo_model.specs.declared.notes.Deed.TheVariants.{Final}
 use Rattle.qo_model.specs.Board.{Board, Record, Slot, strong, weak, slot_named}
 use Rattle.qo_model.specs.Opening.{opening_board, opening_records, fresh_record, slots_with, with_child}

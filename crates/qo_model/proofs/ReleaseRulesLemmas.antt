@@ -55,6 +55,7 @@ slots-reached c below (suc k) b n i room few = go (slot_at b n i) refl (slots-re
             rw (after, free) (freed e q (eqb-true (refs (drop_slot b n i) m) 0 free) (below (drop_slot b n i) m (omega arith)) (rw (after, free) at rest))
         choose false held_on =
             rw (after, held_on) (kept e (λ l h. subst (λ x. 0 < refs (drop_slot b n i) x) (same_Some m l (sym q ∙ h)) (above-zero (refs (drop_slot b n i) m) held_on)) (rw (after, held_on) at rest))
+
     go : (o : Option Slot) → slot_at b n i ≡ o → ((d : Board) (m j : ℕ) → width d ≤ k + j → holding d ≤ c → SlotsFrom d m j (from_place finalise k d m j)) → SlotsFrom b n i (from_place finalise (suc k) b n i)
     go None e rest = rw (from_place-none finalise (suc k) b n i e) (past e)
     go (Some s) e rest =

@@ -24,6 +24,7 @@ found-among x (r ∷ rs) = go (r.birth == x) refl (found-among x rs)
   where
     flip : (r.birth == x) ≡ eqb x r.birth
     flip = grind arith
+
     go : (t : Bool) → (r.birth == x) ≡ t → is_some (found_at x rs) ≡ among (map (λ (y : Record). y.birth) rs) x → is_some (found_at x (r ∷ rs)) ≡ among (map (λ (y : Record). y.birth) (r ∷ rs)) x
     go true p rest = rw (p, sym flip ∙ p) refl
     go false p rest = rw (p, sym flip ∙ p) rest
@@ -104,6 +105,7 @@ drop-births b n i = go b.records
     one : (r : Record) (t : Bool) → (r.birth == n) ≡ t → (edited n (with_dropped i) r).birth ≡ r.birth
     one r true p = rw (edited, p) refl
     one r false p = rw (edited, p) refl
+
     go : (rs : List Record) → map (λ (r : Record). r.birth) (map (edited n (with_dropped i)) rs) ≡ map (λ (r : Record). r.birth) rs
     go [] = refl
     go (r ∷ rs) = ap₂ (λ (m : ℕ) (ns : List ℕ). m ∷ ns) (one r (r.birth == n) refl) (go rs)
@@ -115,6 +117,7 @@ finish-births b n = go b.records
     step : (r : Record) (rs : List Record) (t : Bool) → (r.birth == n) ≡ t → map (λ (y : Record). y.birth) (others n rs) ≡ filter (λ (x : ℕ). not (x == n)) (map (λ (y : Record). y.birth) rs) → map (λ (y : Record). y.birth) (others n (r ∷ rs)) ≡ filter (λ (x : ℕ). not (x == n)) (map (λ (y : Record). y.birth) (r ∷ rs))
     step r rs true p rest = rw p rest
     step r rs false p rest = rw p (ap (λ (ns : List ℕ). r.birth ∷ ns) rest)
+
     go : (rs : List Record) → map (λ (r : Record). r.birth) (others n rs) ≡ filter (λ (x : ℕ). not (x == n)) (map (λ (r : Record). r.birth) rs)
     go [] = refl
     go (r ∷ rs) = step r rs (r.birth == n) refl (go rs)
@@ -145,8 +148,10 @@ forgotten-refs n x r = go r.slots
     same (weak t None) = refl
     same (weak t (Some m)) = refl
     same (alias m property) = refl
+
     one : (s : List ℕ × Slot) → one_of x (s.0, forgotten_in n s.1) ≡ one_of x s
     one s = ap (λ (o : Option ℕ). cond {A = ℕ} (elim o as (λ _. Bool) [ None ↦ false | Some m ↦ m == x ]) 1 0) (same s.1)
+
     go : (slots : List (List ℕ × Slot)) → sum_by (one_of x) (map (λ (s : List ℕ × Slot). (s.0, forgotten_in n s.1)) slots) ≤ sum_by (one_of x) slots
     go [] = omega arith
     go (s ∷ slots) = omega (arith, go slots, one s, sum_by-cons (one_of x) (s.0, forgotten_in n s.1) (map (λ (y : List ℕ × Slot). (y.0, forgotten_in n y.1)) slots), sum_by-cons (one_of x) s slots)

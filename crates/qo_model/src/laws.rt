@@ -3,7 +3,13 @@
 ghost use Rattle.std.specs.Prelude.{ℕ, List};
 ghost use Rattle.qo_model.specs.Board.{Board};
 ghost use Rattle.qo_model.specs.Laws.{
-    OpeningLaw, PathsLaw, FrameLaw, ReleaseLaw, LeavesLaw, FinalNotesLaw, CycleLaw,
+  OpeningLaw,
+  PathsLaw,
+  FrameLaw,
+  ReleaseLaw,
+  LeavesLaw,
+  FinalNotesLaw,
+  CycleLaw,
 };
 ghost use Rattle.qo_model.specs.ReleaseKeeps.{KeepsRelease, Keeps};
 
