@@ -13,6 +13,7 @@ use Rattle.qo_model.specs.Laws.{CycleLaw}
 use Rattle.qo_model.specs.Paths.{births, attached, attached_turn}
 use Rattle.qo_model.specs.References.{refs, refs_in, holds_it}
 use Rattle.qo_model.specs.SoundGraph.{graph_of, without_value, without_values, Rises, SoundGraph}
+use Rattle.qo_model.proofs.EditLemmas.{sum-held, one_is}
 use Rattle.qo_model.proofs.GraphLemmas.{among-above, births-graph_of}
 use Rattle.qo_model.proofs.StepLemmas.{found_at, found-among, live-among}
 
@@ -44,16 +45,9 @@ refs-graph_of b n = let same : sum_by (refs_in n) (map without_values b.records)
     slot (weak t target) = refl
     slot (alias m name) = refl
 
-    one_same : (s : List ℕ × Slot) → one_of n (s.0, without_value s.1) ≡ one_of n s
-    one_same s = ap (λ (o : Option ℕ). cond {A = ℕ} (elim o as (λ _. Bool) [ None ↦ false | Some m ↦ m == n ]) 1 0) (slot s.1)
-
-    slots : (ss : List (List ℕ × Slot)) → sum_by (one_of n) (map (λ (s : List ℕ × Slot). (s.0, without_value s.1)) ss) ≡ sum_by (one_of n) ss
-    slots [] = refl
-    slots (s ∷ ss) = omega (arith, slots ss, one_same s, sum_by-cons (one_of n) (s.0, without_value s.1) (map (λ (x : List ℕ × Slot). (x.0, without_value x.1)) ss), sum_by-cons (one_of n) s ss)
-
     go : (rs : List Record) → sum_by (refs_in n) (map without_values rs) ≡ sum_by (refs_in n) rs
     go [] = refl
-    go (r ∷ rs) = omega (arith, go rs, slots r.slots, sum_by-cons (refs_in n) (without_values r) (map without_values rs), sum_by-cons (refs_in n) r rs)
+    go (r ∷ rs) = omega (arith, go rs, sum-held (one_is n) without_value slot r.slots, sum_by-cons (refs_in n) (without_values r) (map without_values rs), sum_by-cons (refs_in n) r rs)
 
 -- the objects that slots hold
 abbrev held_in : List (List ℕ × Slot) → List ℕ

@@ -4,7 +4,7 @@ use Rattle.std.specs.Option.{option_map_or}
 use Rattle.std.proofs.lemmas.List.Sums.{sum_by-cons}
 use Rattle.std.proofs.lemmas.Option.{same_Some}
 use Rattle.qo_model.specs.Board.{Board, Record, Slot, plain, child, strong, weak, alias, record_of, slot_at, held}
-use Rattle.qo_model.specs.Release.{edited, emptied, without_hold}
+use Rattle.qo_model.specs.Release.{forgotten_in, edited, emptied, without_hold}
 
 -- where an edit raises no record's number, it raises no sum of them
 pub sum-edit_le : (f : Record → ℕ) (n : ℕ) (change : Record → Record) → ((r : Record) → f (change r) ≤ f r) → (rs : List Record) → sum_by f (map (edited n change) rs) ≤ sum_by f rs
@@ -110,3 +110,31 @@ stands-at b n i s e = go (record_of b n) refl e
     go : (o : Option Record) → record_of b n ≡ o → option_map (λ (x : List ℕ × Slot). x.1) (slice_get (option_map_or (λ (r : Record). r.slots) o []) i) ≡ Some s → StandsAt b n i s
     go None p h = cc
     go (Some r) p h = at_entry r p (slice_get r.slots i) refl h
+
+-- a change of slots that leaves what they hold changes no sum over what they hold
+pub sum-held : (f : Option ℕ → ℕ) (g : Slot → Slot) → ((s : Slot) → held (g s) ≡ held s) → (slots : List (List ℕ × Slot)) → sum_by (λ (s : List ℕ × Slot). f (held s.1)) (map (λ (s : List ℕ × Slot). (s.0, g s.1)) slots) ≡ sum_by (λ (s : List ℕ × Slot). f (held s.1)) slots
+sum-held f g same [] = refl
+sum-held f g same (s ∷ slots) =
+    omega (
+      arith,
+      sum-held f g same slots,
+      ap f (same s.1),
+      sum_by-cons (λ (x : List ℕ × Slot). f (held x.1)) (s.0, g s.1) (map (λ (x : List ℕ × Slot). (x.0, g x.1)) slots),
+      sum_by-cons (λ (x : List ℕ × Slot). f (held x.1)) s slots,
+    )
+
+-- one where an option has a value, and where it has this value
+abbrev pub one_some : Option ℕ → ℕ
+one_some o = cond {A = ℕ} (is_some o) 1 0
+
+abbrev pub one_is : ℕ → Option ℕ → ℕ
+one_is n o = cond {A = ℕ} (elim o as (λ _. Bool) [ None ↦ false | Some m ↦ m == n ]) 1 0
+
+-- the emptied weak links leave what slots hold
+pub held-forgotten : (n : ℕ) (s : Slot) → held (forgotten_in n s) ≡ held s
+held-forgotten n (plain v) = refl
+held-forgotten n (child m) = refl
+held-forgotten n (strong t target) = refl
+held-forgotten n (weak t None) = refl
+held-forgotten n (weak t (Some m)) = refl
+held-forgotten n (alias m property) = refl

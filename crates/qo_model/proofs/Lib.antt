@@ -12,3 +12,4 @@ pub mod ReleaseRulesLemmas
 mod Rows
 pub mod StepLemmas
 pub mod TreeLemmas
+pub mod WeakLinkLemmas

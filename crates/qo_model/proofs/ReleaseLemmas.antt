@@ -1,11 +1,11 @@
 -- The law of release: one finalisation is each slot let go, in order, and the end of the object, where what comes free is finalised by the same rule.
-use Rattle.std.proofs.Common.{◌≡◌, refl, ap, sym, ◌∙◌, ℕ, zero, suc, ◌+◌, ◌<◌, ◌≤◌, Bool, true, false, cond, not, ◌==◌, List, [], ◌∷◌, map, length, find, slice_get, sum_by, count_by, Option, Some, None, is_some, arith}
+use Rattle.std.proofs.Common.{◌≡◌, refl, ap, sym, ◌∙◌, ℕ, zero, suc, ◌+◌, ◌<◌, ◌≤◌, Bool, true, false, not, ◌==◌, List, [], ◌∷◌, map, length, find, slice_get, sum_by, count_by, Option, Some, None, is_some, arith}
 use Rattle.std.proofs.lemmas.Option.{slice_get_within}
 use Rattle.std.proofs.lemmas.List.Sums.{sum_by-cons}
 use Rattle.qo_model.specs.Board.{Board, Record, Slot, plain, child, strong, weak, alias, slot_at, held}
 use Rattle.qo_model.specs.References.{refs}
 use Rattle.qo_model.specs.Release.{without_hold, with_dropped, drop_slot, next_place, forgotten_in, forgotten, finish, holding, width, after, from_place, finalise_by, finalise_within, finalise}
-use Rattle.qo_model.proofs.EditLemmas.{sum-edit_le, sum-edit_lt, sum-filter_le, left_of, sum-without_hold, sum-without_hold_le, one_held, left-held, one_slot, left-slot, length-sum, StandsAt, stands-at}
+use Rattle.qo_model.proofs.EditLemmas.{sum-held, one_some, held-forgotten, sum-edit_le, sum-edit_lt, sum-filter_le, left_of, sum-without_hold, sum-without_hold_le, one_held, left-held, one_slot, left-slot, length-sum, StandsAt, stands-at}
 
 -- the two numbers of one record
 abbrev pub holding_in : Record → ℕ
@@ -76,22 +76,7 @@ place-lt-width b n i s e =
 
 -- the weak links that name an object, emptied, change neither number of a record
 kept-holding : (n : ℕ) (r : Record) → holding_in (forgotten n r) ≤ holding_in r
-kept-holding n r = go r.slots
-  where
-    same : (s : Slot) → held (forgotten_in n s) ≡ held s
-    same (plain v) = refl
-    same (child m) = refl
-    same (strong t target) = refl
-    same (weak t None) = refl
-    same (weak t (Some m)) = refl
-    same (alias m property) = refl
-
-    one : (s : List ℕ × Slot) → one_held (s.0, forgotten_in n s.1) ≡ one_held s
-    one s = ap (λ (o : Option ℕ). cond {A = ℕ} (is_some o) 1 0) (same s.1)
-
-    go : (slots : List (List ℕ × Slot)) → sum_by one_held (map (λ (s : List ℕ × Slot). (s.0, forgotten_in n s.1)) slots) ≤ sum_by one_held slots
-    go [] = omega arith
-    go (s ∷ slots) = omega (arith, go slots, one s, sum_by-cons one_held (s.0, forgotten_in n s.1) (map (λ (x : List ℕ × Slot). (x.0, forgotten_in n x.1)) slots), sum_by-cons one_held s slots)
+kept-holding n r = omega (arith, sum-held one_some (forgotten_in n) (held-forgotten n) r.slots)
 
 kept-width : (n : ℕ) (r : Record) → width_in (forgotten n r) ≤ width_in r
 kept-width n r = go r.slots

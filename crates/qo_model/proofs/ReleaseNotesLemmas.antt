@@ -6,6 +6,7 @@ use Rattle.std.proofs.lemmas.Bool.{eqb-true, eq-eqb}
 use Rattle.std.proofs.lemmas.Option.{same_Some}
 use Rattle.std.proofs.lemmas.List.Elements.{filter-append}
 use Rattle.qo_values.specs.declared.kinds.TypeId.{TypeId}
+use Rattle.qo_model.specs.declared.notes.Deed.{Deed}
 use Rattle.qo_model.specs.declared.notes.Deed.TheVariants.{Final}
 use Rattle.qo_model.specs.declared.notes.Note.{Note}
 use Rattle.qo_model.specs.Board.{Board, Record, Slot, record_of, is_live, slot_at, held}
@@ -184,5 +185,16 @@ unpin-notes b n = go (list_any (nat_eq n) b.pins) refl
         let none : NotesEnds b (without_pin b n) = let h : NotesEnds b b = notes-none b in record { living = h.living; to_come = h.to_come; ended = h.ended } in
         rw (unpin, p) (after-notes b (without_pin b n) (Some n) none)
 
+-- what the final notes say
+ends-say : (m : ℕ) (ts : List TypeId) → map (λ (x : Note). x.deed) (ends m ts) ≡ map Final ts
+ends-say m [] = refl
+ends-say m (t ∷ ts) = ap (λ (ds : List Deed). Final t ∷ ds) (ends-say m ts)
+
 pub final_notes_lem : FinalNotesLaw
-final_notes_lem = record { finalised = release_notes; slot_let_go = let_go-notes; unpinned = unpin-notes }
+final_notes_lem =
+    record {
+      finalised = release_notes;
+      slot_let_go = let_go-notes;
+      unpinned = unpin-notes;
+      derived_first = λ r. ends-say r.birth (finals r.kind);
+    }

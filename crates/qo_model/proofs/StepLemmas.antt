@@ -9,7 +9,7 @@ use Rattle.qo_model.specs.Paths.{births}
 use Rattle.qo_model.specs.References.{refs, refs_in, holds_it}
 use Rattle.qo_model.specs.Release.{edited, with_dropped, drop_slot, forgotten_in, forgotten, finish, finalise}
 use Rattle.qo_model.specs.ReleaseKeeps.{KeepsRelease}
-use Rattle.qo_model.proofs.EditLemmas.{sum-edit_le, sum-filter_le, left_of, sum-without_hold_le, StandsAt, stands-at}
+use Rattle.qo_model.proofs.EditLemmas.{sum-held, one_is, held-forgotten, sum-edit_le, sum-filter_le, left_of, sum-without_hold_le, StandsAt, stands-at}
 use Rattle.qo_model.proofs.ReleaseLemmas.{found-within}
 use Rattle.qo_model.proofs.ReleaseKeepsLemmas.{release_keeps}
 
@@ -139,22 +139,7 @@ unfolding drop_slot
 drop-refs b n i x = omega (arith, sum-edit_le (refs_in x) n (with_dropped i) (λ r. sum-without_hold_le (one_of x) (left-of x) i r.slots) b.records)
 
 forgotten-refs : (n x : ℕ) (r : Record) → refs_in x (forgotten n r) ≤ refs_in x r
-forgotten-refs n x r = go r.slots
-  where
-    same : (s : Slot) → held (forgotten_in n s) ≡ held s
-    same (plain v) = refl
-    same (child m) = refl
-    same (strong t target) = refl
-    same (weak t None) = refl
-    same (weak t (Some m)) = refl
-    same (alias m property) = refl
-
-    one : (s : List ℕ × Slot) → one_of x (s.0, forgotten_in n s.1) ≡ one_of x s
-    one s = ap (λ (o : Option ℕ). cond {A = ℕ} (elim o as (λ _. Bool) [ None ↦ false | Some m ↦ m == x ]) 1 0) (same s.1)
-
-    go : (slots : List (List ℕ × Slot)) → sum_by (one_of x) (map (λ (s : List ℕ × Slot). (s.0, forgotten_in n s.1)) slots) ≤ sum_by (one_of x) slots
-    go [] = omega arith
-    go (s ∷ slots) = omega (arith, go slots, one s, sum_by-cons (one_of x) (s.0, forgotten_in n s.1) (map (λ (y : List ℕ × Slot). (y.0, forgotten_in n y.1)) slots), sum_by-cons (one_of x) s slots)
+forgotten-refs n x r = omega (arith, sum-held (one_is x) (forgotten_in n) (held-forgotten n) r.slots)
 
 pub finish-refs : (b : Board) (n x : ℕ) → refs (finish b n) x ≤ refs b x
 unfolding finish

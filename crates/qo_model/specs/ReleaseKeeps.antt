@@ -1,7 +1,8 @@
 -- What a release keeps. The work of a release is a list: each object that is being finalised, and the place from which its slots are still to be let go, the one that is finalised first at the front.
-use Rattle.std.specs.Prelude.{◌≡◌, ℕ, ◌<◌, true, List, [], ◌∷◌, ◌++◌, filter, Some, None, option_map}
+use Rattle.std.specs.Prelude.{◌≡◌, ℕ, ◌<◌, Bool, true, List, [], ◌∷◌, ◌++◌, filter, Some, None, option_map, ⊤}
+use Rattle.std.specs.List.{AllByRecursion}
 use Rattle.qo_model.specs.declared.notes.Note.{Note}
-use Rattle.qo_model.specs.Board.{Board, Record, Slot, DeviceEvent, record_of, is_live, slot_at, held}
+use Rattle.qo_model.specs.Board.{Board, Record, Slot, weak, DeviceEvent, record_of, is_live, slot_at, held}
 use Rattle.qo_model.specs.Paths.{births}
 use Rattle.qo_model.specs.References.{refs}
 use Rattle.qo_model.specs.Release.{drop_slot, next_place, finish, finalise}
@@ -38,3 +39,12 @@ pub record Leaves (b c : Board) : Type 0 where
   -- what was noted, and the events, stay, and others come behind them
   pub notes_gain : (more : List Note) × (c.notes ≡ b.notes ++ more)
   pub events_gain : (more : List DeviceEvent) × (c.events ≡ b.events ++ more)
+
+-- a slot, if it is a weak link that is not empty, sees an object that passes the test
+abbrev pub SeesOnly : (ℕ → Bool) → Slot → Type 0
+SeesOnly there (weak t (Some m)) = there m ≡ true
+SeesOnly there _ = ⊤
+
+-- each weak link that is not empty sees an object that is there
+abbrev pub WeakLinksLive : Board → Type 0
+WeakLinksLive b = AllByRecursion (λ (r : Record). AllByRecursion (λ (s : List ℕ × Slot). SeesOnly (is_live b) s.1) r.slots) b.records

@@ -10,6 +10,7 @@ ghost use Rattle.qo_model.specs.Laws.{
   LeavesLaw,
   FinalNotesLaw,
   CycleLaw,
+  WeakLinksLaw,
 };
 ghost use Rattle.qo_model.specs.ReleaseKeeps.{KeepsRelease, Keeps};
 
@@ -57,6 +58,12 @@ pub fn law_release_keeps<K: Kept>()
 #[tactic(auto, using(crate::proofs::ReleaseLeavesLemmas::leaves_lem))]
 pub fn law_release_leaves()
     ensures { LeavesLaw }
+{}
+
+/// Where each weak link that is not empty sees an object that is there, so it is behind a release.
+#[tactic(auto, using(crate::proofs::WeakLinkLemmas::weak_links_lem))]
+pub fn law_weak_links()
+    ensures { WeakLinksLaw }
 {}
 
 /// A release notes the ends of objects and nothing else: on an object that is still there no new
