@@ -5,9 +5,12 @@ ghost use Rattle.std.specs.Option.{option_map_or};
 ghost use Rattle.qo_object.specs.Content.{holding, is_parent};
 
 use crate::heap::Heap;
+use qo_model::Note;
+use qo_notes::Memory;
 use qo_object::{Object, Oid, SlotView};
 use qo_table::{ObjectTable, Steps};
 use qo_values::TypeId;
+use std::alloc::Global;
 use std::sync::ledger::Ledger;
 
 /// How many slots of the object at a place hold the object of a birth; 0 past the last.
@@ -64,9 +67,9 @@ fn parent_place<L: Ledger>(table: &ObjectTable<Object>, birth: u64, steps: &mut 
 }
 
 impl Heap {
-    ghost use Rattle.std.specs.Prelude.{Some, option_map, option_and_then, length, find, leb, slice_get, position, IfSome};
+    ghost use Rattle.std.specs.Prelude.{Some, option_map, option_and_then, length, find, leb, slice_get, position, IfSome, IfOk};
     ghost use Rattle.std.specs.Str.{bytes_eq};
-    ghost use Rattle.qo_notes.specs.Log.{first_from};
+    ghost use Rattle.qo_notes.specs.Log.{given_from, first_from};
     ghost use Rattle.qo_table.specs.Rows.{IsLive};
     ghost use Rattle.qo_heap.specs.Objects.{content_of, parent_of, pins_of, refs_of, slots_of};
 
@@ -154,5 +157,12 @@ impl Heap {
         ensures { result ≡ first_from from self.now.log }
     {
         self.log.first_from(from)
+    }
+
+    /// The notes that a reading from a number gives, at most 256. The error is want of memory.
+    pub fn notes(&self, from: u64, alloc: Global) -> Result<Vec<Note>, Memory>
+        ensures { IfOk result (λ notes. notes.items ≡ given_from from self.now.log) }
+    {
+        self.log.get(from, alloc)
     }
 }

@@ -1,5 +1,15 @@
+pub mod CycleLemmas
 pub mod DepthLemmas
+pub mod EditLemmas
 pub mod GraphLemmas
 pub mod OpeningLemmas
+pub mod ReleaseKeepsLemmas
+pub mod ReleaseLeavesLemmas
+pub mod ReleaseLemmas
+pub mod ReleaseNotesLemmas
+mod ReleaseRows
+pub mod ReleaseRulesLemmas
 mod Rows
+pub mod StepLemmas
 pub mod TreeLemmas
+pub mod WeakLinkLemmas

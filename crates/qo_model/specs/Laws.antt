@@ -1,11 +1,19 @@
 -- The laws of the definitions, each the contract of a function of `laws`.
-use Rattle.std.specs.Prelude.{◌≡◌, ℕ, List, [], ◌∷◌, map, codes, Some, is_some}
-use Rattle.qo_model.specs.Board.{Board}
+use Rattle.std.specs.Prelude.{◌≡◌, ℕ, true, false, List, [], ◌∷◌, map, filter, codes, Some, is_some}
+use Rattle.qo_model.specs.declared.notes.Deed.TheVariants.{Final}
+use Rattle.qo_model.specs.declared.notes.Note.{Note}
+use Rattle.qo_model.specs.Board.{Board, Record, is_live}
+use Rattle.qo_model.specs.Holders.{HeldFrom}
 use Rattle.qo_model.specs.Opening.{opening_board}
 use Rattle.qo_model.specs.Paths.{attached, attached_turn, steps_to, steps_turn, canonical, resolve_absolute}
+use Rattle.qo_model.specs.Release.{finalise, finalise_by, final_notes, let_go, unpin}
+use Rattle.qo_model.specs.ReleaseKeeps.{Leaves, WeakLinksLive}
+use Rattle.qo_model.specs.ReleaseNotes.{NotesEnds}
+use Rattle.qo_model.specs.ReleaseRules.{Finalises}
 use Rattle.qo_model.specs.Sound.{IsSound}
 use Rattle.qo_model.specs.SoundEvents.{SoundEvents}
 use Rattle.qo_model.specs.SoundGraph.{SoundGraph, graph_of}
+use Rattle.qo_model.specs.Types.{chain, has_finaliser}
 
 -- the board that a machine begins with is sound
 abbrev pub OpeningLaw : Type 0
@@ -43,3 +51,35 @@ pub record PathsLaw : Type 0 where
 pub record FrameLaw : Type 0 where
   pub graph : (b c : Board) → graph_of b ≡ graph_of c → SoundGraph b → SoundGraph c
   pub events : (b c : Board) → b.events ≡ c.events → SoundEvents b → SoundEvents c
+
+-- what a release is, on every board
+pub record ReleaseLaw : Type 0 where
+  -- a finalisation is one finalisation by the same rule: no depth bounds it
+  pub one_rule : (b : Board) (n : ℕ) → finalise b n ≡ finalise_by finalise b n
+  -- the rules of release lead from each board to what `finalise` gives, and to nothing else
+  pub reached : (b : Board) (n : ℕ) → Finalises b n (finalise b n)
+  pub only : (b c : Board) (n : ℕ) → Finalises b n c → finalise b n ≡ c
+
+-- what a release leaves as it was: a finalisation; a slot that is let go; a pin that ends, but for the pins
+pub record LeavesLaw : Type 0 where
+  pub finalised : (b : Board) (n : ℕ) → Leaves b (finalise b n)
+  pub slot_let_go : (b : Board) (owner i : ℕ) → Leaves b (let_go b owner i)
+  pub unpinned : (b : Board) (n : ℕ) → Leaves (record b { pins = (unpin b n).pins }) (unpin b n)
+
+-- where no weak link sees an object that is gone, none does behind any of these
+pub record WeakLinksLaw : Type 0 where
+  pub finalised : (b : Board) (n : ℕ) → WeakLinksLive b → WeakLinksLive (finalise b n)
+  pub slot_let_go : (b : Board) (owner i : ℕ) → WeakLinksLive b → WeakLinksLive (let_go b owner i)
+  pub unpinned : (b : Board) (n : ℕ) → WeakLinksLive b → WeakLinksLive (unpin b n)
+
+-- each of these notes the ends of objects, and nothing else
+pub record FinalNotesLaw : Type 0 where
+  pub finalised : (b : Board) (n : ℕ) → NotesEnds b (finalise b n)
+  pub slot_let_go : (b : Board) (owner i : ℕ) → NotesEnds b (let_go b owner i)
+  pub unpinned : (b : Board) (n : ℕ) → NotesEnds b (unpin b n)
+  -- the final notes of an object say the finalisers of its type, then of its parent's, and so on to `object`
+  pub derived_first : (r : Record) → map (λ (x : Note). x.deed) (final_notes r) ≡ map Final (filter has_finaliser (chain r.kind))
+
+-- on a sound board an object that is there and not attached is held from a cycle or from an attached object
+abbrev pub CycleLaw : Type 0
+CycleLaw = (b : Board) → SoundGraph b → (n : ℕ) → is_live b n ≡ true → attached b n ≡ false → HeldFrom b n

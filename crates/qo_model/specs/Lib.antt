@@ -1,5 +1,6 @@
 pub mod Board
 pub mod Depth
+pub mod Holders
 pub mod Laws
 pub mod Listing
 pub mod Notes
@@ -7,6 +8,9 @@ pub mod Opening
 pub mod Paths
 pub mod References
 pub mod Release
+pub mod ReleaseKeeps
+pub mod ReleaseNotes
+pub mod ReleaseRules
 pub mod Sound
 pub mod SoundEvents
 pub mod SoundGraph

@@ -1,11 +1,11 @@
 -- Release: letting go of what a slot holds, and finalising an object whose last holder went (docs/devel/qom.rst, "The QEMU Object Model": reference counting, `object_unref`, `object_finalize`).
-use Rattle.std.specs.Prelude.{ℕ, zero, suc, ◌+◌, ◌==◌, leb, nat_eq, Bool, true, false, not, if◌then◌else◌, List, [], ◌∷◌, ◌++◌, map, filter, length, sum_by, count_by, Option, Some, None, is_some, option_map, option_and_then, option_to_list}
+use Rattle.std.specs.Prelude.{ℕ, zero, suc, ◌==◌, leb, nat_eq, true, false, not, if◌then◌else◌, List, [], ◌∷◌, ◌++◌, map, filter, length, sum_by, count_by, Option, Some, None, is_some, option_map, option_and_then, option_to_list}
 use Rattle.std.specs.List.{list_any}
 use Rattle.std.specs.Option.{option_map_or}
 use Rattle.qo_values.specs.declared.kinds.TypeId.{TypeId}
 use Rattle.qo_model.specs.declared.notes.Deed.TheVariants.{Final}
 use Rattle.qo_model.specs.declared.notes.Note.{Note}
-use Rattle.qo_model.specs.Board.{Board, Record, Slot, DeviceEvent, plain, child, strong, weak, alias, record_of, slot_at, held}
+use Rattle.qo_model.specs.Board.{Board, Record, Slot, DeviceEvent, child, strong, weak, record_of, slot_at, held}
 use Rattle.qo_model.specs.References.{refs}
 use Rattle.qo_model.specs.Types.{finals}
 

@@ -1,6 +1,18 @@
 //! What follows from the definitions: functions without effect, whose contracts are the laws.
 
-ghost use Rattle.qo_model.specs.Laws.{OpeningLaw, PathsLaw, FrameLaw};
+ghost use Rattle.std.specs.Prelude.{ℕ, List};
+ghost use Rattle.qo_model.specs.Board.{Board};
+ghost use Rattle.qo_model.specs.Laws.{
+  OpeningLaw,
+  PathsLaw,
+  FrameLaw,
+  ReleaseLaw,
+  LeavesLaw,
+  FinalNotesLaw,
+  CycleLaw,
+  WeakLinksLaw,
+};
+ghost use Rattle.qo_model.specs.ReleaseKeeps.{KeepsRelease, Keeps};
 
 /// The board that a machine begins with is sound.
 #[tactic(auto, using(crate::proofs::OpeningLemmas::opening_sound))]
@@ -20,4 +32,49 @@ pub fn law_paths()
 #[tactic(auto, using(crate::proofs::TreeLemmas::frame_lem))]
 pub fn law_frame()
     ensures { FrameLaw }
+{}
+
+/// A release is one finalisation by its own rule, on every board and to any depth. The rules of
+/// release, as steps from board to board, lead to what `finalise` gives and to nothing else.
+#[tactic(auto, using(crate::proofs::ReleaseRulesLemmas::release_lem))]
+pub fn law_release()
+    ensures { ReleaseLaw }
+{}
+
+/// A fact of the work that a release still has to do, and of the board. The work is a list: each
+/// object that is being finalised, and the place from which its slots are still to be let go.
+pub trait Kept {
+    ghost kept: { List (ℕ × ℕ) → Board → Type 0 };
+}
+
+/// What each turn of the work of a release keeps, a release keeps.
+pub fn law_release_keeps<K: Kept>()
+    requires { KeepsRelease K.kept }
+    ensures { Keeps K.kept }
+{}
+
+/// A release leaves all but records, notes and events. It makes no object, and of an object that
+/// is still there it changes slots alone; notes and events come behind those of before.
+#[tactic(auto, using(crate::proofs::ReleaseLeavesLemmas::leaves_lem))]
+pub fn law_release_leaves()
+    ensures { LeavesLaw }
+{}
+
+/// Where each weak link that is not empty sees an object that is there, so it is behind a release.
+#[tactic(auto, using(crate::proofs::WeakLinkLemmas::weak_links_lem))]
+pub fn law_weak_links()
+    ensures { WeakLinksLaw }
+{}
+
+/// A release notes the ends of objects and nothing else: on an object that is still there no new
+/// note, on one that is not its final notes, derived first, behind what was noted of it before.
+#[tactic(auto, using(crate::proofs::ReleaseNotesLemmas::final_notes_lem))]
+pub fn law_final_notes()
+    ensures { FinalNotesLaw }
+{}
+
+/// On a sound board an object that is there and not attached is held, by child slots and strong
+/// links, from an object on a cycle of these, or from an attached object.
+pub fn law_cycle()
+    ensures { CycleLaw }
 {}
