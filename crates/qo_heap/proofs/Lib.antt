@@ -1,2 +1,3 @@
+pub mod EndLemmas
 pub mod HeapLemmas
 pub mod PlacesLemmas
