@@ -14,7 +14,7 @@ use Rattle.qo_causes.specs.declared.inputs.Input.{Input}
 use Rattle.qo_causes.specs.declared.inputs.What.{What}
 use Rattle.qo_causes.specs.declared.inputs.What.TheVariants.{Open, Bytes, Shut, Guest as GuestLine, Step, End}
 use Rattle.qo_machine.specs.Machine.{Message, State, Stepped, Choice, opening, step}
-use Rattle.qo_machine.specs.Runs.{Cut, CutRun, RunMeets, Told, Turn, TurnMeets, Turns, after, close_lost, closed_where, cut_to, has_end, is_lost, lane_at, lane_bytes, lane_of, outs_at, outs_of, risen, risen_by, state_after, told, transcript, turn_inputs}
+use Rattle.qo_machine.specs.Runs.{AllLostHad, Cut, CutRun, RunMeets, Told, Turn, TurnMeets, Turns, after, close_lost, closed_where, cut_to, has_end, is_lost, lane_at, lane_bytes, lane_of, outs_at, outs_of, risen, risen_by, state_after, told, transcript, turn_inputs}
 use Rattle.qo_machine.specs.Sending.{Sent, SentFront}
 use Rattle.qo_machine.specs.declared.running.Ending.{Ending}
 use Rattle.qo_machine.specs.declared.running.Ending.TheVariants.{Done, Bad, Memory, NextFailed, SendFailed, Limit}
@@ -70,6 +70,10 @@ risen_by_le [] n x y h = h
 risen_by_le (t ∷ ts) n x y h =
     risen_by_le ts n (risen (slice_index_or t.lost n false) x) (risen (slice_index_or t.lost n false) y) (risen_le (slice_index_or t.lost n false) x y h)
 
+had_more : (ts us : List Turn) (s : State) → AllLostHad s ts → AllLostHad (state_after s ts) us → AllLostHad s (ts ++ us)
+had_more [] us s p q = q
+had_more (t ∷ ts) us s p q = (p.0, had_more ts us (after s t) p.1 q)
+
 inputs_more : (ts us : List Turn) → turn_inputs (ts ++ us) ≡ turn_inputs ts ++ turn_inputs us
 inputs_more [] us = refl
 inputs_more (t ∷ ts) us = first (given_by t.input) (turn_inputs ts) (turn_inputs us) (turn_inputs (ts ++ us)) (inputs_more ts us)
@@ -99,6 +103,7 @@ turns_more s a b c ts us p q =
           sent_twice (a.got l) (b.got l) (c.got l) (lane_of l s ts) (lane_of l (state_after s ts) us) (lane_of l s (ts ++ us)) (lane_more ts us l s) (p.lanes l) (q.lanes l);
       losses = λ n.
           rw (risen_more ts us n (a.losses n)) (omega (arith, q.losses n, risen_by_le us n (risen_by n (a.losses n) ts) (b.losses n) (p.losses n)));
+      had = had_more ts us s p.had q.had;
     }
 
 pub closed_none : (sessions : List Session) → sessions ≡ closed_where [] sessions
@@ -192,6 +197,7 @@ one_turn s u to i cs slice outs lost oi mi ni os ms ns og mg ng ol ml nl bad is 
     lanes = λ l.
         rw (append-nil (cut_to (is_lost lost l) (h.lanes.0 l) (lane_bytes l (step s i cs).outs)), outs_is, ← got l) (h.lanes.1.lanes l);
     losses = λ n. rw (← losses n) (h.losses n);
+    had = (λ l f. rw outs_is (h.had l f), tt);
   },
   shut ∙ ap (close_lost lost) (sym leads),
   at_end oi mi ni bad i h.inputs given,
@@ -210,6 +216,7 @@ turns_none s i t g n =
       sent = nothing_appended t;
       lanes = λ l. nothing_appended (g l);
       losses = λ k. omega arith;
+      had = tt;
     }
 
 -- nothing was done

@@ -1,8 +1,9 @@
 -- Sending the messages of a step, one at a time.
-use Rattle.std.proofs.Common.{◌≡◌, ℕ, zero, suc, ◌+◌, ◌<◌, ◌≤◌, ◌==◌, Bool, true, false, if◌then◌else◌, List, [], ◌∷◌, ◌++◌, length, take, drop, add-one, refl, sym, ◌∙◌, ap, subst, arith, length-append, Err, Option, None, Some, slice_index_or, slice_set, replicate}
+use Rattle.std.proofs.Common.{◌≡◌, ℕ, zero, suc, ◌+◌, ◌<◌, ◌≤◌, ◌==◌, Bool, true, false, if◌then◌else◌, ◌||◌, List, [], ◌∷◌, ◌++◌, length, take, drop, add-one, refl, sym, ◌∙◌, ap, subst, arith, length-append, Err, Option, None, Some, slice_index_or, slice_set, replicate}
 use Rattle.std.proofs.Math.Seq.{take-nil, take-append-add, take-suc}
 use Rattle.std.proofs.lemmas.Bool.{eqb-true, eqb-false, true≢false}
 use Rattle.std.proofs.lemmas.Grind.{flat_map-append}
+use Rattle.std.proofs.lemmas.List.Folds.{list_any-append}
 use Rattle.std.proofs.lemmas.List.{append-nil, take-append-le, take-append-drop, get_or-set_same, get_or-set_other, length-set}
 use Rattle.std.specs.Io.KnownBytes.{append_known}
 use Rattle.qo_causes.proofs.BytesLemmas.{append_known_twice}
@@ -14,7 +15,7 @@ use Rattle.qo_causes.specs.declared.hubs.SendError.{SendError}
 use Rattle.qo_causes.specs.declared.hubs.SendError.TheVariants.{Gone, Failed}
 use Rattle.qo_causes.specs.declared.inputs.Input.{Input}
 use Rattle.qo_machine.specs.Machine.{Message}
-use Rattle.qo_machine.specs.Runs.{Told, told, cut_to, is_lost, lane_bytes, risen, transcript}
+use Rattle.qo_machine.specs.Runs.{Told, told, cut_to, has_for, is_lost, lane_bytes, risen, transcript}
 use Rattle.qo_machine.specs.Sending.{AreToLanes, IsLane, Sent, SentFront}
 
 -- One lane, over its flags: was its session lost, and is it the lane of the message.
@@ -67,6 +68,24 @@ pub transcript_more : (outs : List Message) (m : Message) → transcript (outs +
 transcript_more outs m =
     flat_map-append (λ (x : Message). line x.0 x.1) outs (m ∷ []) ∙ ap (λ (b : List ℕ). transcript outs ++ b) (append-nil (line m.0 m.1))
 
+-- what had a message still has; with a message of its own it has
+had_at : (had same : Bool) → had ≡ true → (had || (same || false)) ≡ true
+had_at true same h = refl
+had_at false same h = absurd (true≢false (sym h))
+
+had_more : (l : Lane) (outs : List Message) (m : Message) → has_for l outs ≡ true → has_for l (outs ++ m ∷ []) ≡ true
+had_more l outs m h =
+    list_any-append (λ (x : Message). same_lane l x.0) outs (m ∷ []) ∙ had_at (has_for l outs) (same_lane l m.0) h
+
+gone_had_at : (had flag same : Bool) → (flag ≡ true → had ≡ true) → (if same then true else flag) ≡ true → (had || (same || false)) ≡ true
+gone_had_at true flag same before lost = refl
+gone_had_at false flag true before lost = refl
+gone_had_at false flag false before lost = absurd (true≢false (sym (before lost)))
+
+gone_had : (l : Lane) (outs : List Message) (m : Message) (flag : Bool) → (flag ≡ true → has_for l outs ≡ true) → (if same_lane l m.0 then true else flag) ≡ true → has_for l (outs ++ m ∷ []) ≡ true
+gone_had l outs m flag before lost =
+    list_any-append (λ (x : Message). same_lane l x.0) outs (m ∷ []) ∙ gone_had_at (has_for l outs) flag (same_lane l m.0) before lost
+
 -- the same lane is lost or not
 same_lost : (l k : Lane) (lost : List Bool) → same_lane l k ≡ true → is_lost lost l ≡ is_lost lost k
 same_lost (Session s) (Session t) lost h = ap (λ (n : ℕ). slice_index_or lost n false) (eqb-true s t h)
@@ -95,6 +114,7 @@ sent_skip start mi ms mg ml outs m lost flag h =
       );
       losses = h.losses;
       untold = h.untold;
+      had = λ l f. had_more l outs m (h.had l f);
       size = h.size;
     }
 
@@ -115,6 +135,7 @@ sent_ok start mi ni ms ns mg ng ml nl outs m lost flag inputs sent got losses h 
       );
       losses = λ n. omega (arith, h.losses n, losses n);
       untold = λ l f. sent ∙ ap (λ (x : Option (List ℕ)). append_known x (line m.0 m.1)) (h.untold l f);
+      had = λ l f. had_more l outs m (h.had l f);
       size = h.size;
     }
 
@@ -154,6 +175,7 @@ sent_gone start mi ni ms ns mg ng ml nl outs m k lost flag lane below inputs sen
       );
       losses = λ n. rw (set_flag lost k (Session n) (rw h.size below)) (loss_at (is_lost lost (Session n)) (n == k) (start.losses n) (ml n) (nl n) (λ e. same_lost (Session n) (Session k) lost e ∙ (rw lane at flag)) (h.losses n) (losses n));
       untold = λ l f. sent.1;
+      had = λ l f. gone_had l outs m (is_lost lost l) (h.had l) (rw (set_flag lost k l (rw h.size below), ← lane) at f);
       size = length-set lost k true ∙ h.size;
     }
 
@@ -225,6 +247,7 @@ sent_none i s g n =
       lanes = ((λ l. 0), record { within = λ l. omega arith; lanes = λ l. rw (lane_not_lost l) (append_none (g l)) });
       losses = λ k. rw (none_lost k) (omega arith);
       untold = λ l f. absurd (true≢false (sym f ∙ lane_not_lost l));
+      had = λ l f. absurd (true≢false (sym f ∙ lane_not_lost l));
       size = refl;
     }
 

@@ -3,7 +3,7 @@ use Rattle.std.specs.Prelude.{◌≡◌, ℕ, ◌+◌, ◌-◌, ◌^◌, ◌<◌
 use Rattle.std.specs.List.{flat_map, filter_map, list_any}
 use Rattle.std.specs.Io.KnownBytes.{append_known}
 use Rattle.qo_causes.specs.Bytes.{AppendsPrefix}
-use Rattle.qo_causes.specs.Hub.{AtEnd, given_by, is_end, line, part}
+use Rattle.qo_causes.specs.Hub.{AtEnd, given_by, is_end, line, part, same_lane}
 use Rattle.qo_causes.specs.declared.hubs.Lane.{Lane}
 use Rattle.qo_causes.specs.declared.hubs.Lane.TheVariants.{Session, Guest}
 use Rattle.qo_causes.specs.declared.inputs.Input.{Input}
@@ -88,6 +88,19 @@ abbrev pub risen_by : ℕ → ℕ → List Turn → ℕ
 risen_by n count [] = count
 risen_by n count (t ∷ ts) = risen_by n (risen (slice_index_or t.lost n false) count) ts
 
+-- is one of some messages for a lane
+abbrev pub has_for : Lane → List Message → Bool
+has_for l outs = list_any (λ m. same_lane l m.0) outs
+
+-- each lane that is lost had a message
+abbrev pub LostHad : List Bool → List Message → Type 0
+LostHad lost outs = (l : Lane) → is_lost lost l ≡ true → has_for l outs ≡ true
+
+-- a session is lost only in a turn that had a message for it
+abbrev pub AllLostHad : State → List Turn → Type 0
+AllLostHad s [] = Unit {0}
+AllLostHad s (t ∷ ts) = LostHad t.lost (outs_at s t) × AllLostHad (after s t) ts
+
 -- what a hub tells
 pub record Told : Type 0 where
   pub inputs : Option (List Input)
@@ -98,12 +111,13 @@ pub record Told : Type 0 where
 abbrev pub told : Option (List Input) → Option (List ℕ) → (Lane → Option (List ℕ)) → (ℕ → ℕ) → Told
 told inputs sent got losses = record { inputs = inputs; sent = sent; got = got; losses = losses }
 
--- by some turns a hub came from the one to the other: their inputs were taken, and what they send was sent
+-- by some turns a hub came from the one to the other: their inputs were taken, what they send was sent, and only who was sent to was lost
 pub record Turns (from : State) (old new : Told) (turns : List Turn) : Type 0 where
   pub took : old.inputs ≡ option_map (λ rest. turn_inputs turns ++ rest) new.inputs
   pub sent : new.sent ≡ append_known old.sent (transcript (outs_of from turns))
   pub lanes : (l : Lane) → new.got l ≡ append_known (old.got l) (lane_of l from turns)
   pub losses : (n : ℕ) → risen_by n (old.losses n) turns ≤ new.losses n
+  pub had : AllLostHad from turns
 
 -- what a last turn sends, and its input, if there is such a turn
 abbrev pub last_outs : State → Option Turn → List Message

@@ -7,7 +7,7 @@ use Rattle.qo_causes.specs.declared.faults.Failed.{Failed}
 use Rattle.qo_causes.specs.declared.hubs.Lane.{Lane}
 use Rattle.qo_causes.specs.declared.hubs.Lane.TheVariants.{Session, Guest}
 use Rattle.qo_machine.specs.Machine.{Message}
-use Rattle.qo_machine.specs.Runs.{Told, cut_to, is_lost, lane_bytes, risen, transcript}
+use Rattle.qo_machine.specs.Runs.{LostHad, Told, cut_to, is_lost, lane_bytes, risen, transcript}
 
 -- a lane of one of the sixteen sessions, or of the guest
 abbrev pub IsLane : Lane → Type 0
@@ -23,13 +23,14 @@ pub record SentLanes (old new : Lane → Option (List ℕ)) (outs : List Message
   pub within : (l : Lane) → cut l ≤ length (lane_bytes l outs)
   pub lanes : (l : Lane) → new l ≡ append_known (old l) (cut_to (is_lost lost l) (cut l) (lane_bytes l outs))
 
--- the messages were sent, but for what is left out for lost sessions
+-- the messages were sent, but for what is left out for lost sessions; each of these had a message
 pub record Sent (old new : Told) (outs : List Message) (lost : List Bool) : Type 0 where
   pub inputs : new.inputs ≡ old.inputs
   pub sent : new.sent ≡ append_known old.sent (transcript outs)
   pub lanes : (cut : Lane → ℕ) × SentLanes old.got new.got outs lost cut
   pub losses : (n : ℕ) → risen (slice_index_or lost n false) (old.losses n) ≤ new.losses n
   pub untold : (l : Lane) → is_lost lost l ≡ true → new.sent ≡ None
+  pub had : LostHad lost outs
   pub size : length lost ≡ 16
 
 -- fronts of the messages were sent

@@ -1,0 +1,15 @@
+//! The error of this crate's calls.
+
+use std::alloc::AllocError;
+use thiserror::Error;
+
+/// There was not enough memory.
+#[derive(Clone, Copy, Debug, PartialEq, Eq, Error)]
+#[error("not enough memory")]
+pub struct Memory;
+
+impl From<AllocError> for Memory {
+    fn from(_error: AllocError) -> Memory {
+        Memory
+    }
+}

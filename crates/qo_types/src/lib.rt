@@ -1,0 +1,16 @@
+//! The type hierarchy of the object model: which types there are, what each is, and the properties
+//! that its objects have (docs/devel/qom.rst, "The QEMU Object Model"; the types and their
+//! properties are the profile's).
+#![tactic(auto)]
+
+mod errors;
+mod hierarchy;
+mod rows;
+mod slots;
+mod table;
+#[cfg(test)]
+mod tests;
+
+pub use errors::Memory;
+pub use rows::{First, Mark, RowKind, SlotRow, TypeRow};
+pub use table::TypeTable;

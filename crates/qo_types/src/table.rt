@@ -1,0 +1,101 @@
+//! The table of types, as the layers above ask it.
+
+ghost use Rattle.std.specs.Prelude.{◌≡◌, IfOk, Some, find, map, option_map};
+ghost use Rattle.std.specs.List.{slice_get};
+ghost use Rattle.std.specs.Str.{bytes_eq};
+ghost use Rattle.qo_model.specs.Types.{chain, has_finaliser, is_a, row_named, row_of, slots_of};
+ghost use Rattle.qo_types.specs.Rows.{listed, property_told, type_told, type_told_of};
+
+use crate::errors::Memory;
+use crate::hierarchy::{all_types, ancestry, answers_to, first_named, interfaces, is_abstract};
+use crate::rows::{SlotRow, TypeRow};
+use crate::slots::{self, slots};
+use qo_values::TypeId;
+use std::alloc::{AllocError, Global};
+
+/// The types of a board, with their properties.
+#[derive(Clone, Copy, Debug)]
+pub struct TypeTable;
+
+impl TypeTable {
+    /// The table of the sixteen types.
+    pub fn board() -> TypeTable {
+        TypeTable
+    }
+
+    /// The type of a name; `None` where no type has it. Interfaces are no types.
+    pub fn find(&self, name: &str) -> Option<TypeId>
+        ensures { result ≡ option_map (λ r. r.id) (row_named name.now) }
+    {
+        first_named(all_types(), name)
+    }
+
+    /// Whether a type is of a name: its own, an ancestor's, or an interface of itself or of an
+    /// ancestor.
+    pub fn is_a(&self, t: TypeId, name: &str) -> bool
+        ensures { result ≡ is_a t name.now }
+    {
+        ancestry(t).iter().any(|a| answers_to(*a, name))
+    }
+
+    /// The type itself at 0, its parent at 1, and so on to `object`; `None` behind that.
+    pub fn chain(&self, t: TypeId, i: usize) -> Option<TypeId>
+        ensures { result ≡ slice_get (chain t) i }
+    {
+        ancestry(t).get(i).copied()
+    }
+
+    /// The row of a type.
+    pub fn row(&self, t: TypeId) -> TypeRow
+        ensures { Some (type_told result) ≡ option_map type_told_of (row_of t) }
+    {
+        TypeRow {
+            name: t.name(),
+            parent: self.chain(t, 1),
+            is_abstract: is_abstract(t),
+            interfaces: interfaces(t),
+        }
+    }
+
+    /// The property at a place, from 0, among those that each object of a type has, base first;
+    /// `None` behind the last.
+    pub fn prop(&self, t: TypeId, i: usize) -> Option<SlotRow>
+        ensures { option_map property_told result ≡ option_map Some (slice_get (slots_of t) i) }
+    {
+        slots(t).get(i).copied()
+    }
+
+    /// The property of a name among those that each object of a type has.
+    pub fn property(&self, t: TypeId, name: &str) -> Option<SlotRow>
+        ensures { option_map property_told result
+            ≡ option_map Some (find (λ p. bytes_eq p.name name.now) (slots_of t)) }
+    {
+        slots::first_named(slots(t), name)
+    }
+
+    /// Whether a type has an initialiser and a finaliser.
+    pub fn has_finaliser(&self, t: TypeId) -> bool
+        ensures { result ≡ has_finaliser t }
+    {
+        !matches!(t, TypeId::Object | TypeId::Container)
+    }
+
+    /// The types of a name, in row order; abstract ones only where `with_abstract` says so. The
+    /// error is want of memory.
+    pub fn list(
+        &self,
+        alloc: Global,
+        implements: &str,
+        with_abstract: bool,
+    ) -> Result<Vec<TypeId>, Memory>
+        ensures { IfOk result (λ ids. ids.items ≡ listed implements.now with_abstract) }
+    {
+        let mut ids = Vec::new(alloc);
+        for t in all_types() {
+            if self.is_a(*t, implements) && (with_abstract || !is_abstract(*t)) {
+                ids.push(*t).map_err(AllocError::from)?;
+            }
+        }
+        Ok(ids)
+    }
+}
