@@ -1,7 +1,8 @@
 -- The final notes of an object, as they are added one after another.
-use Rattle.std.proofs.Common.{◌≡◌, refl, ap, sym, ◌∙◌, ℕ, ◌+◌, ◌<◌, ◌≤◌, Bool, true, false, cond, eqb, List, [], ◌∷◌, ◌++◌, map, filter, length, sum_by, count_by, Option, Some, None, Result, Ok, Err, IfOk, IfErr, IsSomeAnd, arith}
+use Rattle.std.proofs.Common.{◌≡◌, refl, ap, sym, ◌∙◌, ℕ, ◌+◌, ◌<◌, ◌≤◌, Bool, true, false, cond, eqb, List, [], ◌∷◌, ◌++◌, map, filter, length, take, get_or, if◌then◌else◌, sum_by, count_by, Option, Some, None, Result, Ok, Err, IfOk, IfErr, IsSomeAnd, arith}
 use Rattle.std.specs.List.{AllByRecursion}
 use Rattle.std.proofs.lemmas.Bool.{eqb-true, eq-eqb}
+use Rattle.std.proofs.lemmas.List.{take_more, take_all}
 use Rattle.std.proofs.lemmas.List.Sums.{sum_by-cons}
 use Rattle.qo_slots.specs.declared.keys.Key.{Key}
 use Rattle.qo_object.specs.Content.{Content, fresh, forgotten, holding}
@@ -9,13 +10,14 @@ use Rattle.qo_object.specs.Slots.{holds, held, is_born, each_changed, forgotten_
 use Rattle.qo_object.specs.declared.slots.Slot.{Slot}
 use Rattle.qo_object.specs.declared.slots.Slot.TheVariants.{Plain, Child, Link, Alias}
 use Rattle.qo_table.specs.Rows.{Rows, IsLive, Rises, births, without, is_at}
-use Rattle.qo_notes.specs.Log.{Log, noted_all}
-use Rattle.qo_heap.specs.Objects.{Objects, IsHeap, refs_of, targets, forgets}
+use Rattle.qo_notes.specs.Log.{Log, noted, noted_all}
+use Rattle.qo_notes.proofs.Logs.{parts_lem}
+use Rattle.qo_heap.specs.Objects.{Objects, IsHeap, final_notes, refs_of, targets, forgets}
 use Rattle.qo_heap.proofs.HeapLemmas.{all-weaker, targets_in}
 use Rattle.qo_values.specs.declared.kinds.TypeId.{TypeId}
 use Rattle.qo_model.specs.declared.notes.Deed.TheVariants.{Final}
 use Rattle.qo_model.specs.declared.notes.Note.{Note}
-use Rattle.qo_model.specs.Types.{has_finaliser}
+use Rattle.qo_model.specs.Types.{chain, has_finaliser}
 
 -- the final notes for some types
 abbrev pub final_note : ℕ → TypeId → Note
@@ -51,7 +53,7 @@ none-holds n (row ∷ rows) none =
 
 -- what the slots of an object name once it forgot n, where none held n: what is so of it, and not n
 module _ (P : Key → Type 0) (n : ℕ) where
-  Other : Key → Type 0
+  abbrev pub Other : Key → Type 0
   Other key = P key × (eqb key.birth n ≡ false)
 
   held-other : (key : Key) (slots : List (List ℕ × Slot)) (name : List ℕ) (s : Slot) → holds n s ≡ eqb key.birth n → count_by (λ (x : List ℕ × Slot). holds n x.1) ((name, s) ∷ slots) ≡ 0 → (eqb key.birth n ≡ false) × (count_by (λ (x : List ℕ × Slot). holds n x.1) slots ≡ 0)
@@ -174,3 +176,24 @@ heap-more v good key kind is below =
 pub heap-made : (v : Objects) → IsHeap v → (kind : TypeId) → length v.rows < 4096 → (r : Result Key Content) (t : Rows Content) → IfOk r (λ key. (key.birth ≡ v.born + 1) × (t ≡ record { rows = v.rows ++ (key, fresh kind) ∷ []; born = v.born + 1 })) → IfErr r (λ back. (back ≡ fresh kind) × (t ≡ record { rows = v.rows; born = v.born })) → IsHeap (record { rows = t.rows; born = t.born; log = v.log })
 heap-made v good kind below (Ok key) t done back = rw done.1 (heap-more v good key kind done.0 below)
 heap-made v good kind below (Err c) t done back = rw back.1 good
+
+-- one note
+pub noted-one : (note : Note) (log : Log) → noted_all (note ∷ []) log ≡ noted note log
+unfolding noted_all
+noted-one note log = refl
+
+-- one type more
+pub note-step : (n : ℕ) (ts : List TypeId) (place : ℕ) (d : TypeId) (first before behind : Log) → place < length ts → before ≡ noted_all (finals_in n (take place ts)) first → behind ≡ noted_all (if has_finaliser (get_or ts place d) then final_note n (get_or ts place d) ∷ [] else []) before → behind ≡ noted_all (finals_in n (take (place + 1) ts)) first
+note-step n ts place d first before behind within is more =
+    let t = get_or ts place d in
+    let notes : List Note = if has_finaliser t then final_note n t ∷ [] else [] in
+    more
+    ∙ ap (λ (log : Log). noted_all notes log) is
+    ∙ sym (parts_lem (finals_in n (take place ts)) notes first)
+    ∙ ap (λ (ns : List Note). noted_all ns first) (sym (ap (λ (l : List TypeId). finals_in n l) (take_more ts place d within) ∙ finals_in-more n (take place ts) t))
+
+-- all of them
+pub note-all : (n : ℕ) (kind : TypeId) (ts : List TypeId) (place : ℕ) (first behind : Log) → place ≤ length ts → length ts ≤ place → ts ≡ chain kind → behind ≡ noted_all (finals_in n (take place ts)) first → behind ≡ noted_all (final_notes n kind) first
+note-all n kind ts place first behind low high same is =
+    let end : place ≡ length ts = omega arith in
+    is ∙ ap (λ (l : List TypeId). noted_all (finals_in n l) first) (ap (λ (k : ℕ). take k ts) end ∙ take_all (length ts) ts (omega arith) ∙ same)

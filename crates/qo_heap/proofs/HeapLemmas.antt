@@ -1,5 +1,5 @@
 -- What an edit of one object leaves of the heap.
-use Rattle.std.proofs.Common.{◌≡◌, refl, ap, sym, subst, ◌∙◌, ℕ, zero, suc, ◌+◌, ◌≤◌, Bool, true, false, cond, List, [], ◌∷◌, ◌++◌, map, length, filter_map, eqb, Option, Some, None, find, option_map, remove, is_some, ◌||◌, Result, Ok, Err, OnErr, IsSomeAnd}
+use Rattle.std.proofs.Common.{◌≡◌, refl, ap, sym, subst, ◌∙◌, ℕ, zero, suc, ◌+◌, ◌≤◌, Bool, true, false, cond, List, [], ◌∷◌, ◌++◌, map, length, filter_map, eqb, Option, Some, None, find, option_map, remove, is_some, ◌||◌, Result, Ok, Err, OnErr, IfSome, IsSomeAnd}
 use Rattle.std.specs.Bool.{⊤}
 use Rattle.std.specs.List.{AllByRecursion, cons_option, list_any}
 use Rattle.qo_values.specs.declared.properties.Val.{Val}
@@ -9,7 +9,8 @@ use Rattle.std.proofs.lemmas.List.Elements.{filter_map-append}
 use Rattle.qo_slots.specs.declared.keys.Key.{Key}
 use Rattle.qo_object.specs.declared.slots.Slot.{Slot}
 use Rattle.qo_object.specs.declared.slots.Slot.TheVariants.{Plain, Child, Link, Alias}
-use Rattle.qo_object.specs.Slots.{target_of, changed_at, let_go_at, left_of, pointed, with_val, forgotten_in, unless_born}
+use Rattle.std.specs.Str.{bytes_eq}
+use Rattle.qo_object.specs.Slots.{has_name, target_of, changed_at, let_go_at, left_of, pointed, with_val, forgotten_in, unless_born}
 use Rattle.qo_object.specs.Content.{Content, with_slot, dropped_at, pointed_at, set_at, cut_at, forgotten}
 use Rattle.qo_table.specs.Rows.{IsLive, Rises, births, edited, edit, is_at, object_at, row_at}
 use Rattle.qo_table.proofs.RowsLemmas.{edit-as}
@@ -211,3 +212,17 @@ is_some-find p (x ∷ xs) = go (p x) (is_some-find p xs)
     go : (b : Bool) → is_some (find p xs) ≡ list_any p xs → is_some (cond b (Some x) (find p xs)) ≡ (b || list_any p xs)
     go true rest = refl
     go false rest = rest
+
+-- what an option has, if anything
+pub if-some : (P : Key → Type 0) (o : Option Key) → IfSome o P → Holds P o
+if-some P None h = tt
+if-some P (Some key) h = h
+
+-- a slot was found by name exactly where there is one of that name
+pub found-named : {X : Type 0} (f : X → List ℕ × Slot) (o : Option X) (slots : List (List ℕ × Slot)) (name : List ℕ) (b : Bool) → option_map f o ≡ find (λ (s : List ℕ × Slot). bytes_eq name s.0) slots → is_some o ≡ b → has_name name slots ≡ b
+found-named {X = X} f o slots name b there is =
+    sym (is_some-find (λ (s : List ℕ × Slot). bytes_eq name s.0) slots) ∙ ap (λ (x : Option (List ℕ × Slot)). is_some x) (sym there) ∙ go o ∙ is
+  where
+    go : (x : Option X) → is_some (option_map f x) ≡ is_some x
+    go None = refl
+    go (Some x) = refl
