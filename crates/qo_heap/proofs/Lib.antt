@@ -1,2 +1,5 @@
 pub mod HeapLemmas
 pub mod PlacesLemmas
+pub mod ShowsEdits
+pub mod ShowsEnds
+pub mod ShowsReads
