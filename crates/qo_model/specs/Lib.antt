@@ -1,4 +1,5 @@
 pub mod Board
+pub mod Changes
 pub mod Depth
 pub mod Holders
 pub mod Laws
@@ -6,6 +7,7 @@ pub mod Listing
 pub mod Notes
 pub mod Opening
 pub mod Paths
+pub mod Properties
 pub mod References
 pub mod Release
 pub mod ReleaseKeeps
