@@ -7,6 +7,7 @@ pub mod ReleaseKeepsLemmas
 pub mod ReleaseLeavesLemmas
 pub mod ReleaseLemmas
 pub mod ReleaseNotesLemmas
+mod ObjectRows
 mod ReleaseRows
 pub mod ReleaseRulesLemmas
 mod Rows

@@ -5,6 +5,7 @@ pub mod Holders
 pub mod Laws
 pub mod Listing
 pub mod Notes
+pub mod Objects
 pub mod Opening
 pub mod Paths
 pub mod Properties
