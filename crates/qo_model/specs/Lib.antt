@@ -1,4 +1,5 @@
 pub mod Board
+pub mod Changes
 pub mod Depth
 pub mod Holders
 pub mod Laws
