@@ -1,5 +1,5 @@
 -- Who is there, where one object of the heap is changed or ends.
-use Rattle.std.proofs.Common.{◌≡◌, refl, ap, sym, subst, ◌∙◌, ℕ, zero, suc, Bool, true, false, cond, eqb, List, [], ◌∷◌, map, Option, Some, None, option_map, IsSomeAnd, arith}
+use Rattle.std.proofs.Common.{◌≡◌, refl, ap, subst, ◌∙◌, ℕ, zero, suc, Bool, true, false, eqb, List, [], ◌∷◌, map, Option, Some, None, option_map, IsSomeAnd, arith}
 use Rattle.std.specs.List.{AllByRecursion, cons_option}
 use Rattle.std.proofs.lemmas.Bool.{eqb-true}
 use Rattle.qo_values.specs.declared.kinds.TypeId.{TypeId}
@@ -7,7 +7,7 @@ use Rattle.qo_slots.specs.declared.keys.Key.{Key}
 use Rattle.qo_table.specs.Rows.{IsLive, edit, object_at, row_at, without}
 use Rattle.qo_object.specs.Slots.{Named, named_in, target_of}
 use Rattle.qo_object.specs.Content.{Content, named_at, dropped_at, with_pin, without_pin, forgotten}
-use Rattle.qo_heap.specs.Objects.{IsHeap, Objects, content_of, targets, with_edit, ended, forgets}
+use Rattle.qo_heap.specs.Objects.{IsHeap, Objects, content_of, with_edit, ended, forgets}
 use Rattle.qo_heap.proofs.HeapLemmas.{AreThere, Edited, edited-heap, dropped-there, linked-at, live-edit, targets_in}
 
 -- what slots name
@@ -36,17 +36,17 @@ named-live_dropped v good n i c there key e = live-edit n (dropped_at i) v.rows 
 
 -- a heap with a slot let go, with a pin more, with a pin less
 
-heap-edited : (v : Objects) → IsHeap v → (n : ℕ) (f : Content → Content) (c : Content) → content_of v n ≡ Some c → ((x : Content) → AreThere v x → AreThere v (f x)) → IsHeap (with_edit n f v)
-heap-edited v good n f c there keeps = let e : Edited v n f (f c) = edited-heap v good n f c (f c) there refl keeps in subst (λ (w : Objects). IsHeap w) e.now e.good
+heap-changed : (v : Objects) → IsHeap v → (n : ℕ) (f : Content → Content) (c : Content) → content_of v n ≡ Some c → ((x : Content) → AreThere v x → AreThere v (f x)) → IsHeap (with_edit n f v)
+heap-changed v good n f c there keeps = let e : Edited v n f (f c) = edited-heap v good n f c (f c) there refl keeps in subst (λ (w : Objects). IsHeap w) e.now e.good
 
 pub heap-dropped : (v : Objects) → IsHeap v → (n i : ℕ) (c : Content) → content_of v n ≡ Some c → IsHeap (with_edit n (dropped_at i) v)
-heap-dropped v good n i c there = heap-edited v good n (dropped_at i) c there (λ x all. dropped-there v i x all)
+heap-dropped v good n i c there = heap-changed v good n (dropped_at i) c there (λ x all. dropped-there v i x all)
 
 pub heap-pinned : (v : Objects) → IsHeap v → (n : ℕ) (c : Content) → content_of v n ≡ Some c → IsHeap (with_edit n with_pin v)
-heap-pinned v good n c there = heap-edited v good n with_pin c there (λ x all. all)
+heap-pinned v good n c there = heap-changed v good n with_pin c there (λ x all. all)
 
 pub heap-unpinned : (v : Objects) → IsHeap v → (n : ℕ) (c : Content) → content_of v n ≡ Some c → IsHeap (with_edit n without_pin v)
-heap-unpinned v good n c there = heap-edited v good n without_pin c there (λ x all. all)
+heap-unpinned v good n c there = heap-changed v good n without_pin c there (λ x all. all)
 
 -- objects by birth
 
@@ -111,3 +111,11 @@ live-left v n kind key other live = rw (row-left n key.birth other v.rows) (go (
     go : (o : Option (Key × Content)) → IsSomeAnd o (λ row. row.0.index ≡ key.index) → IsSomeAnd (option_map (forgets n) o) (λ row. row.0.index ≡ key.index)
     go None none = none
     go (Some row) some = some
+
+-- what a name that is live names
+pub live-content : (v : Objects) (key : Key) → IsLive v.rows key → (c : Content) × (content_of v key.birth ≡ Some c)
+live-content v key live = go (row_at v.rows key.birth) live
+  where
+    go : (o : Option (Key × Content)) → IsSomeAnd o (λ row. row.0.index ≡ key.index) → (c : Content) × (option_map (λ (row : Key × Content). row.1) o ≡ Some c)
+    go None none = absurd none
+    go (Some row) some = (row.1, refl)

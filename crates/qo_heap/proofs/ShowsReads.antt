@@ -1,5 +1,5 @@
 -- What a board has, where it shows a heap.
-use Rattle.std.proofs.Common.{◌≡◌, refl, ap, sym, ◌∙◌, ℕ, zero, suc, ◌+◌, ◌*◌, ◌<◌, ◌≤◌, Bool, true, false, not, ◌||◌, cond, eqb, nat_eq, List, [], ◌∷◌, ◌++◌, map, length, find, slice_get, sum_by, count_by, replicate, Option, Some, None, is_some, option_map, IsSomeAnd, arith}
+use Rattle.std.proofs.Common.{◌≡◌, refl, ap, sym, ◌∙◌, ℕ, suc, ◌+◌, ◌*◌, ◌<◌, ◌≤◌, Bool, true, false, not, ◌||◌, cond, eqb, nat_eq, List, [], ◌∷◌, ◌++◌, map, length, find, slice_get, sum_by, count_by, replicate, Option, Some, None, is_some, option_map, IsSomeAnd, arith}
 use Rattle.std.specs.Prelude.{option_and_then}
 use Rattle.std.specs.List.{list_any}
 use Rattle.std.specs.Option.{option_map_or}
@@ -8,16 +8,15 @@ use Rattle.std.proofs.lemmas.Bool.{eqb-true}
 use Rattle.std.proofs.lemmas.Cmp.{nat_list_eq_equiv}
 use Rattle.std.proofs.lemmas.List.Sums.{sum_by-cons, sum_by-append}
 use Rattle.std.proofs.lemmas.List.Folds.{sum_by-replicate}
-use Rattle.qo_values.specs.declared.kinds.TypeId.{TypeId}
 use Rattle.qo_slots.specs.declared.keys.Key.{Key}
-use Rattle.qo_table.specs.Rows.{IsLive, Rises, births, is_at, row_at, object_at}
+use Rattle.qo_table.specs.Rows.{IsLive, Rises, births, row_at, object_at}
 use Rattle.qo_model.specs.Board as board
 use Rattle.qo_model.specs.References as references
 use Rattle.qo_model.specs.Paths as paths
 use Rattle.qo_model.specs.Release as release
 use Rattle.qo_object.specs.declared.slots.Slot.{Slot}
 use Rattle.qo_object.specs.declared.slots.Slot.TheVariants.{Plain, Child, Link, Alias}
-use Rattle.qo_object.specs.Slots.{Named, slot_in, target_of, held, names_child}
+use Rattle.qo_object.specs.Slots.{Named, slot_in, target_of, child_of, held, names_child}
 use Rattle.qo_object.specs.Content.{Content, holding, is_parent, named_at, held_count}
 use Rattle.qo_object.specs.Shown.{birth_of, shown_slot, shown_slots, shown}
 use Rattle.qo_object.proofs.ShownLemmas.{shown-target, shown-held, slice_get-shown, refs-shown, parent-shown, length-shown, held_count-shown}
@@ -128,6 +127,14 @@ shows-named b v s n i c there = ap (option_and_then board.target_of) (shows-slot
 
 pub shows-held : (b : board.Board) (v : Objects) → Shows b v → (n i : ℕ) (c : Content) → content_of v n ≡ Some c → option_and_then board.held (board.slot_at b n i) ≡ birth_of (option_and_then held (slot_in c.slots i))
 shows-held b v s n i c there = ap (option_and_then board.held) (shows-slot_in b v s n i c there) ∙ held-shown (slot_in c.slots i)
+
+-- where the next slot stands, behind one that was let go: at the same place behind a child
+pub next-shown : (s : Slot) (i : ℕ) → release.next_place (shown_slot s) i ≡ cond (is_some (child_of s)) i (suc i)
+next-shown (Plain ty val) i = refl
+next-shown (Child key) i = refl
+next-shown (Link ty true target) i = refl
+next-shown (Link ty false target) i = refl
+next-shown (Alias key name) i = refl
 
 -- references
 
