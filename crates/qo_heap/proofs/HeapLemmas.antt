@@ -1,7 +1,7 @@
 -- What an edit of one object leaves of the heap.
-use Rattle.std.proofs.Common.{◌≡◌, refl, ap, sym, subst, ◌∙◌, ℕ, zero, suc, ◌+◌, ◌≤◌, Bool, true, false, cond, List, [], ◌∷◌, ◌++◌, map, length, filter_map, eqb, Option, Some, None, find, option_map, remove, IsSomeAnd}
+use Rattle.std.proofs.Common.{◌≡◌, refl, ap, sym, subst, ◌∙◌, ℕ, zero, suc, ◌+◌, ◌≤◌, Bool, true, false, cond, List, [], ◌∷◌, ◌++◌, map, length, filter_map, eqb, Option, Some, None, find, option_map, remove, is_some, ◌||◌, Result, Ok, Err, OnErr, IfSome, IsSomeAnd}
 use Rattle.std.specs.Bool.{⊤}
-use Rattle.std.specs.List.{AllByRecursion, cons_option}
+use Rattle.std.specs.List.{AllByRecursion, cons_option, list_any}
 use Rattle.qo_values.specs.declared.properties.Val.{Val}
 use Rattle.std.specs.Option.{option_map_or}
 use Rattle.std.proofs.lemmas.Bool.{eqb-true}
@@ -9,7 +9,8 @@ use Rattle.std.proofs.lemmas.List.Elements.{filter_map-append}
 use Rattle.qo_slots.specs.declared.keys.Key.{Key}
 use Rattle.qo_object.specs.declared.slots.Slot.{Slot}
 use Rattle.qo_object.specs.declared.slots.Slot.TheVariants.{Plain, Child, Link, Alias}
-use Rattle.qo_object.specs.Slots.{target_of, changed_at, let_go_at, left_of, pointed, with_val, forgotten_in, unless_born}
+use Rattle.std.specs.Str.{bytes_eq}
+use Rattle.qo_object.specs.Slots.{has_name, target_of, changed_at, let_go_at, left_of, pointed, with_val, forgotten_in, unless_born}
 use Rattle.qo_object.specs.Content.{Content, with_slot, dropped_at, pointed_at, set_at, cut_at, forgotten}
 use Rattle.qo_table.specs.Rows.{IsLive, Rises, births, edited, edit, is_at, object_at, row_at}
 use Rattle.qo_table.proofs.RowsLemmas.{edit-as}
@@ -185,3 +186,43 @@ edited-heap v good n f c d there is keeps =
       good = heap-edited v good n d (subst (λ (x : Content). AreThere v x) (sym is) (keeps c (linked-at v good n c there)));
       now = edit-is v good n f c d there is;
     }
+
+-- an edit that changes nothing
+edit-same-rows : (n : ℕ) (rows : List (Key × Content)) → edit n (λ (x : Content). x) rows ≡ rows
+edit-same-rows n [] = refl
+edit-same-rows n (row ∷ rows) = go (eqb row.0.birth n) refl (edit-same-rows n rows)
+  where
+    go : (b : Bool) → eqb row.0.birth n ≡ b → edit n (λ (x : Content). x) rows ≡ rows → edit n (λ (x : Content). x) (row ∷ rows) ≡ row ∷ rows
+    go true e rest = rw e (ap (λ (l : List (Key × Content)). row ∷ l) rest)
+    go false e rest = rw e (ap (λ (l : List (Key × Content)). row ∷ l) rest)
+
+pub edit-same : (n : ℕ) (v : Objects) → with_edit n (λ (x : Content). x) v ≡ v
+edit-same n v = ap (λ (rows : List (Key × Content)). record v { rows = rows }) (edit-same-rows n v.rows)
+
+-- what holds anyway holds where there is an error
+pub on-err : {T E : Type 0} {P : Type 0} (r : Result T E) → P → OnErr r P
+on-err (Ok x) p = tt
+on-err (Err e) p = p
+
+-- a search finds where a member passes
+pub is_some-find : {X : Type 0} (p : X → Bool) (xs : List X) → is_some (find p xs) ≡ list_any p xs
+is_some-find p [] = refl
+is_some-find p (x ∷ xs) = go (p x) (is_some-find p xs)
+  where
+    go : (b : Bool) → is_some (find p xs) ≡ list_any p xs → is_some (cond b (Some x) (find p xs)) ≡ (b || list_any p xs)
+    go true rest = refl
+    go false rest = rest
+
+-- what an option has, if anything
+pub if-some : (P : Key → Type 0) (o : Option Key) → IfSome o P → Holds P o
+if-some P None h = tt
+if-some P (Some key) h = h
+
+-- a slot was found by name exactly where there is one of that name
+pub found-named : {X : Type 0} (f : X → List ℕ × Slot) (o : Option X) (slots : List (List ℕ × Slot)) (name : List ℕ) (b : Bool) → option_map f o ≡ find (λ (s : List ℕ × Slot). bytes_eq name s.0) slots → is_some o ≡ b → has_name name slots ≡ b
+found-named {X = X} f o slots name b there is =
+    sym (is_some-find (λ (s : List ℕ × Slot). bytes_eq name s.0) slots) ∙ ap (λ (x : Option (List ℕ × Slot)). is_some x) (sym there) ∙ go o ∙ is
+  where
+    go : (x : Option X) → is_some (option_map f x) ≡ is_some x
+    go None = refl
+    go (Some x) = refl

@@ -1,3 +1,4 @@
+pub mod EndLemmas
 pub mod HeapLemmas
 pub mod PlacesLemmas
 pub mod ShowsChanges

@@ -1,6 +1,10 @@
 -- Lists by place, and rows by place and by birth.
-use Rattle.std.proofs.Common.{◌≡◌, refl, ap, sym, subst, ◌∙◌, ℕ, zero, suc, ◌+◌, ◌*◌, ◌<◌, ◌≤◌, Bool, true, false, cond, List, [], ◌∷◌, ◌++◌, map, length, drop, eqb, Option, Some, None, find, sum_by, option_map, slice_get, arith}
+use Rattle.std.proofs.Common.{◌≡◌, refl, ap, sym, subst, ◌∙◌, ℕ, zero, suc, ◌+◌, ◌*◌, ◌<◌, ◌≤◌, Bool, true, false, cond, List, [], ◌∷◌, ◌++◌, map, length, drop, eqb, Option, Some, None, find, sum_by, option_map, slice_get, position, nat_lt, IfSome, arith}
 use Rattle.std.specs.Option.{option_map_or}
+use Rattle.std.proofs.lemmas.Bool.Decides.{nat_tests}
+use Rattle.std.specs.List.{position_or_len}
+use Rattle.std.proofs.lemmas.List.Folds.{find_at}
+use Rattle.std.proofs.lemmas.Option.{slice_get_past}
 use Rattle.std.proofs.lemmas.List.Sums.{sum_by-cons}
 use Rattle.qo_slots.specs.declared.keys.Key.{Key}
 use Rattle.qo_table.specs.Rows.{IsLive, Rises, births, edit, edited, is_at, row_at, object_at}
@@ -60,6 +64,48 @@ module _ {X : Type 0} where
   pub find-past : (p : X → Bool) (xs : List X) → find p (drop (length xs) xs) ≡ slice_get xs (length xs)
   find-past p [] = refl
   find-past p (x ∷ xs) = find-past p xs
+
+  -- the same, counted by one more
+  pub first_changed-from : (f : X → X) (i : ℕ) (xs : List X) → changed_at f i (first_changed f i xs) ≡ first_changed f (i + 1) xs
+  first_changed-from f i xs = let next : suc i ≡ i + 1 = omega arith in first_changed-step f i xs ∙ ap (λ (n : ℕ). first_changed f n xs) next
+
+  pub sum_first-from : (h : X → ℕ) (i : ℕ) (xs : List X) → sum_first h i xs + option_map_or h (slice_get xs i) 0 ≡ sum_first h (i + 1) xs
+  sum_first-from h i xs = let next : suc i ≡ i + 1 = omega arith in sum_first-step h i xs ∙ ap (λ (n : ℕ). sum_first h n xs) next
+
+  pub find-from : (p : X → Bool) (i : ℕ) (xs : List X) → option_map_or p (slice_get xs i) false ≡ false → find p (drop i xs) ≡ find p (drop (i + 1) xs)
+  find-from p i xs none = let next : suc i ≡ i + 1 = omega arith in find-drop p i xs none ∙ ap (λ (n : ℕ). find p (drop n xs)) next
+
+  -- the first place of a member that passes has the member that a search finds
+  pub position-find : (p : X → Bool) (xs : List X) (i : ℕ) → position p xs ≡ Some i → slice_get xs i ≡ find p xs
+  position-find p xs i there = go (nat_lt (position_or_len p xs) (length xs)) there
+    where
+      go : (b : Bool) → cond b (Some (position_or_len p xs)) None ≡ Some i → slice_get xs i ≡ find p xs
+      go true is = let same : position_or_len p xs ≡ i = cc is in rw (← same) (sym (find_at p xs))
+      go false is = cc
+
+  pub position-none : (p : X → Bool) (xs : List X) → position p xs ≡ None → find p xs ≡ None
+  position-none p xs none = go (nat_lt (position_or_len p xs) (length xs)) refl none
+    where
+      go : (b : Bool) → nat_lt (position_or_len p xs) (length xs) ≡ b → cond b (Some (position_or_len p xs)) None ≡ None → find p xs ≡ None
+      go true lt is = cc
+      go false lt is = find_at p xs ∙ slice_get_past xs (position_or_len p xs) (grind (arith, nat_tests))
+
+  slice_get-some : (xs : List X) (i : ℕ) → i < length xs → (x : X) × (slice_get xs i ≡ Some x)
+  slice_get-some [] i below = absurd (omega arith)
+  slice_get-some (x ∷ xs) zero below = (x, refl)
+  slice_get-some (x ∷ xs) (suc i) below = slice_get-some xs i (omega arith)
+
+  pub position-some : (p : X → Bool) (xs : List X) (i : ℕ) → position p xs ≡ Some i → (x : X) × (slice_get xs i ≡ Some x)
+  position-some p xs i there = go (nat_lt (position_or_len p xs) (length xs)) refl there
+    where
+      go : (b : Bool) → nat_lt (position_or_len p xs) (length xs) ≡ b → cond b (Some (position_or_len p xs)) None ≡ Some i → (x : X) × (slice_get xs i ≡ Some x)
+      go true lt is = let same : position_or_len p xs ≡ i = cc is in slice_get-some xs i (grind (arith, nat_tests))
+      go false lt is = cc
+
+-- what a view that is there says of itself
+pub some-at : {V W : Type 0} (f : V → W) (h : V → ℕ) (o : Option V) (w : W) (i : ℕ) → option_map f o ≡ Some w → IfSome o (λ v. h v ≡ i) → option_map h o ≡ Some i
+some-at f h None w i there at = cc
+some-at f h (Some v) w i there at = ap Some at
 
 module _ {T : Type 0} where
   -- along rising births a later row has a higher birth

@@ -1,6 +1,8 @@
 //! What ends with an object: the weak links that name it, and its final notes.
 
-ghost use Rattle.std.specs.Prelude.{◌≡◌, ◌<◌, length, map, find};
+ghost use Rattle.std.specs.Prelude.{◌≡◌, if◌then◌else◌, [], ◌∷◌, map};
+ghost use Rattle.qo_model.specs.Types.{has_finaliser};
+ghost use Rattle.qo_model.specs.declared.notes.Deed.TheVariants.{Final};
 ghost use Rattle.qo_notes.specs.Log.{noted_all};
 ghost use Rattle.qo_heap.specs.Objects.{final_notes, forgets};
 ghost use Rattle.qo_heap.specs.Places.{changed_at};
@@ -32,19 +34,24 @@ pub fn forget_all<L: Ledger>(table: &mut ObjectTable<Object>, birth: u64, steps:
     }
 }
 
+/// Adds the final note of an object for a type, where this has a finaliser.
+fn note_final(log: &mut NoteLog, birth: u64, of: TypeId)
+    ensures { log.new ≡ noted_all (if has_finaliser of then record { birth = birth; deed = Final of } ∷ [] else []) log.old }
+{
+    if TypeTable::board().has_finaliser(of) {
+        log.add(Note {
+            birth,
+            deed: Deed::Final(of),
+        });
+    }
+}
+
 /// Adds the final notes of an object of a type, derived first.
 pub fn note_end(log: &mut NoteLog, birth: u64, kind: TypeId)
     ensures { log.new ≡ noted_all (final_notes birth kind) log.old }
 {
-    let types = TypeTable::board();
-    let ancestry = types.ancestry(kind);
+    let ancestry = TypeTable::board().ancestry(kind);
     for place in 0..ancestry.len() {
-        let of = ancestry[place];
-        if types.has_finaliser(of) {
-            log.add(Note {
-                birth,
-                deed: Deed::Final(of),
-            });
-        }
+        note_final(log, birth, ancestry[place]);
     }
 }

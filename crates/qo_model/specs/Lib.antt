@@ -7,6 +7,7 @@ pub mod Listing
 pub mod Notes
 pub mod Opening
 pub mod Paths
+pub mod Properties
 pub mod References
 pub mod Release
 pub mod ReleaseKeeps

@@ -1,6 +1,6 @@
 //! What follows from the definitions: functions without effect, whose contracts are the laws.
 
-ghost use Rattle.std.specs.Prelude.{ℕ, List};
+ghost use Rattle.std.specs.Prelude.{ℕ, List, ⊤};
 ghost use Rattle.qo_model.specs.Board.{Board};
 ghost use Rattle.qo_model.specs.Laws.{
   OpeningLaw,
@@ -13,6 +13,8 @@ ghost use Rattle.qo_model.specs.Laws.{
   WeakLinksLaw,
 };
 ghost use Rattle.qo_model.specs.ReleaseKeeps.{KeepsRelease, Keeps};
+
+use std::marker::Brand;
 
 /// The board that a machine begins with is sound.
 #[tactic(auto, using(crate::proofs::OpeningLemmas::opening_sound))]
@@ -47,6 +49,11 @@ pub trait Kept {
     ghost kept: { List (ℕ × ℕ) → Board → Type 0 };
 }
 
+/// Nothing in particular; the proof of a call at `Brand` picks its own fact.
+impl Kept for Brand {
+    ghost kept = { λ work b. ⊤ };
+}
+
 /// What each turn of the work of a release keeps, a release keeps.
 pub fn law_release_keeps<K: Kept>()
     requires { KeepsRelease K.kept }
@@ -78,3 +85,13 @@ pub fn law_final_notes()
 pub fn law_cycle()
     ensures { CycleLaw }
 {}
+
+#[cfg(test)]
+mod tests {
+    use super::*;
+
+    #[test]
+    fn release_induction_can_be_called(_rt: HostRuntime) {
+        law_release_keeps::<Brand>();
+    }
+}

@@ -1,5 +1,8 @@
 -- What an object is on the board, after each change.
-use Rattle.std.proofs.Common.{◌≡◌, ℕ, zero, suc, Bool, true, false, ◌||◌, ◌==◌, cond, find, List, [], ◌∷◌, ◌++◌, map, length, slice_get, Option, Some, None, option_map, is_some, count_by, refl, ap, ◌∙◌}
+use Rattle.std.proofs.Common.{◌≡◌, ℕ, zero, suc, Bool, true, false, ◌||◌, ◌==◌, cond, position, find, List, [], ◌∷◌, ◌++◌, map, length, slice_get, Option, Some, None, option_map, is_some, count_by, refl, ap, ◌∙◌}
+use Rattle.std.proofs.lemmas.Cmp.{nat_list_eq_equiv}
+use Rattle.std.specs.Option.{option_and_then}
+use Rattle.std.specs.Str.{bytes_eq}
 use Rattle.std.proofs.lemmas.List.{map-append}
 use Rattle.std.proofs.lemmas.List.Sums.{sum_by-cons}
 use Rattle.std.specs.List.{list_any}
@@ -10,7 +13,8 @@ use Rattle.qo_model.specs.Release as release
 use Rattle.qo_model.specs.Paths as paths
 use Rattle.qo_object.specs.declared.slots.Slot.{Slot}
 use Rattle.qo_object.specs.declared.slots.Slot.TheVariants.{Plain, Child, Link, Alias}
-use Rattle.qo_object.specs.Slots.{Named, names_of, target_of, held, holds, names_child, unless_born, forgotten_in, left_of, let_go_at, each_changed}
+use Rattle.qo_object.specs.Slots.{Named, names_of, slot_in, target_of, held, holds, names_child, unless_born, forgotten_in, left_of, let_go_at, each_changed}
+use Rattle.qo_object.proofs.SlotLemmas.{find-at_place}
 use Rattle.qo_object.specs.Content.{Content, with_slot, dropped_at, forgotten, holding, is_parent, held_count}
 use Rattle.qo_object.specs.Shown.{birth_of, shown_slot, shown_slots, shown}
 
@@ -154,3 +158,26 @@ child-shown m ((name, Child key) ∷ slots) = ap (λ b. (key.birth == m) || b) (
 child-shown m ((name, Link ty true target) ∷ slots) = child-shown m slots
 child-shown m ((name, Link ty false target) ∷ slots) = child-shown m slots
 child-shown m ((name, Alias key property) ∷ slots) = child-shown m slots
+
+-- the board finds by its name what stands at the place of the name
+pub named-shown : (name : List ℕ) (slots : List Named) → option_map (λ (s : List ℕ × board.Slot). s.1) (find (λ s. bytes_eq s.0 name) (shown_slots slots)) ≡ option_map shown_slot (option_and_then (slot_in slots) (position (λ (s : Named). bytes_eq name s.0) slots))
+named-shown name slots =
+    first slots
+    ∙ ap (option_map (λ (s : Named). shown_slot s.1)) (find-at_place (λ (s : Named). bytes_eq name s.0) slots)
+    ∙ there (position (λ (s : Named). bytes_eq name s.0) slots)
+  where
+    first : (ss : List Named) → option_map (λ (s : List ℕ × board.Slot). s.1) (find (λ s. bytes_eq s.0 name) (shown_slots ss)) ≡ option_map (λ (s : Named). shown_slot s.1) (find (λ s. bytes_eq name s.0) ss)
+    first [] = refl
+    first (s ∷ ss) = rw (nat_list_eq_equiv.symm s.0 name) (by (bytes_eq name s.0) (first ss))
+      where
+        by : (b : Bool) → option_map (λ (t : List ℕ × board.Slot). t.1) (find (λ t. bytes_eq t.0 name) (shown_slots ss)) ≡ option_map (λ (t : Named). shown_slot t.1) (find (λ t. bytes_eq name t.0) ss) → option_map (λ (t : List ℕ × board.Slot). t.1) (cond b (Some (s.0, shown_slot s.1)) (find (λ t. bytes_eq t.0 name) (shown_slots ss))) ≡ option_map (λ (t : Named). shown_slot t.1) (cond b (Some s) (find (λ t. bytes_eq name t.0) ss))
+        by true rest = refl
+        by false rest = rest
+
+    twice : (o : Option Named) → option_map (λ (s : Named). shown_slot s.1) o ≡ option_map shown_slot (option_map (λ (s : Named). s.1) o)
+    twice None = refl
+    twice (Some s) = refl
+
+    there : (place : Option ℕ) → option_map (λ (s : Named). shown_slot s.1) (option_and_then (slice_get slots) place) ≡ option_map shown_slot (option_and_then (slot_in slots) place)
+    there None = refl
+    there (Some i) = twice (slice_get slots i)

@@ -92,7 +92,7 @@ impl Slot {
         }
     }
 
-    /// Takes the target out of a link. Anything else stays, and so does its answer, None.
+    /// Takes the target out of a link. Anything else stays, and the answer is None.
     pub(crate) fn unlink(&mut self) -> Option<Key>
         requires { child_of self.old ≡ None }
         ensures now { self.new ≡ unlinked self.old }

@@ -1,8 +1,8 @@
 -- The characters of a text, escaped one by one.
-use Rattle.std.proofs.Common.{◌≡◌, ℕ, ◌<◌, List, [], ◌∷◌, ◌++◌, refl, sym, ap, ◌∙◌, nat_lt, true, IsUtf8, length, arith, slice_index, suc, zero}
+use Rattle.std.proofs.Common.{◌≡◌, ℕ, List, [], ◌∷◌, ◌++◌, refl, IsUtf8, length, arith, suc}
 use Rattle.std.specs.Char.{encode_utf8}
 use Rattle.std.specs.List.{flat_map}
-use Rattle.std.specs.Str.{chars, IsAscii}
+use Rattle.std.specs.Str.{IsAscii}
 use Rattle.std.proofs.lemmas.Bool.{lt-ltb}
 use Rattle.std.proofs.lemmas.Str.{chars-IsAscii, chars_past_char, chars-nil}
 use Rattle.qo_replies.specs.Json.{ascii, character_text}

@@ -13,7 +13,7 @@ use Rattle.qo_requests.specs.declared.requests.Request.TheVariants.{QmpCapabilit
 use Rattle.qo_sessions.specs.declared.acts.SessionAct.{SessionAct}
 use Rattle.qo_sessions.specs.declared.acts.SessionAct.TheVariants.{Answer, Negotiated, Do}
 use Rattle.qo_sessions.specs.declared.modes.Mode.{Mode}
-use Rattle.qo_sessions.specs.declared.modes.Mode.TheVariants.{Negotiating, Commanding, Closed}
+use Rattle.qo_sessions.specs.declared.modes.Mode.TheVariants.{Commanding}
 
 -- a negotiation that asks for no capability is done; none is offered
 abbrev pub offered : Option (List (List ℕ)) → Option (List ℕ) → SessionAct

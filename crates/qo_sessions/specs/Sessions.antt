@@ -3,7 +3,7 @@ use Rattle.std.specs.Prelude.{ℕ, List, []}
 use Rattle.qo_framing.specs.Cut.{Framing, between, cut}
 use Rattle.qo_framing.specs.declared.items.Item.{Item}
 use Rattle.qo_sessions.specs.declared.modes.Mode.{Mode}
-use Rattle.qo_sessions.specs.declared.modes.Mode.TheVariants.{Negotiating, Commanding, Closed}
+use Rattle.qo_sessions.specs.declared.modes.Mode.TheVariants.{Negotiating, Closed}
 
 pub record State : Type 0 where
   pub mode : Mode

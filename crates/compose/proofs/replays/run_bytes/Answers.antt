@@ -1,5 +1,5 @@
 -- The run is over the inputs of the stream.
-use Rattle.std.proofs.Common.{sym, subst, arith}
+use Rattle.std.proofs.Common.{arith}
 use Rattle.compose.proofs.ReplayLemmas.{did_at, run_did, told_is}
 use Rattle.compose.proofs.replays.run_bytes.Goals as goal
 

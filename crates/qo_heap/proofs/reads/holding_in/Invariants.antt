@@ -1,4 +1,4 @@
-use Rattle.std.proofs.Common.{◌≡◌, ◌×◌, ◌≤◌, ◌*◌, ◌^◌}
+use Rattle.std.proofs.Common.{◌≡◌, ◌≤◌, ◌*◌}
 use Rattle.qo_object.specs.Content.{holding}
 use Rattle.qo_heap.specs.Places.{sum_first}
 use Rattle.qo_heap.proofs.reads.holding_in.Given as goal

@@ -1,4 +1,3 @@
-use Rattle.std.proofs.Common.{refl, sym, ap, ◌∙◌, ◌++◌, string_bytes}
 use Rattle.qo_replies.proofs.AsciiLemmas.{ascii-plain}
 use Rattle.qo_replies.proofs.ascii.push_ascii.Goals as goal
 

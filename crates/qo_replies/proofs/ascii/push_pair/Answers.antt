@@ -1,4 +1,4 @@
-use Rattle.std.proofs.Common.{◌≡◌, ◌∙◌, append_assoc, refl}
+use Rattle.std.proofs.Common.{append_assoc, refl}
 use Rattle.qo_replies.proofs.ascii.push_pair.Goals as goal
 
 pub returns : goal.returns

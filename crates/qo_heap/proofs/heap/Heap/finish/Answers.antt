@@ -1,0 +1,11 @@
+use Rattle.std.proofs.Common.{◌≡◌, ap, sym, subst, ◌∙◌}
+use Rattle.qo_object.specs.Content.{Content}
+use Rattle.qo_table.specs.Rows.{Rows}
+use Rattle.qo_heap.specs.Objects.{Objects, IsHeap}
+use Rattle.qo_heap.proofs.EndLemmas.{heap-ended}
+use Rattle.qo_heap.proofs.heap.Heap.finish.Goals as goal
+
+pub invariant_of-self : goal.invariant_of-self
+invariant_of-self g c =
+    let v : Objects = record { rows = c.self.inside.table.rows; born = c.self.inside.table.born; log = c.self.inside.log } in
+    rw (c.forget_all.ensures, c.take-object.ensures.rest) (heap-ended v c.self.invariant c.args.o.birth (rw (← c.self.view_is) at c.requires.free) c.note_end.new.log)

@@ -1,0 +1,24 @@
+use Rattle.std.proofs.Common.{sym, ◌∙◌, ap, List, ℕ, Option, find, position}
+use Rattle.std.specs.Option.{option_map_or}
+use Rattle.std.specs.Str.{bytes_eq}
+use Rattle.qo_object.specs.Content.{Content}
+use Rattle.qo_object.specs.declared.slots.Slot.{Slot}
+use Rattle.qo_object.specs.declared.slots.SlotView.{SlotView}
+use Rattle.qo_heap.proofs.PlacesLemmas.{position-find, position-none, position-some, some-at}
+use Rattle.qo_heap.proofs.heap.Heap.slot.Goals as goal
+
+pub returns-in-Some-clause-slot : goal.returns-in-Some-clause-slot
+returns-in-Some-clause-slot g c =
+    let found = position-find (λ (s : List ℕ × Slot). bytes_eq c.args.name.now s.0) c.look-object.result.now.slots c.in-Some.at (sym c.find.ensures ∙ c.in-Some.is) in
+    rw (← c.self.view_is, c.look-object.ensures.object) (c.slot_at.ensures.slot ∙ found)
+
+pub returns-in-Some-clause-at : goal.returns-in-Some-clause-at
+returns-in-Some-clause-at g c =
+    let p = λ (s : List ℕ × Slot). bytes_eq c.args.name.now s.0 in
+    let there = sym c.find.ensures ∙ c.in-Some.is in
+    let (x, is) = position-some p c.look-object.result.now.slots c.in-Some.at there in
+    rw (← c.self.view_is, c.look-object.ensures.object) (some-at _ (λ (v : SlotView). v.at) c.slot_at.result x c.in-Some.at (c.slot_at.ensures.slot ∙ is) c.slot_at.ensures.at ∙ sym there)
+
+pub returns-in-None-clause-slot : goal.returns-in-None-clause-slot
+returns-in-None-clause-slot g c =
+    rw (← c.self.view_is, c.look-object.ensures.object) (sym (position-none (λ (s : List ℕ × Slot). bytes_eq c.args.name.now s.0) c.look-object.result.now.slots (sym c.find.ensures ∙ c.in-None.is)))

@@ -1,0 +1,99 @@
+-- Reading and writing the properties of objects (docs/devel/qom.rst, "The QEMU Object Model": properties, child and link; QEMU's QAPI, `qom-get`, `qom-set`).
+use Rattle.std.specs.Prelude.{ℕ, Bool, true, false, if◌then◌else◌, List, [], ◌∷◌, ◌++◌, codes, decimal, find, position, Option, Some, None, Result, Ok, Err, unwrap_or, option_map, option_and_then}
+use Rattle.std.specs.Option.{option_map_or}
+use Rattle.std.specs.Str.{bytes_eq}
+use Rattle.qo_values.specs.Kinds.{type_name}
+use Rattle.qo_values.specs.Properties.{admits}
+use Rattle.qo_values.specs.declared.codes.Code.{Code}
+use Rattle.qo_values.specs.declared.codes.Code.TheVariants.{E15, E16, E17, E18, E19, E31}
+use Rattle.qo_values.specs.declared.kinds.TypeId.{TypeId}
+use Rattle.qo_values.specs.declared.properties.Val.{Val}
+use Rattle.qo_values.specs.declared.properties.Val.TheVariants as val
+use Rattle.qo_model.specs.Board.{Board, Slot, kind_of, slot_at, slot_named, slots_at, plain, child, strong, weak, alias, held}
+use Rattle.qo_model.specs.Changes.{point, set}
+use Rattle.qo_model.specs.Paths.{Place, found, missing, several, canonical, resolve}
+use Rattle.qo_model.specs.Release.{after, drop_slot, finalise}
+use Rattle.qo_model.specs.Types.{Kind, Mark, Property, never, both, slots_of}
+
+-- an object, as the text of a property that names it: its canonical path, or `detached:` and its birth where it has none
+abbrev pub path_text : Board → ℕ → List ℕ
+path_text b n = unwrap_or (canonical b n) (codes "detached:" ++ decimal n)
+
+-- what is read of a link: the text of its target, or the empty text
+abbrev pub target_text : Board → Option ℕ → List ℕ
+target_text b target = option_map_or (path_text b) target []
+
+-- what is read of a slot that is no alias
+abbrev pub own_value : Board → Slot → Val
+own_value b (plain v) = v
+own_value b (child m) = val.Text (path_text b m)
+own_value b (strong t target) = val.Text (target_text b target)
+own_value b (weak t target) = val.Text (target_text b target)
+own_value b (alias m property) = val.Nothing
+
+-- what is read of a slot; an alias reads as the property that it passes on to, which is no alias
+abbrev pub slot_value : Board → Slot → Option Val
+slot_value b (alias m property) = option_map (own_value b) (slot_named b m property)
+slot_value b s = Some (own_value b s)
+
+-- the value of the property of a name of an object; none where it has no such property
+abbrev pub value_of : Board → ℕ → List ℕ → Option Val
+value_of b n name = option_and_then (slot_value b) (slot_named b n name)
+
+-- the row of the property of a name, of objects of a type
+abbrev pub row_of_property : TypeId → List ℕ → Option Property
+row_of_property t name = find (λ (p : Property). bytes_eq p.name name) (slots_of t)
+
+-- whether `qom-set` writes a property with a mark; the clocks, which only it would write, cannot be written yet
+abbrev pub may_set : Mark → Bool
+may_set both = true
+may_set mark = false
+
+-- what a text names as the target of a link to objects of a type: no target where it is empty; refused where it names several, one of another type, or none
+abbrev pub link_target : Board → TypeId → List ℕ → Result (Option ℕ) Code
+link_target b t [] = Ok None
+link_target b t path =
+    elim (resolve b path (type_name t)) [
+      | found m ↦ Ok (Some m)
+      | several ↦ Err E16
+      | missing ↦ elim (resolve b path (codes "object")) [ missing ↦ Err E15 | _ ↦ Err E31 ]
+    ]
+
+-- the link of n at a place points at a target, if there is one
+abbrev pub pointed_at : Option ℕ → ℕ → ℕ → Board → Board
+pointed_at None n i b = b
+pointed_at (Some m) n i b = point n i m b
+
+-- a link is written: its new target is set, and then what it held is finalised where nothing refers to it any more
+abbrev pub relinked : Board → ℕ → ℕ → Option ℕ → Board
+relinked b n i target =
+    elim (slot_at b n i) [ None ↦ b | Some s ↦ after finalise (pointed_at target n i (drop_slot b n i)) (held s) ]
+
+-- a target to a link of n at a place, if it was not refused
+abbrev pub linked : Board → ℕ → ℕ → Result (Option ℕ) Code → Result Board Code
+linked b n i (Ok target) = Ok (relinked b n i target)
+linked b n i (Err code) = Err code
+
+-- a value to the slot of n at a place, by the row of its property
+abbrev pub written : Board → ℕ → ℕ → Kind → Val → Result Board Code
+written b n i (Kind.plain type first) v = if admits type v then Ok (set n i v b) else Err E19
+written b n i (Kind.link t holds) (val.Text path) = linked b n i (link_target b t path)
+written b n i (Kind.link t holds) v = Err E19
+written b n i kind v = Err E18
+
+-- a value to the slot of n at a place, whose property has this row; a slot that no row of the type has is not written
+abbrev pub written_by : Board → ℕ → ℕ → Option Property → Val → Result Board Code
+written_by b n i None v = Err E18
+written_by b n i (Some row) v = if may_set row.mark then written b n i row.kind v else Err E18
+
+-- a value to the property of a name of n
+abbrev pub write : Board → ℕ → List ℕ → Val → Result Board Code
+write b n name v =
+    elim (position (λ (s : List ℕ × Slot). bytes_eq s.0 name) (slots_at b n)) [
+      | None ↦ Err E17
+      | Some i ↦ written_by b n i (option_and_then (λ t. row_of_property t name) (kind_of b n)) v
+    ]
+
+-- the object at a path, or the code where there is none, or several
+abbrev pub object_at : Board → List ℕ → Result ℕ Code
+object_at b path = elim (resolve b path (codes "object")) [ found n ↦ Ok n | missing ↦ Err E15 | several ↦ Err E16 ]
