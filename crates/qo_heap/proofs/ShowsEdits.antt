@@ -1,5 +1,5 @@
 -- What a board shows, where one object of the heap is changed.
-use Rattle.std.proofs.Common.{◌≡◌, refl, ap, sym, ◌∙◌, ℕ, zero, suc, ◌+◌, ◌-◌, ◌<◌, ◌≤◌, Bool, true, false, cond, eqb, leb, List, [], ◌∷◌, ◌++◌, map, replicate, Option, Some, None, append_assoc, arith}
+use Rattle.std.proofs.Common.{◌≡◌, refl, ap, sym, ◌∙◌, ℕ, zero, suc, ◌-◌, ◌<◌, ◌≤◌, Bool, true, false, eqb, leb, List, [], ◌∷◌, ◌++◌, map, replicate, Some, append_assoc, arith}
 use Rattle.std.specs.List.{AllByRecursion}
 use Rattle.std.specs.Option.{option_map_or}
 use Rattle.std.proofs.lemmas.Bool.{eqb-true}
@@ -92,7 +92,7 @@ edit-later n f above last (row ∷ rows) le rises =
     rw other (ap (λ (l : List (Key × Content)). row ∷ l) (edit-later n f row.0.birth last rows (omega arith) rises.1))
 
 -- what all members have, equal ones before others have
-all-replicate : (P : ℕ → Type 0) (k m : ℕ) (xs : List ℕ) → P m → AllByRecursion P xs → AllByRecursion P (replicate k m ++ xs)
+pub all-replicate : (P : ℕ → Type 0) (k m : ℕ) (xs : List ℕ) → P m → AllByRecursion P xs → AllByRecursion P (replicate k m ++ xs)
 all-replicate P zero m xs here all = all
 all-replicate P (suc k) m xs here all = (here, all-replicate P k m xs here all)
 

@@ -1,5 +1,5 @@
 -- What a board shows, where an object of the heap ends.
-use Rattle.std.proofs.Common.{◌≡◌, refl, ap, sym, subst, ◌∙◌, ℕ, ◌+◌, ◌<◌, ◌≤◌, Bool, true, false, not, cond, eqb, List, [], ◌∷◌, ◌++◌, map, filter, replicate, Option, Some, option_map, arith}
+use Rattle.std.proofs.Common.{◌≡◌, refl, ap, sym, subst, ◌∙◌, ℕ, ◌<◌, ◌≤◌, Bool, true, false, not, eqb, List, [], ◌∷◌, ◌++◌, map, filter, replicate, Option, Some, option_map, arith}
 use Rattle.std.specs.Prelude.{option_and_then, option_to_list}
 use Rattle.std.specs.Option.{option_map_or}
 use Rattle.std.proofs.lemmas.Bool.{eqb-true}
@@ -15,7 +15,7 @@ use Rattle.qo_object.specs.Content.{Content}
 use Rattle.qo_object.specs.Shown.{shown}
 use Rattle.qo_object.proofs.ShownLemmas.{forgotten_is_shown}
 use Rattle.qo_heap.specs.Objects.{IsHeap, Objects, content_of, pins_of, refs_of, ended, final_notes, forgets}
-use Rattle.qo_heap.specs.Board.{Shows, record_of, pins_in}
+use Rattle.qo_heap.specs.Board.{Shows, pins_in}
 use Rattle.qo_heap.proofs.ShowsReads.{records_of, shows-record}
 
 ended-records : (n : ℕ) (rows : List (Key × Content)) → map (release.forgotten n) (filter (λ (r : board.Record). not (eqb r.birth n)) (records_of rows)) ≡ records_of (map (forgets n) (without n rows))

@@ -1,5 +1,5 @@
 -- What a board has, where it shows a heap.
-use Rattle.std.proofs.Common.{◌≡◌, refl, ap, sym, ◌∙◌, ℕ, zero, suc, ◌+◌, ◌*◌, ◌<◌, ◌≤◌, Bool, true, false, not, ◌||◌, cond, eqb, nat_eq, List, [], ◌∷◌, ◌++◌, map, find, slice_get, sum_by, count_by, replicate, Option, Some, None, is_some, option_map, IsSomeAnd, arith}
+use Rattle.std.proofs.Common.{◌≡◌, refl, ap, sym, ◌∙◌, ℕ, suc, ◌+◌, ◌*◌, ◌<◌, ◌≤◌, Bool, true, false, not, ◌||◌, cond, eqb, nat_eq, List, [], ◌∷◌, ◌++◌, map, length, find, slice_get, sum_by, count_by, replicate, Option, Some, None, is_some, option_map, IsSomeAnd, arith}
 use Rattle.std.specs.Prelude.{option_and_then}
 use Rattle.std.specs.List.{list_any}
 use Rattle.std.specs.Option.{option_map_or}
@@ -8,18 +8,18 @@ use Rattle.std.proofs.lemmas.Bool.{eqb-true}
 use Rattle.std.proofs.lemmas.Cmp.{nat_list_eq_equiv}
 use Rattle.std.proofs.lemmas.List.Sums.{sum_by-cons, sum_by-append}
 use Rattle.std.proofs.lemmas.List.Folds.{sum_by-replicate}
-use Rattle.qo_values.specs.declared.kinds.TypeId.{TypeId}
 use Rattle.qo_slots.specs.declared.keys.Key.{Key}
-use Rattle.qo_table.specs.Rows.{IsLive, Rises, births, is_at, row_at, object_at}
+use Rattle.qo_table.specs.Rows.{IsLive, Rises, births, row_at, object_at}
 use Rattle.qo_model.specs.Board as board
 use Rattle.qo_model.specs.References as references
 use Rattle.qo_model.specs.Paths as paths
+use Rattle.qo_model.specs.Release as release
 use Rattle.qo_object.specs.declared.slots.Slot.{Slot}
 use Rattle.qo_object.specs.declared.slots.Slot.TheVariants.{Plain, Child, Link, Alias}
-use Rattle.qo_object.specs.Slots.{Named, slot_in, target_of, held, names_child}
-use Rattle.qo_object.specs.Content.{Content, holding, is_parent, named_at}
+use Rattle.qo_object.specs.Slots.{Named, slot_in, target_of, child_of, held, names_child}
+use Rattle.qo_object.specs.Content.{Content, holding, is_parent, named_at, held_count}
 use Rattle.qo_object.specs.Shown.{birth_of, shown_slot, shown_slots, shown}
-use Rattle.qo_object.proofs.ShownLemmas.{shown-target, shown-held, slice_get-shown, refs-shown, parent-shown}
+use Rattle.qo_object.proofs.ShownLemmas.{shown-target, shown-held, slice_get-shown, refs-shown, parent-shown, length-shown, held_count-shown}
 use Rattle.qo_heap.specs.Objects.{IsHeap, Objects, content_of, slots_of, pins_of, refs_of, parent_of}
 use Rattle.qo_heap.specs.Board.{Shows, record_of, pins_in}
 
@@ -127,6 +127,14 @@ shows-named b v s n i c there = ap (option_and_then board.target_of) (shows-slot
 
 pub shows-held : (b : board.Board) (v : Objects) → Shows b v → (n i : ℕ) (c : Content) → content_of v n ≡ Some c → option_and_then board.held (board.slot_at b n i) ≡ birth_of (option_and_then held (slot_in c.slots i))
 shows-held b v s n i c there = ap (option_and_then board.held) (shows-slot_in b v s n i c there) ∙ held-shown (slot_in c.slots i)
+
+-- where the next slot stands, behind one that was let go: at the same place behind a child
+pub next-shown : (s : Slot) (i : ℕ) → release.next_place (shown_slot s) i ≡ cond (is_some (child_of s)) i (suc i)
+next-shown (Plain ty val) i = refl
+next-shown (Child key) i = refl
+next-shown (Link ty true target) i = refl
+next-shown (Link ty false target) i = refl
+next-shown (Alias key name) i = refl
 
 -- references
 
@@ -239,3 +247,27 @@ shows-parent b v s n = ap (option_map (λ (p : ℕ × List ℕ). p.0)) (shows-pl
     go : (o : Option (Key × Content)) → ((row : Key × Content) → o ≡ Some row → is_parent n row.1 ≡ true) → option_map (λ (p : ℕ × List ℕ). p.0) (option_and_then (place_under n) o) ≡ birth_of (option_map (λ (row : Key × Content). row.0) o)
     go None passes = refl
     go (Some row) passes = place-owner n row (passes row refl)
+
+-- how much the objects hold
+
+-- how many slots of an object hold one
+pub shows-held_count : (b : board.Board) (v : Objects) → Shows b v → (n : ℕ) (c : Content) → content_of v n ≡ Some c → count_by (λ (t : List ℕ × board.Slot). is_some (board.held t.1)) (board.slots_at b n) ≡ held_count c
+shows-held_count b v s n c there =
+    let slots : board.slots_at b n ≡ shown_slots c.slots = shows-slots b v s n ∙ ap (λ (o : Option Content). shown_slots (option_map_or (λ (d : Content). d.slots) o [])) there in
+    ap (count_by (λ (t : List ℕ × board.Slot). is_some (board.held t.1))) slots ∙ held_count-shown n c
+
+holding-all : (rows : List (Key × Content)) → sum_by (λ (r : board.Record). count_by (λ (t : List ℕ × board.Slot). is_some (board.held t.1)) r.slots) (records_of rows) ≡ sum_by (λ (row : Key × Content). held_count row.1) rows
+holding-all [] = refl
+holding-all (row ∷ rows) =
+    omega (arith, holding-all rows, held_count-shown row.0.birth row.1, sum_by-cons (λ (r : board.Record). count_by (λ (t : List ℕ × board.Slot). is_some (board.held t.1)) r.slots) (record_of row) (records_of rows), sum_by-cons (λ (r : Key × Content). held_count r.1) row rows)
+
+pub shows-holding : (b : board.Board) (v : Objects) → Shows b v → release.holding b ≡ sum_by (λ (row : Key × Content). held_count row.1) v.rows
+shows-holding b v s = ap (sum_by (λ (r : board.Record). count_by (λ (t : List ℕ × board.Slot). is_some (board.held t.1)) r.slots)) s.records ∙ holding-all v.rows
+
+width-all : (rows : List (Key × Content)) → sum_by (λ (r : board.Record). length r.slots) (records_of rows) ≡ sum_by (λ (row : Key × Content). length row.1.slots) rows
+width-all [] = refl
+width-all (row ∷ rows) =
+    omega (arith, width-all rows, length-shown row.1.slots, sum_by-cons (λ (r : board.Record). length r.slots) (record_of row) (records_of rows), sum_by-cons (λ (r : Key × Content). length r.1.slots) row rows)
+
+pub shows-width : (b : board.Board) (v : Objects) → Shows b v → release.width b ≡ sum_by (λ (row : Key × Content). length row.1.slots) v.rows
+shows-width b v s = ap (sum_by (λ (r : board.Record). length r.slots)) s.records ∙ width-all v.rows
