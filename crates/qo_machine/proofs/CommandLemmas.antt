@@ -1,10 +1,12 @@
 -- What commands return has a text: no number has a fraction.
-use Rattle.std.proofs.Common.{◌≡◌, ℕ, true, false, List, [], ◌∷◌, map, refl, ◌∙◌, ap, Option, None, Some}
+use Rattle.std.proofs.Common.{◌≡◌, ℕ, Bool, true, false, if◌then◌else◌, unwrap_or, List, [], ◌∷◌, map, refl, ◌∙◌, ap, Option, None, Some}
 use Rattle.std.specs.Prelude.{codes}
 use Rattle.serde_json.specs.Data.{Data, array}
 use Rattle.serde_json.specs.View.{items_of}
 use Rattle.serde_json.specs.Written.{items_have_float}
 use Rattle.qo_model.specs.Board.{Board}
+use Rattle.qo_values.specs.declared.codes.Code.TheVariants.{E22}
+use Rattle.qo_model.specs.Types.{TypeRow, is_a, row_named}
 use Rattle.qo_model.specs.Listing.{listing}
 use Rattle.qo_model.specs.Paths.{resolve_absolute}
 use Rattle.qo_requests.specs.declared.requests.Request.{Request}
@@ -14,7 +16,7 @@ use Rattle.qo_machine.proofs.TreeLemmas.{rows_listing}
 use Rattle.std.specs.Str.{chars}
 use Rattle.serde_json.proofs.OnLiterals.{serde_json_on_literals}
 use Rattle.qo_replies.specs.Json.{ascii, json}
-use Rattle.qo_machine.specs.Commands.{Done, empty, listed, perform, property_data, returned, status_data}
+use Rattle.qo_machine.specs.Commands.{Done, adding_properties, device_properties, empty, listed, perform, property_data, refused_with, returned, status_data, type_data, types_of}
 use Rattle.qo_machine.specs.Tree.{birth_of, rows_of}
 use Rattle.qo_machine.specs.declared.tree.Object.{Object}
 use Rattle.qo_machine.specs.Views.{has_float_in}
@@ -26,6 +28,24 @@ rows_no_float (r ∷ rs) = rows_no_float rs
 listed_no_float : (b : Board) (found : Option ℕ) → has_float_in (listed b found).result ≡ false
 listed_no_float b None = refl
 listed_no_float b (Some n) = rows_no_float (listing b n)
+
+types_no_float : (rows : List TypeRow) → items_have_float (items_of (map type_data rows)) ≡ false
+types_no_float [] = refl
+types_no_float (r ∷ rs) = by r.is_abstract r.parent (types_no_float rs)
+  where
+    by : (a : Bool) (p : Option (List ℕ)) → items_have_float (items_of (map type_data rs)) ≡ false → items_have_float (items_of (type_data (record r { is_abstract = a; parent = p }) ∷ map type_data rs)) ≡ false
+    by true None rest = rest
+    by true (Some parent) rest = rest
+    by false None rest = rest
+    by false (Some parent) rest = rest
+
+device_no_float : (b : Board) (row : Option TypeRow) → has_float_in (device_properties b row).result ≡ false
+device_no_float b None = refl
+device_no_float b (Some row) = by (is_a row.id (codes "device"))
+  where
+    by : (d : Bool) → has_float_in (if d then returned b (array (items_of (map property_data (adding_properties row.id)))) else refused_with b E22).result ≡ false
+    by true = rows_no_float (adding_properties row.id)
+    by false = refl
 
 pub no_float : (b : Board) (r : Request) → has_float_in (perform b r).result ≡ false
 unfolding perform
@@ -40,8 +60,8 @@ no_float b Quit = refl
 no_float b (QomList path) = listed_no_float b (resolve_absolute b path (codes "object"))
 no_float b (QomGet path property) = refl
 no_float b (QomSet path property value) = refl
-no_float b (QomListTypes implements with_abstract) = refl
-no_float b (DeviceListProperties typename) = refl
+no_float b (QomListTypes implements with_abstract) = types_no_float (types_of (unwrap_or implements (codes "object")) (unwrap_or with_abstract false))
+no_float b (DeviceListProperties typename) = device_no_float b (row_named typename)
 no_float b (ObjectAdd driver id props) = refl
 no_float b (ObjectDel id) = refl
 no_float b (DeviceAdd driver id bus props) = refl

@@ -1,17 +1,22 @@
 -- What each command returns, or the code that refuses it (docs/PROFILE.md, commands).
-use Rattle.std.specs.Prelude.{ℕ, Bool, true, false, List, [], ◌∷◌, map, codes, Option, Some, None, Result, Ok, Err}
-use Rattle.serde_json.specs.Data.{Data, array, boolean, member, no_members, object, string}
+use Rattle.std.specs.Prelude.{ℕ, Bool, true, false, if◌then◌else◌, List, [], ◌∷◌, map, filter, filter_map, codes, Option, Some, None, unwrap_or, Result, Ok, Err}
+use Rattle.serde_json.specs.Data.{Data, Members, array, boolean, member, no_members, object, string}
 use Rattle.serde_json.specs.View.{items_of}
 use Rattle.qo_values.specs.declared.codes.Code.{Code}
-use Rattle.qo_values.specs.declared.codes.Code.TheVariants.{E10, E15}
+use Rattle.qo_values.specs.declared.codes.Code.TheVariants.{E10, E15, E20, E22}
+use Rattle.qo_values.specs.Kinds.{type_name}
+use Rattle.qo_values.specs.declared.kinds.TypeId.{TypeId}
 use Rattle.qo_model.specs.Board.{Board}
-use Rattle.qo_model.specs.Listing.{listing}
+use Rattle.qo_model.specs.Listing.{around, listing, value_word}
+use Rattle.qo_model.specs.Objects.{may_add}
 use Rattle.qo_model.specs.Paths.{resolve_absolute}
+use Rattle.qo_model.specs.Types.{Kind, Property, TypeRow, is_a, row_named, row_of, slots_of}
+use Rattle.qo_types.specs.Rows.{listed as listed_types}
 use Rattle.qo_replies.specs.Replies.{version_data}
 use Rattle.qo_replies.specs.declared.events.Event.{Event}
 use Rattle.qo_replies.specs.declared.events.Event.TheVariants.{Shutdown}
 use Rattle.qo_requests.specs.declared.requests.Request.{Request}
-use Rattle.qo_requests.specs.declared.requests.Request.TheVariants.{QomList, QueryCommands, QueryStatus, QueryVersion, Quit}
+use Rattle.qo_requests.specs.declared.requests.Request.TheVariants.{DeviceListProperties, QomList, QomListTypes, QueryCommands, QueryStatus, QueryVersion, Quit}
 
 -- what a command comes to: what it returns or the code that refuses it, the board behind it, its events, and whether it ends the run
 pub record Done : Type 0 where
@@ -47,7 +52,58 @@ command_data name = object (member (codes "name") (string name) no_members)
 -- the commands that are built, in byte order of their names
 abbrev pub built : List (List ℕ)
 built =
-    codes "qmp_capabilities" ∷ codes "qom-list" ∷ codes "query-commands" ∷ codes "query-status" ∷ codes "query-version" ∷ codes "quit" ∷ []
+    codes "device-list-properties"
+    ∷ codes "qmp_capabilities"
+    ∷ codes "qom-list"
+    ∷ codes "qom-list-types"
+    ∷ codes "query-commands"
+    ∷ codes "query-status"
+    ∷ codes "query-version"
+    ∷ codes "quit"
+    ∷ []
+
+-- a type: that it is abstract is said only where it is, and its parent only where it has one
+abbrev pub with_parent : Option (List ℕ) → Members
+with_parent None = no_members
+with_parent (Some parent) = member (codes "parent") (string parent) no_members
+
+abbrev pub named_type : TypeRow → Members
+named_type row = member (codes "name") (string (type_name row.id)) (with_parent row.parent)
+
+abbrev pub type_members : TypeRow → Members
+type_members row = if row.is_abstract then member (codes "abstract") (boolean true) (named_type row) else named_type row
+
+abbrev pub type_data : TypeRow → Data
+type_data row = object (type_members row)
+
+-- the rows of the types of a name, abstract ones only where asked, in row order
+abbrev pub types_of : List ℕ → Bool → List TypeRow
+types_of name with_abstract = filter_map row_of (listed_types name with_abstract)
+
+-- the properties of a type of devices that the adding command writes, by name and type text, in row order
+abbrev pub is_for_adding : Property → Bool
+is_for_adding row = may_add row.mark
+
+abbrev pub link_word : TypeId → List ℕ
+link_word t = around (codes "link") t
+
+abbrev pub kind_word : Kind → List ℕ
+kind_word (Kind.plain type first) = value_word type
+kind_word (Kind.link t holds) = link_word t
+kind_word (Kind.child t) = around (codes "child") t
+kind_word (Kind.alias owner of) = []
+
+abbrev pub property_words : Property → List ℕ × List ℕ
+property_words row = (row.name, kind_word row.kind)
+
+abbrev pub adding_properties : TypeId → List (List ℕ × List ℕ)
+adding_properties t = map property_words (filter is_for_adding (slots_of t))
+
+-- the properties of a named type, which must be one of devices
+abbrev pub device_properties : Board → Option TypeRow → Done
+device_properties b None = refused_with b E20
+device_properties b (Some row) =
+    if is_a row.id (codes "device") then returned b (array (items_of (map property_data (adding_properties row.id)))) else refused_with b E22
 
 -- whether the machine runs, as a word too
 abbrev pub status_word : Bool → List ℕ
@@ -61,6 +117,9 @@ status_data running =
 -- a command of a session that has negotiated; those that are not built are unknown
 unfoldable pub perform : Board → Request → Done
 perform b (QomList path) = listed b (resolve_absolute b path (codes "object"))
+perform b (QomListTypes implements with_abstract) =
+    returned b (array (items_of (map type_data (types_of (unwrap_or implements (codes "object")) (unwrap_or with_abstract false)))))
+perform b (DeviceListProperties typename) = device_properties b (row_named typename)
 perform b QueryVersion = returned b version_data
 perform b QueryCommands = returned b (array (items_of (map command_data built)))
 perform b QueryStatus = returned b (status_data b.running)

@@ -1,11 +1,13 @@
 //! Commands: what each returns, or the code that refuses it.
 
-ghost use Rattle.std.specs.Prelude.{◌≡◌, ◌++◌, [], ◌∷◌, true, false, codes, map, Ok, IfOk, OnOk};
+ghost use Rattle.std.specs.Prelude.{◌≡◌, ◌++◌, [], ◌∷◌, true, false, codes, map, filter_map, Some, option_map, Ok, IfOk, OnOk};
 ghost use Rattle.serde_json.specs.Data.{array};
 ghost use Rattle.serde_json.specs.View.{items_of, view};
 ghost use Rattle.qo_model.specs.Opening.{opening_board};
 ghost use Rattle.qo_model.specs.Paths.{resolve_absolute};
-ghost use Rattle.qo_machine.specs.Commands.{built, command_data, empty, listed, perform, property_data, refused_with, returned};
+ghost use Rattle.qo_model.specs.Types.{row_of};
+ghost use Rattle.std.specs.Option.{option_map_or};
+ghost use Rattle.qo_machine.specs.Commands.{built, command_data, empty, listed, perform, property_data, refused_with, returned, type_data, types_of};
 ghost use Rattle.qo_machine.specs.Tree.{row};
 ghost use Rattle.qo_machine.specs.Views.{body_data, done_of};
 ghost use Rattle.qo_replies.specs.declared.events.Event.TheVariants as Event;
@@ -13,7 +15,8 @@ ghost use Rattle.qo_replies.specs.declared.events.Event.TheVariants as Event;
 use crate::tree::{self, Property};
 use qo_replies::{Event, version};
 use qo_requests::Request;
-use qo_values::Code;
+use qo_types::TypeTable;
+use qo_values::{Code, Text, TypeId};
 use serde_json::{Value, json};
 use std::alloc::{AllocError, Global};
 
@@ -105,18 +108,95 @@ fn list(alloc: Global, path: &str) -> Result<Done, AllocError>
     }
 }
 
+/// A type, as `qom-list-types` tells of it.
+fn type_value(alloc: Global, t: TypeId) -> Result<Value, AllocError>
+    ensures { IfOk result (λ v. Some (view v) ≡ option_map type_data (row_of t)) }
+{
+    let row = TypeTable::board().row(t);
+    match (row.is_abstract, row.parent) {
+        (true, Some(parent)) => {
+            json!(in alloc; {"abstract": true, "name": row.name, "parent": parent.name()})
+        }
+        (true, None) => json!(in alloc; {"abstract": true, "name": row.name}),
+        (false, Some(parent)) => json!(in alloc; {"name": row.name, "parent": parent.name()}),
+        (false, None) => json!(in alloc; {"name": row.name}),
+    }
+}
+
+/// Adds a type to a list.
+fn push_type(alloc: Global, values: &mut Vec<Value>, t: TypeId) -> Result<(), AllocError>
+    ensures { OnOk result (map view values.new.items ≡ map view values.old.items ++ map type_data (filter_map row_of (t ∷ []))) }
+{
+    let value = type_value(alloc, t)?;
+    values.push(value)?;
+    Ok(())
+}
+
+/// Types as a list.
+fn type_listing(alloc: Global, types: &[TypeId]) -> Result<Value, AllocError>
+    ensures { IfOk result (λ v. view v ≡ array (items_of (map type_data (filter_map row_of types.now)))) }
+{
+    let mut values = Vec::new(alloc);
+    for t in types {
+        push_type(alloc, &mut values, *t)?;
+    }
+    Ok(Value::Array(values))
+}
+
+/// The types of a name, `object` where none is given.
+fn list_types(
+    alloc: Global,
+    implements: Option<&Text>,
+    with_abstract: bool,
+) -> Result<Done, AllocError>
+    ensures { IfOk result (λ d. done_of opening_board d ≡ returned opening_board (array (items_of (map type_data (types_of (option_map_or (λ name. name.now) implements.entry (codes "object")) with_abstract))))) }
+{
+    let name = match implements {
+        Some(name) => name.as_str(),
+        None => "object",
+    };
+    let Ok(types) = TypeTable::board().list(alloc, name, with_abstract) else {
+        return Err(AllocError);
+    };
+    let listing = type_listing(alloc, &types)?;
+    Ok(returned(alloc, Body::Value(listing)))
+}
+
+/// The names of the commands that are built, in byte order.
+fn built() -> &'static [&'static str]
+    ensures { map (λ name. name.now) result.now ≡ built }
+{
+    &[
+        "device-list-properties",
+        "qmp_capabilities",
+        "qom-list",
+        "qom-list-types",
+        "query-commands",
+        "query-status",
+        "query-version",
+        "quit",
+    ]
+}
+
+/// Adds a command to a list.
+fn push_command(alloc: Global, values: &mut Vec<Value>, name: &str) -> Result<(), AllocError>
+    ensures { OnOk result (map view values.new.items ≡ map view values.old.items ++ command_data name.now ∷ []) }
+{
+    let value = json!(in alloc; {"name": name})?;
+    values.push(value)?;
+    Ok(())
+}
+
 /// The commands that are built, in byte order of their names.
 fn commands(alloc: Global) -> Result<Value, AllocError>
     ensures { IfOk result (λ v. view v ≡ array (items_of (map command_data built))) }
 {
-    json!(in alloc; [
-        {"name": "qmp_capabilities"},
-        {"name": "qom-list"},
-        {"name": "query-commands"},
-        {"name": "query-status"},
-        {"name": "query-version"},
-        {"name": "quit"},
-    ])
+    let names = built();
+    let mut values = Vec::new(alloc);
+    for name in names {
+        push_command(alloc, &mut values, name)?;
+    }
+    Ok(Value::Array(values))
 }
 
 /// The run ends, and each session that commands is told so.
@@ -139,6 +219,10 @@ pub(crate) fn perform(alloc: Global, request: &Request) -> Result<Done, AllocErr
 {
     match request {
         Request::QomList { path } => list(alloc, path.as_str()),
+        Request::QomListTypes {
+            implements,
+            with_abstract,
+        } => list_types(alloc, implements.as_ref(), with_abstract.unwrap_or(false)),
         Request::QueryVersion => Ok(returned(alloc, Body::Value(version(alloc)?))),
         Request::QueryCommands => Ok(returned(alloc, Body::Value(commands(alloc)?))),
         Request::QueryStatus => Ok(returned(alloc, Body::Status(true))),

@@ -72,6 +72,13 @@ impl TypeTable {
         slots(t).get(i).copied()
     }
 
+    /// The properties that each object of a type has, base first.
+    pub fn props(&self, t: TypeId) -> &'static [SlotRow]
+        ensures { map property_told result.now ≡ map Some (slots_of t) }
+    {
+        slots(t)
+    }
+
     /// The property of a name among those that each object of a type has.
     pub fn property(&self, t: TypeId, name: &str) -> Option<SlotRow>
         ensures { option_map property_told result
