@@ -9,13 +9,13 @@ use Rattle.qo_table.specs.Rows.{IsLive, Rises, births, object_at}
 use Rattle.qo_object.specs.Content.{Content}
 use Rattle.qo_object.specs.Shown.{birth_of}
 use Rattle.qo_values.specs.declared.kinds.TypeId.{TypeId}
-use Rattle.qo_model.specs.Board.{Board, Record, Slot, record_of, target_of}
+use Rattle.qo_model.specs.Board.{Board, Record, Slot, kind_of, record_of, target_of}
 use Rattle.qo_model.specs.Types.{is_a}
 use Rattle.qo_model.specs.Paths as paths
 use Rattle.qo_model.specs.Paths.{attached, components, ends, is_absolute, is_of, next_of, only_of, resolve, the_one, found, missing, several, walk}
 use Rattle.qo_heap.specs.Objects.{IsHeap, Objects, content_of}
 use Rattle.qo_heap.specs.Board.{Shows}
-use Rattle.qo_heap.proofs.ShowsReads.{shows-births, shows-record}
+use Rattle.qo_heap.proofs.ShowsReads.{shows-births, shows-kind, shows-record}
 use Rattle.qo_paths.specs.Answers.{end_from, place_told}
 use Rattle.qo_paths.specs.declared.errors.PathError.{PathError}
 use Rattle.qo_paths.specs.declared.errors.PathError.TheVariants.{NotFound}
@@ -90,3 +90,10 @@ module _ {X : Type 0} (f : X → Option ℕ) where
   given-past [] (suc i) past = refl
   given-past (x ∷ xs) zero past = absurd (omega arith)
   given-past (x ∷ xs) (suc i) past = given-past xs i (omega arith)
+
+-- an object is given where it is of the wanted type
+pub only-is : (b : Board) (v : Objects) → Shows b v → (n : ℕ) (kind : TypeId) (wanted : List ℕ) (t : Bool) → option_map (λ (c : Content). c.kind) (content_of v n) ≡ Some kind → is_a kind wanted ≡ t → only_of b wanted n ≡ cond t (Some n) None
+only-is b v s n kind wanted t is e =
+    let shown : kind_of b n ≡ Some kind = shows-kind b v s n ∙ is in
+    let of : is_of b wanted n ≡ t = ap (λ (o : Option TypeId). option_map_or (λ (k : TypeId). is_a k wanted) o false) shown ∙ e in
+    ap (λ (d : Bool). cond d (Some n) None) of

@@ -3,7 +3,7 @@ use Rattle.std.proofs.Common.{◌≡◌, refl, ap, sym, subst, ◌∙◌, ℕ, s
 use Rattle.std.specs.Option.{option_and_then, option_map_or}
 use Rattle.std.specs.List.{position_or_len}
 use Rattle.std.proofs.lemmas.List.Folds.{find_at}
-use Rattle.std.proofs.lemmas.List.{map-append}
+use Rattle.std.proofs.lemmas.Bool.{eqb-true, eq-eqb}
 use Rattle.qo_slots.specs.declared.keys.Key.{Key}
 use Rattle.qo_table.specs.Rows.{IsLive, births, row_at}
 use Rattle.qo_object.specs.Slots.{Named, names_child}
@@ -61,6 +61,17 @@ length-births (row ∷ rows) = ap suc (length-births rows)
 
 size-shown : (b : Board) (v : Objects) → Shows b v → length (paths.births b) ≡ length v.rows
 size-shown b v s = ap length (shows-births b v s) ∙ length-births v.rows
+
+-- a test of a birth
+pub is-one : (n : ℕ) → n ≡ 1 → eqb n 1 ≡ true
+is-one n e = eq-eqb n 1 e
+
+pub not-one : (n : ℕ) → (n ≡ 1 → ⊥) → eqb n 1 ≡ false
+not-one n other = go (eqb n 1) refl
+  where
+    go : (t : Bool) → eqb n 1 ≡ t → t ≡ false
+    go false e = refl
+    go true e = absurd (other (eqb-true n 1 e))
 
 -- whether what is left of the way leads to birth 1
 abbrev pub attached_from : Board → ℕ → ℕ → ℕ → Bool
