@@ -97,3 +97,13 @@ only-is b v s n kind wanted t is e =
     let shown : kind_of b n ≡ Some kind = shows-kind b v s n ∙ is in
     let of : is_of b wanted n ≡ t = ap (λ (o : Option TypeId). option_map_or (λ (k : TypeId). is_a k wanted) o false) shown ∙ e in
     ap (λ (d : Bool). cond d (Some n) None) of
+
+-- an end beside one that was found before
+pub told-several : (b : Board) (path wanted : List ℕ) (before : Option Key) (end : ℕ) (rest : List ℕ) → is_some before ≡ true → ends b path wanted ≡ cons_option (birth_of before) (end ∷ rest) → several ≡ resolve b path wanted
+told-several b path wanted None end rest is e = cc
+told-several b path wanted (Some key) end rest is e = rw e refl
+
+-- nothing was found before
+pub none-before : (before : Option Key) (rest : List ℕ) → is_some before ≡ false → cons_option (birth_of before) rest ≡ rest
+none-before None rest is = refl
+none-before (Some key) rest is = cc

@@ -62,6 +62,10 @@ length-births (row ∷ rows) = ap suc (length-births rows)
 size-shown : (b : Board) (v : Objects) → Shows b v → length (paths.births b) ≡ length v.rows
 size-shown b v s = ap length (shows-births b v s) ∙ length-births v.rows
 
+-- a turn is one of as many as there are objects, and one more
+pub within : (turn live size : ℕ) → turn < live + 1 → live ≡ size → turn < size + 1
+within turn live size below same = omega arith
+
 -- a test of a birth
 pub is-one : (n : ℕ) → n ≡ 1 → eqb n 1 ≡ true
 is-one n e = eq-eqb n 1 e

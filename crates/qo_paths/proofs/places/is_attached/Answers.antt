@@ -2,12 +2,8 @@
 use Rattle.std.proofs.Common.{◌≡◌, ◌+◌, ◌<◌, ℕ, ap, sym, ◌∙◌, length, arith}
 use Rattle.qo_object.specs.Shown.{birth_of}
 use Rattle.qo_heap.proofs.ShowsReads.{shows-parent}
-use Rattle.qo_paths.proofs.PlaceLemmas.{attached-all, attached-root, attached-none, attached-up, is-one, not-one, place-none}
+use Rattle.qo_paths.proofs.PlaceLemmas.{attached-all, attached-root, attached-none, attached-up, is-one, not-one, place-none, within}
 use Rattle.qo_paths.proofs.places.is_attached.Goals as goal
-
--- a turn is one of as many as there are objects, and one more
-within : (turn live size : ℕ) → turn < live + 1 → live ≡ size → turn < size + 1
-within turn live size below same = omega arith
 
 pub loop-turn-init : goal.loop-turn-init
 loop-turn-init g c = λ b s. attached-all b c.args.heap.now s c.args.o.birth
