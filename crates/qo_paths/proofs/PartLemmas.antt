@@ -1,5 +1,5 @@
 -- The parts of a path, first to last.
-use Rattle.std.proofs.Common.{◌≡◌, refl, ap, sym, ◌∙◌, ℕ, zero, suc, ◌+◌, ◌==◌, Bool, true, false, cond, List, [], ◌∷◌, ◌++◌, map, length, drop, slice_get, Option, Some, None, arith}
+use Rattle.std.proofs.Common.{◌≡◌, refl, ap, sym, ◌∙◌, ℕ, zero, suc, ◌+◌, ◌-◌, ◌<◌, ◌≤◌, ◌==◌, Bool, true, false, cond, Bor, List, [], ◌∷◌, ◌++◌, map, length, drop, get_or, append_assoc, Option, Some, None, arith}
 use Rattle.std.specs.List.{slice_split}
 use Rattle.qo_model.specs.Board.{Board}
 use Rattle.qo_model.specs.Paths.{components, next_of, walk}
@@ -43,11 +43,18 @@ module _ (b : Board) where
   pub walk_off : (n : ℕ) (path part : List ℕ) (rest : Option (List ℕ)) → slice_split (λ c. c == 47) path ≡ part ∷ parts_behind rest → length part == 0 ≡ false → next_of b n part ≡ None → walk b n (components path) ≡ None
   walk_off n path part rest h full goes = ap (walk b n) (rw full at (components_first path part rest h)) ∙ off_next n part (named_behind rest) goes
 
--- one name more of a way up, from the last
-path_up-first : (names : List (List ℕ)) (i : ℕ) (name : List ℕ) → slice_get names i ≡ Some name → path_up (drop i names) ≡ path_up (drop (suc i) names) ++ 47 ∷ name
-path_up-first [] i name there = cc
-path_up-first (n ∷ names) zero name there = let same : n ≡ name = cc there in ap (λ (x : List ℕ). path_up names ++ 47 ∷ x) same
-path_up-first (n ∷ names) (suc i) name there = path_up-first names i name there
+-- the text of a name
+abbrev pub text : Bor (List ℕ) → List ℕ
+text name = name.now
 
-pub path_up-drop : (names : List (List ℕ)) (i : ℕ) (name : List ℕ) → slice_get names i ≡ Some name → path_up (drop i names) ≡ path_up (drop (i + 1) names) ++ 47 ∷ name
-path_up-drop names i name there = let next : suc i ≡ i + 1 = omega arith in path_up-first names i name there ∙ ap (λ (k : ℕ). path_up (drop k names) ++ 47 ∷ name) next
+-- one name more of a way up, from the last
+path_up-first : (names : List (Bor (List ℕ))) (i : ℕ) (d : Bor (List ℕ)) → i < length names → path_up (drop i (map text names)) ≡ path_up (drop (suc i) (map text names)) ++ 47 ∷ (get_or names i d).now
+path_up-first [] i d below = absurd (omega arith)
+path_up-first (n ∷ names) zero d below = refl
+path_up-first (n ∷ names) (suc i) d below = path_up-first names i d (omega arith)
+
+pub path_up-get : (names : List (Bor (List ℕ))) (left : ℕ) (d : Bor (List ℕ)) → 0 < left → left ≤ length names → (path_up (drop left (map text names)) ++ 47 ∷ []) ++ (get_or names (left - 1) d).now ≡ path_up (drop (left - 1) (map text names))
+path_up-get names left d some few =
+    let back : suc (left - 1) ≡ left = omega arith in
+    append_assoc (path_up (drop left (map text names))) (47 ∷ []) (get_or names (left - 1) d).now
+    ∙ sym (path_up-first names (left - 1) d (omega arith) ∙ ap (λ (k : ℕ). path_up (drop k (map text names)) ++ 47 ∷ (get_or names (left - 1) d).now) back)

@@ -1,11 +1,9 @@
 -- Each turn takes a step of the way.
-use Rattle.std.proofs.Common.{◌≡◌, ◌+◌, ◌<◌, ℕ, Bor, List, [], ◌∷◌, ◌++◌, map, ap, sym, ◌∙◌, length}
+use Rattle.std.proofs.Common.{◌≡◌, ◌<◌, ℕ, List, [], ◌∷◌, ◌++◌, map, ap, sym, ◌∙◌, length}
 use Rattle.std.proofs.lemmas.List.{map-append}
-use Rattle.qo_paths.proofs.PlaceLemmas.{is-one, not-one, steps_with, steps-all, steps-root, steps-none, steps-up, within}
+use Rattle.qo_paths.proofs.PartLemmas.{text}
+use Rattle.qo_paths.proofs.PlaceLemmas.{is-one, not-one, steps-all, steps-root, steps-none, steps-up, within}
 use Rattle.qo_paths.proofs.writing.names_up.Goals as goal
-
-abbrev text : Bor (List ℕ) → List ℕ
-text name = name.now
 
 pub loop-turn-init : goal.loop-turn-init
 loop-turn-init g c = λ b s. rw c.new-names.ensures.items (steps-all b c.args.heap.now s c.args.o.birth)
@@ -26,6 +24,7 @@ loop-turn-preserved g c = λ b s.
     let below = within c.loop-turn._turn c.live-turn-end.result (length c.args.heap.now.rows) c.loop-turn-test.true c.live-turn-end.ensures in
     let grown : map text c.push.new.self.items ≡ map text c.loop-turn.names.items ++ c.in-Some.place.name.now ∷ [] =
         ap (map text) c.in_ok-push.ensures.items ∙ map-append text c.loop-turn.names.items (c.as_str.result ∷ []) ∙ ap (λ (x : List ℕ). map text c.loop-turn.names.items ++ x ∷ []) c.as_str.ensures.value in
-    ap (steps_with b (length c.args.heap.now.rows) (c.loop-turn._turn + 1) c.in-Some.place.parent.birth) grown
-    ∙ sym (steps-up b (length c.args.heap.now.rows) c.loop-turn._turn c.loop-turn.at.birth (map text c.loop-turn.names.items) (c.in-Some.place.parent.birth, c.in-Some.place.name.now) below (not-one c.loop-turn.at.birth c.if-at-eq1.false) (sym (c.in-Some.ensures b s)))
+    rw grown (
+    sym (steps-up b (length c.args.heap.now.rows) c.loop-turn._turn c.loop-turn.at.birth (map text c.loop-turn.names.items) (c.in-Some.place.parent.birth, c.in-Some.place.name.now) below (not-one c.loop-turn.at.birth c.if-at-eq1.false) (sym (c.in-Some.ensures b s)))
     ∙ c.loop-turn.invariant b s
+    )
