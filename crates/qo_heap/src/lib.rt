@@ -9,6 +9,7 @@ mod heap;
 mod links;
 mod reads;
 mod slots;
+mod tree;
 
 pub use errors::{MakeError, SlotError};
 pub use heap::Heap;

@@ -1,0 +1,105 @@
+//! The object that a path leads to.
+
+ghost use Rattle.std.specs.Prelude.{◌≡◌, true, false, IfSome, IfNone, IfOk, None, slice_get, option_map};
+ghost use Rattle.std.specs.Option.{option_and_then};
+ghost use Rattle.qo_model.specs.Board.{Board};
+ghost use Rattle.qo_model.specs.Paths.{components, is_absolute, only_of, resolve, walk};
+ghost use Rattle.qo_object.specs.Shown.{birth_of};
+ghost use Rattle.qo_table.specs.Rows.{IsLive, object_at};
+ghost use Rattle.qo_heap.specs.Board.{Shows};
+ghost use Rattle.qo_paths.specs.Answers.{end_from, place_told};
+
+use crate::errors::PathError;
+use crate::parts::is_absolute;
+use crate::places::is_attached;
+use crate::walks::walk;
+use qo_heap::{Heap, Oid, Steps};
+use qo_types::TypeTable;
+use std::sync::ledger::Ledger;
+
+/// The object that a path leads to from another, if it is of the wanted type.
+fn end_of<L: Ledger>(heap: &Heap, from: Oid, path: &str, wanted: &str, steps: &mut Steps<L>) -> Option<Oid>
+    requires live { IsLive heap.now.rows from }
+    ensures end { (b : Board) → Shows b heap.now → birth_of result ≡ option_and_then (only_of b wanted.now) (walk b from.birth (components path.now)) }
+    ensures live { IfSome result (IsLive heap.now.rows) }
+{
+    let end = walk(heap, from, path, steps)?;
+    if TypeTable::board().is_a(heap.kind(end, steps), wanted) {
+        return Some(end);
+    }
+    None
+}
+
+/// The object at `/`, which is of birth 1.
+fn root(heap: &Heap) -> Option<Oid>
+    ensures born { IfSome result (λ o. o.birth ≡ 1) }
+    ensures live { IfSome result (IsLive heap.now.rows) }
+    ensures none { IfNone result (object_at heap.now.rows 1 ≡ None) }
+{
+    heap.facts();
+    let first = heap.oid_at(0)?;
+    if first.birth == 1 {
+        return Some(first);
+    }
+    None
+}
+
+/// The object that an absolute path leads to.
+fn absolute<L: Ledger>(heap: &Heap, path: &str, wanted: &str, steps: &mut Steps<L>) -> Result<Oid, PathError>
+    requires { is_absolute path.now ≡ true }
+    ensures place { (b : Board) → Shows b heap.now → place_told result ≡ resolve b path.now wanted.now }
+    ensures live { IfOk result (IsLive heap.now.rows) }
+{
+    let Some(root) = root(heap) else {
+        return Err(PathError::NotFound);
+    };
+    end_of(heap, root, path, wanted, steps).ok_or(PathError::NotFound)
+}
+
+/// The object that a partial path leads to from the object at a place in the order of births, if
+/// that is attached.
+fn end_at<L: Ledger>(heap: &Heap, place: usize, path: &str, wanted: &str, steps: &mut Steps<L>) -> Option<Oid>
+    ensures end { (b : Board) → Shows b heap.now → birth_of result ≡ option_and_then (λ row. end_from b path.now wanted.now row.0.birth) (slice_get heap.now.rows place) }
+    ensures live { IfSome result (IsLive heap.now.rows) }
+{
+    heap.facts();
+    let from = heap.oid_at(place)?;
+    if !is_attached(heap, from, steps) {
+        return None;
+    }
+    end_of(heap, from, path, wanted, steps)
+}
+
+/// The object that a partial path leads to.
+fn partial<L: Ledger>(heap: &Heap, path: &str, wanted: &str, steps: &mut Steps<L>) -> Result<Oid, PathError>
+    requires { is_absolute path.now ≡ false }
+    ensures place { (b : Board) → Shows b heap.now → place_told result ≡ resolve b path.now wanted.now }
+    ensures live { IfOk result (IsLive heap.now.rows) }
+{
+    let mut found = None;
+    for place in 0..heap.live() {
+        let Some(end) = end_at(heap, place, path, wanted, steps) else {
+            continue;
+        };
+        if found.is_some() {
+            return Err(PathError::Ambiguous);
+        }
+        found = Some(end);
+    }
+    found.ok_or(PathError::NotFound)
+}
+
+/// The object that a path leads to, if it is of the wanted type (docs/devel/qom.rst, "The QEMU
+/// Object Model": canonical and partial paths). An absolute path begins with `/`, and its components
+/// lead from there through children and links, empty ones between two `/` counting for nothing. Any
+/// other path is partial: it is tried from each attached object, and is `Ambiguous` where it leads to
+/// an object of the wanted type from more than one, even if to the same. It takes no memory.
+pub fn resolve<L: Ledger>(heap: &Heap, path: &str, wanted: &str, steps: &mut Steps<L>) -> Result<Oid, PathError>
+    ensures place { (b : Board) → Shows b heap.now → place_told result ≡ resolve b path.now wanted.now }
+    ensures live { IfOk result (IsLive heap.now.rows) }
+{
+    if is_absolute(path) {
+        return absolute(heap, path, wanted, steps);
+    }
+    partial(heap, path, wanted, steps)
+}

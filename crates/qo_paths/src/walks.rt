@@ -1,0 +1,58 @@
+//! The way down: where the components of a path lead.
+
+ghost use Rattle.std.specs.Prelude.{◌≡◌, IfSome};
+ghost use Rattle.qo_model.specs.Board.{Board};
+ghost use Rattle.qo_model.specs.Paths.{components, next_of, walk};
+ghost use Rattle.qo_object.specs.Shown.{birth_of};
+ghost use Rattle.qo_object.specs.Slots.{target_of};
+ghost use Rattle.qo_table.specs.Rows.{IsLive};
+ghost use Rattle.qo_heap.specs.Board.{Shows};
+
+use crate::parts::first_part;
+use qo_heap::{Heap, Oid, Slot, Steps};
+use std::sync::ledger::Ledger;
+
+/// The object that a slot names: a child, or the target of a link.
+fn target(what: &Slot) -> Option<Oid>
+    ensures { result ≡ target_of what.now }
+{
+    match what {
+        Slot::Child(child) => Some(*child),
+        Slot::Link { target, .. } => *target,
+        _ => None,
+    }
+}
+
+/// Where a component leads from an object: to the child or the target of the link of that name; an
+/// alias leads nowhere.
+fn next_of<L: Ledger>(heap: &Heap, o: Oid, name: &str, steps: &mut Steps<L>) -> Option<Oid>
+    requires live { IsLive heap.now.rows o }
+    ensures next { (b : Board) → Shows b heap.now → birth_of result ≡ next_of b o.birth name.now }
+    ensures live { IfSome result (IsLive heap.now.rows) }
+{
+    heap.facts();
+    let slot = heap.slot(o, name, steps)?;
+    target(slot.what)
+}
+
+/// Where the components of a path lead from an object, one after another.
+pub fn walk<L: Ledger>(heap: &Heap, from: Oid, path: &str, steps: &mut Steps<L>) -> Option<Oid>
+    requires live { IsLive heap.now.rows from }
+    ensures end { (b : Board) → Shows b heap.now → birth_of result ≡ walk b from.birth (components path.now) }
+    ensures live { IfSome result (IsLive heap.now.rows) }
+{
+    let mut at = from;
+    let mut left = Some(path);
+    while let Some(text) = left {
+        let (part, rest) = first_part(text);
+        left = rest;
+        if part.is_empty() {
+            continue;
+        }
+        match next_of(heap, at, part, steps) {
+            Some(next) => at = next,
+            None => return None,
+        }
+    }
+    Some(at)
+}
