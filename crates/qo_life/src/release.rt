@@ -14,6 +14,7 @@ use qo_heap::{Heap, Oid, Slot, Steps};
 use std::sync::ledger::Ledger;
 
 /// What becomes free where a slot is let go.
+#[derive(Clone, Copy, Debug)]
 struct Turn {
     /// The object that the slot held.
     held: Option<Oid>,
@@ -54,6 +55,7 @@ fn end_unheld<L: Ledger>(heap: &mut Heap, held: Option<Oid>, steps: &mut Steps<L
     requires { IfSome held (IsLive heap.old.rows) }
     ensures { Goes (λ b. after finalise b (birth_of held)) heap.old heap.new }
 {
+    heap.facts();
     if let Some(o) = held {
         if heap.refs(o, steps) == 0 {
             finalise(heap, o, steps);
@@ -83,6 +85,7 @@ fn finalise<L: Ledger>(heap: &mut Heap, o: Oid, steps: &mut Steps<L>)
     requires free { refs_of heap.old o.birth ≡ 0 }
     ensures { Goes (λ b. finalise b o.birth) heap.old heap.new }
 {
+    heap.facts();
     let mut at = 0;
     while let Some(next) = let_go_at(heap, o, at, steps) {
         at = next;
