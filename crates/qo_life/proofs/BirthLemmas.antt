@@ -1,6 +1,6 @@
 -- The init notes of an object, as they are added one after another.
 use Rattle.std.proofs.Common.{◌≡◌, refl, ap, sym, ◌∙◌, ℕ, ◌+◌, ◌<◌, ◌≤◌, Bool, true, false, cond, List, [], ◌∷◌, ◌++◌, map, filter, length, drop, get_or, reverse, if◌then◌else◌, slice_get, Some, arith}
-use Rattle.std.proofs.lemmas.List.{map-append, drop_more, drop_all}
+use Rattle.std.proofs.lemmas.List.{append-nil, map-append, reverse-append, drop_more, drop_all}
 use Rattle.qo_slots.specs.declared.keys.Key.{Key}
 use Rattle.qo_values.specs.declared.kinds.TypeId.{TypeId}
 use Rattle.qo_model.specs.declared.notes.Note.{Note}
@@ -9,7 +9,7 @@ use Rattle.qo_notes.specs.Log.{Log, noted_all}
 use Rattle.qo_notes.proofs.Logs.{parts_lem}
 use Rattle.qo_object.specs.Content.{Content, fresh}
 use Rattle.qo_table.specs.Rows.{IsLive}
-use Rattle.qo_heap.specs.Objects.{Objects, IsHeap}
+use Rattle.qo_heap.specs.Objects.{Objects, IsHeap, with_note}
 use Rattle.qo_heap.proofs.PlacesLemmas.{live-at-place}
 use Rattle.qo_life.specs.Life.{init_note, init_notes, with_notes}
 
@@ -25,12 +25,8 @@ inits_in-more : (n : ℕ) (t : TypeId) (ts : List TypeId) → inits_in n (t ∷ 
 inits_in-more n t ts = go (has_finaliser t)
   where
     go : (b : Bool) → map (init_note n) (reverse (cond b (t ∷ filter has_finaliser ts) (filter has_finaliser ts))) ≡ inits_in n ts ++ cond b (init_note n t ∷ []) []
-    go true = map-append (init_note n) (reverse (filter has_finaliser ts)) (t ∷ [])
-    go false = sym (append-nil' (inits_in n ts))
-      where
-        append-nil' : (ns : List Note) → ns ++ [] ≡ ns
-        append-nil' [] = refl
-        append-nil' (m ∷ ns) = ap (λ (l : List Note). m ∷ l) (append-nil' ns)
+    go true = ap (map (init_note n)) (reverse-append (t ∷ []) (filter has_finaliser ts)) ∙ map-append (init_note n) (reverse (filter has_finaliser ts)) (t ∷ [])
+    go false = sym (append-nil (inits_in n ts))
 
 -- no note more
 pub with_notes-none : (v : Objects) → with_notes [] v ≡ v
@@ -38,8 +34,16 @@ unfolding noted_all
 with_notes-none v = refl
 
 -- one note more
-pub with_notes-one : (note : Note) (v : Objects) → with_notes (note ∷ []) v ≡ record v { log = noted_all (note ∷ []) v.log }
+pub with_notes-one : (note : Note) (v : Objects) → with_note note v ≡ with_notes (note ∷ []) v
+unfolding noted_all
 with_notes-one note v = refl
+
+-- the note of a type that has an initialiser, and of one that has none
+pub note-had : (n : ℕ) (t : TypeId) (v w : Objects) → has_finaliser t ≡ true → w ≡ with_note (init_note n t) v → w ≡ with_notes (one_init n t) v
+note-had n t v w has is = is ∙ with_notes-one (init_note n t) v ∙ ap (λ (b : Bool). with_notes (cond b (init_note n t ∷ []) []) v) (sym has)
+
+pub note-none : (n : ℕ) (t : TypeId) (v : Objects) → has_finaliser t ≡ false → v ≡ with_notes (one_init n t) v
+note-none n t v none = sym (with_notes-none v) ∙ ap (λ (b : Bool). with_notes (cond b (init_note n t ∷ []) []) v) (sym none)
 
 -- the notes of the types from a place on, and of the one before it
 pub inits-step : (n : ℕ) (ts : List TypeId) (left : ℕ) (d : TypeId) (first before behind : Objects) → left < length ts → before ≡ with_notes (inits_in n (drop (left + 1) ts)) first → behind ≡ with_notes (one_init n (get_or ts left d)) before → behind ≡ with_notes (inits_in n (drop left ts)) first
@@ -54,9 +58,9 @@ pub inits-first : (n : ℕ) (ts : List TypeId) (left : ℕ) (v : Objects) → le
 inits-first n ts left v is = sym (ap (λ (l : List TypeId). with_notes (inits_in n l) v) (drop_all left ts (omega arith)) ∙ with_notes-none v)
 
 -- an object behind the last is there
-pub made-live : (v : Objects) (key : Key) (c : Content) → IsHeap (record v { rows = v.rows ++ (key, c) ∷ []; born = v.born + 1 }) → IsLive (v.rows ++ (key, c) ∷ []) key
-made-live v key c good = live-at-place 0 (v.born + 1) (v.rows ++ (key, c) ∷ []) (length v.rows) (key, c) good.rising (last v.rows)
+pub made-live : (v w : Objects) (key : Key) (kind : TypeId) → w ≡ record v { rows = v.rows ++ (key, fresh kind) ∷ []; born = v.born + 1 } → IsHeap w → IsLive w.rows key
+made-live v w key kind is good = live-at-place 0 w.born w.rows (length v.rows) (key, fresh kind) good.rising (rw is (last v.rows))
   where
-    last : (rows : List (Key × Content)) → slice_get (rows ++ (key, c) ∷ []) (length rows) ≡ Some (key, c)
+    last : (rows : List (Key × Content)) → slice_get (rows ++ (key, fresh kind) ∷ []) (length rows) ≡ Some (key, fresh kind)
     last [] = refl
     last (row ∷ rows) = last rows

@@ -23,7 +23,7 @@ use Rattle.qo_object.specs.Shown.{birth_of, shown, shown_slot}
 use Rattle.qo_object.proofs.ShownLemmas.{shown-held, held_count-shown}
 use Rattle.qo_heap.specs.Board.{Shows}
 use Rattle.qo_heap.specs.Objects.{IsHeap, Objects, content_of, ended, pins_of, refs_of, slots_of, with_edit}
-use Rattle.qo_heap.proofs.HeapLemmas.{linked-at}
+use Rattle.qo_heap.proofs.HeapLemmas.{linked-at, live-edit}
 use Rattle.qo_heap.proofs.ShowsReads.{shows-live, shows-live_key, shows-pinned, shows-record, shows-refs, shows-slot_at}
 use Rattle.qo_life.specs.Life.{Goes, next_at, with_log}
 use Rattle.qo_life.proofs.BoardLemmas.{Stays, let_go-stays, none-held}
@@ -64,6 +64,37 @@ goes-let_go v w n i s is behind =
     (goes-then (λ b. drop_slot b n i) (λ b. after finalise b (birth_of (held s))) v (with_edit n (dropped_at i) v) w (goes-drop v n i) behind)
     (λ b log t. let_go-some b n i s (slot-shown b (with_log log v) t n i (Some s) is))
 
+-- what is given of an option that is there
+given : {X Y : Type 0} (f : X → Y) (o : Option X) (y : Y) → Some y ≡ option_map f o → (x : X) × ((o ≡ Some x) × (f x ≡ y))
+given f None y e = cc
+given f (Some x) y e = (x, (refl, sym (same_Some y (f x) e)))
+
+-- none is given of none
+pub none-given : {X Y : Type 0} (f : X → Y) (o : Option X) → None ≡ option_map f o → o ≡ None
+none-given f None e = refl
+none-given f (Some x) e = cc
+
+-- as the code has it: what was held, and the heap behind the slot let go
+pub goes-turn : (v u w : Objects) (n i : ℕ) (was : Option Key) → Some was ≡ option_map held (slot_in (slots_of v n) i) → u ≡ with_edit n (dropped_at i) v → Goes (λ b. after finalise b (birth_of was)) u w → Goes (λ b. let_go b n i) v w
+goes-turn v u w n i was e is behind =
+    let (s, (there, same)) = given held (slot_in (slots_of v n) i) was e in
+    goes-let_go v w n i s there
+    (subst (λ (o : Option Key). Goes (λ b. after finalise b (birth_of o)) (with_edit n (dropped_at i) v) w) (sym same)
+    (subst (λ (x : Objects). Goes (λ b. after finalise b (birth_of was)) x w) is behind))
+
+-- the measure of the end of what was held
+tree-dropped : (v : Objects) (n i : ℕ) → holding (tree (with_edit n (dropped_at i) v)) ≡ holding (drop_slot (tree v) n i)
+tree-dropped v n i = ap holding (sym (tree-behind (λ b. drop_slot b n i) v (with_edit n (dropped_at i) v) (goes-drop v n i)))
+
+pub turn-falls : (v u : Objects) (n i : ℕ) (was : Option Key) (t : ℕ) → Some was ≡ option_map held (slot_in (slots_of v n) i) → u ≡ with_edit n (dropped_at i) v → 3 * holding (tree v) + 1 ≡ t → one_more was (holding (tree u)) < t
+turn-falls v u n i None t e is decreases = omega arith
+turn-falls v u n i (Some key) t e is decreases =
+    let (s, (there, same)) = given held (slot_in (slots_of v n) i) (Some key) e in
+    let at : board.slot_at (tree v) n i ≡ Some (shown_slot s) = slot-shown (tree v) (with_log empty_log v) (tree-shows v) n i (Some s) there in
+    let less : holding (drop_slot (tree v) n i) < holding (tree v) = drop-falls (tree v) n i (shown_slot s) key.birth at (shown-held s ∙ ap birth_of same) in
+    let now : holding (tree u) ≡ holding (drop_slot (tree v) n i) = ap (λ (x : Objects). holding (tree x)) is ∙ tree-dropped v n i in
+    omega arith
+
 -- what a slot holds is there
 named-held : (s : Slot) (key : Key) → held s ≡ Some key → target_of s ≡ Some key
 named-held (Plain ty val) key e = cc
@@ -96,16 +127,26 @@ held-live v good n i s is = go (held s) refl
     go None p = tt
     go (Some key) p = there (content_of v n) refl is key p
 
--- an object that still has references stays, and one that has none ends
-pub goes-held : (v : Objects) → IsHeap v → (n : ℕ) → nat_eq (refs_of v n) 0 ≡ false → Goes (λ b. after finalise b (Some n)) v v
-goes-held v good n some =
-    goes-same (λ b. b) (λ b. after finalise b (Some n)) v v (goes-none v)
-    (λ b log s. let none : (refs b n == 0) ≡ false = rw (shows-refs b (with_log log v) s (heap-with_log v log good) n) some in rw (after, none) refl)
+pub turn-live : (v u : Objects) → IsHeap v → (n i : ℕ) (was : Option Key) → Some was ≡ option_map held (slot_in (slots_of v n) i) → u ≡ with_edit n (dropped_at i) v → IfSome was (IsLive u.rows)
+turn-live v u good n i None e is = tt
+turn-live v u good n i (Some key) e is =
+    let (s, (there, same)) = given held (slot_in (slots_of v n) i) (Some key) e in
+    let live : IsLive v.rows key = subst (λ (o : Option Key). IfSome o (IsLive v.rows)) same (held-live v good n i s there) in
+    subst (λ (x : Objects). IsLive x.rows key) (sym is) (live-edit n (dropped_at i) v.rows key live)
 
-pub goes-free : (v w : Objects) → IsHeap v → (n : ℕ) → nat_eq (refs_of v n) 0 ≡ true → Goes (λ b. finalise b n) v w → Goes (λ b. after finalise b (Some n)) v w
+-- an object that still has references stays, and one that has none ends
+pub goes-held : (v : Objects) → IsHeap v → (n : ℕ) → (refs_of v n ≡ 0 → ⊥) → Goes (λ b. after finalise b (Some n)) v v
+goes-held v good n some =
+    goes-same (λ b. b) (λ b. after finalise b (Some n)) v v (goes-none v) (λ b log s. go b (shows-refs b (with_log log v) s (heap-with_log v log good) n) (refs b n == 0) refl)
+  where
+    go : (b : Board) → refs b n ≡ refs_of v n → (t : Bool) → (refs b n == 0) ≡ t → after finalise b (Some n) ≡ b
+    go b same true p = absurd (some (sym same ∙ eqb-true (refs b n) 0 p))
+    go b same false p = rw (after, p) refl
+
+pub goes-free : (v w : Objects) → IsHeap v → (n : ℕ) → refs_of v n ≡ 0 → Goes (λ b. finalise b n) v w → Goes (λ b. after finalise b (Some n)) v w
 goes-free v w good n none ends =
     goes-same (λ b. finalise b n) (λ b. after finalise b (Some n)) v w ends
-    (λ b log s. let free : (refs b n == 0) ≡ true = rw (shows-refs b (with_log log v) s (heap-with_log v log good) n) none in rw (after, free) refl)
+    (λ b log s. let free : (refs b n == 0) ≡ true = eq-eqb (refs b n) 0 (shows-refs b (with_log log v) s (heap-with_log v log good) n ∙ none) in rw (after, free) refl)
 
 -- a pin less
 pub goes-drop_pin : (v w : Objects) → IsHeap v → (n : ℕ) → 0 < pins_of v n → Goes (λ b. after finalise b (Some n)) (with_edit n content.without_pin v) w → Goes (λ b. unpin b n) v w
@@ -116,8 +157,7 @@ goes-drop_pin v w good n some behind =
     (λ b log s. let pinned : list_any (nat_eq n) b.pins ≡ true = shows-pinned b (with_log log v) s (heap-with_log v log good) n ∙ is_some_more (pins_of v n) some in rw (unpin, pinned) refl)
   where
     is_some_more : (k : ℕ) → 0 < k → not (eqb k 0) ≡ true
-    is_some_more zero less = absurd (omega arith)
-    is_some_more (suc k) less = refl
+    is_some_more k less = let other : eqb k 0 ≡ false = grind arith in rw other refl
 
 -- the finalisation of an object, whose slots before a place were let go
 pub record Going (v w : Objects) (o : Key) (i : ℕ) : Type 0 where
@@ -179,7 +219,36 @@ going-more v u w o i s going is behind =
       falls = omega (arith, less, going.falls);
     }
 
+-- as the code has it: the next place
+pub going-next : (v u w : Objects) (o : Key) (i next : ℕ) → Going v u o i → Some next ≡ option_map (next_at i) (slot_in (slots_of u o.birth) i) → Goes (λ b. let_go b o.birth i) u w → Going v w o next
+going-next v u w o i next going e behind =
+    let (s, (there, same)) = given (next_at i) (slot_in (slots_of u o.birth) i) next e in
+    subst (λ (j : ℕ). Going v w o j) same (going-more v u w o i s going there behind)
+
+-- fewer slots are left
+let_go-width : (b : Board) (n i : ℕ) (s : board.Slot) (k : ℕ) → board.slot_at b n i ≡ Some s → width b ≤ suc k + i → width (let_go b n i) ≤ k + next_place s i
+unfolding let_go
+let_go-width b n i s k e room = rw (let_go, e) (place-falls finalise finalise-shrinks b n i s k e room)
+
+pub going-smaller : (u w : Objects) (o : Key) (i next : ℕ) → Some next ≡ option_map (next_at i) (slot_in (slots_of u o.birth) i) → Goes (λ b. let_go b o.birth i) u w → width (tree w) - next < width (tree u) - i
+going-smaller u w o i next e behind =
+    let n : ℕ = o.birth in
+    let (s, (there, same)) = given (next_at i) (slot_in (slots_of u n) i) next e in
+    let at : board.slot_at (tree u) n i ≡ Some (shown_slot s) = slot-shown (tree u) (with_log empty_log u) (tree-shows u) n i (Some s) there in
+    let within : i < width (tree u) = place-lt-width (tree u) n i (shown_slot s) at in
+    let place : next_place (shown_slot s) i ≡ next = next-shown i s ∙ same in
+    let now : width (let_go (tree u) n i) ≡ width (tree w) = ap width (tree-behind (λ b. let_go b n i) u w behind) in
+    let less : width (let_go (tree u) n i) ≤ (width (tree u) - suc i) + next_place (shown_slot s) i = let_go-width (tree u) n i (shown_slot s) (width (tree u) - suc i) at (omega arith) in
+    omega arith
+
 -- behind the last slot
+
+pub record Stopped (v w : Objects) (o : Key) (i : ℕ) : Type 0 where
+  pub going : Going v w o i
+  pub past : slot_in (slots_of w o.birth) i ≡ None
+
+pub going-stops : (v u w : Objects) (o : Key) (i : ℕ) → Going v u o i → w ≡ u → None ≡ option_map (next_at i) (slot_in (slots_of u o.birth) i) → Stopped v w o i
+going-stops v u w o i going is e = subst (λ (x : Objects). Stopped v x o i) (sym is) (record { going = going; past = none-given (next_at i) (slot_in (slots_of u o.birth) i) e })
 
 pub going-free : (v w : Objects) (o : Key) (i : ℕ) → IsHeap w → Going v w o i → refs_of w o.birth ≡ 0
 going-free v w o i good going = sym (shows-refs (tree w) (with_log empty_log w) (tree-shows w) (heap-with_log w empty_log good) o.birth) ∙ going.stays.free

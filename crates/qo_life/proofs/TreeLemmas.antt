@@ -163,3 +163,7 @@ goes-names step v w g key live there = go (row_at w.rows key.birth) refl there
         one : (x : Option (Key × Content)) → IsSomeAnd x (λ r. r.0.index ≡ row.0.index) → IsSomeAnd x (λ r. r.0.index ≡ key.index) → row.0.index ≡ key.index
         one None a b = absurd a
         one (Some r) a b = sym a ∙ b
+
+-- on the boards of the heap with its own log
+pub goes-shows : (step : Board → Board) (v w : Objects) → Goes step v w → (b : Board) → Shows b v → Shows (step b) w
+goes-shows step v w g b s = subst (λ (l : Log). Shows (step b) (with_log l w)) (sym g.log) (g.shown b v.log s)

@@ -1,6 +1,6 @@
 //! Releasing objects. None of these calls takes memory, and none fails.
 
-ghost use Rattle.std.specs.Prelude.{◌≡◌, ◌<◌, IfSome, option_map};
+ghost use Rattle.std.specs.Prelude.{◌≡◌, ◌<◌, IfSome, None, option_map};
 ghost use Rattle.qo_model.specs.Board.{Board};
 ghost use Rattle.qo_model.specs.Release.{after, finalise, let_go, unpin};
 ghost use Rattle.qo_object.specs.Shown.{birth_of};
@@ -70,6 +70,7 @@ fn let_go_at<L: Ledger>(heap: &mut Heap, o: Oid, at: usize, steps: &mut Steps<L>
     requires { IsLive heap.old.rows o }
     ensures goes { Goes (λ b. let_go b o.birth at) heap.old heap.new }
     ensures next { result ≡ option_map (next_at at) (slot_in (slots_of heap.old o.birth) at) }
+    ensures past { result ≡ None → heap.new ≡ heap.old }
 {
     heap.facts();
     let turn = turn_at(heap, o, at, steps)?;
