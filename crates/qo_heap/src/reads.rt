@@ -67,7 +67,7 @@ fn parent_place<L: Ledger>(table: &ObjectTable<Object>, birth: u64, steps: &mut 
 }
 
 impl Heap {
-    ghost use Rattle.std.specs.Prelude.{Some, option_map, option_and_then, length, find, leb, slice_get, position, IfSome, IfOk};
+    ghost use Rattle.std.specs.Prelude.{◌<◌, Some, option_map, option_and_then, length, find, leb, slice_get, position, IfSome, IfOk};
     ghost use Rattle.std.specs.Str.{bytes_eq};
     ghost use Rattle.qo_notes.specs.Log.{given_from, first_from};
     ghost use Rattle.qo_table.specs.Rows.{IsLive};
@@ -101,13 +101,16 @@ impl Heap {
         }
     }
 
-    /// The slot of an object at a place, from 0; `None` exactly past the last.
+    /// The slot of an object at a place, from 0; `None` exactly past the last. There are at most 2^32.
     pub fn slot_at<L: Ledger>(&self, o: Oid, at: usize, steps: &mut Steps<L>) -> Option<SlotView<'_>>
         requires { IsLive self.now.rows o }
         ensures slot { option_map (λ v. (v.name.now, v.what.now)) result ≡ slice_get (slots_of self.now o.birth) at }
         ensures at { IfSome result (λ v. v.at ≡ at) }
+        ensures few { IfSome result (λ v. at < 2 ^ 32) }
     {
-        self.table.look(o, steps).slot_at(at)
+        let object = self.table.look(o, steps);
+        object.facts();
+        object.slot_at(at)
     }
 
     /// How often an object is pinned.

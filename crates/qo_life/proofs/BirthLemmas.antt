@@ -1,0 +1,66 @@
+-- The init notes of an object, as they are added one after another.
+use Rattle.std.proofs.Common.{◌≡◌, refl, ap, sym, ◌∙◌, ℕ, ◌+◌, ◌<◌, ◌≤◌, Bool, true, false, cond, List, [], ◌∷◌, ◌++◌, map, filter, length, drop, get_or, reverse, if◌then◌else◌, slice_get, Some, arith}
+use Rattle.std.proofs.lemmas.List.{append-nil, map-append, reverse-append, drop_more, drop_all}
+use Rattle.qo_slots.specs.declared.keys.Key.{Key}
+use Rattle.qo_values.specs.declared.kinds.TypeId.{TypeId}
+use Rattle.qo_model.specs.declared.notes.Note.{Note}
+use Rattle.qo_model.specs.Types.{chain, has_finaliser}
+use Rattle.qo_notes.specs.Log.{Log, noted_all}
+use Rattle.qo_notes.proofs.Logs.{parts_lem}
+use Rattle.qo_object.specs.Content.{Content, fresh}
+use Rattle.qo_table.specs.Rows.{IsLive}
+use Rattle.qo_heap.specs.Objects.{Objects, IsHeap, with_note}
+use Rattle.qo_heap.proofs.PlacesLemmas.{live-at-place}
+use Rattle.qo_life.specs.Life.{init_note, init_notes, with_notes}
+
+-- the init notes for some types, the last first
+abbrev pub inits_in : ℕ → List TypeId → List Note
+inits_in n ts = map (init_note n) (reverse (filter has_finaliser ts))
+
+-- the note of one type
+abbrev pub one_init : ℕ → TypeId → List Note
+one_init n t = cond (has_finaliser t) (init_note n t ∷ []) []
+
+inits_in-more : (n : ℕ) (t : TypeId) (ts : List TypeId) → inits_in n (t ∷ ts) ≡ inits_in n ts ++ one_init n t
+inits_in-more n t ts = go (has_finaliser t)
+  where
+    go : (b : Bool) → map (init_note n) (reverse (cond b (t ∷ filter has_finaliser ts) (filter has_finaliser ts))) ≡ inits_in n ts ++ cond b (init_note n t ∷ []) []
+    go true = ap (map (init_note n)) (reverse-append (t ∷ []) (filter has_finaliser ts)) ∙ map-append (init_note n) (reverse (filter has_finaliser ts)) (t ∷ [])
+    go false = sym (append-nil (inits_in n ts))
+
+-- no note more
+pub with_notes-none : (v : Objects) → with_notes [] v ≡ v
+unfolding noted_all
+with_notes-none v = refl
+
+-- one note more
+pub with_notes-one : (note : Note) (v : Objects) → with_note note v ≡ with_notes (note ∷ []) v
+unfolding noted_all
+with_notes-one note v = refl
+
+-- the note of a type that has an initialiser, and of one that has none
+pub note-had : (n : ℕ) (t : TypeId) (v w : Objects) → has_finaliser t ≡ true → w ≡ with_note (init_note n t) v → w ≡ with_notes (one_init n t) v
+note-had n t v w has is = is ∙ with_notes-one (init_note n t) v ∙ ap (λ (b : Bool). with_notes (cond b (init_note n t ∷ []) []) v) (sym has)
+
+pub note-none : (n : ℕ) (t : TypeId) (v : Objects) → has_finaliser t ≡ false → v ≡ with_notes (one_init n t) v
+note-none n t v none = sym (with_notes-none v) ∙ ap (λ (b : Bool). with_notes (cond b (init_note n t ∷ []) []) v) (sym none)
+
+-- the notes of the types from a place on, and of the one before it
+pub inits-step : (n : ℕ) (ts : List TypeId) (left : ℕ) (d : TypeId) (first before behind : Objects) → left < length ts → before ≡ with_notes (inits_in n (drop (left + 1) ts)) first → behind ≡ with_notes (one_init n (get_or ts left d)) before → behind ≡ with_notes (inits_in n (drop left ts)) first
+inits-step n ts left d first before behind within is more =
+    more
+    ∙ ap (λ (v : Objects). with_notes (one_init n (get_or ts left d)) v) is
+    ∙ ap (λ (log : Log). record first { log = log }) (sym (parts_lem (inits_in n (drop (left + 1) ts)) (one_init n (get_or ts left d)) first.log))
+    ∙ ap (λ (ns : List Note). with_notes ns first) (sym (ap (inits_in n) (drop_more ts left d within) ∙ inits_in-more n (get_or ts left d) (drop (left + 1) ts)))
+
+-- at the start none
+pub inits-first : (n : ℕ) (ts : List TypeId) (left : ℕ) (v : Objects) → left ≡ length ts → v ≡ with_notes (inits_in n (drop left ts)) v
+inits-first n ts left v is = sym (ap (λ (l : List TypeId). with_notes (inits_in n l) v) (drop_all left ts (omega arith)) ∙ with_notes-none v)
+
+-- an object behind the last is there
+pub made-live : (v w : Objects) (key : Key) (kind : TypeId) → w ≡ record v { rows = v.rows ++ (key, fresh kind) ∷ []; born = v.born + 1 } → IsHeap w → IsLive w.rows key
+made-live v w key kind is good = live-at-place 0 w.born w.rows (length v.rows) (key, fresh kind) good.rising (rw is (last v.rows))
+  where
+    last : (rows : List (Key × Content)) → slice_get (rows ++ (key, fresh kind) ∷ []) (length rows) ≡ Some (key, fresh kind)
+    last [] = refl
+    last (row ∷ rows) = last rows

@@ -1,0 +1,4 @@
+mod BirthLemmas
+mod BoardLemmas
+mod GoesLemmas
+mod TreeLemmas

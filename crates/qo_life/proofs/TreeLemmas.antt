@@ -1,0 +1,169 @@
+-- The steps of a heap as steps of a board: alone, one behind another, and as seen on the tree of the heap.
+use Rattle.std.proofs.Common.{◌≡◌, refl, ap, sym, subst, ◌∙◌, ℕ, ◌+◌, ◌<◌, ◌≤◌, Bool, true, false, ◌==◌, eqb, List, [], ◌∷◌, ◌++◌, map, find, Option, Some, None, is_some, option_map, IsSomeAnd, arith}
+use Rattle.std.proofs.lemmas.Bool.{eqb-true, eq-eqb}
+use Rattle.qo_slots.specs.declared.keys.Key.{Key}
+use Rattle.qo_table.specs.Rows.{IsLive, edited, edit, without, row_at, object_at, is_at}
+use Rattle.qo_model.specs.Board.{Board, Record}
+use Rattle.qo_model.specs.declared.notes.Note.{Note}
+use Rattle.qo_model.specs.Release.{drop_slot, finish}
+use Rattle.qo_model.specs.Release as release
+use Rattle.qo_notes.specs.Log.{Log, empty_log, noted_all}
+use Rattle.qo_notes.proofs.Logs.{none_lem, parts_lem}
+use Rattle.qo_object.specs.Content.{Content, dropped_at}
+use Rattle.qo_object.specs.Content as content
+use Rattle.qo_heap.specs.Board.{Shows, record_of, pins_in}
+use Rattle.qo_heap.specs.Objects.{IsHeap, Objects, content_of, ended, final_notes, forgets, pins_of, refs_of, with_edit}
+use Rattle.qo_heap.proofs.ShowsEdits.{shows-drop_slot, shows-without_pin}
+use Rattle.qo_heap.proofs.ShowsEnds.{shows-ended}
+use Rattle.qo_life.specs.Life.{Goes, KeepsNames, with_log}
+
+-- the tree of a heap: a board with its objects, births and pins, and nothing beside them
+abbrev pub tree_with : List Record → ℕ → List ℕ → Board
+tree_with records born pins =
+    record {
+      records = records;
+      born = born;
+      anonymous = 0;
+      now = 0;
+      running = false;
+      holds = [];
+      pending = [];
+      notices = [];
+      rings = [];
+      pins = pins;
+      notes = [];
+      events = [];
+    }
+
+abbrev pub tree : Objects → Board
+tree v = tree_with (map record_of v.rows) v.born (pins_in v.rows)
+
+pub tree-shows : (v : Objects) → Shows (tree v) (with_log empty_log v)
+tree-shows v = record { records = refl; born = refl; pins = refl; notes = none_lem; events = refl }
+
+-- another log, the same heap
+pub heap-with_log : (v : Objects) (log : Log) → IsHeap v → IsHeap (with_log log v)
+heap-with_log v log good = record { rising = good.rising; few = good.few; linked = good.linked }
+
+-- the tree behind a step
+pub tree-behind : (step : Board → Board) (v w : Objects) → Goes step v w → tree_with (step (tree v)).records (step (tree v)).born (step (tree v)).pins ≡ tree w
+tree-behind step v w g =
+    let s = g.shown (tree v) empty_log (tree-shows v) in
+    λ j. tree_with (s.records j) (s.born j) (s.pins j)
+
+-- no step, a step that is another on all boards of the heap, and a step behind a step
+pub goes-none : (v : Objects) → Goes (λ b. b) v v
+unfolding noted_all
+goes-none v = record { more = []; log = refl; shown = λ b log s. s; names = λ key live. live }
+
+pub goes-same : (f g : Board → Board) (v w : Objects) → Goes f v w → ((b : Board) (log : Log) → Shows b (with_log log v) → g b ≡ f b) → Goes g v w
+goes-same f g v w go is =
+    record {
+      more = go.more;
+      log = go.log;
+      shown = λ b log s. subst (λ (c : Board). Shows c (with_log (noted_all go.more log) w)) (sym (is b log s)) (go.shown b log s);
+      names = go.names;
+    }
+
+pub goes-then : (f g : Board → Board) (v u w : Objects) → Goes f v u → Goes g u w → Goes (λ b. g (f b)) v w
+goes-then f g v u w first then =
+    record {
+      more = first.more ++ then.more;
+      log = then.log ∙ ap (noted_all then.more) first.log ∙ sym (parts_lem first.more then.more v.log);
+      shown = λ b log s. subst (λ (l : Log). Shows (g (f b)) (with_log l w)) (sym (parts_lem first.more then.more log)) (then.shown (f b) (noted_all first.more log) (first.shown b log s));
+      names = λ key live. first.names key (then.names key live);
+    }
+
+-- who is there behind an edit was there before it
+pub live-before_edit : (n : ℕ) (f : Content → Content) (rows : List (Key × Content)) (key : Key) → IsLive (edit n f rows) key → IsLive rows key
+live-before_edit n f [] key live = live
+live-before_edit n f (row ∷ rows) key live = by (eqb row.0.birth n) refl (eqb row.0.birth key.birth) refl (live-before_edit n f rows key)
+  where
+    by : (a : Bool) → eqb row.0.birth n ≡ a → (b : Bool) → eqb row.0.birth key.birth ≡ b → (IsLive (edit n f rows) key → IsLive rows key) → IsLive (row ∷ rows) key
+    by true p true q rest = let here : row.0.index ≡ key.index = rw (p, q) at live in rw q here
+    by true p false q rest = let later : IsLive (edit n f rows) key = rw (p, q) at live in rw q (rest later)
+    by false p true q rest = let here : row.0.index ≡ key.index = rw (p, q) at live in rw q here
+    by false p false q rest = let later : IsLive (edit n f rows) key = rw (p, q) at live in rw q (rest later)
+
+-- and who is there behind an end, before it
+none-left : (n : ℕ) (rows : List (Key × Content)) (key : Key) → eqb key.birth n ≡ true → row_at (map (forgets n) (without n rows)) key.birth ≡ None
+none-left n [] key is = refl
+none-left n (row ∷ rows) key is = by (eqb row.0.birth n) refl (none-left n rows key is)
+  where
+    by : (a : Bool) → eqb row.0.birth n ≡ a → row_at (map (forgets n) (without n rows)) key.birth ≡ None → row_at (map (forgets n) (without n (row ∷ rows))) key.birth ≡ None
+    by true p rest = rw p rest
+    by false p rest =
+        let other : eqb row.0.birth key.birth ≡ false = rw (eqb-true key.birth n is) p in
+        rw (p, other) rest
+
+live-before_end : (n : ℕ) (rows : List (Key × Content)) (key : Key) → IsLive (map (forgets n) (without n rows)) key → IsLive rows key
+live-before_end n [] key live = live
+live-before_end n (row ∷ rows) key live = by (eqb row.0.birth n) refl (eqb row.0.birth key.birth) refl (live-before_end n rows key)
+  where
+    by : (a : Bool) → eqb row.0.birth n ≡ a → (b : Bool) → eqb row.0.birth key.birth ≡ b → (IsLive (map (forgets n) (without n rows)) key → IsLive rows key) → IsLive (row ∷ rows) key
+    by true p true q rest =
+        let later : IsLive (map (forgets n) (without n rows)) key = rw p at live in
+        let same : eqb key.birth n ≡ true = rw (← eqb-true row.0.birth key.birth q) p in
+        absurd (subst (λ (o : Option (Key × Content)). IsSomeAnd o (λ r. r.0.index ≡ key.index)) (none-left n rows key same) later)
+    by true p false q rest = let later : IsLive (map (forgets n) (without n rows)) key = rw p at live in rw q (rest later)
+    by false p true q rest = let here : row.0.index ≡ key.index = rw (p, q) at live in rw q here
+    by false p false q rest = let later : IsLive (map (forgets n) (without n rows)) key = rw (p, q) at live in rw q (rest later)
+
+-- a slot let go, a pin less, an end
+pub goes-drop : (v : Objects) (n i : ℕ) → Goes (λ b. drop_slot b n i) v (with_edit n (dropped_at i) v)
+unfolding noted_all
+goes-drop v n i =
+    record {
+      more = [];
+      log = refl;
+      shown = λ b log s. shows-drop_slot b (with_log log v) s n i;
+      names = live-before_edit n (dropped_at i) v.rows;
+    }
+
+pub goes-unpin : (v : Objects) → IsHeap v → (n : ℕ) → 0 < pins_of v n → Goes (λ b. release.without_pin b n) v (with_edit n content.without_pin v)
+unfolding noted_all
+goes-unpin v good n some =
+    record {
+      more = [];
+      log = refl;
+      shown = λ b log s. shows-without_pin b (with_log log v) s (heap-with_log v log good) n some;
+      names = live-before_edit n content.without_pin v.rows;
+    }
+
+pub goes-end : (v : Objects) → IsHeap v → (n : ℕ) (c : Content) → content_of v n ≡ Some c → refs_of v n ≡ 0 → Goes (λ b. finish b n) v (ended n c.kind v)
+goes-end v good n c there free =
+    record {
+      more = final_notes n c.kind;
+      log = refl;
+      shown = λ b log s. shows-ended b (with_log log v) s (heap-with_log v log good) n c there free;
+      names = live-before_end n v.rows;
+    }
+
+-- who was there and is still there has the same name
+pub goes-names : (step : Board → Board) (v w : Objects) → Goes step v w → KeepsNames v w
+goes-names step v w g key live there = go (row_at w.rows key.birth) refl there
+  where
+    found : (rows : List (Key × Content)) (n : ℕ) (row : Key × Content) → row_at rows n ≡ Some row → row.0.birth ≡ n
+    found [] n row e = cc
+    found (r ∷ rows) n row e = by (eqb r.0.birth n) refl (found rows n row)
+      where
+        by : (b : Bool) → eqb r.0.birth n ≡ b → (row_at rows n ≡ Some row → row.0.birth ≡ n) → row.0.birth ≡ n
+        by true p rest = let same : r ≡ row = cc (rw p at e) in ap (λ (x : Key × Content). x.0.birth) (sym same) ∙ eqb-true r.0.birth n p
+        by false p rest = rest (rw p at e)
+
+    go : (o : Option (Key × Content)) → row_at w.rows key.birth ≡ o → is_some (option_map (λ (row : Key × Content). row.1) o) ≡ true → IsLive w.rows key
+    go None p some = cc
+    go (Some row) p some =
+        let same : row.0.birth ≡ key.birth = found w.rows key.birth row p in
+        let now : IsLive w.rows row.0 = rw (same, p) refl in
+        let before : IsLive v.rows row.0 = g.names row.0 now in
+        let then : IsSomeAnd (row_at v.rows key.birth) (λ r. r.0.index ≡ row.0.index) = rw same at before in
+        rw p (one (row_at v.rows key.birth) then live)
+      where
+        one : (x : Option (Key × Content)) → IsSomeAnd x (λ r. r.0.index ≡ row.0.index) → IsSomeAnd x (λ r. r.0.index ≡ key.index) → row.0.index ≡ key.index
+        one None a b = absurd a
+        one (Some r) a b = sym a ∙ b
+
+-- on the boards of the heap with its own log
+pub goes-shows : (step : Board → Board) (v w : Objects) → Goes step v w → (b : Board) → Shows b v → Shows (step b) w
+goes-shows step v w g b s = subst (λ (l : Log). Shows (step b) (with_log l w)) (sym g.log) (g.shown b v.log s)

@@ -1,0 +1,6 @@
+use Rattle.qo_life.proofs.BirthLemmas.{made-live}
+use Rattle.qo_life.proofs.birth.create.Goals as goal
+
+pub note_inits-requires : goal.note_inits-requires
+note_inits-requires g c =
+    made-live c.args.heap.now c.make.new.self c.in_ok-o.o c.args.kind c.in_ok-o.ensures.made.1 c.facts.ensures

@@ -1,0 +1,45 @@
+-- The life of the objects of a heap: what is noted at birth, and what a release makes of a heap.
+use Rattle.std.specs.Prelude.{◌≡◌, ℕ, suc, true, List, map, is_some}
+use Rattle.qo_values.specs.declared.kinds.TypeId.{TypeId}
+use Rattle.qo_values.specs.declared.kinds.Act.TheVariants.{Init}
+use Rattle.qo_slots.specs.declared.keys.Key.{Key}
+use Rattle.qo_table.specs.Rows.{IsLive}
+use Rattle.qo_model.specs.Board.{Board}
+use Rattle.qo_model.specs.Types.{inits}
+use Rattle.qo_model.specs.declared.notes.Deed.TheVariants.{Did}
+use Rattle.qo_model.specs.declared.notes.Note.{Note}
+use Rattle.qo_notes.specs.Log.{Log, noted_all}
+use Rattle.qo_object.specs.declared.slots.Slot.{Slot}
+use Rattle.qo_object.specs.declared.slots.Slot.TheVariants.{Child}
+use Rattle.qo_heap.specs.Board.{Shows}
+use Rattle.qo_heap.specs.Objects.{Objects, content_of}
+
+-- the note of the initialiser of a type, and those of a new object of a type, base first
+abbrev pub init_note : ℕ → TypeId → Note
+init_note n t = record { birth = n; deed = Did (Init t) }
+
+abbrev pub init_notes : ℕ → TypeId → List Note
+init_notes n kind = map (init_note n) (inits kind)
+
+-- a heap with notes more; and with another log
+abbrev pub with_notes : List Note → Objects → Objects
+with_notes notes v = record v { log = noted_all notes v.log }
+
+abbrev pub with_log : Log → Objects → Objects
+with_log log v = record v { log = log }
+
+-- the place of the slot behind one that was let go: behind a child slot the next has the same place
+abbrev pub next_at : ℕ → Slot → ℕ
+next_at at (Child key) = at
+next_at at _ = suc at
+
+-- who was there and is still there has the same name
+abbrev pub KeepsNames : Objects → Objects → Type 0
+KeepsNames v w = (key : Key) → IsLive v.rows key → is_some (content_of w key.birth) ≡ true → IsLive w.rows key
+
+-- a heap becomes another as a board does by a step, with some notes more whatever the log was, and nobody is there who was not
+pub record Goes (step : Board → Board) (v w : Objects) : Type 0 where
+  pub more : List Note
+  pub log : w.log ≡ noted_all more v.log
+  pub shown : (b : Board) (log : Log) → Shows b (with_log log v) → Shows (step b) (with_log (noted_all more log) w)
+  pub names : (key : Key) → IsLive w.rows key → IsLive v.rows key

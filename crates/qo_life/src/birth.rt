@@ -1,0 +1,55 @@
+//! Making objects.
+
+ghost use Rattle.std.specs.Prelude.{◌≡◌, ◌+◌, ◌<◌, [], ◌∷◌, ◌++◌, length, IfOk, OnErr, Err, if◌then◌else◌};
+ghost use Rattle.qo_values.specs.declared.kinds.TypeId.{TypeId};
+ghost use Rattle.qo_model.specs.Types.{has_finaliser};
+ghost use Rattle.qo_notes.specs.Log.{noted_all};
+ghost use Rattle.qo_object.specs.Content.{fresh};
+ghost use Rattle.qo_table.specs.Rows.{IsLive};
+ghost use Rattle.qo_heap.specs.declared.errors.MakeError.TheVariants.{Limit, Memory as NoMemory};
+ghost use Rattle.qo_life.specs.Life.{init_note, init_notes, with_notes};
+
+use qo_heap::{Heap, MakeError, Oid, Steps};
+use qo_types::TypeTable;
+use qo_values::TypeId;
+use std::alloc::Global;
+use std::sync::ledger::Ledger;
+
+/// Notes that the initialiser of a type ran on an object, where the type has one.
+fn note_init(heap: &mut Heap, o: Oid, of: TypeId)
+    requires { IsLive heap.old.rows o }
+    ensures { heap.new ≡ with_notes (if has_finaliser of then init_note o.birth of ∷ [] else []) heap.old }
+{
+    if TypeTable::board().has_finaliser(of) {
+        heap.init(o, of);
+    }
+}
+
+/// Notes the initialisers of an object of a type, base first.
+fn note_inits(heap: &mut Heap, o: Oid, kind: TypeId)
+    requires { IsLive heap.old.rows o }
+    ensures { heap.new ≡ with_notes (init_notes o.birth kind) heap.old }
+{
+    let ancestry = TypeTable::board().ancestry(kind);
+    let mut left = ancestry.len();
+    while left > 0 {
+        left -= 1;
+        note_init(heap, o, ancestry[left]);
+    }
+}
+
+/// Makes an object of a type, without slots and pinned once, of the next birth, and notes its
+/// initialisers, base first (docs/devel/qom.rst, "The QEMU Object Model": `instance_init`). `Limit`
+/// comes exactly at 4,096 live objects. An error leaves the heap as it was.
+pub fn create<L: Ledger>(heap: &mut Heap, alloc: Global, kind: TypeId, steps: &mut Steps<L>) -> Result<Oid, MakeError>
+    ensures made { IfOk result (λ o. (o.birth ≡ heap.old.born + 1) × (heap.new ≡ record heap.old { rows = heap.old.rows ++ (o, fresh kind) ∷ []; born = heap.old.born + 1; log = noted_all (init_notes o.birth kind) heap.old.log })) }
+    ensures below { IfOk result (λ o. length heap.old.rows < 4096) }
+    ensures limit { result ≡ Err Limit → length heap.old.rows ≡ 4096 }
+    ensures memory { result ≡ Err NoMemory → length heap.old.rows < 4096 }
+    ensures err { OnErr result (heap.new ≡ heap.old) }
+{
+    let o = heap.make(alloc, kind, steps)?;
+    heap.facts();
+    note_inits(heap, o, kind);
+    Ok(o)
+}

@@ -1,0 +1,10 @@
+//! The life of the objects of the tree: how they are made, with their initialisers base first, and
+//! how they are released, with what nothing refers to any more (docs/devel/qom.rst, "The QEMU Object
+//! Model").
+#![tactic(auto)]
+
+mod birth;
+mod release;
+
+pub use birth::create;
+pub use release::{drop_pin, let_go};

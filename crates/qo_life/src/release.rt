@@ -1,0 +1,121 @@
+//! Releasing objects. None of these calls takes memory, and none fails.
+
+ghost use Rattle.std.specs.Prelude.{◌≡◌, ◌<◌, IfSome, None, option_map};
+ghost use Rattle.qo_model.specs.Board.{Board};
+ghost use Rattle.qo_model.specs.Release.{after, finalise, let_go, unpin};
+ghost use Rattle.qo_object.specs.Shown.{birth_of};
+ghost use Rattle.qo_object.specs.Slots.{held, slot_in};
+ghost use Rattle.qo_table.specs.Rows.{IsLive};
+ghost use Rattle.qo_heap.specs.Board.{Shows};
+ghost use Rattle.qo_heap.specs.Objects.{pins_of, refs_of, slots_of};
+ghost use Rattle.qo_life.specs.Life.{Goes, KeepsNames, next_at};
+
+use qo_heap::{Heap, Oid, Slot, Steps};
+use std::sync::ledger::Ledger;
+
+/// What becomes free where a slot is let go.
+#[derive(Clone, Copy, Debug)]
+struct Turn {
+    /// The object that the slot held.
+    held: Option<Oid>,
+    /// The place of the slot behind it, once it was let go.
+    next: usize,
+}
+
+/// What becomes free where the slot of an object at a place is let go; `None` exactly past the last.
+fn turn_at<L: Ledger>(heap: &Heap, o: Oid, at: usize, steps: &mut Steps<L>) -> Option<Turn>
+    requires { IsLive heap.now.rows o }
+    ensures held { option_map (λ t. t.held) result ≡ option_map held (slot_in (slots_of heap.now o.birth) at) }
+    ensures next { option_map (λ t. t.next) result ≡ option_map (next_at at) (slot_in (slots_of heap.now o.birth) at) }
+{
+    let slot = heap.slot_at(o, at, steps)?;
+    Some(match slot.what {
+        Slot::Child(child) => Turn {
+            held: Some(*child),
+            next: at,
+        },
+        Slot::Link {
+            strong: true,
+            target,
+            ..
+        } => Turn {
+            held: *target,
+            next: at + 1,
+        },
+        _ => Turn {
+            held: None,
+            next: at + 1,
+        },
+    })
+}
+
+/// Ends an object that was held, where nothing refers to it any more.
+#[cycle(ending)]
+fn end_unheld<L: Ledger>(heap: &mut Heap, held: Option<Oid>, steps: &mut Steps<L>)
+    requires { IfSome held (IsLive heap.old.rows) }
+    ensures { Goes (λ b. after finalise b (birth_of held)) heap.old heap.new }
+{
+    heap.facts();
+    if let Some(o) = held {
+        if heap.refs(o, steps) == 0 {
+            finalise(heap, o, steps);
+        }
+    }
+}
+
+/// Lets the slot of an object at a place go, with what it held, and answers the place of the slot
+/// behind it; `None` exactly past the last.
+#[cycle(ending)]
+fn let_go_at<L: Ledger>(heap: &mut Heap, o: Oid, at: usize, steps: &mut Steps<L>) -> Option<usize>
+    requires { IsLive heap.old.rows o }
+    ensures goes { Goes (λ b. let_go b o.birth at) heap.old heap.new }
+    ensures next { result ≡ option_map (next_at at) (slot_in (slots_of heap.old o.birth) at) }
+    ensures past { result ≡ None → heap.new ≡ heap.old }
+{
+    heap.facts();
+    let turn = turn_at(heap, o, at, steps)?;
+    heap.empty(o, at, steps);
+    end_unheld(heap, turn.held, steps);
+    Some(turn.next)
+}
+
+/// Ends an object to which nothing refers: lets its slots go, in order, and removes it.
+#[cycle(ending)]
+fn finalise<L: Ledger>(heap: &mut Heap, o: Oid, steps: &mut Steps<L>)
+    requires live { IsLive heap.old.rows o }
+    requires free { refs_of heap.old o.birth ≡ 0 }
+    ensures { Goes (λ b. finalise b o.birth) heap.old heap.new }
+{
+    heap.facts();
+    let mut at = 0;
+    while let Some(next) = let_go_at(heap, o, at, steps) {
+        at = next;
+    }
+    heap.facts();
+    heap.finish(o, steps);
+}
+
+/// Lets the slot of an object at a place go: a child slot is removed, a link is left without a
+/// target, and what it held is finalised where nothing refers to it any more (docs/devel/qom.rst,
+/// "The QEMU Object Model": `object_unref`, `object_finalize`). A plain slot, an alias and a place
+/// past the last stay.
+pub fn let_go<L: Ledger>(heap: &mut Heap, owner: Oid, at: usize, steps: &mut Steps<L>)
+    requires { IsLive heap.old.rows owner }
+    ensures release { (b : Board) → Shows b heap.old → Shows (let_go b owner.birth at) heap.new }
+    ensures names { KeepsNames heap.old heap.new }
+{
+    let_go_at(heap, owner, at, steps);
+}
+
+/// Takes a pin from an object, which is finalised where nothing refers to it any more
+/// (docs/devel/qom.rst, "The QEMU Object Model": `object_unref`).
+pub fn drop_pin<L: Ledger>(heap: &mut Heap, o: Oid, steps: &mut Steps<L>)
+    requires live { IsLive heap.old.rows o }
+    requires pinned { 0 < pins_of heap.old o.birth }
+    ensures release { (b : Board) → Shows b heap.old → Shows (unpin b o.birth) heap.new }
+    ensures names { KeepsNames heap.old heap.new }
+{
+    heap.facts();
+    heap.unpin(o, steps);
+    end_unheld(heap, Some(o), steps);
+}
