@@ -4,6 +4,7 @@ use Rattle.qo_values.specs.Registers.{fresh_registers}
 use Rattle.qo_values.specs.declared.kinds.TypeId.{TypeId}
 use Rattle.qo_values.specs.declared.properties.Val.{Val}
 use Rattle.qo_model.specs.Board.{Board, Record, Slot, plain, strong, weak}
+use Rattle.qo_model.specs.Opening.{fresh_slots}
 use Rattle.qo_model.specs.Release.{edit, put_in_order}
 
 -- an object as it begins: without slots, its body as a new one, and of a device no id and no path
@@ -56,3 +57,10 @@ cut n i b = edit n (with_cut i) b
 -- n has a slot more, behind the others
 unfoldable pub add : ℕ → List ℕ → Slot → Board → Board
 add n name slot b = edit n (with_added name slot) b
+
+-- n has the slots of a new object of a type too, behind the others: its plain properties with their first values, and its links without targets
+abbrev pub with_fresh : TypeId → Record → Record
+with_fresh kind r = record r { slots = r.slots ++ fresh_slots kind }
+
+unfoldable pub with_fresh_slots : ℕ → TypeId → Board → Board
+with_fresh_slots n kind b = edit n (with_fresh kind) b

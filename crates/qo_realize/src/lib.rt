@@ -1,0 +1,11 @@
+//! The board: the objects of the machine, from the opening board on (docs/devel/qom.rst, "The QEMU
+//! Object Model"; the opening board is the profile's).
+#![tactic(auto)]
+
+mod board;
+mod errors;
+mod fresh;
+mod start;
+
+pub use board::Board;
+pub use errors::Memory;
