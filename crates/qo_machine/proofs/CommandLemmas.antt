@@ -5,7 +5,7 @@ use Rattle.serde_json.specs.Data.{Data, array}
 use Rattle.serde_json.specs.View.{items_of}
 use Rattle.serde_json.specs.Written.{items_have_float}
 use Rattle.qo_model.specs.Board.{Board}
-use Rattle.qo_values.specs.declared.codes.Code.TheVariants.{E22}
+use Rattle.qo_values.specs.declared.codes.Code.TheVariants.{E10, E22}
 use Rattle.qo_model.specs.Types.{TypeRow, is_a, row_named}
 use Rattle.qo_model.specs.Listing.{listing}
 use Rattle.qo_model.specs.Paths.{resolve_absolute}
@@ -96,3 +96,35 @@ running_written = refl
 pub paused_written : codes "{\"running\":false,\"status\":\"paused\"}" ≡ json (status_data false)
 unfolding json ascii chars serde_json_on_literals
 paused_written = refl
+
+-- a command that is not built is unknown
+pub unbuilt : (b : Board) (r : Request) → (r ≡ QueryVersion → ⊥) → (r ≡ QueryCommands → ⊥) → (r ≡ QueryStatus → ⊥) → (r ≡ Quit → ⊥) → ((path : List ℕ) → r ≡ QomList path → ⊥) → ((implements : Option (List ℕ)) (with_abstract : Option Bool) → r ≡ QomListTypes implements with_abstract → ⊥) → ((typename : List ℕ) → r ≡ DeviceListProperties typename → ⊥) → refused_with b E10 ≡ perform b r
+unfolding perform
+unbuilt b (QmpCapabilities enable) v k s q l t p = refl
+unbuilt b QueryVersion v k s q l t p = absurd (v refl)
+unbuilt b QueryCommands v k s q l t p = absurd (k refl)
+unbuilt b QueryStatus v k s q l t p = absurd (s refl)
+unbuilt b Stop v k s q l t p = refl
+unbuilt b Cont v k s q l t p = refl
+unbuilt b SystemReset v k s q l t p = refl
+unbuilt b Quit v k s q l t p = absurd (q refl)
+unbuilt b (QomList path) v k s q l t p = absurd (l path refl)
+unbuilt b (QomGet path property) v k s q l t p = refl
+unbuilt b (QomSet path property value) v k s q l t p = refl
+unbuilt b (QomListTypes implements with_abstract) v k s q l t p = absurd (t implements with_abstract refl)
+unbuilt b (DeviceListProperties typename) v k s q l t p = absurd (p typename refl)
+unbuilt b (ObjectAdd driver id props) v k s q l t p = refl
+unbuilt b (ObjectDel id) v k s q l t p = refl
+unbuilt b (DeviceAdd driver id bus props) v k s q l t p = refl
+unbuilt b (DeviceDel id) v k s q l t p = refl
+unbuilt b (ChardevAdd id kind size) v k s q l t p = refl
+unbuilt b (ChardevRemove id) v k s q l t p = refl
+unbuilt b (RingbufRead device size format) v k s q l t p = refl
+unbuilt b (RingbufWrite device payload format) v k s q l t p = refl
+unbuilt b (XResetHold path) v k s q l t p = refl
+unbuilt b (XResetRelease path) v k s q l t p = refl
+unbuilt b (XSever birth) v k s q l t p = refl
+unbuilt b (XQueryNotes start) v k s q l t p = refl
+unbuilt b XQueryDetached v k s q l t p = refl
+unbuilt b (XGuest line) v k s q l t p = refl
+unbuilt b (XStep ns) v k s q l t p = refl

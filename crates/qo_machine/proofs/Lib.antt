@@ -2,6 +2,7 @@ pub mod ChunkLemmas
 pub mod CommandLemmas
 pub mod LaneLemmas
 pub mod LawLemmas
+pub mod ListingLemmas
 pub mod MachineLemmas
 pub mod RunLemmas
 pub mod SendingLemmas

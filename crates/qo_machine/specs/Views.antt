@@ -1,10 +1,11 @@
 -- What the code's outcomes of commands are.
-use Rattle.std.specs.Prelude.{Bool, false, Result, Ok, Err}
+use Rattle.std.specs.Prelude.{ℕ, Bool, false, if◌then◌else◌, List, [], ◌∷◌, Result, Ok, Err}
 use Rattle.serde_json.specs.Data.{Data}
 use Rattle.serde_json.specs.View.{view}
 use Rattle.serde_json.specs.Written.{has_float}
 use Rattle.qo_values.specs.declared.codes.Code.{Code}
 use Rattle.qo_model.specs.Board.{Board}
+use Rattle.qo_model.specs.Types.{Property}
 use Rattle.qo_machine.specs.Commands as defined
 use Rattle.qo_machine.specs.declared.commands.Body.{Body}
 use Rattle.qo_machine.specs.declared.commands.Body.TheVariants.{Empty, Status, Value}
@@ -28,3 +29,7 @@ done_of b d = record { result = data_of d.result; board = b; events = d.events.i
 abbrev pub has_float_in : Result Data Code → Bool
 has_float_in (Ok d) = has_float d
 has_float_in (Err code) = false
+
+-- a property by name and type text, if the adding command writes it
+abbrev pub words_for_adding : Property → List (List ℕ × List ℕ)
+words_for_adding p = if defined.is_for_adding p then defined.property_words p ∷ [] else []

@@ -1,22 +1,24 @@
 //! Commands: what each returns, or the code that refuses it.
 
-ghost use Rattle.std.specs.Prelude.{◌≡◌, ◌++◌, [], ◌∷◌, true, false, codes, map, filter_map, Some, option_map, Ok, IfOk, OnOk};
+ghost use Rattle.std.specs.Prelude.{◌≡◌, ◌++◌, [], ◌∷◌, true, false, codes, map, filter_map, Some, option_map, string_bytes, Ok, IfOk, IfSome, OnOk};
 ghost use Rattle.serde_json.specs.Data.{array};
 ghost use Rattle.serde_json.specs.View.{items_of, view};
 ghost use Rattle.qo_model.specs.Opening.{opening_board};
 ghost use Rattle.qo_model.specs.Paths.{resolve_absolute};
-ghost use Rattle.qo_model.specs.Types.{row_of};
+ghost use Rattle.qo_model.specs.Objects.{may_add};
+ghost use Rattle.qo_model.specs.Types.{row_named, row_of};
+ghost use Rattle.qo_types.specs.Rows.{kind_told, mark_told, property_told};
 ghost use Rattle.std.specs.Option.{option_map_or};
-ghost use Rattle.qo_machine.specs.Commands.{built, command_data, empty, listed, perform, property_data, refused_with, returned, type_data, types_of};
+ghost use Rattle.qo_machine.specs.Commands.{adding_properties, built, command_data, device_properties, empty, kind_word, listed, perform, property_data, refused_with, returned, type_data, types_of};
 ghost use Rattle.qo_machine.specs.Tree.{row};
-ghost use Rattle.qo_machine.specs.Views.{body_data, done_of};
+ghost use Rattle.qo_machine.specs.Views.{body_data, done_of, words_for_adding};
 ghost use Rattle.qo_replies.specs.declared.events.Event.TheVariants as Event;
 
 use crate::tree::{self, Property};
 use qo_replies::{Event, version};
 use qo_requests::Request;
-use qo_types::TypeTable;
-use qo_values::{Code, Text, TypeId};
+use qo_types::{Mark, RowKind, SlotRow, TypeTable};
+use qo_values::{Code, PropType, Text, TypeId};
 use serde_json::{Value, json};
 use std::alloc::{AllocError, Global};
 
@@ -162,6 +164,81 @@ fn list_types(
     Ok(returned(alloc, Body::Value(listing)))
 }
 
+/// A property that the adding command writes, by name and type text.
+fn row_value(alloc: Global, name: &str, text: &str) -> Result<Value, AllocError>
+    ensures { IfOk result (λ v. view v ≡ property_data (name.now, text.now)) }
+{
+    json!(in alloc; {"name": name, "type": text})
+}
+
+/// The type text of a property with a row; that of an alias is the text of what it passes on to,
+/// and is empty here.
+fn kind_text(alloc: Global, kind: &RowKind) -> Result<String, AllocError>
+    ensures { IfOk result (λ text. IfSome (kind_told kind.now) (λ k. string_bytes text ≡ kind_word k)) }
+{
+    match kind {
+        RowKind::Plain(PropType::Bool, _) => String::from_str(alloc, "bool"),
+        RowKind::Plain(PropType::Int { .. }, _) => String::from_str(alloc, "int64"),
+        RowKind::Plain(PropType::Uint { .. }, _) => String::from_str(alloc, "uint64"),
+        RowKind::Plain(PropType::Text, _) => String::from_str(alloc, "string"),
+        RowKind::Child(ty) => format!(in alloc; "child<{}>", ty.name()),
+        RowKind::Link { ty, .. } => format!(in alloc; "link<{}>", ty.name()),
+        RowKind::Alias { .. } => Ok(String::new(alloc)),
+    }
+}
+
+/// Whether the adding command writes a property with a mark.
+fn is_for_adding(mark: Mark) -> bool
+    ensures { result ≡ may_add (mark_told mark) }
+{
+    match mark {
+        Mark::Add => true,
+        Mark::Both => true,
+        Mark::Never => false,
+        Mark::Set => false,
+    }
+}
+
+/// Adds a property to a list, where the adding command writes it.
+fn push_row(alloc: Global, values: &mut Vec<Value>, row: &SlotRow) -> Result<(), AllocError>
+    ensures { OnOk result (IfSome (property_told row.now) (λ p. map view values.new.items ≡ map view values.old.items ++ map property_data (words_for_adding p))) }
+{
+    if !is_for_adding(row.mark) {
+        return Ok(());
+    }
+    let text = kind_text(alloc, &row.kind)?;
+    let value = row_value(alloc, row.name, &text)?;
+    values.push(value)?;
+    Ok(())
+}
+
+/// The properties of a type that the adding command writes, as a list.
+fn row_listing(alloc: Global, t: TypeId) -> Result<Value, AllocError>
+    ensures { IfOk result (λ v. view v ≡ array (items_of (map property_data (adding_properties t)))) }
+{
+    let rows = TypeTable::board().props(t);
+    let mut values = Vec::new(alloc);
+    for row in rows {
+        push_row(alloc, &mut values, row)?;
+    }
+    Ok(Value::Array(values))
+}
+
+/// The properties of a named type of devices that the adding command writes.
+fn list_properties(alloc: Global, typename: &str) -> Result<Done, AllocError>
+    ensures { IfOk result (λ d. done_of opening_board d ≡ device_properties opening_board (row_named typename.now)) }
+{
+    let types = TypeTable::board();
+    let Some(t) = types.find(typename) else {
+        return Ok(refused(alloc, Code::E20));
+    };
+    if !types.is_a(t, "device") {
+        return Ok(refused(alloc, Code::E22));
+    }
+    let listing = row_listing(alloc, t)?;
+    Ok(returned(alloc, Body::Value(listing)))
+}
+
 /// The names of the commands that are built, in byte order.
 fn built() -> &'static [&'static str]
     ensures { map (λ name. name.now) result.now ≡ built }
@@ -223,6 +300,7 @@ pub(crate) fn perform(alloc: Global, request: &Request) -> Result<Done, AllocErr
             implements,
             with_abstract,
         } => list_types(alloc, implements.as_ref(), with_abstract.unwrap_or(false)),
+        Request::DeviceListProperties { typename } => list_properties(alloc, typename.as_str()),
         Request::QueryVersion => Ok(returned(alloc, Body::Value(version(alloc)?))),
         Request::QueryCommands => Ok(returned(alloc, Body::Value(commands(alloc)?))),
         Request::QueryStatus => Ok(returned(alloc, Body::Status(true))),

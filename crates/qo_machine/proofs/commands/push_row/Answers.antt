@@ -1,0 +1,13 @@
+use Rattle.std.proofs.Common.{◌∙◌, ◌++◌, ◌∷◌, [], ap, sym, map, List, ℕ}
+use Rattle.qo_machine.specs.Commands.{property_data}
+use Rattle.serde_json.specs.Data.{Data}
+use Rattle.serde_json.specs.View.{view}
+use Rattle.qo_model.specs.Objects.{may_add}
+use Rattle.qo_types.specs.Rows.{kind_told, mark_told}
+use Rattle.qo_machine.proofs.ListingLemmas.{row-pushed, map-append}
+use Rattle.qo_machine.proofs.commands.push_row.Goals as goal
+
+pub returns : goal.returns
+returns c =
+    row-pushed c.args.row.now.name.now (mark_told c.args.row.now.mark) (kind_told c.args.row.now.kind) _ _ _ (sym c.is_for_adding.ensures ∙ c.if-not-is_for_adding.false) c.in_ok-text.ensures
+    (ap (λ l. map view l) c.in_ok-push.ensures.items ∙ map-append view c.args.values.now.items (c.in_ok-value.value ∷ []) ∙ ap (λ (d : Data). map view c.args.values.now.items ++ d ∷ []) (c.in_ok-value.ensures ∙ ap (λ (text : List ℕ). property_data (c.args.row.now.name.now, text)) c.deref.ensures))
