@@ -213,7 +213,7 @@ const ANSWERED: [(&str, &str); 5] = [
     ),
     (
         "{\"execute\":\"query-commands\"}",
-        "0 {\"return\":[{\"name\":\"qmp_capabilities\"},{\"name\":\"qom-list\"},{\"name\":\"query-commands\"},{\"name\":\"query-status\"},{\"name\":\"query-version\"},{\"name\":\"quit\"}]}\r\n",
+        "0 {\"return\":[{\"name\":\"device-list-properties\"},{\"name\":\"qmp_capabilities\"},{\"name\":\"qom-list\"},{\"name\":\"qom-list-types\"},{\"name\":\"query-commands\"},{\"name\":\"query-status\"},{\"name\":\"query-version\"},{\"name\":\"quit\"}]}\r\n",
     ),
     (
         "{\"execute\":\"query-version\"}",
@@ -228,6 +228,53 @@ const ANSWERED: [(&str, &str); 5] = [
         "0 {\"error\":{\"class\":\"DeviceNotFound\",\"desc\":\"E15 path not found\"},\"id\":[1,null,{\"a\":true,\"b\":-2}]}\r\n",
     ),
 ];
+
+/// Commands on types, and the lines that answer them.
+const TYPES_ANSWERED: [(&str, &str); 7] = [
+    (
+        "{\"execute\":\"qom-list-types\",\"arguments\":{\"implements\":\"user-creatable\"}}",
+        "0 {\"return\":[{\"name\":\"memory-backend-ram\",\"parent\":\"memory-backend\"},{\"name\":\"tag\",\"parent\":\"object\"}]}\r\n",
+    ),
+    (
+        "{\"execute\":\"qom-list-types\",\"arguments\":{\"implements\":\"user-creatable\",\"abstract\":true}}",
+        "0 {\"return\":[{\"abstract\":true,\"name\":\"memory-backend\",\"parent\":\"object\"},{\"name\":\"memory-backend-ram\",\"parent\":\"memory-backend\"},{\"name\":\"tag\",\"parent\":\"object\"}]}\r\n",
+    ),
+    (
+        "{\"execute\":\"qom-list-types\",\"arguments\":{\"implements\":\"nothing\"},\"id\":1}",
+        "0 {\"id\":1,\"return\":[]}\r\n",
+    ),
+    (
+        "{\"execute\":\"qom-list-types\"}",
+        "0 {\"return\":[{\"name\":\"container\",\"parent\":\"object\"},{\"name\":\"machine\",\"parent\":\"object\"},{\"name\":\"slot-uart\",\"parent\":\"slot-device\"},{\"name\":\"slot-timer\",\"parent\":\"slot-device\"},{\"name\":\"slot-bridge\",\"parent\":\"slot-device\"},{\"name\":\"mem-dimm\",\"parent\":\"device\"},{\"name\":\"slot-bus\",\"parent\":\"bus\"},{\"name\":\"mem-bus\",\"parent\":\"bus\"},{\"name\":\"clock\",\"parent\":\"object\"},{\"name\":\"memory-backend-ram\",\"parent\":\"memory-backend\"},{\"name\":\"tag\",\"parent\":\"object\"}]}\r\n",
+    ),
+    (
+        "{\"execute\":\"device-list-properties\",\"arguments\":{\"typename\":\"mem-dimm\"}}",
+        "0 {\"return\":[{\"name\":\"slot\",\"type\":\"uint64\"},{\"name\":\"peer\",\"type\":\"link<device>\"},{\"name\":\"watch\",\"type\":\"link<device>\"},{\"name\":\"memdev\",\"type\":\"link<memory-backend>\"},{\"name\":\"addr\",\"type\":\"uint64\"}]}\r\n",
+    ),
+    (
+        "{\"execute\":\"device-list-properties\",\"arguments\":{\"typename\":\"nothing\"}}",
+        "0 {\"error\":{\"class\":\"GenericError\",\"desc\":\"E20 type unknown\"}}\r\n",
+    ),
+    (
+        "{\"execute\":\"device-list-properties\",\"arguments\":{\"typename\":\"tag\"}}",
+        "0 {\"error\":{\"class\":\"GenericError\",\"desc\":\"E22 type not creatable here\"}}\r\n",
+    ),
+];
+
+#[test]
+fn commands_on_types_are_answered(rt: HostRuntime) -> Result<(), Fail> {
+    let alloc = rt.alloc();
+    let mut record = record_of(alloc, &[NEGOTIATE])?;
+    let mut want = joined(alloc, &[GREETING, EMPTY])?;
+    for (command, line) in TYPES_ANSWERED {
+        add_bytes(alloc, &mut record, command.as_bytes())?;
+        want.push_str(line)?;
+    }
+    let left = call(alloc, &["replay"], record.as_slice(), &[], &[])?;
+    assert_eq!(rt; left.status, Status::Done);
+    assert_eq!(rt; left.held.as_slice(), want.as_bytes());
+    Ok(())
+}
 
 #[test]
 fn commands_are_answered(rt: HostRuntime) -> Result<(), Fail> {
