@@ -1,6 +1,7 @@
 pub mod CycleLemmas
 pub mod DepthLemmas
 pub mod EditLemmas
+pub mod FinalNotesGrowthLemmas
 pub mod FinalNotesLemmas
 pub mod GraphLemmas
 pub mod OpeningLemmas
