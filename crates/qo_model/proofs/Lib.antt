@@ -1,8 +1,10 @@
 pub mod CycleLemmas
 pub mod DepthLemmas
 pub mod EditLemmas
+pub mod FinalNotesChangesLemmas
 pub mod FinalNotesGrowthLemmas
 pub mod FinalNotesLemmas
+pub mod FinalNotesRunsLemmas
 pub mod GraphLemmas
 pub mod OpeningLemmas
 pub mod ReleaseKeepsLemmas
