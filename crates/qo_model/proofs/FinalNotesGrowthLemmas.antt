@@ -1,11 +1,12 @@
--- What keeps the notes of a board in order: an object that is made, and one that is made and ends at once.
+-- What keeps the notes of a board in order: an act that is noted, an object that is made, and one that is made and ends at once.
 use Rattle.std.specs.List.{list_any}
-use Rattle.std.proofs.Common.{◌≡◌, refl, ap, ap₂, sym, ◌∙◌, ℕ, ◌+◌, ◌<◌, ◌≤◌, leb, Bool, true, false, ◌==◌, if◌then◌else◌, List, [], ◌∷◌, ◌++◌, map, find, Option, Some, None, is_some, option_map, append-nil, arith}
+use Rattle.std.proofs.Common.{◌≡◌, refl, ap, ap₂, sym, ◌∙◌, ℕ, ◌+◌, ◌<◌, ◌≤◌, leb, Bool, true, false, ◌==◌, ◌||◌, if◌then◌else◌, List, [], ◌∷◌, ◌++◌, map, find, Option, Some, None, is_some, option_map, append_assoc, append-nil, arith}
 use Rattle.std.proofs.lemmas.Bool.{eqb-true, eq-eqb}
 use Rattle.std.proofs.lemmas.Option.{same_Some}
 use Rattle.std.proofs.lemmas.List.Elements.{filter-append}
-use Rattle.std.proofs.lemmas.List.Folds.{find-append}
+use Rattle.std.proofs.lemmas.List.Folds.{find-append, list_any-append}
 use Rattle.std.specs.Option.{option_or}
+use Rattle.qo_values.specs.declared.kinds.Act.{Act}
 use Rattle.qo_values.specs.declared.kinds.Act.TheVariants.{Init}
 use Rattle.qo_values.specs.declared.kinds.TypeId.{TypeId}
 use Rattle.qo_model.specs.declared.notes.Deed.{Deed}
@@ -13,7 +14,9 @@ use Rattle.qo_model.specs.declared.notes.Deed.TheVariants.{Did, Final}
 use Rattle.qo_model.specs.declared.notes.Note.{Note}
 use Rattle.qo_model.specs.Board.{Board, Record, Slot, child, record_of, is_live, kind_of}
 use Rattle.qo_model.specs.Changes.{with_added}
-use Rattle.qo_model.specs.FinalNotes.{beginning, ending, IsBorn, NotesInOrder, Story}
+use Rattle.qo_model.specs.FinalNotes.{beginning, ending, is_bound, IsBorn, NotesInOrder, Story}
+use Rattle.qo_model.specs.FinalNotesRuns.{with_act}
+use Rattle.qo_model.specs.Notes.{deed_type}
 use Rattle.qo_values.specs.Registers.{fresh_registers}
 use Rattle.qo_model.specs.Objects.{Given, given_slots, init_notes, objects_birth, with_attempt, with_object}
 use Rattle.qo_model.specs.Release.{edit, edited}
@@ -44,6 +47,53 @@ behind-other m x e deed ts notes =
     filter-append (λ (y : Note). y.birth == x) notes (noted m deed ts)
     ∙ ap (λ (xs : List Note). notes_on x notes ++ xs) (noted-other m x e deed ts)
     ∙ append-nil (notes_on x notes)
+
+-- an act that does not begin its object belongs between
+one-noted : (n : ℕ) (act : Act) (notes : List Note) → notes_on n (notes ++ record { birth = n; deed = Did act } ∷ []) ≡ notes_on n notes ++ record { birth = n; deed = Did act } ∷ []
+one-noted n act notes = filter-append (λ (x : Note). x.birth == n) notes (record { birth = n; deed = Did act } ∷ []) ∙ rw (eq-eqb n n refl) refl
+
+one-other : (n x : ℕ) → (n == x) ≡ false → (act : Act) (notes : List Note) → notes_on x (notes ++ record { birth = n; deed = Did act } ∷ []) ≡ notes_on x notes
+one-other n x e act notes = filter-append (λ (y : Note). y.birth == x) notes (record { birth = n; deed = Did act } ∷ []) ∙ rw e (append-nil (notes_on x notes))
+
+story-goes-on : (n : ℕ) (t : TypeId) (act : Act) (notes : List Note) → deed_type (Did act) ≡ None → Story n t false notes → Story n t false (notes ++ record { birth = n; deed = Did act } ∷ [])
+story-goes-on n t act notes plain s =
+    record {
+      between = s.between ++ this;
+      neither = list_any-append is_bound s.between this ∙ ap₂ (λ (u v : Bool). u || v) s.neither (rw (is_bound, plain) refl);
+      in_order = one-noted n act notes ∙ ap (λ (xs : List Note). xs ++ this) s.in_order ∙ joined (beginning n t) s.between;
+    }
+  where
+    this : List Note
+    this = record { birth = n; deed = Did act } ∷ []
+
+    joined : (us vs : List Note) → us ++ vs ++ [] ++ this ≡ us ++ (vs ++ this) ++ []
+    joined us vs = ap (λ (xs : List Note). xs ++ this) (append-nil (us ++ vs)) ∙ append_assoc us vs this ∙ sym (append-nil (us ++ (vs ++ this)))
+
+pub act-keeps : (b : Board) (n : ℕ) (act : Act) → is_live b n ≡ true → deed_type (Did act) ≡ None → NotesInOrder b → NotesInOrder (with_act n act b)
+act-keeps b n act there plain o =
+    record {
+      opened = o.opened;
+      counted = o.counted;
+      unborn = λ x k. one-other n x (apart x (λ is. k (rw (sym is) (o.counted n there))) (n == x) refl) act b.notes ∙ o.unborn x k;
+      living = λ x t e. living x t e (n == x) refl;
+      gone = λ x born e. gone x born e (n == x) refl;
+    }
+  where
+    apart : (x : ℕ) → ¬ (n ≡ x) → (s : Bool) → (n == x) ≡ s → (n == x) ≡ false
+    apart x differ true p = absurd (differ (eqb-true n x p))
+    apart x differ false p = p
+
+    living : (x : ℕ) (t : TypeId) → kind_of b x ≡ Some t → (s : Bool) → (n == x) ≡ s → Story x t false (with_act n act b).notes
+    living x t e true p =
+        let is : n ≡ x = eqb-true n x p in
+        rw (sym is) (story-goes-on n t act b.notes plain (o.living n t (ap (kind_of b) is ∙ e)))
+    living x t e false p = story-same x t false (with_act n act b).notes b.notes (one-other n x p act b.notes) (o.living x t e)
+
+    gone : (x : ℕ) → IsBorn b x → is_live b x ≡ false → (s : Bool) → (n == x) ≡ s → (t : TypeId) × Story x t true (with_act n act b).notes
+    gone x born e true p = let clash : true ≡ false = sym there ∙ ap (is_live b) (eqb-true n x p) ∙ e in cc
+    gone x born e false p =
+        let old : (t : TypeId) × Story x t true b.notes = o.gone x born e in
+        (old.0, story-same x old.0 true (with_act n act b).notes b.notes (one-other n x p act b.notes) old.1)
 
 -- from b to c one object of a type was made, which is there or over already, and of no other anything was noted
 pub record Grown (b c : Board) (t : TypeId) (over : Bool) : Type 0 where

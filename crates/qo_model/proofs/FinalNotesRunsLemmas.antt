@@ -18,8 +18,9 @@ use Rattle.qo_model.specs.Objects.{init_notes}
 use Rattle.qo_model.specs.Opening.{opening_board}
 use Rattle.qo_model.specs.ReleaseNotes.{notes_on}
 use Rattle.qo_model.specs.Types.{inits, types}
-use Rattle.qo_model.proofs.FinalNotesLemmas.{kind-live, live-of-kind}
+use Rattle.qo_model.proofs.FinalNotesLemmas.{finalise-keeps, kind-live, let_go-keeps, live-of-kind, unpin-keeps}
 use Rattle.qo_model.proofs.FinalNotesChangesLemmas.{changed-keeps}
+use Rattle.qo_model.proofs.FinalNotesGrowthLemmas.{act-keeps}
 use Rattle.qo_model.proofs.StepLemmas.{found_at}
 
 -- who is found among records passes what all their births pass
@@ -130,15 +131,12 @@ story-once n t over notes s =
     ends true = refl
     ends false = refl
 
--- where notes are in order, each birth so far has its story, and any birth its final notes at most once
-pub told : (b : Board) → NotesInOrder b → (n : ℕ) → IsBorn b n → (t : TypeId) × (over : Bool) × Story n t over b.notes
-told b o n born = go (kind_of b n) refl
-  where
-    go : (k : Option TypeId) → kind_of b n ≡ k → (t : TypeId) × (over : Bool) × Story n t over b.notes
-    go (Some t) p = (t, false, o.living n t p)
-    go None p =
-        let over : (t : TypeId) × Story n t true b.notes = o.gone n born (sym (kind-live b n) ∙ ap is_some p) in
-        (over.0, true, over.1)
+-- where notes are in order, each birth so far has a story, and any birth its final notes at most once
+told : (b : Board) → NotesInOrder b → (n : ℕ) → IsBorn b n → (t : Option TypeId) → kind_of b n ≡ t → FinalOnce n b.notes
+told b o n born (Some t) p = story-once n t false b.notes (o.living n t p)
+told b o n born None p =
+    let over : (t : TypeId) × Story n t true b.notes = o.gone n born (sym (kind-live b n) ∙ ap is_some p) in
+    story-once n over.0 true b.notes over.1
 
 pub once : (b : Board) → NotesInOrder b → (n : ℕ) → FinalOnce n b.notes
 once b o n = go (leb 1 n) refl (leb n b.born) refl
@@ -150,16 +148,20 @@ once b o n = go (leb 1 n) refl (leb n b.born) refl
     go true p true q =
         let low : 0 < n = grind arith in
         let high : n ≤ b.born = grind arith in
-        let story : (t : TypeId) × (over : Bool) × Story n t over b.notes = told b o n (low, high) in
-        story-once n story.0 story.1 b.notes story.2
+        told b o n (low, high) (kind_of b n) refl
     go true p false q = none (λ born. let high : n ≤ b.born = born.1 in absurd (grind arith))
     go false p u q = none (λ born. let low : 0 < n = born.0 in absurd (grind arith))
 
 pub final_once_lem : FinalOnceLaw
 final_once_lem =
     record {
+      finalised = finalise-keeps;
+      slot_let_go = let_go-keeps;
+      unpinned = unpin-keeps;
+      acted = act-keeps;
+      step = changed-keeps;
       opening = opening_notes;
-      kept = changed-keeps;
-      once = λ changes n. once (behind opening_board changes) (behind-keeps changes opening_board opening_notes) n;
-      mirrored = λ changes n born. told (behind opening_board changes) (behind-keeps changes opening_board opening_notes) n born;
+      run = λ changes. behind-keeps changes opening_board opening_notes;
+      once = once;
+      once_in_run = λ changes n. once (behind opening_board changes) (behind-keeps changes opening_board opening_notes) n;
     }

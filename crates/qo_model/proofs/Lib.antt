@@ -4,6 +4,7 @@ pub mod EditLemmas
 pub mod FinalNotesChangesLemmas
 pub mod FinalNotesGrowthLemmas
 pub mod FinalNotesLemmas
+mod FinalNotesRows
 pub mod FinalNotesRunsLemmas
 pub mod GraphLemmas
 pub mod OpeningLemmas
