@@ -1,19 +1,19 @@
 -- The commands on objects keep the notes of a board in order.
-use Rattle.std.proofs.Common.{◌≡◌, refl, ℕ, zero, suc, Bool, true, false, not, List, Option, Some, None, option_and_then, Result, Ok, Err, length, position}
+use Rattle.std.proofs.Common.{◌≡◌, refl, ℕ, zero, suc, Bool, true, false, List, Option, Some, None, option_and_then, Result, Ok, Err, length, position}
 use Rattle.std.specs.Str.{bytes_eq}
 use Rattle.qo_values.specs.Properties.{admits}
 use Rattle.qo_values.specs.declared.codes.Code.{Code}
 use Rattle.qo_values.specs.declared.kinds.TypeId.{TypeId}
 use Rattle.qo_values.specs.declared.properties.Val.{Val}
 use Rattle.qo_values.specs.declared.properties.Val.TheVariants as val
-use Rattle.qo_model.specs.Board.{Board, Record, Slot, plain, child, strong, weak, alias, is_live, kind_of, slot_at, slots_at, held}
+use Rattle.qo_model.specs.Board.{Board, Slot, plain, child, strong, weak, alias, is_live, kind_of, slot_at, slots_at, held}
 use Rattle.qo_model.specs.Changes.{point, set, with_changed, with_val, pointed}
 use Rattle.qo_model.specs.FinalNotes.{NotesInOrder}
 use Rattle.qo_model.specs.FinalNotesRuns.{Change, added, deleted, wrote, severed, behind_write, changed}
 use Rattle.qo_model.specs.Objects.{Given, added_as, added_by, barred, is_object_named, object_add, object_del, objects_birth, place_from, refusal_of, sever, severed_from}
 use Rattle.qo_model.specs.Paths.{attached}
 use Rattle.qo_model.specs.Properties.{link_target, linked, may_set, pointed_at, relinked, row_of_property, write, written, written_by}
-use Rattle.qo_model.specs.Release.{after, drop_slot, finalise, let_go, pin, put_in_order, unpin, with_dropped}
+use Rattle.qo_model.specs.Release.{drop_slot, let_go, pin, put_in_order, with_dropped}
 use Rattle.qo_model.specs.Types.{Kind, Property, TypeRow, row_named}
 use Rattle.qo_model.proofs.FinalNotesLemmas.{after-keeps, edit-keeps, let_go-keeps, pins-keep, unpin-keeps}
 use Rattle.qo_model.proofs.FinalNotesGrowthLemmas.{attempt-grows, grown-keeps, object-grows}

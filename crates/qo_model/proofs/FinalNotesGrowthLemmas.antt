@@ -1,6 +1,5 @@
 -- What keeps the notes of a board in order: an act that is noted, an object that is made, and one that is made and ends at once.
-use Rattle.std.specs.List.{list_any}
-use Rattle.std.proofs.Common.{◌≡◌, refl, ap, ap₂, sym, ◌∙◌, ℕ, ◌+◌, ◌<◌, ◌≤◌, leb, Bool, true, false, ◌==◌, ◌||◌, if◌then◌else◌, List, [], ◌∷◌, ◌++◌, map, find, Option, Some, None, is_some, option_map, append_assoc, append-nil, arith}
+use Rattle.std.proofs.Common.{◌≡◌, refl, ap, ap₂, sym, ◌∙◌, ℕ, ◌+◌, ◌<◌, ◌≤◌, leb, Bool, true, false, ◌==◌, ◌||◌, if◌then◌else◌, List, [], ◌∷◌, ◌++◌, map, Option, Some, None, is_some, option_map, append_assoc, append-nil, arith}
 use Rattle.std.proofs.lemmas.Bool.{eqb-true, eq-eqb}
 use Rattle.std.proofs.lemmas.Option.{same_Some}
 use Rattle.std.proofs.lemmas.List.Elements.{filter-append}
@@ -12,14 +11,14 @@ use Rattle.qo_values.specs.declared.kinds.TypeId.{TypeId}
 use Rattle.qo_model.specs.declared.notes.Deed.{Deed}
 use Rattle.qo_model.specs.declared.notes.Deed.TheVariants.{Did, Final}
 use Rattle.qo_model.specs.declared.notes.Note.{Note}
-use Rattle.qo_model.specs.Board.{Board, Record, Slot, child, record_of, is_live, kind_of}
+use Rattle.qo_model.specs.Board.{Board, Record, child, is_live, kind_of}
 use Rattle.qo_model.specs.Changes.{with_added}
 use Rattle.qo_model.specs.FinalNotes.{beginning, ending, is_bound, IsBorn, NotesInOrder, Story}
 use Rattle.qo_model.specs.FinalNotesRuns.{with_act}
 use Rattle.qo_model.specs.Notes.{deed_type}
 use Rattle.qo_values.specs.Registers.{fresh_registers}
 use Rattle.qo_model.specs.Objects.{Given, given_slots, init_notes, objects_birth, with_attempt, with_object}
-use Rattle.qo_model.specs.Release.{edit, edited}
+use Rattle.qo_model.specs.Release.{edited}
 use Rattle.qo_model.specs.ReleaseNotes.{notes_on}
 use Rattle.qo_model.specs.Types.{finals, inits}
 use Rattle.qo_model.proofs.FinalNotesLemmas.{kind-live, live-of-kind, story-same, edit-kind}
@@ -177,8 +176,8 @@ attempt-grows b t o =
       born = refl;
       others = λ x e. refl;
       unnoted = λ x e.
-        behind-other (b.born + 1) x e Final (finals t) (b.notes ++ init_notes (b.born + 1) t)
-        ∙ behind-other (b.born + 1) x e (λ k. Did (Init k)) (inits t) b.notes;
+          behind-other (b.born + 1) x e Final (finals t) (b.notes ++ init_notes (b.born + 1) t)
+          ∙ behind-other (b.born + 1) x e (λ k. Did (Init k)) (inits t) b.notes;
       kind = next-absent b o (kind_of b (b.born + 1)) refl;
       story =
           record {

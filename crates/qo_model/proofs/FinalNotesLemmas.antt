@@ -1,13 +1,9 @@
--- What keeps the notes of a board in order: releases, edits of slots, and an object that is made.
-use Rattle.std.specs.List.{list_any}
+-- What keeps the notes of a board in order: releases, pins, and edits of objects.
 use Rattle.std.specs.Option.{option_map_or}
-use Rattle.std.proofs.Common.{◌≡◌, refl, ap, sym, subst, ◌∙◌, ℕ, ◌+◌, ◌<◌, ◌≤◌, Bool, true, false, ◌==◌, if◌then◌else◌, List, [], ◌∷◌, ◌++◌, map, Option, Some, None, is_some, option_map, append_assoc, append-nil, arith}
-use Rattle.std.proofs.lemmas.Bool.{eqb-true, eq-eqb}
-use Rattle.std.proofs.lemmas.Option.{same_Some}
+use Rattle.std.proofs.Common.{◌≡◌, refl, ap, sym, ◌∙◌, ℕ, Bool, true, false, ◌==◌, List, [], ◌++◌, Option, Some, None, is_some, option_map, append-nil}
 use Rattle.qo_values.specs.declared.kinds.TypeId.{TypeId}
-use Rattle.qo_model.specs.declared.notes.Deed.{Deed}
 use Rattle.qo_model.specs.declared.notes.Note.{Note}
-use Rattle.qo_model.specs.Board.{Board, Record, Slot, record_of, is_live, kind_of, slot_at, held}
+use Rattle.qo_model.specs.Board.{Board, Record, record_of, is_live, kind_of}
 use Rattle.qo_model.specs.FinalNotes.{beginning, ending, IsBorn, NotesInOrder, Story}
 use Rattle.qo_model.specs.References.{refs}
 use Rattle.qo_model.specs.Release.{after, edit, edited, final_notes, finalise, let_go, unpin}
@@ -62,8 +58,8 @@ ends-keep b c ends leaves o =
       counted = λ n e. rw leaves.born (o.counted n (leaves-live b c leaves n e));
       unborn = λ n k. unborn n (rw leaves.born at k);
       living = λ n t e.
-        let there : is_live c n ≡ true = live-of-kind c n t e in
-        story-same n t false c.notes b.notes (ends.living n there) (o.living n t (leaves-kind b c leaves n there ∙ e));
+          let there : is_live c n ≡ true = live-of-kind c n t e in
+          story-same n t false c.notes b.notes (ends.living n there) (o.living n t (leaves-kind b c leaves n there ∙ e));
       gone = λ n born e. gone n (rw leaves.born at born) e (record_of b n) refl;
     }
   where
@@ -145,8 +141,8 @@ same-keep b c born notes kind o =
       unborn = λ n k. ap (notes_on n) notes ∙ o.unborn n (rw born at k);
       living = λ n t e. story-same n t false c.notes b.notes (ap (notes_on n) notes) (o.living n t (sym (kind n) ∙ e));
       gone = λ n is_born e.
-        let old : (t : TypeId) × Story n t true b.notes = o.gone n (rw born at is_born) (sym (live n) ∙ e) in
-        (old.0, story-same n old.0 true c.notes b.notes (ap (notes_on n) notes) old.1);
+          let old : (t : TypeId) × Story n t true b.notes = o.gone n (rw born at is_born) (sym (live n) ∙ e) in
+          (old.0, story-same n old.0 true c.notes b.notes (ap (notes_on n) notes) old.1);
     }
   where
     live : (n : ℕ) → is_live c n ≡ is_live b n
