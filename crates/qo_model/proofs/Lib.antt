@@ -1,6 +1,11 @@
 pub mod CycleLemmas
 pub mod DepthLemmas
 pub mod EditLemmas
+pub mod FinalNotesChangesLemmas
+pub mod FinalNotesGrowthLemmas
+pub mod FinalNotesLemmas
+mod FinalNotesRows
+pub mod FinalNotesRunsLemmas
 pub mod GraphLemmas
 pub mod OpeningLemmas
 pub mod ReleaseKeepsLemmas

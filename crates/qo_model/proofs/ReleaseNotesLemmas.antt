@@ -19,7 +19,7 @@ use Rattle.qo_model.proofs.ReleaseKeepsLemmas.{release_keeps, after_keeps}
 use Rattle.qo_model.proofs.StepLemmas.{found_at, drop-record, drop-live, finish-record, finish-live}
 
 -- a record that is found has the birth
-found-birth : (n : ℕ) (rs : List Record) (x : Record) → found_at n rs ≡ Some x → x.birth ≡ n
+pub found-birth : (n : ℕ) (rs : List Record) (x : Record) → found_at n rs ≡ Some x → x.birth ≡ n
 found-birth n [] x e = cc
 found-birth n (r ∷ rs) x e = go (r.birth == n) refl (found-birth n rs x)
   where

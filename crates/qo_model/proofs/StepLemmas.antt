@@ -47,7 +47,7 @@ pub drop-record : (b : Board) (n i x : ℕ) → record_of (drop_slot b n i) x �
 unfolding drop_slot
 drop-record b n i x = found-edited n (with_dropped i) (λ r. refl) x b.records
 
-is_some-map : {A B : Type 0} (f : A → B) (o : Option A) → is_some (option_map f o) ≡ is_some o
+pub is_some-map : {A B : Type 0} (f : A → B) (o : Option A) → is_some (option_map f o) ≡ is_some o
 is_some-map f None = refl
 is_some-map f (Some x) = refl
 

@@ -1,6 +1,8 @@
 pub mod Board
 pub mod Changes
 pub mod Depth
+pub mod FinalNotes
+pub mod FinalNotesRuns
 pub mod Holders
 pub mod Laws
 pub mod Listing

@@ -2,6 +2,7 @@
 
 ghost use Rattle.std.specs.Prelude.{ℕ, List, ⊤};
 ghost use Rattle.qo_model.specs.Board.{Board};
+ghost use Rattle.qo_model.specs.FinalNotesRuns.{FinalOnceLaw};
 ghost use Rattle.qo_model.specs.Laws.{
   OpeningLaw,
   PathsLaw,
@@ -78,6 +79,13 @@ pub fn law_weak_links()
 #[tactic(auto, using(crate::proofs::ReleaseNotesLemmas::final_notes_lem))]
 pub fn law_final_notes()
     ensures { FinalNotesLaw }
+{}
+
+/// Behind any commands on objects, from the opening board on, each birth has its final notes at most
+/// once, derived first, and no note behind them; they are those of the type of its init notes.
+#[tactic(auto, using(crate::proofs::FinalNotesRunsLemmas::final_once_lem))]
+pub fn law_final_once()
+    ensures { FinalOnceLaw }
 {}
 
 /// On a sound board an object that is there and not attached is held, by child slots and strong
