@@ -1,5 +1,5 @@
 -- The objects of the opening board.
-use Rattle.std.proofs.Common.{◌≡◌, refl, ap, sym, subst, ◌∙◌, ℕ, ◌+◌, ◌<◌, ◌≤◌, Bool, true, false, eqb, List, [], ◌∷◌, ◌++◌, codes, position, Option, Some, None, option_map, arith}
+use Rattle.std.proofs.Common.{◌≡◌, refl, ap, sym, subst, ◌∙◌, ℕ, ◌+◌, ◌<◌, ◌≤◌, Bool, true, false, eqb, leb, find, IfSome, List, [], ◌∷◌, ◌++◌, codes, position, Option, Some, None, option_map, arith}
 use Rattle.std.specs.Str.{bytes_eq}
 use Rattle.std.specs.Option.{option_map_or}
 use Rattle.std.proofs.lemmas.Bool.{eqb-true}
@@ -64,6 +64,32 @@ live-born above last (row ∷ rows) key rises live = go (eqb row.0.birth key.bir
     go : (b : Bool) → eqb row.0.birth key.birth ≡ b → (IsLive rows key → key.birth ≤ last) → key.birth ≤ last
     go true is later = let same : row.0.birth ≡ key.birth = eqb-true row.0.birth key.birth is in let up = rises-up row.0.birth last (births rows) rises.1 in omega arith
     go false is later = later (rw is at live)
+
+-- the first row that passes is live under its name, and above what all are above
+first-live : (p : Row → Bool) (above last : ℕ) (rows : List Row) (row : Row) → Rises above (births rows) last → find p rows ≡ Some row → (above < row.0.birth) × IsLive rows row.0
+first-live p above last [] row rises at = let none : None ≡ Some row = at in cc
+first-live p above last (r ∷ rows) row rises at = go (p r) refl (first-live p r.0.birth last rows row rises.1)
+  where
+    up : above < r.0.birth
+    up = rises.0
+
+    go : (b : Bool) → p r ≡ b → (find p rows ≡ Some row → (r.0.birth < row.0.birth) × IsLive rows row.0) → (above < row.0.birth) × IsLive (r ∷ rows) row.0
+    go true is later =
+        let here : r ≡ row = (let at' : Some r ≡ Some row = rw is at at in cc) in
+        let same : eqb r.0.birth r.0.birth ≡ true = grind (arith, nat_tests) in
+        let live : IsLive (r ∷ rows) r.0 = rw same refl in
+        subst (λ (x : Row). (above < x.0.birth) × IsLive (r ∷ rows) x.0) here (up, live)
+    go false is later =
+        let (more, live) = later (rw is at at) in
+        let other : eqb r.0.birth row.0.birth ≡ false = grind (arith, nat_tests) in
+        (omega arith, rw other live)
+
+pub from-live : (n : ℕ) (v : Objects) → IsHeap v → (o : Option Key) → o ≡ option_map (λ (row : Row). row.0) (find (λ (row : Row). leb n row.0.birth) v.rows) → IfSome o (IsLive v.rows)
+from-live n v good o is = subst (λ (x : Option Key). IfSome x (IsLive v.rows)) (sym is) (go (find (λ (row : Row). leb n row.0.birth) v.rows) refl)
+  where
+    go : (x : Option Row) → find (λ (row : Row). leb n row.0.birth) v.rows ≡ x → IfSome (option_map (λ (row : Row). row.0) x) (IsLive v.rows)
+    go None at = tt
+    go (Some row) at = (first-live (λ (r : Row). leb n r.0.birth) 0 v.born v.rows row good.rising at).1
 
 -- an object made
 
