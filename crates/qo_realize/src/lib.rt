@@ -6,6 +6,8 @@ mod board;
 mod errors;
 mod fresh;
 mod start;
+#[cfg(test)]
+mod tests;
 
 pub use board::Board;
 pub use errors::Memory;

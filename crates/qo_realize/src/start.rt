@@ -1,16 +1,16 @@
 //! Making the objects of the opening board, in the order of births.
 
-ghost use Rattle.std.specs.Prelude.{◌≡◌, [], Some, codes, IfOk, OnOk};
+ghost use Rattle.std.specs.Prelude.{◌≡◌, Some, position, IfOk, OnOk};
+ghost use Rattle.std.specs.Str.{bytes_eq};
 ghost use Rattle.qo_values.specs.Names.{IsName};
 ghost use Rattle.qo_values.specs.declared.kinds.TypeId.TheVariants.{Clock};
 ghost use Rattle.qo_values.specs.declared.properties.Val.TheVariants.{Uint};
 ghost use Rattle.qo_model.specs.Board.{Board};
-ghost use Rattle.qo_model.specs.Opening.{opening_board};
-ghost use Rattle.qo_notes.specs.Log.{empty_log};
+ghost use Rattle.qo_model.specs.Opening.{system_period};
 ghost use Rattle.qo_table.specs.Rows.{IsLive};
 ghost use Rattle.qo_object.specs.Content.{set_at};
 ghost use Rattle.qo_heap.specs.Board.{Shows};
-ghost use Rattle.qo_heap.specs.Objects.{content_of, with_edit};
+ghost use Rattle.qo_heap.specs.Objects.{content_of, slots_of, with_edit};
 ghost use Rattle.qo_realize.specs.Fresh.{new_slots};
 ghost use Rattle.qo_realize.specs.Start.{IsMade, KeepsNames, with_new, with_new_child, with_clock, with_containers, with_buses, with_machine, with_all};
 
@@ -52,14 +52,21 @@ fn make_child<L: Ledger>(heap: &mut Heap, parent: Oid, name: &str, kind: TypeId,
     Ok(child)
 }
 
+/// The place of the slot of a name of an object; `None` where it has none.
+fn place_named<L: Ledger>(heap: &Heap, o: Oid, name: &str, steps: &mut Steps<L>) -> Option<usize>
+    requires { IsLive heap.now.rows o }
+    ensures { result ≡ position (λ s. bytes_eq name.now s.0) (slots_of heap.now o.birth) }
+{
+    heap.slot(o, name, steps).map(|slot| slot.at)
+}
+
 /// Sets the period of a new clock to the system's.
 fn set_period<L: Ledger>(heap: &mut Heap, clock: Oid, steps: &mut Steps<L>)
     requires live { IsLive heap.old.rows clock }
     requires content { content_of heap.old clock.birth ≡ Some (record { kind = Clock; slots = new_slots Clock; pins = 0 }) }
-    ensures { heap.new ≡ with_edit clock.birth (set_at (Uint 42949672960) 1) heap.old }
+    ensures { heap.new ≡ with_edit clock.birth (set_at (Uint system_period) 1) heap.old }
 {
-    let place = heap.slot(clock, "period", steps).map(|slot| slot.at);
-    if let Some(at) = place {
+    if let Some(at) = place_named(heap, clock, "period", steps) {
         heap.set(clock, at, Val::Uint(SYSTEM_PERIOD), steps);
     }
 }
