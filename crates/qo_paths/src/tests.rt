@@ -102,7 +102,14 @@ fn oid(heap: &Heap, birth: u64) -> Option<Oid>
 }
 
 /// Adds a child slot.
-fn add_child<L: Ledger>(heap: &mut Heap, alloc: Global, owner: u64, text: &str, birth: u64, steps: &mut Steps<L>) -> Option<()> {
+fn add_child<L: Ledger>(
+    heap: &mut Heap,
+    alloc: Global,
+    owner: u64,
+    text: &str,
+    birth: u64,
+    steps: &mut Steps<L>,
+) -> Option<()> {
     let name = name(alloc, text)?;
     let owner = oid(heap, owner)?;
     let child = oid(heap, birth)?;
@@ -110,7 +117,14 @@ fn add_child<L: Ledger>(heap: &mut Heap, alloc: Global, owner: u64, text: &str, 
 }
 
 /// Adds a link that has a target.
-fn add_full_link<L: Ledger>(heap: &mut Heap, owner: u64, name: Name, strong: bool, birth: u64, steps: &mut Steps<L>) -> Option<()> {
+fn add_full_link<L: Ledger>(
+    heap: &mut Heap,
+    owner: u64,
+    name: Name,
+    strong: bool,
+    birth: u64,
+    steps: &mut Steps<L>,
+) -> Option<()> {
     let owner = oid(heap, owner)?;
     let target = oid(heap, birth)?;
     heap.add_link(owner, name, TypeId::Object, strong, Some(target), steps)
@@ -118,14 +132,25 @@ fn add_full_link<L: Ledger>(heap: &mut Heap, owner: u64, name: Name, strong: boo
 }
 
 /// Adds a link that has no target.
-fn add_empty_link<L: Ledger>(heap: &mut Heap, owner: u64, name: Name, strong: bool, steps: &mut Steps<L>) -> Option<()> {
+fn add_empty_link<L: Ledger>(
+    heap: &mut Heap,
+    owner: u64,
+    name: Name,
+    strong: bool,
+    steps: &mut Steps<L>,
+) -> Option<()> {
     let owner = oid(heap, owner)?;
     heap.add_link(owner, name, TypeId::Object, strong, None, steps)
         .ok()
 }
 
 /// Adds a link.
-fn add_link<L: Ledger>(heap: &mut Heap, alloc: Global, link: (u64, &str, bool, Option<u64>), steps: &mut Steps<L>) -> Option<()> {
+fn add_link<L: Ledger>(
+    heap: &mut Heap,
+    alloc: Global,
+    link: (u64, &str, bool, Option<u64>),
+    steps: &mut Steps<L>,
+) -> Option<()> {
     let (owner, text, strong, target) = link;
     let name = name(alloc, text)?;
     match target {
@@ -178,7 +203,13 @@ fn tree<L: Ledger>(alloc: Global, steps: &mut Steps<L>) -> Option<Heap> {
 }
 
 /// Whether the canonical path of an object is this.
-fn is_canonical<L: Ledger>(heap: &Heap, alloc: Global, birth: u64, want: Option<&str>, steps: &mut Steps<L>) -> bool {
+fn is_canonical<L: Ledger>(
+    heap: &Heap,
+    alloc: Global,
+    birth: u64,
+    want: Option<&str>,
+    steps: &mut Steps<L>,
+) -> bool {
     let Some(o) = oid(heap, birth) else {
         return false;
     };
@@ -262,11 +293,20 @@ fn attached_bits<L: Ledger>(alloc: Global, blank: Blank) -> u64
 
 #[test]
 fn attached_objects(rt: HostRuntime) {
-    assert_eq!(rt; attached_bits::<Brand>(rt.alloc(), Blank::new(1)), 0b111_1111_1111);
+    assert_eq!(rt;
+        attached_bits::<Brand>(rt.alloc(), Blank::new(1)),
+        0b111_1111_1111
+    );
 }
 
 /// Whether a path leads to what it should.
-fn leads_to<L: Ledger>(heap: &Heap, path: &str, wanted: &str, want: Want, steps: &mut Steps<L>) -> bool {
+fn leads_to<L: Ledger>(
+    heap: &Heap,
+    path: &str,
+    wanted: &str,
+    want: Want,
+    steps: &mut Steps<L>,
+) -> bool {
     match (resolve(heap, path, wanted, steps), want) {
         (Ok(o), Want::Birth(birth)) => o.birth == birth,
         (Err(PathError::NotFound), Want::Nothing) => true,
@@ -294,6 +334,11 @@ fn first_other_end<L: Ledger>(alloc: Global, blank: Blank, rows: &[(&str, &str, 
     0
 }
 
+/// The same, with a counter of its own.
+fn other_end(alloc: Global, rows: &[(&str, &str, Want)]) -> usize {
+    first_other_end::<Brand>(alloc, Blank::new(1), rows)
+}
+
 #[test]
 fn absolute_paths(rt: HostRuntime) {
     let rows = [
@@ -308,7 +353,7 @@ fn absolute_paths(rt: HostRuntime) {
         ("/machine/Peripheral", "object", Want::Nothing),
         ("/machine/peripheral ", "object", Want::Nothing),
     ];
-    assert_eq!(rt; first_other_end::<Brand>(rt.alloc(), Blank::new(1), &rows), 0);
+    assert_eq!(rt; other_end(rt.alloc(), &rows), 0);
 }
 
 #[test]
@@ -320,9 +365,13 @@ fn paths_through_links(rt: HostRuntime) {
         ("/machine/peripheral/u0/peer", "object", Want::Nothing),
         ("/objects/t0/seen", "object", Want::Nothing),
         ("/objects/t0/next/kid", "tag", Want::Birth(13)),
-        ("/machine/peripheral/u0/clock-period", "object", Want::Nothing),
+        (
+            "/machine/peripheral/u0/clock-period",
+            "object",
+            Want::Nothing,
+        ),
     ];
-    assert_eq!(rt; first_other_end::<Brand>(rt.alloc(), Blank::new(1), &rows), 0);
+    assert_eq!(rt; other_end(rt.alloc(), &rows), 0);
 }
 
 #[test]
@@ -334,7 +383,7 @@ fn paths_to_wanted_types(rt: HostRuntime) {
         ("/machine/peripheral/u0", "slot-device", Want::Birth(8)),
         ("/machine/peripheral/u0", "", Want::Nothing),
     ];
-    assert_eq!(rt; first_other_end::<Brand>(rt.alloc(), Blank::new(1), &rows), 0);
+    assert_eq!(rt; other_end(rt.alloc(), &rows), 0);
 }
 
 #[test]
@@ -353,7 +402,7 @@ fn partial_paths(rt: HostRuntime) {
         ("", "object", Want::Several),
         ("", "machine", Want::Birth(2)),
     ];
-    assert_eq!(rt; first_other_end::<Brand>(rt.alloc(), Blank::new(1), &rows), 0);
+    assert_eq!(rt; other_end(rt.alloc(), &rows), 0);
 }
 
 /// What is answered where there is no object.
@@ -372,5 +421,6 @@ fn finds_nothing<L: Ledger>(alloc: Global, blank: Blank) -> bool
 
 #[test]
 fn no_objects(rt: HostRuntime) {
-    assert!(rt; finds_nothing::<Brand>(rt.alloc(), Blank::new(1)));
+    let nothing = finds_nothing::<Brand>(rt.alloc(), Blank::new(1));
+    assert!(rt; nothing);
 }
