@@ -24,15 +24,19 @@ use Rattle.qo_paths.proofs.DepthSteps.{left_at, depth-all, depth-turn, depth-non
 found-row : (v : Objects) → IsHeap v → (p : Key × Content → Bool) (row : Key × Content) → find p v.rows ≡ Some row → row_at v.rows row.0.birth ≡ Some row
 found-row v good p row found = row-at-place 0 v.born v.rows (position_or_len p v.rows) row good.rising (sym (find_at p v.rows) ∙ found)
 
-pub parent-live : (v : Objects) → IsHeap v → (n : ℕ) (key : Key) → parent_of v n ≡ Some key → IsLive v.rows key
-parent-live v good n key is = go (find (λ (row : Key × Content). is_parent n row.1) v.rows) refl is
+-- what a search finds is there
+pub found-live : (v : Objects) → IsHeap v → (p : Key × Content → Bool) (key : Key) → option_map (λ (row : Key × Content). row.0) (find p v.rows) ≡ Some key → IsLive v.rows key
+found-live v good p key is = go (find p v.rows) refl is
   where
-    go : (o : Option (Key × Content)) → find (λ (row : Key × Content). is_parent n row.1) v.rows ≡ o → option_map (λ (row : Key × Content). row.0) o ≡ Some key → IsLive v.rows key
+    go : (o : Option (Key × Content)) → find p v.rows ≡ o → option_map (λ (row : Key × Content). row.0) o ≡ Some key → IsLive v.rows key
     go None e q = cc
     go (Some row) e q =
         let same : row.0 ≡ key = cc q in
-        let here : IsLive v.rows row.0 = rw (found-row v good (λ (r : Key × Content). is_parent n r.1) row e) refl in
+        let here : IsLive v.rows row.0 = rw (found-row v good p row e) refl in
         subst (λ (k : Key). IsLive v.rows k) same here
+
+pub parent-live : (v : Objects) → IsHeap v → (n : ℕ) (key : Key) → parent_of v n ≡ Some key → IsLive v.rows key
+parent-live v good n key is = found-live v good (λ (row : Key × Content). is_parent n row.1) key is
 
 -- an object without a parent has no place
 pub place-none : (b : Board) (v : Objects) → Shows b v → (n : ℕ) → parent_of v n ≡ None → place_of b n ≡ None

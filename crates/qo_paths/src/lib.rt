@@ -9,6 +9,8 @@ mod errors;
 mod parts;
 mod places;
 mod resolving;
+#[cfg(test)]
+mod tests;
 mod walks;
 mod writing;
 

@@ -18,7 +18,13 @@ use qo_types::TypeTable;
 use std::sync::ledger::Ledger;
 
 /// The object that a path leads to from another, if it is of the wanted type.
-fn end_of<L: Ledger>(heap: &Heap, from: Oid, path: &str, wanted: &str, steps: &mut Steps<L>) -> Option<Oid>
+fn end_of<L: Ledger>(
+    heap: &Heap,
+    from: Oid,
+    path: &str,
+    wanted: &str,
+    steps: &mut Steps<L>,
+) -> Option<Oid>
     requires live { IsLive heap.now.rows from }
     ensures end { (b : Board) → Shows b heap.now → birth_of result ≡ option_and_then (only_of b wanted.now) (walk b from.birth (components path.now)) }
     ensures live { IfSome result (IsLive heap.now.rows) }
@@ -45,7 +51,12 @@ fn root(heap: &Heap) -> Option<Oid>
 }
 
 /// The object that an absolute path leads to.
-fn absolute<L: Ledger>(heap: &Heap, path: &str, wanted: &str, steps: &mut Steps<L>) -> Result<Oid, PathError>
+fn absolute<L: Ledger>(
+    heap: &Heap,
+    path: &str,
+    wanted: &str,
+    steps: &mut Steps<L>,
+) -> Result<Oid, PathError>
     requires { is_absolute path.now ≡ true }
     ensures place { (b : Board) → Shows b heap.now → place_told result ≡ resolve b path.now wanted.now }
     ensures live { IfOk result (IsLive heap.now.rows) }
@@ -58,7 +69,13 @@ fn absolute<L: Ledger>(heap: &Heap, path: &str, wanted: &str, steps: &mut Steps<
 
 /// The object that a partial path leads to from the object at a place in the order of births, if
 /// that is attached.
-fn end_at<L: Ledger>(heap: &Heap, place: usize, path: &str, wanted: &str, steps: &mut Steps<L>) -> Option<Oid>
+fn end_at<L: Ledger>(
+    heap: &Heap,
+    place: usize,
+    path: &str,
+    wanted: &str,
+    steps: &mut Steps<L>,
+) -> Option<Oid>
     ensures end { (b : Board) → Shows b heap.now → birth_of result ≡ option_and_then (λ row. end_from b path.now wanted.now row.0.birth) (slice_get heap.now.rows place) }
     ensures live { IfSome result (IsLive heap.now.rows) }
 {
@@ -71,7 +88,12 @@ fn end_at<L: Ledger>(heap: &Heap, place: usize, path: &str, wanted: &str, steps:
 }
 
 /// The object that a partial path leads to.
-fn partial<L: Ledger>(heap: &Heap, path: &str, wanted: &str, steps: &mut Steps<L>) -> Result<Oid, PathError>
+fn partial<L: Ledger>(
+    heap: &Heap,
+    path: &str,
+    wanted: &str,
+    steps: &mut Steps<L>,
+) -> Result<Oid, PathError>
     requires { is_absolute path.now ≡ false }
     ensures place { (b : Board) → Shows b heap.now → place_told result ≡ resolve b path.now wanted.now }
     ensures live { IfOk result (IsLive heap.now.rows) }
@@ -94,7 +116,12 @@ fn partial<L: Ledger>(heap: &Heap, path: &str, wanted: &str, steps: &mut Steps<L
 /// lead from there through children and links, empty ones between two `/` counting for nothing. Any
 /// other path is partial: it is tried from each attached object, and is `Ambiguous` where it leads to
 /// an object of the wanted type from more than one, even if to the same. It takes no memory.
-pub fn resolve<L: Ledger>(heap: &Heap, path: &str, wanted: &str, steps: &mut Steps<L>) -> Result<Oid, PathError>
+pub fn resolve<L: Ledger>(
+    heap: &Heap,
+    path: &str,
+    wanted: &str,
+    steps: &mut Steps<L>,
+) -> Result<Oid, PathError>
     ensures place { (b : Board) → Shows b heap.now → place_told result ≡ resolve b path.now wanted.now }
     ensures live { IfOk result (IsLive heap.now.rows) }
 {

@@ -13,7 +13,12 @@ use std::sync::ledger::Ledger;
 
 /// The names on the way up from an object to `/`, its own first; `None` exactly where parents do not
 /// lead there.
-fn names_up<'a, L: Ledger>(heap: &'a Heap, o: Oid, alloc: Global, steps: &mut Steps<L>) -> Result<Option<Vec<&'a str>>, AllocError>
+fn names_up<'a, L: Ledger>(
+    heap: &'a Heap,
+    o: Oid,
+    alloc: Global,
+    steps: &mut Steps<L>,
+) -> Result<Option<Vec<&'a str>>, AllocError>
     ensures { (b : Board) → Shows b heap.now → IfOk result (λ names. option_map (λ ns. path_up (map (λ n. n.now) ns.items)) names ≡ steps_to b o.birth) }
 {
     heap.facts();
@@ -50,7 +55,12 @@ fn path_down(names: &[&str], alloc: Global) -> Result<String, AllocError>
 /// The canonical path of an object (docs/devel/qom.rst, "The QEMU Object Model"): `/` itself, or a
 /// `/` and the name of the child slot for each step down to the object; `None` exactly where it is
 /// detached. The error is want of memory.
-pub fn canonical<L: Ledger>(heap: &Heap, o: Oid, alloc: Global, steps: &mut Steps<L>) -> Result<Option<String>, Memory>
+pub fn canonical<L: Ledger>(
+    heap: &Heap,
+    o: Oid,
+    alloc: Global,
+    steps: &mut Steps<L>,
+) -> Result<Option<String>, Memory>
     ensures { (b : Board) → Shows b heap.now → IfOk result (λ path. option_map string_bytes path ≡ canonical b o.birth) }
 {
     if o.birth == 1 {

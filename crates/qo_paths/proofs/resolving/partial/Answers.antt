@@ -19,10 +19,11 @@ pub loop-place-init : goal.loop-place-init
 loop-place-init g c = (λ b s. ends-all b c.args.heap.now s c.args.path.now c.args.wanted.now c.requires, tt)
 
 pub loop-place-preserved-in_default : goal.loop-place-preserved-in_default
-loop-place-preserved-in_default g c =
-    (λ b s.
-        c.loop-place.invariant.0 b s ∙ ap (cons_option (birth_of c.loop-place.found)) (ends-next b c.args.path.now c.args.wanted.now c.args.heap.now.rows c.loop-place.place None (c.in_default.ensures.end b s)),
-    c.loop-place.invariant.1)
+loop-place-preserved-in_default g c = (
+  λ b s.
+      c.loop-place.invariant.0 b s ∙ ap (cons_option (birth_of c.loop-place.found)) (ends-next b c.args.path.now c.args.wanted.now c.args.heap.now.rows c.loop-place.place None (c.in_default.ensures.end b s)),
+  c.loop-place.invariant.1,
+)
 
 pub returns-then-is_some-clause-place : goal.returns-then-is_some-clause-place
 returns-then-is_some-clause-place g c = λ b s.
@@ -30,9 +31,10 @@ returns-then-is_some-clause-place g c = λ b s.
     (c.loop-place.invariant.0 b s ∙ ap (cons_option (birth_of c.loop-place.found)) (ends-next b c.args.path.now c.args.wanted.now c.args.heap.now.rows c.loop-place.place (Some c.in-Some.end.birth) (c.in-Some.ensures.end b s)))
 
 pub loop-place-preserved : goal.loop-place-preserved
-loop-place-preserved g c =
-    (λ b s.
-        c.loop-place.invariant.0 b s
-        ∙ none-before c.loop-place.found (ends_behind b c.args.path.now c.args.wanted.now c.args.heap.now.rows c.loop-place.place) (sym c.is_some.ensures ∙ c.if-is_some.false)
-        ∙ ends-next b c.args.path.now c.args.wanted.now c.args.heap.now.rows c.loop-place.place (Some c.in-Some.end.birth) (c.in-Some.ensures.end b s),
-    c.in-Some.ensures.live)
+loop-place-preserved g c = (
+  λ b s.
+      c.loop-place.invariant.0 b s
+      ∙ none-before c.loop-place.found (ends_behind b c.args.path.now c.args.wanted.now c.args.heap.now.rows c.loop-place.place) (sym c.is_some.ensures ∙ c.if-is_some.false)
+      ∙ ends-next b c.args.path.now c.args.wanted.now c.args.heap.now.rows c.loop-place.place (Some c.in-Some.end.birth) (c.in-Some.ensures.end b s),
+  c.in-Some.ensures.live,
+)
