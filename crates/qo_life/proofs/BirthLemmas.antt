@@ -1,19 +1,19 @@
 -- The init notes of an object, as they are added one after another.
-use Rattle.std.proofs.Common.{◌≡◌, refl, ap, sym, subst, ◌∙◌, ℕ, suc, ◌+◌, ◌<◌, ◌≤◌, Bool, true, false, cond, eqb, List, [], ◌∷◌, ◌++◌, map, filter, length, drop, get_or, reverse, find, slice_get, Option, Some, None, option_map, arith}
+use Rattle.std.proofs.Common.{◌≡◌, refl, ap, sym, subst, ◌∙◌, ℕ, suc, ◌+◌, ◌<◌, Bool, true, false, cond, eqb, List, [], ◌∷◌, ◌++◌, map, filter, length, drop, get_or, reverse, find, slice_get, Option, Some, None, option_map, arith}
 use Rattle.std.specs.Option.{option_map_or}
 use Rattle.std.proofs.lemmas.Option.{same_Some}
 use Rattle.std.proofs.lemmas.List.{append-nil, map-append, reverse-append, drop_more, drop_all}
 use Rattle.qo_slots.specs.declared.keys.Key.{Key}
 use Rattle.qo_values.specs.declared.kinds.TypeId.{TypeId}
 use Rattle.qo_model.specs.declared.notes.Note.{Note}
-use Rattle.qo_model.specs.Types.{chain, has_finaliser}
+use Rattle.qo_model.specs.Types.{has_finaliser}
 use Rattle.qo_notes.specs.Log.{Log, noted_all}
 use Rattle.qo_notes.proofs.Logs.{parts_lem}
 use Rattle.qo_object.specs.Content.{Content, fresh}
 use Rattle.qo_table.specs.Rows.{IsLive, edit, object_at}
 use Rattle.qo_heap.specs.Objects.{Objects, IsHeap, pins_of, with_edit, with_note}
 use Rattle.qo_heap.proofs.PlacesLemmas.{live-at-place, object-at-place}
-use Rattle.qo_life.specs.Life.{init_note, init_notes, with_notes}
+use Rattle.qo_life.specs.Life.{init_note, with_notes}
 
 -- the init notes for some types, the last first
 abbrev pub inits_in : ℕ → List TypeId → List Note

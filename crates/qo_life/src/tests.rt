@@ -48,7 +48,13 @@ fn there(heap: &Heap, birth: u64) -> Option<Oid>
 }
 
 /// Makes a tag as a child of an object, which alone holds it; tells whether this was done.
-fn grow<L: Ledger>(heap: &mut Heap, alloc: Global, parent: u64, name: &str, steps: &mut Steps<L>) -> bool {
+fn grow<L: Ledger>(
+    heap: &mut Heap,
+    alloc: Global,
+    parent: u64,
+    name: &str,
+    steps: &mut Steps<L>,
+) -> bool {
     let Some(name) = name_of(alloc, name) else {
         return false;
     };
@@ -67,7 +73,14 @@ fn grow<L: Ledger>(heap: &mut Heap, alloc: Global, parent: u64, name: &str, step
 }
 
 /// Adds a link from an object to another; tells whether this was done.
-fn join<L: Ledger>(heap: &mut Heap, alloc: Global, from: u64, strong: bool, to: u64, steps: &mut Steps<L>) -> bool {
+fn join<L: Ledger>(
+    heap: &mut Heap,
+    alloc: Global,
+    from: u64,
+    strong: bool,
+    to: u64,
+    steps: &mut Steps<L>,
+) -> bool {
     let Some(name) = name_of(alloc, "to") else {
         return false;
     };
@@ -233,8 +246,12 @@ fn pin_ends<L: Ledger>(alloc: Global, steps: &mut Steps<L>) -> Result<bool, Memo
     };
     drop_pin(&mut heap, ram, steps);
     let notes = heap.notes(2, alloc)?;
-    let derived = notes.get(0).is_some_and(|note| note.deed == Deed::Final(TypeId::MemoryBackendRam));
-    let base = notes.get(1).is_some_and(|note| note.deed == Deed::Final(TypeId::MemoryBackend));
+    let derived = notes
+        .get(0)
+        .is_some_and(|note| note.deed == Deed::Final(TypeId::MemoryBackendRam));
+    let base = notes
+        .get(1)
+        .is_some_and(|note| note.deed == Deed::Final(TypeId::MemoryBackend));
     Ok(heap.live() == 0 && notes.len() == 2 && derived && base)
 }
 

@@ -1,8 +1,8 @@
-use Rattle.std.proofs.Common.{◌≡◌, refl, sym, ap, ◌∙◌, ◌<◌, ℕ, List, arith}
+use Rattle.std.proofs.Common.{refl, ap, arith}
 use Rattle.qo_values.specs.declared.kinds.TypeId.TheVariants.{Tag}
 use Rattle.qo_object.specs.Content.{with_slot}
 use Rattle.qo_object.specs.declared.slots.Slot.TheVariants.{Child}
-use Rattle.qo_heap.specs.Objects.{Objects, pins_of}
+use Rattle.qo_heap.specs.Objects.{Objects}
 use Rattle.qo_heap.proofs.HeapLemmas.{live-edit}
 use Rattle.qo_life.proofs.BirthLemmas.{made-live, made-pinned, pins-edit}
 use Rattle.qo_life.proofs.tests.grow.Goals as goal
