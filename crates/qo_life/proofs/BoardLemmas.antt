@@ -1,5 +1,5 @@
 -- What a release leaves to an object to which nothing refers: it is there, and its slots before a place hold nothing.
-use Rattle.std.proofs.Common.{◌≡◌, refl, ap, sym, ◌∙◌, ℕ, zero, suc, ◌+◌, ◌<◌, ◌≤◌, Bool, true, false, cond, ◌==◌, List, [], ◌∷◌, map, find, slice_get, sum_by, count_by, Option, Some, None, is_some, option_map, arith}
+use Rattle.std.proofs.Common.{◌≡◌, refl, ap, sym, ◌∙◌, ℕ, zero, suc, ◌<◌, Bool, true, false, cond, ◌==◌, List, [], ◌∷◌, map, find, slice_get, count_by, Option, Some, None, is_some, option_map, arith}
 use Rattle.std.specs.List.{AllByRecursion}
 use Rattle.std.specs.Option.{option_map_or}
 use Rattle.std.proofs.lemmas.Bool.{eqb-true, eq-eqb}
@@ -7,7 +7,7 @@ use Rattle.std.proofs.lemmas.Option.{same_Some}
 use Rattle.std.proofs.lemmas.List.Sums.{sum_by-cons}
 use Rattle.qo_model.specs.Board.{Board, Record, Slot, plain, child, strong, weak, alias, record_of, is_live, slots_at, slot_at, held}
 use Rattle.qo_model.specs.References.{refs}
-use Rattle.qo_model.specs.Release.{edited, emptied, without_hold, with_dropped, drop_slot, next_place, forgotten_in, forgotten, finish, after, finalise, let_go}
+use Rattle.qo_model.specs.Release.{edited, emptied, without_hold, with_dropped, drop_slot, next_place, forgotten_in, forgotten, finish, let_go}
 use Rattle.qo_model.specs.ReleaseKeeps.{KeepsRelease}
 use Rattle.qo_model.proofs.EditLemmas.{held-forgotten}
 use Rattle.qo_model.proofs.StepLemmas.{drop-record, drop-live, drop-refs, finish-record, finish-live, finish-refs, unheld-apart}

@@ -1,12 +1,11 @@
 -- The steps of a release over a heap.
-use Rattle.std.proofs.Common.{◌≡◌, refl, ap, sym, subst, ◌∙◌, ℕ, zero, suc, ◌+◌, ◌-◌, ◌*◌, ◌<◌, ◌≤◌, Bool, true, false, not, ◌==◌, eqb, nat_eq, List, [], ◌∷◌, map, slice_get, filter_map, sum_by, count_by, Option, Some, None, is_some, option_map, IfSome, arith}
-use Rattle.std.specs.Prelude.{option_and_then}
+use Rattle.std.proofs.Common.{◌≡◌, refl, ap, sym, subst, ◌∙◌, ℕ, zero, suc, ◌+◌, ◌-◌, ◌*◌, ◌<◌, ◌≤◌, Bool, true, false, not, ◌==◌, eqb, nat_eq, List, [], ◌∷◌, filter_map, count_by, Option, Some, None, is_some, option_map, IfSome, arith}
 use Rattle.std.specs.List.{AllByRecursion, cons_option, list_any}
 use Rattle.std.specs.Option.{option_map_or}
 use Rattle.std.proofs.lemmas.Bool.{eqb-true, eq-eqb}
 use Rattle.std.proofs.lemmas.Option.{same_Some}
 use Rattle.qo_slots.specs.declared.keys.Key.{Key}
-use Rattle.qo_table.specs.Rows.{IsLive, row_at, object_at}
+use Rattle.qo_table.specs.Rows.{IsLive}
 use Rattle.qo_model.specs.Board.{Board}
 use Rattle.qo_model.specs.Board as board
 use Rattle.qo_model.specs.References.{refs}
@@ -27,7 +26,7 @@ use Rattle.qo_heap.proofs.HeapLemmas.{linked-at, live-edit}
 use Rattle.qo_heap.proofs.ShowsReads.{shows-live, shows-live_key, shows-pinned, shows-record, shows-refs, shows-slot_at}
 use Rattle.qo_life.specs.Life.{Goes, next_at, with_log}
 use Rattle.qo_life.proofs.BoardLemmas.{Stays, let_go-stays, none-held}
-use Rattle.qo_life.proofs.TreeLemmas.{tree_with, tree, tree-shows, heap-with_log, tree-behind, goes-none, goes-same, goes-then, goes-drop, goes-unpin, goes-end, goes-names}
+use Rattle.qo_life.proofs.TreeLemmas.{tree, tree-shows, heap-with_log, tree-behind, goes-none, goes-same, goes-then, goes-drop, goes-unpin, goes-end, goes-names}
 
 -- what an option of an object held is in the measure of its end
 abbrev pub one_more : Option Key → ℕ → ℕ

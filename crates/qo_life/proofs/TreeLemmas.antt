@@ -1,10 +1,9 @@
 -- The steps of a heap as steps of a board: alone, one behind another, and as seen on the tree of the heap.
-use Rattle.std.proofs.Common.{◌≡◌, refl, ap, sym, subst, ◌∙◌, ℕ, ◌+◌, ◌<◌, ◌≤◌, Bool, true, false, ◌==◌, eqb, List, [], ◌∷◌, ◌++◌, map, find, Option, Some, None, is_some, option_map, IsSomeAnd, arith}
-use Rattle.std.proofs.lemmas.Bool.{eqb-true, eq-eqb}
+use Rattle.std.proofs.Common.{◌≡◌, refl, ap, sym, subst, ◌∙◌, ℕ, ◌<◌, Bool, true, false, eqb, List, [], ◌∷◌, ◌++◌, map, Option, Some, None, is_some, option_map, IsSomeAnd}
+use Rattle.std.proofs.lemmas.Bool.{eqb-true}
 use Rattle.qo_slots.specs.declared.keys.Key.{Key}
-use Rattle.qo_table.specs.Rows.{IsLive, edited, edit, without, row_at, object_at, is_at}
+use Rattle.qo_table.specs.Rows.{IsLive, edit, without, row_at}
 use Rattle.qo_model.specs.Board.{Board, Record}
-use Rattle.qo_model.specs.declared.notes.Note.{Note}
 use Rattle.qo_model.specs.Release.{drop_slot, finish}
 use Rattle.qo_model.specs.Release as release
 use Rattle.qo_notes.specs.Log.{Log, empty_log, noted_all}

@@ -41,7 +41,12 @@ fn note_inits(heap: &mut Heap, o: Oid, kind: TypeId)
 /// Makes an object of a type, without slots and pinned once, of the next birth, and notes its
 /// initialisers, base first (docs/devel/qom.rst, "The QEMU Object Model": `instance_init`). `Limit`
 /// comes exactly at 4,096 live objects. An error leaves the heap as it was.
-pub fn create<L: Ledger>(heap: &mut Heap, alloc: Global, kind: TypeId, steps: &mut Steps<L>) -> Result<Oid, MakeError>
+pub fn create<L: Ledger>(
+    heap: &mut Heap,
+    alloc: Global,
+    kind: TypeId,
+    steps: &mut Steps<L>,
+) -> Result<Oid, MakeError>
     ensures made { IfOk result (λ o. (o.birth ≡ heap.old.born + 1) × (heap.new ≡ record heap.old { rows = heap.old.rows ++ (o, fresh kind) ∷ []; born = heap.old.born + 1; log = noted_all (init_notes o.birth kind) heap.old.log })) }
     ensures below { IfOk result (λ o. length heap.old.rows < 4096) }
     ensures limit { result ≡ Err Limit → length heap.old.rows ≡ 4096 }

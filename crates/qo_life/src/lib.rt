@@ -8,3 +8,6 @@ mod release;
 
 pub use birth::create;
 pub use release::{drop_pin, let_go};
+
+#[cfg(test)]
+mod tests;

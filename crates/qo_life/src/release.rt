@@ -14,7 +14,7 @@ use qo_heap::{Heap, Oid, Slot, Steps};
 use std::sync::ledger::Ledger;
 
 /// What becomes free where a slot is let go.
-#[derive(Clone, Copy, Debug)]
+#[derive(Clone, Copy)]
 struct Turn {
     /// The object that the slot held.
     held: Option<Oid>,
@@ -29,24 +29,16 @@ fn turn_at<L: Ledger>(heap: &Heap, o: Oid, at: usize, steps: &mut Steps<L>) -> O
     ensures next { option_map (λ t. t.next) result ≡ option_map (next_at at) (slot_in (slots_of heap.now o.birth) at) }
 {
     let slot = heap.slot_at(o, at, steps)?;
-    Some(match slot.what {
-        Slot::Child(child) => Turn {
-            held: Some(*child),
-            next: at,
-        },
+    let (held, next) = match slot.what {
+        Slot::Child(child) => (Some(*child), at),
         Slot::Link {
             strong: true,
             target,
             ..
-        } => Turn {
-            held: *target,
-            next: at + 1,
-        },
-        _ => Turn {
-            held: None,
-            next: at + 1,
-        },
-    })
+        } => (*target, at + 1),
+        _ => (None, at + 1),
+    };
+    Some(Turn { held, next })
 }
 
 /// Ends an object that was held, where nothing refers to it any more.

@@ -1,8 +1,5 @@
-use Rattle.std.proofs.Common.{◌≡◌, refl, sym, subst, ◌∙◌, Some, None, Option}
-use Rattle.qo_slots.specs.declared.keys.Key.{Key}
-use Rattle.qo_object.specs.Shown.{birth_of}
-use Rattle.qo_model.specs.Release.{after, finalise}
-use Rattle.qo_life.specs.Life.{Goes, next_at}
+use Rattle.std.proofs.Common.{refl, sym, ◌∙◌}
+use Rattle.qo_life.specs.Life.{next_at}
 use Rattle.qo_life.proofs.TreeLemmas.{goes-none}
 use Rattle.qo_life.proofs.GoesLemmas.{goes-held, goes-free, goes-past, goes-turn, going-first, going-next, going-smaller, going-free, going-bare, going-last, going-stops, none-given, turn-falls, turn-live}
 use Rattle.qo_life.proofs.release.+ending.Goals as goal

@@ -1,6 +1,5 @@
 use Rattle.std.proofs.Common.{subst, Some}
 use Rattle.qo_object.specs.Content.{without_pin}
-use Rattle.qo_table.specs.Rows.{IsLive}
 use Rattle.qo_model.specs.Release.{after, finalise, unpin}
 use Rattle.qo_heap.specs.Objects.{Objects}
 use Rattle.qo_heap.proofs.HeapLemmas.{live-edit}
