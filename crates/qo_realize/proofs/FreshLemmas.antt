@@ -1,5 +1,5 @@
 -- The slots of a new object, row by row.
-use Rattle.std.proofs.Common.{◌≡◌, refl, ap, sym, subst, ◌∙◌, ℕ, zero, suc, ◌+◌, ◌<◌, ◌≤◌, Bool, true, false, ◌&&◌, nat_le, eqb, List, [], ◌∷◌, ◌++◌, map, length, take, filter_map, slice_get, get_or, ◌⊎◌, inl, inr, Option, Some, None, option_map, option_to_list, append_assoc, append-nil, arith}
+use Rattle.std.proofs.Common.{◌≡◌, refl, ap, sym, subst, ◌∙◌, ℕ, zero, suc, ◌+◌, ◌<◌, ◌≤◌, Bool, true, false, ◌&&◌, nat_le, eqb, List, [], ◌∷◌, ◌++◌, length, take, filter_map, slice_get, get_or, ◌⊎◌, inl, inr, Option, Some, None, option_map, option_to_list, append_assoc, append-nil, arith}
 use Rattle.std.specs.List.{cons_option, list_all}
 use Rattle.std.proofs.lemmas.Bool.Decides.{nat_tests}
 use Rattle.std.proofs.lemmas.List.{map-append, take_more}
@@ -12,10 +12,9 @@ use Rattle.qo_slots.specs.declared.keys.Key.{Key}
 use Rattle.qo_table.specs.Rows.{edit}
 use Rattle.qo_model.specs.Board as board
 use Rattle.qo_model.specs.Changes.{with_fresh, with_fresh_slots}
-use Rattle.qo_model.specs.Opening.{first_slot, first_value, fresh_slots}
+use Rattle.qo_model.specs.Opening.{first_slot, first_value}
 use Rattle.qo_model.specs.Types.{Kind, Property, property, types, slots_of, nothing, empty_text, own_name, truth, number}
-use Rattle.qo_types.specs.Rows.{first_told, kind_told, mark_told, property_told}
-use Rattle.qo_types.specs.declared.rows.First.{First}
+use Rattle.qo_types.specs.Rows.{kind_told, mark_told, property_told}
 use Rattle.qo_types.specs.declared.rows.First.TheVariants as first
 use Rattle.qo_types.specs.declared.rows.RowKind.{RowKind}
 use Rattle.qo_types.specs.declared.rows.RowKind.TheVariants as row
@@ -27,7 +26,7 @@ use Rattle.qo_object.specs.Shown.{shown, shown_slot, shown_slots}
 use Rattle.qo_heap.specs.Board.{Shows}
 use Rattle.qo_heap.specs.Objects.{Objects, with_edit}
 use Rattle.qo_heap.proofs.ShowsEdits.{shows-edit}
-use Rattle.qo_realize.specs.Fresh.{begun, begun_row, first_slots, new_slots, slot_begun, slot_of_row, val_of, with_slots}
+use Rattle.qo_realize.specs.Fresh.{begun, begun_row, first_slots, new_slots, slot_begun, slot_of_row, with_slots}
 
 -- an object with slots more
 

@@ -1,14 +1,13 @@
 -- The objects of the opening board.
 use Rattle.std.proofs.Common.{◌≡◌, refl, ap, sym, subst, ◌∙◌, ℕ, ◌+◌, ◌<◌, ◌≤◌, Bool, true, false, eqb, leb, find, IfSome, List, [], ◌∷◌, ◌++◌, codes, position, Option, Some, None, option_map, arith}
 use Rattle.std.specs.Str.{bytes_eq}
-use Rattle.std.specs.Option.{option_map_or}
 use Rattle.std.proofs.lemmas.Bool.{eqb-true}
 use Rattle.std.proofs.lemmas.Bool.Decides.{nat_tests}
 use Rattle.qo_values.specs.declared.kinds.TypeId.{TypeId}
 use Rattle.qo_values.specs.declared.kinds.TypeId.TheVariants.{Clock}
 use Rattle.qo_values.specs.declared.properties.Val.TheVariants.{Uint}
 use Rattle.qo_slots.specs.declared.keys.Key.{Key}
-use Rattle.qo_table.specs.Rows.{IsLive, Rises, births, edit, row_at}
+use Rattle.qo_table.specs.Rows.{IsLive, Rises, births, row_at}
 use Rattle.qo_model.specs.Board as board
 use Rattle.qo_model.specs.Changes.{make, add, set, with_fresh_slots}
 use Rattle.qo_model.specs.Opening.{system_period, opening_board}

@@ -43,7 +43,14 @@ fn first_val(kind: TypeId, first: First, alloc: Global) -> Result<Val, AllocErro
 
 /// Adds the slot of a row to an object of a type: a plain property with its first value, a link
 /// without target. A child and an alias are passed over. An error leaves the heap as it was.
-fn add_row<L: Ledger>(heap: &mut Heap, o: Oid, kind: TypeId, row: SlotRow, alloc: Global, steps: &mut Steps<L>) -> Result<(), Memory>
+fn add_row<L: Ledger>(
+    heap: &mut Heap,
+    o: Oid,
+    kind: TypeId,
+    row: SlotRow,
+    alloc: Global,
+    steps: &mut Steps<L>,
+) -> Result<(), Memory>
     requires live { IsLive heap.old.rows o }
     requires name { IsName row.name.now }
     ensures ok { OnOk result (heap.new ≡ with_edit o.birth (with_slots (option_to_list (slot_of_row kind row))) heap.old) }
@@ -67,9 +74,16 @@ fn add_row<L: Ledger>(heap: &mut Heap, o: Oid, kind: TypeId, row: SlotRow, alloc
 }
 
 /// Adds the slots that a new object of a type has: its plain properties with their first values, its
-/// links without targets, in order. Children and aliases stay away. An error, which is want of
-/// memory, leaves the object with the slots of its first properties alone.
-pub(crate) fn add_fresh_slots<L: Ledger>(heap: &mut Heap, o: Oid, kind: TypeId, alloc: Global, steps: &mut Steps<L>) -> Result<(), Memory>
+/// links without targets, in order. Children and aliases stay away. The error is want of memory, for
+/// an object without slots of these names; it leaves the object with the slots of its first
+/// properties alone.
+pub(crate) fn add_fresh_slots<L: Ledger>(
+    heap: &mut Heap,
+    o: Oid,
+    kind: TypeId,
+    alloc: Global,
+    steps: &mut Steps<L>,
+) -> Result<(), Memory>
     requires live { IsLive heap.old.rows o }
     ensures ok { OnOk result (heap.new ≡ with_edit o.birth (with_slots (new_slots kind)) heap.old) }
     ensures shown { OnOk result ((b : Board) → Shows b heap.old → Shows (with_fresh_slots o.birth kind b) heap.new) }

@@ -26,7 +26,12 @@ use std::sync::ledger::Ledger;
 const SYSTEM_PERIOD: u64 = 10 << 32;
 
 /// Makes an object of a type with its plain properties and its links.
-fn make_new<L: Ledger>(heap: &mut Heap, kind: TypeId, alloc: Global, steps: &mut Steps<L>) -> Result<Oid, Memory>
+fn make_new<L: Ledger>(
+    heap: &mut Heap,
+    kind: TypeId,
+    alloc: Global,
+    steps: &mut Steps<L>,
+) -> Result<Oid, Memory>
     ensures made { IfOk result (λ o. IsMade heap.old heap.new kind 1 o) }
     ensures shown { OnOk result ((b : Board) → Shows b heap.old → Shows (with_new kind b) heap.new) }
 {
@@ -37,7 +42,14 @@ fn make_new<L: Ledger>(heap: &mut Heap, kind: TypeId, alloc: Global, steps: &mut
 }
 
 /// Makes an object of a type as a child of another, which alone holds it then.
-fn make_child<L: Ledger>(heap: &mut Heap, parent: Oid, name: &str, kind: TypeId, alloc: Global, steps: &mut Steps<L>) -> Result<Oid, Memory>
+fn make_child<L: Ledger>(
+    heap: &mut Heap,
+    parent: Oid,
+    name: &str,
+    kind: TypeId,
+    alloc: Global,
+    steps: &mut Steps<L>,
+) -> Result<Oid, Memory>
     requires live { IsLive heap.old.rows parent }
     requires name { IsName name.now }
     ensures made { IfOk result (λ o. IsMade heap.old heap.new kind 0 o) }
@@ -72,7 +84,12 @@ fn set_period<L: Ledger>(heap: &mut Heap, clock: Oid, steps: &mut Steps<L>)
 }
 
 /// Makes the system clock as a child of the machine.
-fn make_clock<L: Ledger>(heap: &mut Heap, machine: Oid, alloc: Global, steps: &mut Steps<L>) -> Result<(), Memory>
+fn make_clock<L: Ledger>(
+    heap: &mut Heap,
+    machine: Oid,
+    alloc: Global,
+    steps: &mut Steps<L>,
+) -> Result<(), Memory>
     requires live { IsLive heap.old.rows machine }
     ensures names { OnOk result (KeepsNames heap.old heap.new) }
     ensures shown { OnOk result ((b : Board) → Shows b heap.old → Shows (with_clock machine.birth b) heap.new) }
@@ -83,18 +100,35 @@ fn make_clock<L: Ledger>(heap: &mut Heap, machine: Oid, alloc: Global, steps: &m
 }
 
 /// Makes the containers of the machine's devices.
-fn make_containers<L: Ledger>(heap: &mut Heap, machine: Oid, alloc: Global, steps: &mut Steps<L>) -> Result<(), Memory>
+fn make_containers<L: Ledger>(
+    heap: &mut Heap,
+    machine: Oid,
+    alloc: Global,
+    steps: &mut Steps<L>,
+) -> Result<(), Memory>
     requires live { IsLive heap.old.rows machine }
     ensures names { OnOk result (KeepsNames heap.old heap.new) }
     ensures shown { OnOk result ((b : Board) → Shows b heap.old → Shows (with_containers machine.birth b) heap.new) }
 {
     make_child(heap, machine, "peripheral", TypeId::Container, alloc, steps)?;
-    make_child(heap, machine, "peripheral-anon", TypeId::Container, alloc, steps)?;
+    make_child(
+        heap,
+        machine,
+        "peripheral-anon",
+        TypeId::Container,
+        alloc,
+        steps,
+    )?;
     Ok(())
 }
 
 /// Makes the buses of the machine.
-fn make_buses<L: Ledger>(heap: &mut Heap, machine: Oid, alloc: Global, steps: &mut Steps<L>) -> Result<(), Memory>
+fn make_buses<L: Ledger>(
+    heap: &mut Heap,
+    machine: Oid,
+    alloc: Global,
+    steps: &mut Steps<L>,
+) -> Result<(), Memory>
     requires live { IsLive heap.old.rows machine }
     ensures names { OnOk result (KeepsNames heap.old heap.new) }
     ensures shown { OnOk result ((b : Board) → Shows b heap.old → Shows (with_buses machine.birth b) heap.new) }
@@ -105,7 +139,12 @@ fn make_buses<L: Ledger>(heap: &mut Heap, machine: Oid, alloc: Global, steps: &m
 }
 
 /// Makes the machine as a child of the root, with its own children.
-fn make_machine<L: Ledger>(heap: &mut Heap, root: Oid, alloc: Global, steps: &mut Steps<L>) -> Result<(), Memory>
+fn make_machine<L: Ledger>(
+    heap: &mut Heap,
+    root: Oid,
+    alloc: Global,
+    steps: &mut Steps<L>,
+) -> Result<(), Memory>
     requires live { IsLive heap.old.rows root }
     ensures names { OnOk result (KeepsNames heap.old heap.new) }
     ensures shown { OnOk result ((b : Board) → Shows b heap.old → Shows (with_machine root.birth b) heap.new) }
@@ -118,7 +157,11 @@ fn make_machine<L: Ledger>(heap: &mut Heap, root: Oid, alloc: Global, steps: &mu
 }
 
 /// Makes the objects of the opening board.
-pub(crate) fn make_all<L: Ledger>(heap: &mut Heap, alloc: Global, steps: &mut Steps<L>) -> Result<(), Memory>
+pub(crate) fn make_all<L: Ledger>(
+    heap: &mut Heap,
+    alloc: Global,
+    steps: &mut Steps<L>,
+) -> Result<(), Memory>
     ensures { OnOk result ((b : Board) → Shows b heap.old → Shows (with_all b) heap.new) }
 {
     let root = make_new(heap, TypeId::Container, alloc, steps)?;

@@ -15,7 +15,18 @@ use std::test::Fail;
 /// The eight objects: birth, the parent's birth or 0, and the names of the slots.
 static ROWS: [(u64, u64, &[&str]); 8] = [
     (1, 0, &["type", "machine", "objects"]),
-    (2, 1, &["type", "peripheral", "peripheral-anon", "sysclk", "root.0", "mem.0"]),
+    (
+        2,
+        1,
+        &[
+            "type",
+            "peripheral",
+            "peripheral-anon",
+            "sysclk",
+            "root.0",
+            "mem.0",
+        ],
+    ),
     (3, 2, &["type"]),
     (4, 2, &["type"]),
     (5, 2, &["type", "period", "mul", "div", "source"]),
@@ -145,7 +156,12 @@ fn the_opening_board(rt: HostRuntime) -> Result<(), Fail> {
 }
 
 /// Whether a new object of a type, the first of a heap, begins with these slots.
-fn begins<L: Ledger>(kind: TypeId, names: &[&str], alloc: Global, steps: &mut Steps<L>) -> Result<bool, Memory> {
+fn begins<L: Ledger>(
+    kind: TypeId,
+    names: &[&str],
+    alloc: Global,
+    steps: &mut Steps<L>,
+) -> Result<bool, Memory> {
     let mut heap = Heap::new(alloc)?;
     let o = heap.make(alloc, kind, steps)?;
     let Some(o) = object(&heap, o.birth) else {
@@ -155,6 +171,7 @@ fn begins<L: Ledger>(kind: TypeId, names: &[&str], alloc: Global, steps: &mut St
     Ok(has_names(&heap, 1, names, steps))
 }
 
+/// Whether a new tag and a new bridge begin with their slots.
 fn make_two<L: Ledger>(alloc: Global, blank: Blank) -> Result<bool, Memory>
     requires name { blank.name ≡ L.name }
     requires parts { blank.parts ≡ L.parts }

@@ -1,13 +1,11 @@
-use Rattle.std.proofs.Common.{◌≡◌, refl, ap, sym, ◌∙◌, ℕ, ◌+◌, ◌<◌, ◌≤◌, length, take, filter_map, slice_get, List, ◌++◌, Option, Some, None, option_map, option_to_list, subst, arith}
+use Rattle.std.proofs.Common.{◌≡◌, ap, sym, ◌∙◌, ◌<◌, ◌≤◌, length, filter_map, slice_get, List, Some, None, option_map, option_to_list, arith}
 use Rattle.std.proofs.lemmas.List.{take_all}
-use Rattle.qo_table.specs.Rows.{IsLive}
 use Rattle.qo_model.specs.Types.{Property, slots_of}
 use Rattle.qo_types.specs.Rows.{property_told}
-use Rattle.qo_types.specs.declared.rows.SlotRow.{SlotRow}
 use Rattle.qo_object.specs.Slots.{Named}
 use Rattle.qo_heap.specs.Objects.{Objects, with_edit}
 use Rattle.qo_heap.proofs.HeapLemmas.{live-edit}
-use Rattle.qo_realize.specs.Fresh.{first_slots, new_slots, slot_begun, slot_of_row, with_slots}
+use Rattle.qo_realize.specs.Fresh.{first_slots, slot_begun, slot_of_row, with_slots}
 use Rattle.qo_realize.proofs.FreshLemmas.{ToldAt, told-at, few-slots, none-at, past, shows-fresh, with-none, with-more}
 use Rattle.qo_realize.proofs.fresh.add_fresh_slots.Goals as goal
 
@@ -40,11 +38,13 @@ pub loop-row-preserved : goal.loop-row-preserved
 loop-row-preserved g c =
     let told : option_map property_told (Some c.in-Some.row) ≡ option_map Some (slice_get (slots_of c.args.kind) c.loop-row.place) = c.in-Some.ensures in
     let t : ToldAt c.args.kind c.loop-row.place c.in-Some.row = told-at c.args.kind c.loop-row.place c.in-Some.row told in
-    let below : c.loop-row.place < length (slots_of c.args.kind) = t.within in
-    (c.in_ok-add_row.ensures.ok
-     ∙ ap (λ (v : Objects). with_edit c.args.o.birth (with_slots (option_to_list (slot_of_row c.args.kind c.in-Some.row))) v) c.loop-row.invariant.0
-     ∙ with-more c.args.o.birth (first_slots c.loop-row.place c.args.kind) (option_to_list (slot_of_row c.args.kind c.in-Some.row)) c.args.heap.now
-     ∙ ap (λ (slots : List Named). with_edit c.args.o.birth (with_slots slots) c.args.heap.now) (sym t.next), omega arith)
+    let below : c.loop-row.place < length (slots_of c.args.kind) = t.within in (
+      c.in_ok-add_row.ensures.ok
+          ∙ ap (λ (v : Objects). with_edit c.args.o.birth (with_slots (option_to_list (slot_of_row c.args.kind c.in-Some.row))) v) c.loop-row.invariant.0
+          ∙ with-more c.args.o.birth (first_slots c.loop-row.place c.args.kind) (option_to_list (slot_of_row c.args.kind c.in-Some.row)) c.args.heap.now
+          ∙ ap (λ (slots : List Named). with_edit c.args.o.birth (with_slots slots) c.args.heap.now) (sym t.next),
+      omega arith,
+    )
 
 pub returns-clause-ok : goal.returns-clause-ok
 returns-clause-ok g c =

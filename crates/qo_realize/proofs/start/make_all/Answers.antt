@@ -1,4 +1,4 @@
-use Rattle.std.proofs.Common.{◌≡◌, ◌∙◌, ap, subst, sym, ℕ, ◌+◌, codes}
+use Rattle.std.proofs.Common.{◌∙◌, ap, subst, sym, ℕ, ◌+◌, codes}
 use Rattle.qo_values.specs.declared.kinds.TypeId.TheVariants.{Container}
 use Rattle.qo_heap.specs.Board.{Shows}
 use Rattle.qo_realize.specs.Start.{with_new, with_new_child, with_machine}

@@ -1,5 +1,3 @@
-use Rattle.std.proofs.Common.{◌≡◌, subst, sym}
-use Rattle.qo_heap.specs.Objects.{Objects}
 use Rattle.qo_realize.proofs.StartLemmas.{live-child, pinned-child, is-child, shows-child}
 use Rattle.qo_realize.proofs.start.make_child.Goals as goal
 

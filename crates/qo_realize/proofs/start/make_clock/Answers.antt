@@ -1,4 +1,4 @@
-use Rattle.std.proofs.Common.{◌≡◌, ◌∙◌, ap, subst, sym, ℕ, ◌+◌, codes}
+use Rattle.std.proofs.Common.{◌∙◌, ap, subst, sym, ℕ, ◌+◌, codes}
 use Rattle.qo_values.specs.declared.properties.Val.TheVariants.{Uint}
 use Rattle.qo_values.specs.declared.kinds.TypeId.TheVariants.{Clock}
 use Rattle.qo_model.specs.Board.{Board}
@@ -19,5 +19,5 @@ returns-clause-shown g c =
     λ b s.
     let child : Board = with_new_child c.args.machine.birth (codes "sysclk") Clock b in
     let shown : Shows (set c.in_ok-clock.clock.birth 1 (Uint system_period) child) c.set_period.new.heap =
-        rw c.set_period.ensures (shows-set child c.make_child.new.heap (c.in_ok-clock.ensures.shown b s) c.in_ok-clock.clock.birth 1 (Uint system_period)) in
+    rw c.set_period.ensures (shows-set child c.make_child.new.heap (c.in_ok-clock.ensures.shown b s) c.in_ok-clock.clock.birth 1 (Uint system_period)) in
     subst (λ (n : ℕ). Shows (set n 1 (Uint system_period) child) c.set_period.new.heap) (c.in_ok-clock.ensures.made.birth ∙ ap (λ (k : ℕ). k + 1) (sym s.born)) shown

@@ -1,6 +1,3 @@
-use Rattle.std.proofs.Common.{◌≡◌, subst, sym}
-use Rattle.qo_heap.specs.Objects.{Objects}
-use Rattle.qo_realize.specs.Start.{IsMade}
 use Rattle.qo_realize.proofs.StartLemmas.{live-made, is-made, shows-new}
 use Rattle.qo_realize.proofs.start.make_new.Goals as goal
 

@@ -1,4 +1,4 @@
-use Rattle.std.proofs.Common.{◌≡◌, ℕ, ◌∙◌, ap}
+use Rattle.std.proofs.Common.{ℕ, ◌∙◌, ap}
 use Rattle.qo_values.specs.declared.properties.Val.TheVariants.{Uint}
 use Rattle.qo_model.specs.Opening.{system_period}
 use Rattle.qo_object.specs.Content.{set_at}
