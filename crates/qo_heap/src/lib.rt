@@ -3,12 +3,16 @@
 //! is finalised here: `qo_life` does this over these calls.
 #![tactic(auto)]
 
+#[cfg(test)]
+mod calls;
 mod ends;
 mod errors;
 mod heap;
 mod links;
 mod reads;
 mod slots;
+#[cfg(test)]
+mod tests;
 
 pub use errors::{MakeError, SlotError};
 pub use heap::Heap;
