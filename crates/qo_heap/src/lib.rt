@@ -3,6 +3,8 @@
 //! is finalised here: `qo_life` does this over these calls.
 #![tactic(auto)]
 
+#[cfg(test)]
+mod calls;
 mod ends;
 mod errors;
 mod heap;
@@ -10,6 +12,8 @@ mod links;
 mod reads;
 mod slots;
 mod tree;
+#[cfg(test)]
+mod tests;
 
 pub use errors::{MakeError, SlotError};
 pub use heap::Heap;

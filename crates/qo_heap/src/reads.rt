@@ -114,7 +114,7 @@ impl Heap {
     }
 
     /// How often an object is pinned.
-    fn pins<L: Ledger>(&self, o: Oid, steps: &mut Steps<L>) -> u64
+    pub(crate) fn pins<L: Ledger>(&self, o: Oid, steps: &mut Steps<L>) -> u64
         requires { IsLive self.now.rows o }
         ensures pins { result ≡ pins_of self.now o.birth }
         ensures few { result ≤ 2 ^ 32 }

@@ -5,6 +5,8 @@
 #![tactic(auto)]
 
 mod table;
+#[cfg(test)]
+mod tests;
 
 pub use qo_slots::{Key, Memory, Steps};
 pub use table::ObjectTable;
