@@ -1,4 +1,5 @@
 mod BirthLemmas
 mod BoardLemmas
 mod GoesLemmas
+pub mod MadeLemmas
 mod TreeLemmas

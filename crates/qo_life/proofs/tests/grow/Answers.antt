@@ -4,7 +4,7 @@ use Rattle.qo_object.specs.Content.{with_slot}
 use Rattle.qo_object.specs.declared.slots.Slot.TheVariants.{Child}
 use Rattle.qo_heap.specs.Objects.{Objects}
 use Rattle.qo_heap.proofs.HeapLemmas.{live-edit}
-use Rattle.qo_life.proofs.BirthLemmas.{made-live, made-pinned, pins-edit}
+use Rattle.qo_life.proofs.MadeLemmas.{made-live, made-pinned, pins-edit}
 use Rattle.qo_life.proofs.tests.grow.Goals as goal
 
 pub add_child-requires-clause-target : goal.add_child-requires-clause-target

@@ -1,6 +1,6 @@
 use Rattle.std.proofs.Common.{leb}
 use Rattle.qo_slots.specs.declared.keys.Key.{Key}
-use Rattle.qo_life.proofs.BirthLemmas.{found-live}
+use Rattle.qo_life.proofs.MadeLemmas.{found-live}
 use Rattle.qo_life.proofs.tests.there.Goals as goal
 
 pub returns-then-o-birth : goal.returns-then-o-birth
