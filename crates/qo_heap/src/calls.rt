@@ -102,7 +102,10 @@ pub enum Said {
     Ended(u64, TypeId),
 }
 
-use Call::{Alias, At, Child, Cut, Empty, Find, Finish, First, From, Init, Kind, Live, Make, Parent, Pin, Plain, Point, Refs, Set, Strong, Total, Unpin, Weak};
+use Call::{
+    Alias, At, Child, Cut, Empty, Find, Finish, First, From, Init, Kind, Live, Make, Parent, Pin,
+    Plain, Point, Refs, Set, Strong, Total, Unpin, Weak,
+};
 
 /// The name of a birth, where it is live.
 fn found(heap: &Heap, birth: u64) -> Option<Oid>
@@ -174,7 +177,13 @@ fn init(heap: &mut Heap, birth: u64, of: TypeId) -> Said {
 }
 
 /// Adds a truth value, which is false, under a name.
-pub fn plain<L: Ledger>(heap: &mut Heap, alloc: Global, owner: u64, name: &str, steps: &mut Steps<L>) -> Said {
+pub fn plain<L: Ledger>(
+    heap: &mut Heap,
+    alloc: Global,
+    owner: u64,
+    name: &str,
+    steps: &mut Steps<L>,
+) -> Said {
     let Some(name) = name_of(alloc, name) else {
         return Said::Unfit;
     };
@@ -185,7 +194,14 @@ pub fn plain<L: Ledger>(heap: &mut Heap, alloc: Global, owner: u64, name: &str, 
 }
 
 /// Adds a child under a name.
-pub fn child<L: Ledger>(heap: &mut Heap, alloc: Global, owner: u64, name: &str, child: u64, steps: &mut Steps<L>) -> Said {
+pub fn child<L: Ledger>(
+    heap: &mut Heap,
+    alloc: Global,
+    owner: u64,
+    name: &str,
+    child: u64,
+    steps: &mut Steps<L>,
+) -> Said {
     let Some(name) = name_of(alloc, name) else {
         return Said::Unfit;
     };
@@ -198,7 +214,15 @@ pub fn child<L: Ledger>(heap: &mut Heap, alloc: Global, owner: u64, name: &str, 
     added(heap.add_child(o, name, child, steps))
 }
 
-fn link<L: Ledger>(heap: &mut Heap, alloc: Global, owner: u64, name: &str, strong: bool, target: u64, steps: &mut Steps<L>) -> Said {
+fn link<L: Ledger>(
+    heap: &mut Heap,
+    alloc: Global,
+    owner: u64,
+    name: &str,
+    strong: bool,
+    target: u64,
+    steps: &mut Steps<L>,
+) -> Said {
     let Some(name) = name_of(alloc, name) else {
         return Said::Unfit;
     };
@@ -209,7 +233,14 @@ fn link<L: Ledger>(heap: &mut Heap, alloc: Global, owner: u64, name: &str, stron
     added(heap.add_link(o, name, TypeId::Device, strong, target, steps))
 }
 
-fn alias<L: Ledger>(heap: &mut Heap, alloc: Global, owner: u64, name: &str, target: u64, steps: &mut Steps<L>) -> Said {
+fn alias<L: Ledger>(
+    heap: &mut Heap,
+    alloc: Global,
+    owner: u64,
+    name: &str,
+    target: u64,
+    steps: &mut Steps<L>,
+) -> Said {
     let Some(of) = name_of(alloc, "of") else {
         return Said::Unfit;
     };
@@ -246,7 +277,13 @@ fn is_empty_link<L: Ledger>(heap: &Heap, o: Oid, at: usize, steps: &mut Steps<L>
     }
 }
 
-fn point<L: Ledger>(heap: &mut Heap, birth: u64, at: usize, target: u64, steps: &mut Steps<L>) -> Said {
+fn point<L: Ledger>(
+    heap: &mut Heap,
+    birth: u64,
+    at: usize,
+    target: u64,
+    steps: &mut Steps<L>,
+) -> Said {
     let Some(o) = found(heap, birth) else {
         return Said::Nothing;
     };
@@ -285,7 +322,13 @@ fn takes_truth<L: Ledger>(heap: &Heap, o: Oid, at: usize, value: bool, steps: &m
     }
 }
 
-fn set<L: Ledger>(heap: &mut Heap, birth: u64, at: usize, value: bool, steps: &mut Steps<L>) -> Said {
+fn set<L: Ledger>(
+    heap: &mut Heap,
+    birth: u64,
+    at: usize,
+    value: bool,
+    steps: &mut Steps<L>,
+) -> Said {
     let Some(o) = found(heap, birth) else {
         return Said::Nothing;
     };
@@ -370,7 +413,10 @@ fn shape(slot: &Slot) -> Said {
         Slot::Plain(..) => Said::Unfit,
         Slot::Child(child) => Said::HasChild(child.birth),
         Slot::Link { target: None, .. } => Said::LinksTo(0),
-        Slot::Link { target: Some(target), .. } => Said::LinksTo(target.birth),
+        Slot::Link {
+            target: Some(target),
+            ..
+        } => Said::LinksTo(target.birth),
         Slot::Alias(target, _) => Said::AliasOf(target.birth),
     }
 }

@@ -16,7 +16,12 @@ use qo_values::TypeId;
 use std::sync::ledger::Ledger;
 
 /// Empties the weak links of the object at a place that name the object of a birth.
-fn forget_at<L: Ledger>(table: &mut ObjectTable<Object>, place: usize, birth: u64, steps: &mut Steps<L>)
+fn forget_at<L: Ledger>(
+    table: &mut ObjectTable<Object>,
+    place: usize,
+    birth: u64,
+    steps: &mut Steps<L>,
+)
     ensures { table.new ≡ record table.old { rows = changed_at (forgets birth) place table.old.rows } }
 {
     table.facts();

@@ -67,7 +67,12 @@ impl Heap {
 
     /// Makes an object of a type, without slots and pinned once, of the next birth. `Limit` comes
     /// exactly at 4,096 live objects. An error leaves the heap as it was.
-    pub fn make<L: Ledger>(&mut self, alloc: Global, kind: TypeId, steps: &mut Steps<L>) -> Result<Oid, MakeError>
+    pub fn make<L: Ledger>(
+        &mut self,
+        alloc: Global,
+        kind: TypeId,
+        steps: &mut Steps<L>,
+    ) -> Result<Oid, MakeError>
         ensures made { IfOk result (λ o. (o.birth ≡ self.old.born + 1) × (self.new ≡ record self.old { rows = self.old.rows ++ (o, fresh kind) ∷ []; born = self.old.born + 1 })) }
         ensures below { IfOk result (λ o. length self.old.rows < 4096) }
         ensures limit { result ≡ Err Limit → length self.old.rows ≡ 4096 }

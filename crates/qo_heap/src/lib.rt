@@ -11,9 +11,9 @@ mod heap;
 mod links;
 mod reads;
 mod slots;
-mod tree;
 #[cfg(test)]
 mod tests;
+mod tree;
 
 pub use errors::{MakeError, SlotError};
 pub use heap::Heap;

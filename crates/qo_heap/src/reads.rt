@@ -14,7 +14,12 @@ use std::alloc::Global;
 use std::sync::ledger::Ledger;
 
 /// How many slots of the object at a place hold the object of a birth; 0 past the last.
-fn holding_at<L: Ledger>(table: &ObjectTable<Object>, place: usize, birth: u64, steps: &mut Steps<L>) -> u64
+fn holding_at<L: Ledger>(
+    table: &ObjectTable<Object>,
+    place: usize,
+    birth: u64,
+    steps: &mut Steps<L>,
+) -> u64
     ensures count { result ≡ option_map_or (λ row. holding birth row.1) (slice_get table.now.rows place) 0 }
     ensures few { result ≤ 2 ^ 32 }
 {
@@ -43,7 +48,12 @@ fn holding_in<L: Ledger>(table: &ObjectTable<Object>, birth: u64, steps: &mut St
 }
 
 /// Whether the object at a place has the object of a birth as a child; not past the last.
-fn is_parent_at<L: Ledger>(table: &ObjectTable<Object>, place: usize, birth: u64, steps: &mut Steps<L>) -> bool
+fn is_parent_at<L: Ledger>(
+    table: &ObjectTable<Object>,
+    place: usize,
+    birth: u64,
+    steps: &mut Steps<L>,
+) -> bool
     ensures { result ≡ option_map_or (λ row. is_parent birth row.1) (slice_get table.now.rows place) false }
 {
     table.facts();
@@ -102,7 +112,12 @@ impl Heap {
     }
 
     /// The slot of an object at a place, from 0; `None` exactly past the last. There are at most 2^32.
-    pub fn slot_at<L: Ledger>(&self, o: Oid, at: usize, steps: &mut Steps<L>) -> Option<SlotView<'_>>
+    pub fn slot_at<L: Ledger>(
+        &self,
+        o: Oid,
+        at: usize,
+        steps: &mut Steps<L>,
+    ) -> Option<SlotView<'_>>
         requires { IsLive self.now.rows o }
         ensures slot { option_map (λ v. (v.name.now, v.what.now)) result ≡ slice_get (slots_of self.now o.birth) at }
         ensures at { IfSome result (λ v. v.at ≡ at) }

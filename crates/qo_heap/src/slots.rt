@@ -17,7 +17,13 @@ impl Heap {
     ghost use Rattle.qo_heap.specs.declared.errors.SlotError.TheVariants.{Duplicate, HasParent, Memory};
 
     /// Adds a slot to an object, behind the others. What it names must be there.
-    fn add<L: Ledger>(&mut self, o: Oid, name: Name, slot: Slot, steps: &mut Steps<L>) -> Result<(), SlotError>
+    fn add<L: Ledger>(
+        &mut self,
+        o: Oid,
+        name: Name,
+        slot: Slot,
+        steps: &mut Steps<L>,
+    ) -> Result<(), SlotError>
         requires live { IsLive self.old.rows o }
         requires target { IfSome (target_of slot) (IsLive self.old.rows) }
         ensures added { OnOk result (self.new ≡ with_edit o.birth (with_slot name slot) self.old) }
@@ -33,7 +39,14 @@ impl Heap {
 
     /// Adds a plain property with the values that it takes and its value. `Duplicate` comes exactly
     /// where the object has a slot of that name. An error leaves the heap as it was.
-    pub fn add_plain<L: Ledger>(&mut self, o: Oid, name: Name, ty: PropType, val: Val, steps: &mut Steps<L>) -> Result<(), SlotError>
+    pub fn add_plain<L: Ledger>(
+        &mut self,
+        o: Oid,
+        name: Name,
+        ty: PropType,
+        val: Val,
+        steps: &mut Steps<L>,
+    ) -> Result<(), SlotError>
         requires live { IsLive self.old.rows o }
         ensures added { OnOk result (self.new ≡ with_edit o.birth (with_slot name (Plain ty val)) self.old) }
         ensures absent { OnOk result (has_name name (slots_of self.old o.birth) ≡ false) }
@@ -47,7 +60,13 @@ impl Heap {
 
     /// Adds a child slot. `Duplicate` comes exactly where the owner has a slot of that name, else
     /// `HasParent` exactly where the child has a parent. An error leaves the heap as it was.
-    pub fn add_child<L: Ledger>(&mut self, o: Oid, name: Name, child: Oid, steps: &mut Steps<L>) -> Result<(), SlotError>
+    pub fn add_child<L: Ledger>(
+        &mut self,
+        o: Oid,
+        name: Name,
+        child: Oid,
+        steps: &mut Steps<L>,
+    ) -> Result<(), SlotError>
         requires live { IsLive self.old.rows o }
         requires target { IsLive self.old.rows child }
         ensures added { OnOk result (self.new ≡ with_edit o.birth (with_slot name (Child child)) self.old) }
@@ -69,7 +88,15 @@ impl Heap {
 
     /// Adds a link to objects of a type, which keeps its target alive where it is strong. `Duplicate`
     /// comes exactly where the owner has a slot of that name. An error leaves the heap as it was.
-    pub fn add_link<L: Ledger>(&mut self, o: Oid, name: Name, ty: TypeId, strong: bool, target: Option<Oid>, steps: &mut Steps<L>) -> Result<(), SlotError>
+    pub fn add_link<L: Ledger>(
+        &mut self,
+        o: Oid,
+        name: Name,
+        ty: TypeId,
+        strong: bool,
+        target: Option<Oid>,
+        steps: &mut Steps<L>,
+    ) -> Result<(), SlotError>
         requires live { IsLive self.old.rows o }
         requires target { IfSome target (IsLive self.old.rows) }
         ensures added { OnOk result (self.new ≡ with_edit o.birth (with_slot name (Link ty strong target)) self.old) }
@@ -84,7 +111,14 @@ impl Heap {
 
     /// Adds another name for the property `of` of an object. `Duplicate` comes exactly where the
     /// owner has a slot of that name. An error leaves the heap as it was.
-    pub fn add_alias<L: Ledger>(&mut self, o: Oid, name: Name, target: Oid, of: Name, steps: &mut Steps<L>) -> Result<(), SlotError>
+    pub fn add_alias<L: Ledger>(
+        &mut self,
+        o: Oid,
+        name: Name,
+        target: Oid,
+        of: Name,
+        steps: &mut Steps<L>,
+    ) -> Result<(), SlotError>
         requires live { IsLive self.old.rows o }
         ensures added { OnOk result (self.new ≡ with_edit o.birth (with_slot name (Alias target of)) self.old) }
         ensures absent { OnOk result (has_name name (slots_of self.old o.birth) ≡ false) }

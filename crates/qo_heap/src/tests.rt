@@ -2,8 +2,14 @@
 //! answer, on heaps written by hand.
 ghost use Rattle.std.specs.Prelude.{◌≡◌, ◌<◌};
 
-use crate::calls::Call::{Alias, At, Child, Cut, Empty, Find, Finish, First, From, Init, Kind, Live, Make, Note, Parent, Pin, Plain, Point, Refs, Set, Strong, Total, Unpin, Weak};
-use crate::calls::Said::{AliasOf, Began, Done, Duplicate, Ended, HasChild, HasParent, Holds, Limit, LinksTo, Nothing, Number, Type, Unfit};
+use crate::calls::Call::{
+    Alias, At, Child, Cut, Empty, Find, Finish, First, From, Init, Kind, Live, Make, Note, Parent,
+    Pin, Plain, Point, Refs, Set, Strong, Total, Unpin, Weak,
+};
+use crate::calls::Said::{
+    AliasOf, Began, Done, Duplicate, Ended, HasChild, HasParent, Holds, Limit, LinksTo, Nothing,
+    Number, Type, Unfit,
+};
 use crate::calls::{Call, Said, answer, child, find, finish, make, plain, unpin};
 use crate::{Heap, Memory, Steps};
 use qo_values::TypeId::{Container, Device, SlotDevice, SlotUart, Tag};
@@ -13,7 +19,12 @@ use std::sync::ledger::{Blank, Ledger};
 use std::test::Fail;
 
 /// How many of the calls, from the first on, answer as they should.
-fn right_answers<L: Ledger>(heap: &mut Heap, alloc: Global, calls: &[(Call, Said)], steps: &mut Steps<L>) -> usize {
+fn right_answers<L: Ledger>(
+    heap: &mut Heap,
+    alloc: Global,
+    calls: &[(Call, Said)],
+    steps: &mut Steps<L>,
+) -> usize {
     for (place, row) in calls.iter().enumerate() {
         let (call, wanted) = *row;
         if answer(heap, alloc, call, steps) != wanted {
@@ -288,7 +299,13 @@ fn a_heap_has_4096_objects(rt: HostRuntime) -> Result<(), Fail> {
 }
 
 /// Adds a slot to the first object: each sixteenth is a child, the others are plain.
-fn add<L: Ledger>(heap: &mut Heap, alloc: Global, place: u64, name: &str, steps: &mut Steps<L>) -> Said {
+fn add<L: Ledger>(
+    heap: &mut Heap,
+    alloc: Global,
+    place: u64,
+    name: &str,
+    steps: &mut Steps<L>,
+) -> Said {
     if place % 16 == 0 {
         return child(heap, alloc, 1, name, place / 16 + 2, steps);
     }

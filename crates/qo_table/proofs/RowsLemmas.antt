@@ -162,9 +162,9 @@ module _ {T : Type 0} where
           rw (rows-cons u k ks w here, is) (ap (λ (l : List (Key × T)). (k, w) ∷ l) rest)
       go vk e false is rest =
           let other : k.index ≢ key.index = λ (same : k.index ≡ key.index).
-              let both : ◌≡◌ {A = Option (ℕ × T)} (Some (k.birth, vk)) (Some (key.birth, v)) = sym e ∙ ap (λ n. slots.find t n) same ∙ found in
-              let births : k.birth ≡ key.birth = same-births k.birth key.birth vk v both in
-              cc (is, eq-eqb k.birth key.birth births) in
+          let both : ◌≡◌ {A = Option (ℕ × T)} (Some (k.birth, vk)) (Some (key.birth, v)) = sym e ∙ ap (λ n. slots.find t n) same ∙ found in
+          let births : k.birth ≡ key.birth = same-births k.birth key.birth vk v both in
+          cc (is, eq-eqb k.birth key.birth births) in
           rw (rows-cons u k ks vk (updates.others k.index other ∙ e), is) (ap (λ (l : List (Key × T)). (k, vk) ∷ l) rest)
 
   -- where the index of a new name was empty, the other names have what they had
@@ -266,8 +266,8 @@ module _ {T : Type 0} where
       let up : key.birth < k.birth = above.0 in
       let differs : eqb k.birth key.birth ≡ false = grind arith in
       let other : k.index ≢ key.index = λ (same : k.index ≡ key.index).
-          let births : k.birth ≡ key.birth = same-births k.birth key.birth vk v (sym e ∙ ap (λ n. slots.find t n) same ∙ found) in
-          cc (differs, eq-eqb k.birth key.birth births) in
+      let births : k.birth ≡ key.birth = same-births k.birth key.birth vk v (sym e ∙ ap (λ n. slots.find t n) same ∙ found) in
+      cc (differs, eq-eqb k.birth key.birth births) in
       let rest = behind t u key v found updates ks stored.1 above.1 in
       (rw (rows-cons t k ks vk e, rows-cons u k ks vk (updates.others k.index other ∙ e), differs) (ap (λ (l : List (Key × T)). (k, vk) ∷ l) rest.0), (IsLive-updated_other t u key.index None k updates other stored.0, rest.1))
 
@@ -295,8 +295,8 @@ module _ {T : Type 0} where
           let more : k.birth < key.birth = live-above t ks stored.1 k.birth last rises.1 key live' in
           let goes : nat_lt k.birth key.birth ≡ true = grind (arith, nat_tests) in
           let other : k.index ≢ key.index = λ (same : k.index ≡ key.index).
-              let births : k.birth ≡ key.birth = same-births k.birth key.birth vk v (sym e ∙ ap (λ n. slots.find t n) same ∙ found) in
-              cc (is, eq-eqb k.birth key.birth births) in
+          let births : k.birth ≡ key.birth = same-births k.birth key.birth vk v (sym e ∙ ap (λ n. slots.find t n) same ∙ found) in
+          cc (is, eq-eqb k.birth key.birth births) in
           let rest = later live' in
           let left = remove ks (front (λ (x : Key). nat_lt x.birth key.birth) ks) in
           rw goes (record {

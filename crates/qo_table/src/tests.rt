@@ -54,7 +54,12 @@ fn looked<L: Ledger>(table: &ObjectTable<u64>, birth: u64, steps: &mut Steps<L>)
     }
 }
 
-fn changed<L: Ledger>(table: &mut ObjectTable<u64>, birth: u64, object: u64, steps: &mut Steps<L>) -> u64 {
+fn changed<L: Ledger>(
+    table: &mut ObjectTable<u64>,
+    birth: u64,
+    object: u64,
+    steps: &mut Steps<L>,
+) -> u64 {
     let Some(key) = key_of(table, birth) else {
         return 0;
     };
@@ -83,7 +88,11 @@ fn answer<L: Ledger>(table: &mut ObjectTable<u64>, call: Call, steps: &mut Steps
 }
 
 /// How many of the calls, from the first on, answer as they should.
-fn right_answers<L: Ledger>(table: &mut ObjectTable<u64>, calls: &[(Call, u64)], steps: &mut Steps<L>) -> usize {
+fn right_answers<L: Ledger>(
+    table: &mut ObjectTable<u64>,
+    calls: &[(Call, u64)],
+    steps: &mut Steps<L>,
+) -> usize {
     for (place, row) in calls.iter().enumerate() {
         let (call, wanted) = *row;
         if answer(table, call, steps) != wanted {

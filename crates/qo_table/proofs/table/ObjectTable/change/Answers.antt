@@ -22,8 +22,11 @@ returns g c =
     let seen = rw (← c.self.view_is) at c.requires in
     let live = live-stored c.self.inside.slots c.self.inside.order.items c.self.invariant.stored c.args.key seen in
     let agree = agrees c.self.inside.slots c.self.inside.order.items c.self.invariant.stored 0 c.self.inside.slots.born c.self.invariant.rising c.args.key seen in
-    rw (← c.self.view_is) ((refl, λ w. ap (λ (rows : List (Key × g.row.T.Denot)). record { rows = rows; born = c.self.inside.slots.born }) (rows-changed c.self.inside.slots _ c.args.key c.change.result.now w c.change.ensures.value (Updates-with_value c.self.inside.slots c.args.key w live) c.self.inside.order.items c.self.invariant.stored agree)), record {
-      writes_back = tt;
-      object = object-found c.self.inside.slots c.self.inside.order.items c.self.invariant.stored c.args.key seen c.change.result.now c.change.ensures.value;
-      cost = c.change.ensures.cost;
-    })
+    rw (← c.self.view_is) (
+      (refl, λ w. ap (λ (rows : List (Key × g.row.T.Denot)). record { rows = rows; born = c.self.inside.slots.born }) (rows-changed c.self.inside.slots _ c.args.key c.change.result.now w c.change.ensures.value (Updates-with_value c.self.inside.slots c.args.key w live) c.self.inside.order.items c.self.invariant.stored agree)),
+      record {
+        writes_back = tt;
+        object = object-found c.self.inside.slots c.self.inside.order.items c.self.invariant.stored c.args.key seen c.change.result.now c.change.ensures.value;
+        cost = c.change.ensures.cost;
+      },
+    )
