@@ -1,5 +1,5 @@
 -- Recursion to a depth, turn by turn: `size + 1` turns, of which i are done.
-use Rattle.std.proofs.Common.{◌≡◌, ap, ℕ, zero, suc, ◌+◌, ◌-◌, ◌<◌, ◌≤◌, arith}
+use Rattle.std.proofs.Common.{◌≡◌, ap, ℕ, suc, ◌+◌, ◌-◌, ◌<◌, ◌≤◌, arith}
 use Rattle.qo_model.specs.Depth.{by_depth}
 
 module _ {A : Type 0} (turn : (ℕ → A) → ℕ → A) (base : ℕ → A) where

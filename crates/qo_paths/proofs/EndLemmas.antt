@@ -1,23 +1,21 @@
 -- The ends of a path: from birth 1, and from each attached object.
-use Rattle.std.proofs.Common.{◌≡◌, refl, ap, sym, ◌∙◌, ℕ, zero, suc, ◌+◌, ◌<◌, ◌≤◌, Bool, true, false, cond, List, [], ◌∷◌, ◌++◌, map, filter, length, drop, slice_get, eqb, Option, Some, None, find, option_map, is_some, arith}
-use Rattle.std.specs.Prelude.{filter_map, option_to_list, ok_or, Result}
+use Rattle.std.proofs.Common.{◌≡◌, refl, ap, ◌∙◌, ℕ, zero, suc, ◌+◌, ◌<◌, ◌≤◌, Bool, true, false, cond, List, [], ◌∷◌, filter, length, drop, slice_get, eqb, Option, Some, None, find, option_map, is_some, arith}
+use Rattle.std.specs.Prelude.{filter_map, ok_or}
 use Rattle.std.specs.Option.{option_and_then, option_map_or}
 use Rattle.std.specs.List.{cons_option}
 use Rattle.std.specs.Str.{bytes_eq}
 use Rattle.qo_slots.specs.declared.keys.Key.{Key}
-use Rattle.qo_table.specs.Rows.{IsLive, Rises, births, object_at}
+use Rattle.qo_table.specs.Rows.{Rises, births, object_at}
 use Rattle.qo_object.specs.Content.{Content}
 use Rattle.qo_object.specs.Shown.{birth_of}
 use Rattle.qo_values.specs.declared.kinds.TypeId.{TypeId}
 use Rattle.qo_model.specs.Board.{Board, Record, Slot, kind_of, record_of, target_of}
 use Rattle.qo_model.specs.Types.{is_a}
-use Rattle.qo_model.specs.Paths as paths
-use Rattle.qo_model.specs.Paths.{attached, components, ends, is_absolute, is_of, next_of, only_of, resolve, the_one, found, missing, several, walk}
-use Rattle.qo_heap.specs.Objects.{IsHeap, Objects, content_of}
+use Rattle.qo_model.specs.Paths.{attached, components, ends, is_absolute, is_of, next_of, only_of, resolve, the_one, several, walk}
+use Rattle.qo_heap.specs.Objects.{Objects, content_of}
 use Rattle.qo_heap.specs.Board.{Shows}
 use Rattle.qo_heap.proofs.ShowsReads.{shows-births, shows-kind, shows-record}
 use Rattle.qo_paths.specs.Answers.{end_from, place_told}
-use Rattle.qo_paths.specs.declared.errors.PathError.{PathError}
 use Rattle.qo_paths.specs.declared.errors.PathError.TheVariants.{NotFound}
 
 -- the object of birth 1

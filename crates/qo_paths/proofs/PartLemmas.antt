@@ -1,5 +1,5 @@
 -- The parts of a path, first to last.
-use Rattle.std.proofs.Common.{◌≡◌, refl, ap, sym, ◌∙◌, ℕ, zero, suc, ◌+◌, ◌-◌, ◌<◌, ◌≤◌, ◌==◌, Bool, true, false, cond, Bor, List, [], ◌∷◌, ◌++◌, map, length, drop, get_or, append_assoc, Option, Some, None, arith}
+use Rattle.std.proofs.Common.{◌≡◌, refl, ap, sym, ◌∙◌, ℕ, zero, suc, ◌+◌, ◌-◌, ◌<◌, ◌≤◌, ◌==◌, true, false, cond, Bor, List, [], ◌∷◌, ◌++◌, map, length, drop, get_or, append_assoc, Option, Some, None, arith}
 use Rattle.std.specs.List.{slice_split}
 use Rattle.qo_model.specs.Board.{Board}
 use Rattle.qo_model.specs.Paths.{components, next_of, walk}

@@ -1,5 +1,5 @@
 -- The way up: places of objects, what is attached, and the steps of a canonical path.
-use Rattle.std.proofs.Common.{◌≡◌, refl, ap, sym, subst, ◌∙◌, ℕ, suc, ◌+◌, ◌<◌, ◌≤◌, Bool, true, false, List, [], ◌∷◌, ◌++◌, map, length, eqb, Option, Some, None, find, slice_get, option_map, append_assoc, arith}
+use Rattle.std.proofs.Common.{◌≡◌, refl, ap, sym, subst, ◌∙◌, ℕ, suc, ◌+◌, ◌<◌, ◌≤◌, Bool, true, false, List, [], ◌∷◌, ◌++◌, length, eqb, Option, Some, None, find, option_map, append_assoc, arith}
 use Rattle.std.specs.Option.{option_and_then, option_map_or}
 use Rattle.std.specs.List.{position_or_len}
 use Rattle.std.proofs.lemmas.List.Folds.{find_at}
@@ -8,7 +8,6 @@ use Rattle.qo_slots.specs.declared.keys.Key.{Key}
 use Rattle.qo_table.specs.Rows.{IsLive, births, row_at}
 use Rattle.qo_object.specs.Slots.{Named, names_child}
 use Rattle.qo_object.specs.Content.{Content, is_parent}
-use Rattle.qo_object.specs.Shown.{birth_of}
 use Rattle.qo_model.specs.Board.{Board}
 use Rattle.qo_model.specs.Depth.{by_depth}
 use Rattle.qo_model.specs.Paths as paths

@@ -1,5 +1,5 @@
 -- The way down: where a name leads from an object of the heap.
-use Rattle.std.proofs.Common.{◌≡◌, refl, ap, sym, ◌∙◌, ℕ, Bool, true, false, List, [], ◌∷◌, eqb, Option, Some, None, find, option_map, IfSome}
+use Rattle.std.proofs.Common.{◌≡◌, refl, ap, sym, ◌∙◌, ℕ, Bool, true, false, List, [], ◌∷◌, Option, Some, None, find, option_map, IfSome}
 use Rattle.std.specs.List.{AllByRecursion, cons_option}
 use Rattle.std.specs.Option.{option_and_then, option_map_or}
 use Rattle.std.specs.Str.{bytes_eq}
@@ -11,7 +11,7 @@ use Rattle.qo_object.specs.Shown.{birth_of, shown_slot}
 use Rattle.qo_object.proofs.ShownLemmas.{shown-target}
 use Rattle.qo_model.specs.Board as board
 use Rattle.qo_model.specs.Paths.{next_of}
-use Rattle.qo_heap.specs.Objects.{IsHeap, Objects, content_of, slots_of, targets}
+use Rattle.qo_heap.specs.Objects.{IsHeap, Objects, content_of, slots_of}
 use Rattle.qo_heap.specs.Board.{Shows}
 use Rattle.qo_heap.proofs.HeapLemmas.{linked-at, targets_in}
 use Rattle.qo_heap.proofs.ShowsReads.{shows-slot_named}

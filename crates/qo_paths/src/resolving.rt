@@ -1,6 +1,6 @@
 //! The object that a path leads to.
 
-ghost use Rattle.std.specs.Prelude.{◌≡◌, true, false, IfSome, IfNone, IfOk, None, slice_get, option_map};
+ghost use Rattle.std.specs.Prelude.{◌≡◌, true, false, IfSome, IfNone, IfOk, None, slice_get};
 ghost use Rattle.std.specs.Option.{option_and_then};
 ghost use Rattle.qo_model.specs.Board.{Board};
 ghost use Rattle.qo_model.specs.Paths.{components, is_absolute, only_of, resolve, walk};

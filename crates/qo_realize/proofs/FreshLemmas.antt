@@ -173,10 +173,11 @@ name-at t i p at = named-of p.name (passes-at (λ (q : Property). is_name q.name
 
 -- what a new object shows
 
-abbrev of_rows : TypeId → List Property → List (List ℕ × board.Slot)
+-- the slots of properties as they are shown, also of the first ones alone
+abbrev pub of_rows : TypeId → List Property → List (List ℕ × board.Slot)
 of_rows t ps = filter_map (λ (p : Property). option_map (λ (s : board.Slot). (p.name, s)) (first_slot (λ _. None) t p.name p.kind)) ps
 
-new-shown : (t : TypeId) (ps : List Property) → shown_slots (filter_map (slot_begun t) ps) ≡ of_rows t ps
+pub new-shown : (t : TypeId) (ps : List Property) → shown_slots (filter_map (slot_begun t) ps) ≡ of_rows t ps
 new-shown t [] = refl
 new-shown t (p ∷ ps) = go p.kind refl (new-shown t ps)
   where

@@ -1,5 +1,5 @@
 -- Each turn goes on to the parent.
-use Rattle.std.proofs.Common.{◌≡◌, ◌+◌, ◌<◌, ℕ, ap, sym, ◌∙◌, length, arith}
+use Rattle.std.proofs.Common.{ap, sym, ◌∙◌, length}
 use Rattle.qo_object.specs.Shown.{birth_of}
 use Rattle.qo_heap.proofs.ShowsReads.{shows-parent}
 use Rattle.qo_paths.proofs.PlaceLemmas.{attached-all, attached-root, attached-none, attached-up, is-one, not-one, place-none, within}

@@ -1,5 +1,5 @@
 -- The place is that under the parent.
-use Rattle.std.proofs.Common.{◌≡◌, Some, None, sym, ◌∙◌, rules}
+use Rattle.std.proofs.Common.{◌≡◌, Some, None, sym, rules}
 use Rattle.qo_heap.specs.Objects.{parent_of}
 use Rattle.qo_paths.proofs.PlaceLemmas.{parent-live, place-is, place-none}
 use Rattle.qo_paths.proofs.places.place_of.Goals as goal

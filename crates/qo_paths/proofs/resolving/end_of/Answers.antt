@@ -1,5 +1,5 @@
 -- The end is given where it is of the wanted type.
-use Rattle.std.proofs.Common.{◌≡◌, true, false, ap, sym, ◌∙◌}
+use Rattle.std.proofs.Common.{true, false, ap, sym, ◌∙◌}
 use Rattle.std.specs.Option.{option_and_then}
 use Rattle.qo_model.specs.Paths.{only_of}
 use Rattle.qo_paths.proofs.EndLemmas.{only-is}

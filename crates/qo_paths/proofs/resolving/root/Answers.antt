@@ -1,5 +1,5 @@
 -- The first birth is 1, or there is no object of birth 1.
-use Rattle.std.proofs.Common.{◌≡◌, None, sym, ◌∙◌, rules}
+use Rattle.std.proofs.Common.{◌≡◌, None, sym, rules}
 use Rattle.qo_heap.proofs.PlacesLemmas.{key-live}
 use Rattle.qo_paths.proofs.PlaceLemmas.{not-one}
 use Rattle.qo_paths.proofs.EndLemmas.{root-none, root-later}

@@ -1,5 +1,5 @@
 -- Each turn writes a name more.
-use Rattle.std.proofs.Common.{◌≡◌, ◌+◌, ◌-◌, ◌<◌, ◌≤◌, ℕ, List, [], ◌∷◌, ◌++◌, drop, length, map, string_bytes, ap, sym, ◌∙◌, get_or, arith}
+use Rattle.std.proofs.Common.{◌≡◌, ◌-◌, ◌<◌, ◌≤◌, ℕ, List, [], ◌∷◌, ◌++◌, length, string_bytes, ap, ◌∙◌, get_or, arith}
 use Rattle.qo_paths.proofs.PartLemmas.{path_up-get}
 use Rattle.qo_paths.proofs.writing.path_down.Goals as goal
 
