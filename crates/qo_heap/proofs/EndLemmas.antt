@@ -1,15 +1,15 @@
 -- The final notes of an object, as they are added one after another.
-use Rattle.std.proofs.Common.{◌≡◌, refl, ap, sym, ◌∙◌, ℕ, ◌+◌, ◌<◌, ◌≤◌, Bool, true, false, cond, eqb, List, [], ◌∷◌, ◌++◌, map, filter, length, take, get_or, if◌then◌else◌, sum_by, count_by, Option, Some, None, Result, Ok, Err, IfOk, IfErr, IsSomeAnd, arith}
+use Rattle.std.proofs.Common.{◌≡◌, refl, ap, sym, ◌∙◌, ℕ, ◌+◌, ◌<◌, ◌≤◌, Bool, true, false, cond, eqb, List, [], ◌∷◌, ◌++◌, map, filter, length, take, get_or, if◌then◌else◌, sum_by, count_by, Some, None, Result, Ok, Err, IfOk, IfErr, arith}
 use Rattle.std.specs.List.{AllByRecursion}
 use Rattle.std.proofs.lemmas.Bool.{eqb-true, eq-eqb}
 use Rattle.std.proofs.lemmas.List.{take_more, take_all}
 use Rattle.std.proofs.lemmas.List.Sums.{sum_by-cons}
 use Rattle.qo_slots.specs.declared.keys.Key.{Key}
 use Rattle.qo_object.specs.Content.{Content, fresh, forgotten, holding}
-use Rattle.qo_object.specs.Slots.{holds, held, is_born, each_changed, forgotten_in, unless_born, target_of}
+use Rattle.qo_object.specs.Slots.{holds, each_changed, forgotten_in}
 use Rattle.qo_object.specs.declared.slots.Slot.{Slot}
 use Rattle.qo_object.specs.declared.slots.Slot.TheVariants.{Plain, Child, Link, Alias}
-use Rattle.qo_table.specs.Rows.{Rows, IsLive, Rises, births, without, is_at}
+use Rattle.qo_table.specs.Rows.{Rows, IsLive, Rises, births, without}
 use Rattle.qo_notes.specs.Log.{Log, noted, noted_all}
 use Rattle.qo_notes.proofs.Logs.{parts_lem}
 use Rattle.qo_heap.specs.Objects.{Objects, IsHeap, final_notes, refs_of, targets, forgets}

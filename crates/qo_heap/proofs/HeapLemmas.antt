@@ -1,20 +1,17 @@
 -- What an edit of one object leaves of the heap.
-use Rattle.std.proofs.Common.{◌≡◌, refl, ap, sym, subst, ◌∙◌, ℕ, zero, suc, ◌+◌, ◌≤◌, Bool, true, false, cond, List, [], ◌∷◌, ◌++◌, map, length, filter_map, eqb, Option, Some, None, find, option_map, remove, is_some, ◌||◌, Result, Ok, Err, OnErr, IfSome, IsSomeAnd}
+use Rattle.std.proofs.Common.{◌≡◌, refl, ap, sym, subst, ◌∙◌, ℕ, zero, suc, Bool, true, false, cond, List, [], ◌∷◌, ◌++◌, length, filter_map, eqb, Option, Some, None, find, option_map, remove, is_some, ◌||◌, Result, Ok, Err, OnErr, IfSome}
 use Rattle.std.specs.Bool.{⊤}
 use Rattle.std.specs.List.{AllByRecursion, cons_option, list_any}
 use Rattle.qo_values.specs.declared.properties.Val.{Val}
-use Rattle.std.specs.Option.{option_map_or}
-use Rattle.std.proofs.lemmas.Bool.{eqb-true}
-use Rattle.std.proofs.lemmas.List.Elements.{filter_map-append}
 use Rattle.qo_slots.specs.declared.keys.Key.{Key}
 use Rattle.qo_object.specs.declared.slots.Slot.{Slot}
 use Rattle.qo_object.specs.declared.slots.Slot.TheVariants.{Plain, Child, Link, Alias}
 use Rattle.std.specs.Str.{bytes_eq}
-use Rattle.qo_object.specs.Slots.{has_name, target_of, changed_at, let_go_at, left_of, pointed, with_val, forgotten_in, unless_born}
-use Rattle.qo_object.specs.Content.{Content, with_slot, dropped_at, pointed_at, set_at, cut_at, forgotten}
-use Rattle.qo_table.specs.Rows.{IsLive, Rises, births, edited, edit, is_at, object_at, row_at}
+use Rattle.qo_object.specs.Slots.{has_name, target_of, changed_at, let_go_at, pointed, with_val}
+use Rattle.qo_object.specs.Content.{Content, with_slot, dropped_at, pointed_at, set_at, cut_at}
+use Rattle.qo_table.specs.Rows.{IsLive, births, edited, edit, is_at, object_at}
 use Rattle.qo_table.proofs.RowsLemmas.{edit-as}
-use Rattle.qo_heap.specs.Objects.{AreLinked, IsHeap, Objects, content_of, targets, with_edit}
+use Rattle.qo_heap.specs.Objects.{IsHeap, Objects, content_of, targets, with_edit}
 
 module _ {T : Type 0} (n : ℕ) (f : T → T) where
   -- an edited row has its name

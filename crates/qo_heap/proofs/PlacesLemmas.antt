@@ -1,5 +1,5 @@
 -- Lists by place, and rows by place and by birth.
-use Rattle.std.proofs.Common.{◌≡◌, refl, ap, sym, subst, ◌∙◌, ℕ, zero, suc, ◌+◌, ◌*◌, ◌<◌, ◌≤◌, Bool, true, false, cond, List, [], ◌∷◌, ◌++◌, map, length, drop, eqb, Option, Some, None, find, sum_by, option_map, slice_get, position, nat_lt, IfSome, arith}
+use Rattle.std.proofs.Common.{◌≡◌, refl, ap, sym, subst, ◌∙◌, ℕ, zero, suc, ◌+◌, ◌<◌, ◌≤◌, Bool, true, false, cond, List, [], ◌∷◌, map, length, drop, eqb, Option, Some, None, find, sum_by, option_map, slice_get, position, nat_lt, IfSome, arith}
 use Rattle.std.specs.Option.{option_map_or}
 use Rattle.std.proofs.lemmas.Bool.Decides.{nat_tests}
 use Rattle.std.specs.List.{position_or_len}
@@ -7,7 +7,7 @@ use Rattle.std.proofs.lemmas.List.Folds.{find_at}
 use Rattle.std.proofs.lemmas.Option.{slice_get_past}
 use Rattle.std.proofs.lemmas.List.Sums.{sum_by-cons}
 use Rattle.qo_slots.specs.declared.keys.Key.{Key}
-use Rattle.qo_table.specs.Rows.{IsLive, Rises, births, edit, edited, is_at, row_at, object_at}
+use Rattle.qo_table.specs.Rows.{IsLive, Rises, births, edit, row_at, object_at}
 use Rattle.qo_heap.specs.Places.{changed_at, first_changed, sum_first}
 
 module _ {X : Type 0} where

@@ -1,14 +1,13 @@
 -- What contracts see of the heap: the objects in the order of births, and the log of notes.
-use Rattle.std.specs.Prelude.{◌≡◌, ℕ, ◌+◌, ◌≤◌, ◌==◌, Bool, true, false, List, [], map, length, filter_map, sum_by, find, Option, Some, None, is_some, option_map}
-use Rattle.std.specs.List.{AllByRecursion, list_any}
+use Rattle.std.specs.Prelude.{ℕ, ◌+◌, ◌≤◌, List, [], map, length, filter_map, sum_by, find, Option, option_map}
+use Rattle.std.specs.List.{AllByRecursion}
 use Rattle.std.specs.Option.{option_map_or}
 use Rattle.qo_values.specs.declared.kinds.TypeId.{TypeId}
-use Rattle.qo_values.specs.declared.kinds.Act.TheVariants.{Init}
 use Rattle.qo_slots.specs.declared.keys.Key.{Key}
 use Rattle.qo_object.specs.declared.slots.Slot.{Slot}
 use Rattle.qo_object.specs.Slots.{target_of}
-use Rattle.qo_object.specs.Content.{Content, IsObject, forgotten, holding, is_parent}
-use Rattle.qo_model.specs.declared.notes.Deed.TheVariants.{Did, Final}
+use Rattle.qo_object.specs.Content.{Content, forgotten, holding, is_parent}
+use Rattle.qo_model.specs.declared.notes.Deed.TheVariants.{Final}
 use Rattle.qo_model.specs.declared.notes.Note.{Note}
 use Rattle.qo_model.specs.Types.{finals}
 use Rattle.qo_notes.specs.Log.{Log, noted, noted_all}

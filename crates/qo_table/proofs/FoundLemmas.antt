@@ -1,5 +1,5 @@
 -- A name that was found by a test is live.
-use Rattle.std.proofs.Common.{◌≡◌, refl, ap, subst, ℕ, ◌<◌, Bool, true, false, List, [], ◌∷◌, eqb, Option, Some, None, find, option_map, arith}
+use Rattle.std.proofs.Common.{◌≡◌, refl, ap, ℕ, ◌<◌, Bool, true, false, List, [], ◌∷◌, eqb, Some, find, option_map, arith}
 use Rattle.std.proofs.lemmas.Bool.{eqb-true}
 use Rattle.qo_slots.specs.declared.keys.Key.{Key}
 use Rattle.qo_table.specs.Rows.{IsLive, Rises, births}

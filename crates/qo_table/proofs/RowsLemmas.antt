@@ -1,6 +1,6 @@
 -- What a list of names says of the rows, and how the rows follow the table of slots.
-use Rattle.std.proofs.Common.{◌≡◌, ◌≢◌, refl, ap, ap₂, sym, subst, ◌∙◌, ℕ, suc, ◌+◌, ◌<◌, ◌≤◌, Bool, true, false, not, cond, leb, ltb, nat_lt, List, [], ◌∷◌, ◌++◌, map, filter, length, get_or, ◌==◌, eqb, Option, Some, None, find, option_map, slice_get, zero, remove, IsSomeAnd, arith}
-use Rattle.std.specs.List.{AllByRecursion, cons_option}
+use Rattle.std.proofs.Common.{◌≡◌, ◌≢◌, refl, ap, ap₂, sym, subst, ◌∙◌, ℕ, suc, ◌+◌, ◌<◌, ◌≤◌, Bool, true, false, not, cond, leb, nat_lt, List, [], ◌∷◌, ◌++◌, map, length, get_or, eqb, Option, Some, None, find, option_map, slice_get, zero, remove, arith}
+use Rattle.std.specs.List.{AllByRecursion}
 use Rattle.std.proofs.lemmas.Bool.{eqb-true, eq-eqb}
 use Rattle.std.proofs.lemmas.Bool.Decides.{nat_tests}
 use Rattle.std.proofs.lemmas.Option.{slice_get-map}
@@ -10,7 +10,7 @@ use Rattle.qo_slots.specs.declared.keys.Key.{Key}
 use Rattle.qo_slots.specs.Table.{Table, Updates}
 use Rattle.qo_slots.specs.Table as slots
 use Rattle.qo_slots.proofs.TableLemmas.{found-IsLive, IsLive-updated_other}
-use Rattle.qo_table.specs.Rows.{Rises, is_at, row_at, object_at, IsLive, edited, edit, without, births}
+use Rattle.qo_table.specs.Rows.{Rises, row_at, object_at, IsLive, edit, without, births}
 use Rattle.qo_table.specs.Ordered.{rows_in, births_of, front, IsOrdered}
 
 -- two names of one birth at one index are one

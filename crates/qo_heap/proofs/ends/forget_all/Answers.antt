@@ -1,10 +1,10 @@
-use Rattle.std.proofs.Common.{sym, ◌∙◌, ap, ap₂, subst, List, ℕ, length, arith, ◌≡◌, ◌≤◌}
+use Rattle.std.proofs.Common.{sym, ◌∙◌, ap, List, ℕ, length, arith, ◌≡◌, ◌≤◌}
 use Rattle.qo_slots.specs.declared.keys.Key.{Key}
 use Rattle.qo_table.specs.Rows.{Rows}
 use Rattle.qo_object.specs.Content.{Content}
 use Rattle.qo_heap.specs.Objects.{forgets}
 use Rattle.qo_heap.specs.Places.{first_changed, changed_at}
-use Rattle.qo_heap.proofs.PlacesLemmas.{first_changed-none, first_changed-step, first_changed-all, first_changed-from}
+use Rattle.qo_heap.proofs.PlacesLemmas.{first_changed-none, first_changed-all, first_changed-from}
 use Rattle.qo_heap.proofs.ends.forget_all.Goals as goal
 
 pub loop-place-init : goal.loop-place-init

@@ -1,4 +1,4 @@
-use Rattle.std.proofs.Common.{sym, ◌∙◌, ap, ap₂, ◌≡◌, ◌≤◌, ◌<◌, ◌+◌, ◌*◌, ℕ, length, sum_by, arith}
+use Rattle.std.proofs.Common.{sym, ◌∙◌, ap, ap₂, ◌≡◌, ◌≤◌, ◌<◌, ◌+◌, ◌*◌, ℕ, length, arith}
 use Rattle.qo_object.specs.Content.{Content, holding}
 use Rattle.qo_slots.specs.declared.keys.Key.{Key}
 use Rattle.qo_heap.specs.Places.{sum_first}

@@ -1,5 +1,5 @@
 use Rattle.std.proofs.Common.{sym, ◌∙◌}
-use Rattle.qo_heap.proofs.PlacesLemmas.{key-live, read-at-place, past-last}
+use Rattle.qo_heap.proofs.PlacesLemmas.{key-live, read-at-place}
 use Rattle.qo_heap.proofs.reads.is_parent_at.Goals as goal
 
 pub look-requires : goal.look-requires

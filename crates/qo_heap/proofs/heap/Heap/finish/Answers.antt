@@ -1,7 +1,4 @@
-use Rattle.std.proofs.Common.{◌≡◌, ap, sym, subst, ◌∙◌}
-use Rattle.qo_object.specs.Content.{Content}
-use Rattle.qo_table.specs.Rows.{Rows}
-use Rattle.qo_heap.specs.Objects.{Objects, IsHeap}
+use Rattle.qo_heap.specs.Objects.{Objects}
 use Rattle.qo_heap.proofs.EndLemmas.{heap-ended}
 use Rattle.qo_heap.proofs.heap.Heap.finish.Goals as goal
 

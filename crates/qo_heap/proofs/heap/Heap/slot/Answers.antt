@@ -1,7 +1,5 @@
-use Rattle.std.proofs.Common.{sym, ◌∙◌, ap, List, ℕ, Option, find, position}
-use Rattle.std.specs.Option.{option_map_or}
+use Rattle.std.proofs.Common.{sym, ◌∙◌, List, ℕ}
 use Rattle.std.specs.Str.{bytes_eq}
-use Rattle.qo_object.specs.Content.{Content}
 use Rattle.qo_object.specs.declared.slots.Slot.{Slot}
 use Rattle.qo_object.specs.declared.slots.SlotView.{SlotView}
 use Rattle.qo_heap.proofs.PlacesLemmas.{position-find, position-none, position-some, some-at}

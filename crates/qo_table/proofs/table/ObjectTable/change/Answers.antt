@@ -1,7 +1,6 @@
 use Rattle.std.proofs.Common.{ap, refl, List}
 use Rattle.qo_slots.specs.declared.keys.Key.{Key}
 use Rattle.qo_slots.proofs.TableLemmas.{Updates-with_value}
-use Rattle.qo_table.specs.Rows.{Rows}
 use Rattle.qo_table.proofs.RowsLemmas.{live-stored, object-found, stored-changed, rows-changed, agrees}
 use Rattle.qo_table.proofs.table.ObjectTable.change.Goals as goal
 
