@@ -10,7 +10,7 @@ use std::sync::ledger::Ledger;
 /// The board: the objects of the machine.
 #[derive(Drop)]
 pub struct Board {
-    heap: Heap,
+    pub(crate) heap: Heap,
 }
 
 impl Model for Board {

@@ -5,9 +5,20 @@
 mod board;
 mod errors;
 mod fresh;
+mod listed;
+mod naming;
+#[cfg(test)]
+mod property_tests;
+mod reads;
+mod refusals;
 mod start;
 #[cfg(test)]
 mod tests;
+mod values;
+mod writes;
 
 pub use board::Board;
 pub use errors::Memory;
+pub use listed::Prop;
+pub use reads::Detached;
+pub use refusals::Refusal;

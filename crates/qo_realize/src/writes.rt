@@ -1,0 +1,286 @@
+//! Writing the properties of objects (docs/devel/qom.rst, "The QEMU Object Model": properties and
+//! link; QEMU's QAPI, `qom-set`).
+
+ghost use Rattle.std.specs.Prelude.{◌≡◌, true, false, Some, IfOk, IfSome, OnErr, option_map, option_and_then, position};
+ghost use Rattle.std.specs.Str.{bytes_eq};
+ghost use Rattle.qo_slots.specs.declared.keys.Key.{Key};
+ghost use Rattle.qo_model.specs.Board.{Board as Tree};
+ghost use Rattle.qo_model.specs.Properties.{link_target, pointed_at, relinked, write, write_at};
+ghost use Rattle.qo_object.specs.Content.{empty_link_at};
+ghost use Rattle.qo_object.specs.Shown.{birth_of};
+ghost use Rattle.qo_object.specs.Slots.{held, slot_in};
+ghost use Rattle.qo_table.specs.Rows.{IsLive};
+ghost use Rattle.qo_heap.specs.Board.{Shows};
+ghost use Rattle.qo_heap.specs.Objects.{content_of, slots_of};
+ghost use Rattle.qo_realize.specs.Writes.{Writes, is_link_at, kind_written, link_written, no_target, plain_written, row_written, takes_val_at, target_told};
+
+use crate::board::Board;
+use crate::naming::object_at;
+use crate::refusals::Refusal;
+use crate::values::copy_of;
+use qo_heap::{Heap, Oid, Slot, Steps};
+use qo_life::drop_hold;
+use qo_paths::{PathError, resolve};
+use qo_types::{Mark, RowKind, SlotRow, TypeTable};
+use qo_values::{Code, Misfit, PropType, TypeId, Val};
+use std::alloc::Global;
+use std::sync::ledger::Ledger;
+
+/// Why a text that leads to no object of a link's type is refused.
+fn no_target<L: Ledger>(heap: &Heap, path: &str, steps: &mut Steps<L>) -> Code
+    ensures { (b : Tree) → Shows b heap.now → result ≡ no_target b path.now }
+{
+    match resolve(heap, path, "object", steps) {
+        Err(PathError::NotFound) => Code::E15,
+        _ => Code::E31,
+    }
+}
+
+/// What a text names as the target of a link to objects of a type: no target where it is empty.
+fn link_target<L: Ledger>(
+    heap: &Heap,
+    ty: TypeId,
+    path: &str,
+    steps: &mut Steps<L>,
+) -> Result<Option<Oid>, Code>
+    ensures target { (b : Tree) → Shows b heap.now → target_told result ≡ link_target b ty path.now }
+    ensures live { IfOk result (λ target. IfSome target (IsLive heap.now.rows)) }
+{
+    if path.is_empty() {
+        return Ok(None);
+    }
+    match resolve(heap, path, ty.name(), steps) {
+        Ok(o) => Ok(Some(o)),
+        Err(PathError::Ambiguous) => Err(Code::E16),
+        Err(PathError::NotFound) => Err(no_target(heap, path, steps)),
+    }
+}
+
+/// The object that the slot of an object at a place holds.
+fn held_at<L: Ledger>(heap: &Heap, o: Oid, at: usize, steps: &mut Steps<L>) -> Option<Oid>
+    requires { IsLive heap.now.rows o }
+    ensures { result ≡ option_and_then held (slot_in (slots_of heap.now o.birth) at) }
+{
+    let slot = heap.slot_at(o, at, steps)?;
+    match slot.what {
+        Slot::Child(child) => Some(*child),
+        Slot::Link {
+            strong: true,
+            target,
+            ..
+        } => *target,
+        _ => None,
+    }
+}
+
+/// Whether the slot of an object at a place is a link; not past the last.
+fn is_link<L: Ledger>(heap: &Heap, o: Oid, at: usize, steps: &mut Steps<L>) -> bool
+    requires { IsLive heap.now.rows o }
+    ensures { result ≡ is_link_at heap.now o.birth at }
+{
+    let Some(slot) = heap.slot_at(o, at, steps) else {
+        return false;
+    };
+    match slot.what {
+        Slot::Link { .. } => true,
+        _ => false,
+    }
+}
+
+/// Points the link of an object at a place, which has no target, at one, if there is one.
+fn point_at<L: Ledger>(
+    heap: &mut Heap,
+    o: Oid,
+    at: usize,
+    target: Option<Oid>,
+    steps: &mut Steps<L>,
+)
+    requires live { IsLive heap.old.rows o }
+    requires target { IfSome target (IsLive heap.old.rows) }
+    requires link { option_map (λ c. empty_link_at c at) (content_of heap.old o.birth) ≡ Some true }
+    ensures shown { (b : Tree) → Shows b heap.old → Shows (pointed_at (birth_of target) o.birth at b) heap.new }
+    ensures names { (key : Key) → IsLive heap.old.rows key → IsLive heap.new.rows key }
+{
+    if let Some(to) = target {
+        heap.point(o, at, to, steps);
+    }
+}
+
+/// Points the link of an object at a place at a target, or at none, and finalises what it held where
+/// nothing refers to that any more.
+fn relink<L: Ledger>(heap: &mut Heap, o: Oid, at: usize, target: Option<Oid>, steps: &mut Steps<L>)
+    requires live { IsLive heap.old.rows o }
+    requires target { IfSome target (IsLive heap.old.rows) }
+    requires link { is_link_at heap.old o.birth at ≡ true }
+    ensures { (b : Tree) → Shows b heap.old → Shows (relinked b o.birth at (birth_of target)) heap.new }
+{
+    heap.facts();
+    let held = held_at(heap, o, at, steps);
+    heap.empty(o, at, steps);
+    point_at(heap, o, at, target, steps);
+    drop_hold(heap, held, steps);
+}
+
+/// Whether the slot of an object at a place is plain and takes a value; not past the last.
+fn takes<L: Ledger>(heap: &Heap, o: Oid, at: usize, val: &Val, steps: &mut Steps<L>) -> bool
+    requires { IsLive heap.now.rows o }
+    ensures { result ≡ takes_val_at heap.now o.birth at val.now }
+{
+    let Some(slot) = heap.slot_at(o, at, steps) else {
+        return false;
+    };
+    match slot.what {
+        Slot::Plain(ty, _) => ty.admit(val).is_ok(),
+        _ => false,
+    }
+}
+
+/// Gives the plain slot of an object at a place a value; refused with E19 where the value is not of
+/// the type. An error leaves the heap as it was.
+fn write_plain<L: Ledger>(
+    heap: &mut Heap,
+    o: Oid,
+    at: usize,
+    ty: PropType,
+    val: &Val,
+    alloc: Global,
+    steps: &mut Steps<L>,
+) -> Result<(), Refusal>
+    requires live { IsLive heap.old.rows o }
+    ensures written { (b : Tree) → Shows b heap.old → Writes heap.new result (plain_written b o.birth at ty val.now) }
+    ensures err { OnErr result (heap.new ≡ heap.old) }
+{
+    if let Err(Misfit) = ty.admit(val) {
+        return Err(Refusal::Refused(Code::E19));
+    }
+    if !takes(heap, o, at, val, steps) {
+        return Err(Refusal::Memory);
+    }
+    let copy = copy_of(val, alloc)?;
+    heap.set(o, at, copy, steps);
+    Ok(())
+}
+
+/// Points the link of an object at a place at what a text names; refused with E19 where the value
+/// is no text. An error leaves the heap as it was.
+fn write_link<L: Ledger>(
+    heap: &mut Heap,
+    o: Oid,
+    at: usize,
+    ty: TypeId,
+    val: &Val,
+    steps: &mut Steps<L>,
+) -> Result<(), Refusal>
+    requires live { IsLive heap.old.rows o }
+    ensures written { (b : Tree) → Shows b heap.old → Writes heap.new result (link_written b o.birth at ty val.now) }
+    ensures err { OnErr result (heap.new ≡ heap.old) }
+{
+    let Val::Text(path) = val else {
+        return Err(Refusal::Refused(Code::E19));
+    };
+    let target = link_target(heap, ty, path.as_str(), steps)?;
+    if !is_link(heap, o, at, steps) {
+        return Err(Refusal::Memory);
+    }
+    relink(heap, o, at, target, steps);
+    Ok(())
+}
+
+/// Writes the slot of an object at a place, whose property has this row.
+fn write_kind<L: Ledger>(
+    heap: &mut Heap,
+    o: Oid,
+    at: usize,
+    kind: RowKind,
+    val: &Val,
+    alloc: Global,
+    steps: &mut Steps<L>,
+) -> Result<(), Refusal>
+    requires live { IsLive heap.old.rows o }
+    ensures written { (b : Tree) → Shows b heap.old → Writes heap.new result (kind_written b o.birth at kind val.now) }
+    ensures err { OnErr result (heap.new ≡ heap.old) }
+{
+    match kind {
+        RowKind::Plain(ty, _) => write_plain(heap, o, at, ty, val, alloc, steps),
+        RowKind::Link { ty, .. } => write_link(heap, o, at, ty, val, steps),
+        RowKind::Child(_) => Err(Refusal::Refused(Code::E18)),
+        RowKind::Alias { .. } => Err(Refusal::Refused(Code::E18)),
+    }
+}
+
+/// Writes the slot of an object at a place, whose property has this row; refused with E18 where
+/// `qom-set` does not write such a property.
+fn write_row<L: Ledger>(
+    heap: &mut Heap,
+    o: Oid,
+    at: usize,
+    row: SlotRow,
+    val: &Val,
+    alloc: Global,
+    steps: &mut Steps<L>,
+) -> Result<(), Refusal>
+    requires live { IsLive heap.old.rows o }
+    ensures written { (b : Tree) → Shows b heap.old → Writes heap.new result (row_written b o.birth at row val.now) }
+    ensures err { OnErr result (heap.new ≡ heap.old) }
+{
+    match row.mark {
+        Mark::Both => write_kind(heap, o, at, row.kind, val, alloc, steps),
+        _ => Err(Refusal::Refused(Code::E18)),
+    }
+}
+
+/// The place of the slot of a name of an object.
+fn place_of<L: Ledger>(heap: &Heap, o: Oid, name: &str, steps: &mut Steps<L>) -> Option<usize>
+    requires { IsLive heap.now.rows o }
+    ensures { result ≡ position (λ s. bytes_eq name.now s.0) (slots_of heap.now o.birth) }
+{
+    let slot = heap.slot(o, name, steps)?;
+    Some(slot.at)
+}
+
+/// Writes the property of a name of an object. An error leaves the heap as it was.
+fn write<L: Ledger>(
+    heap: &mut Heap,
+    o: Oid,
+    name: &str,
+    val: &Val,
+    alloc: Global,
+    steps: &mut Steps<L>,
+) -> Result<(), Refusal>
+    requires live { IsLive heap.old.rows o }
+    ensures written { (b : Tree) → Shows b heap.old → Writes heap.new result (write b o.birth name.now val.now) }
+    ensures err { OnErr result (heap.new ≡ heap.old) }
+{
+    let Some(at) = place_of(heap, o, name, steps) else {
+        return Err(Refusal::Refused(Code::E17));
+    };
+    let kind = heap.kind(o, steps);
+    let Some(row) = TypeTable::board().property(kind, name) else {
+        return Err(Refusal::Refused(Code::E18));
+    };
+    write_row(heap, o, at, row, val, alloc, steps)
+}
+
+impl Board {
+    /// Writes the property of a name of the object at a path (QEMU's QAPI, `qom-set`). A link takes
+    /// the path of its target, or the empty text for none; what it held is finalised where nothing
+    /// refers to it any more. Refused with E15 where a path leads to no object and E16 where to
+    /// several, E17 where the object has no such property, E18 where `qom-set` does not write it,
+    /// E19 where the value does not fit, and E31 where the target is not of the link's type. The
+    /// other error is want of memory; it comes too where a slot is not what the row of its property
+    /// says, which no slot of a new object is. An error leaves the board as it was.
+    pub fn qom_set<L: Ledger>(
+        &mut self,
+        path: &str,
+        name: &str,
+        val: &Val,
+        alloc: Global,
+        steps: &mut Steps<L>,
+    ) -> Result<(), Refusal>
+        ensures written { (b : Tree) → Shows b self.old → Writes self.new result (write_at b path.now name.now val.now) }
+        ensures err { OnErr result (self.new ≡ self.old) }
+    {
+        let o = object_at(&self.heap, path, steps)?;
+        write(&mut self.heap, o, name, val, alloc, steps)
+    }
+}
