@@ -1,5 +1,5 @@
-mod BirthLemmas
-mod BoardLemmas
-mod GoesLemmas
+pub mod BirthLemmas
+pub mod BoardLemmas
+pub mod GoesLemmas
 pub mod MadeLemmas
-mod TreeLemmas
+pub mod TreeLemmas

@@ -7,7 +7,7 @@ mod birth;
 mod release;
 
 pub use birth::create;
-pub use release::{drop_pin, let_go};
+pub use release::{drop_hold, drop_pin, let_go};
 
 #[cfg(test)]
 mod tests;

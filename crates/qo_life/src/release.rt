@@ -94,6 +94,7 @@ fn finalise<L: Ledger>(heap: &mut Heap, o: Oid, steps: &mut Steps<L>)
 pub fn let_go<L: Ledger>(heap: &mut Heap, owner: Oid, at: usize, steps: &mut Steps<L>)
     requires { IsLive heap.old.rows owner }
     ensures release { (b : Board) → Shows b heap.old → Shows (let_go b owner.birth at) heap.new }
+    ensures goes { Goes (λ b. let_go b owner.birth at) heap.old heap.new }
     ensures names { KeepsNames heap.old heap.new }
 {
     let_go_at(heap, owner, at, steps);
@@ -105,9 +106,20 @@ pub fn drop_pin<L: Ledger>(heap: &mut Heap, o: Oid, steps: &mut Steps<L>)
     requires live { IsLive heap.old.rows o }
     requires pinned { 0 < pins_of heap.old o.birth }
     ensures release { (b : Board) → Shows b heap.old → Shows (unpin b o.birth) heap.new }
+    ensures goes { Goes (λ b. unpin b o.birth) heap.old heap.new }
     ensures names { KeepsNames heap.old heap.new }
 {
     heap.facts();
     heap.unpin(o, steps);
     end_unheld(heap, Some(o), steps);
+}
+
+/// Ends a hold that was taken away: the object that was held is finalised where nothing refers to it
+/// any more (docs/devel/qom.rst, "The QEMU Object Model": `object_unref`).
+pub fn drop_hold<L: Ledger>(heap: &mut Heap, held: Option<Oid>, steps: &mut Steps<L>)
+    requires { IfSome held (IsLive heap.old.rows) }
+    ensures release { (b : Board) → Shows b heap.old → Shows (after finalise b (birth_of held)) heap.new }
+    ensures names { KeepsNames heap.old heap.new }
+{
+    end_unheld(heap, held, steps);
 }

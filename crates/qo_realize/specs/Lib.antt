@@ -1,5 +1,9 @@
+pub mod Adding
+pub mod At
+pub mod Changes
 pub mod Fresh
 pub mod Listed
+pub mod Pinned
 pub mod Reads
 pub mod Start
 pub mod Writes

@@ -2,15 +2,22 @@
 //! Object Model"; the opening board is the profile's).
 #![tactic(auto)]
 
+mod adding;
+mod barring;
 mod board;
 mod errors;
 mod fresh;
 mod listed;
+mod lookup;
 mod naming;
+#[cfg(test)]
+mod object_tests;
+mod objects;
 #[cfg(test)]
 mod property_tests;
 mod reads;
 mod refusals;
+mod severing;
 mod start;
 #[cfg(test)]
 mod tests;

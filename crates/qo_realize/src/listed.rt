@@ -3,7 +3,8 @@
 ghost use Rattle.std.specs.Prelude.{◌≡◌, [], ◌∷◌, ◌++◌, string_bytes, map, OnOk, IfOk, IfSome};
 ghost use Rattle.std.specs.Option.{option_map_or};
 ghost use Rattle.qo_model.specs.Board.{Board as Tree, slot_named};
-ghost use Rattle.qo_model.specs.Listing.{around, listing, listing_at, own_text, plain_word, type_text, value_word};
+ghost use Rattle.qo_model.specs.Listing.{around, listing, own_text, plain_word, type_text, value_word};
+ghost use Rattle.qo_realize.specs.At.{listing_at};
 ghost use Rattle.qo_object.specs.Shown.{shown_slot};
 ghost use Rattle.qo_object.specs.Slots.{target_of};
 ghost use Rattle.qo_table.specs.Rows.{IsLive};

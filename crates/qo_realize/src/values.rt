@@ -4,7 +4,8 @@
 ghost use Rattle.std.specs.Prelude.{◌≡◌, string_bytes, IfOk, option_map};
 ghost use Rattle.qo_values.specs.declared.properties.Val.TheVariants.{Text as OfText};
 ghost use Rattle.qo_model.specs.Board.{Board as Tree, slot_named};
-ghost use Rattle.qo_model.specs.Properties.{own_value, read, value_of};
+ghost use Rattle.qo_model.specs.Properties.{own_value, value_of};
+ghost use Rattle.qo_realize.specs.At.{read};
 ghost use Rattle.qo_object.specs.Shown.{shown_slot};
 ghost use Rattle.qo_table.specs.Rows.{IsLive};
 ghost use Rattle.qo_heap.specs.Board.{Shows};

@@ -5,7 +5,8 @@ ghost use Rattle.std.specs.Prelude.{◌≡◌, true, false, Some, IfOk, IfSome, 
 ghost use Rattle.std.specs.Str.{bytes_eq};
 ghost use Rattle.qo_slots.specs.declared.keys.Key.{Key};
 ghost use Rattle.qo_model.specs.Board.{Board as Tree};
-ghost use Rattle.qo_model.specs.Properties.{link_target, pointed_at, relinked, write, write_at};
+ghost use Rattle.qo_model.specs.Properties.{link_target, pointed_at, relinked, write};
+ghost use Rattle.qo_realize.specs.At.{write_at};
 ghost use Rattle.qo_object.specs.Content.{empty_link_at};
 ghost use Rattle.qo_object.specs.Shown.{birth_of};
 ghost use Rattle.qo_object.specs.Slots.{held, slot_in};

@@ -21,3 +21,8 @@ pub returns-clause-names : goal.returns-clause-names
 returns-clause-names g c =
     let behind = subst (λ (x : Objects). Goes (λ b. after finalise b (Some c.args.o.birth)) x c.end_unheld.new.heap) c.unpin.ensures c.end_unheld.ensures in
     goes-names (λ b. unpin b c.args.o.birth) c.args.heap.now c.end_unheld.new.heap (goes-drop_pin c.args.heap.now c.end_unheld.new.heap c.facts.ensures c.args.o.birth c.requires.pinned behind)
+
+pub returns-clause-goes : goal.returns-clause-goes
+returns-clause-goes g c =
+    let behind = subst (λ (x : Objects). Goes (λ b. after finalise b (Some c.args.o.birth)) x c.end_unheld.new.heap) c.unpin.ensures c.end_unheld.ensures in
+    goes-drop_pin c.args.heap.now c.end_unheld.new.heap c.facts.ensures c.args.o.birth c.requires.pinned behind

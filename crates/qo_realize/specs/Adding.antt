@@ -1,0 +1,26 @@
+-- How a heap changes where a user's object is added.
+use Rattle.std.specs.Prelude.{◌≡◌, ℕ, ◌+◌, List, [], ◌∷◌, ◌++◌, ◌⊎◌}
+use Rattle.qo_values.specs.declared.kinds.TypeId.{TypeId}
+use Rattle.qo_slots.specs.declared.keys.Key.{Key}
+use Rattle.qo_notes.specs.Log.{noted_all}
+use Rattle.qo_object.specs.Content.{Content, with_slot}
+use Rattle.qo_object.specs.Slots.{Named}
+use Rattle.qo_object.specs.declared.slots.Slot.TheVariants.{Child}
+use Rattle.qo_heap.specs.Objects.{Objects, final_notes, with_edit}
+use Rattle.qo_life.specs.Life.{init_notes}
+
+-- a heap with an object more, the newest
+abbrev pub with_newest : Key → Content → Objects → Objects
+with_newest o c v = record { rows = v.rows ++ (o, c) ∷ []; born = v.born + 1; log = noted_all (init_notes o.birth c.kind) v.log }
+
+-- a heap with a child more under an object, the newest, which has these slots
+abbrev pub with_child : ℕ → List ℕ → Key → TypeId → List Named → Objects → Objects
+with_child n name o kind slots v = with_newest o (record { kind = kind; slots = slots; pins = 1 }) (with_edit n (with_slot name (Child o)) v)
+
+-- the heap behind an attempt that was given up: the object was made and ended
+abbrev pub given_up : TypeId → Objects → Objects
+given_up t v = record v { born = v.born + 1; log = noted_all (final_notes (v.born + 1) t) (noted_all (init_notes (v.born + 1) t) v.log) }
+
+-- a heap is as it was, or an attempt was given up
+abbrev pub IsTried : TypeId → Objects → Objects → Type 0
+IsTried t v w = (w ≡ v) ⊎ (w ≡ given_up t v)

@@ -1,0 +1,92 @@
+//! Making users' objects.
+
+ghost use Rattle.std.specs.Prelude.{◌≡◌, ℕ, ◌+◌, Some, option_map, IfOk, OnOk, OnErr, List};
+ghost use Rattle.qo_table.specs.Rows.{IsLive};
+ghost use Rattle.qo_object.specs.Content.{held_count, with_slot, without_pin};
+ghost use Rattle.qo_object.specs.Slots.{Named};
+ghost use Rattle.qo_object.specs.declared.slots.Slot.TheVariants.{Child};
+ghost use Rattle.qo_heap.specs.Objects.{content_of, ended, pins_of, refs_of, with_edit};
+ghost use Rattle.qo_realize.specs.Adding.{IsTried, given_up, with_child};
+ghost use Rattle.qo_realize.specs.Fresh.{first_slots, new_slots, with_slots};
+
+use crate::errors::Memory;
+use crate::fresh::add_fresh_slots;
+use qo_heap::{Heap, Oid, Steps};
+use qo_life::create;
+use qo_values::{Name, TypeId};
+use std::alloc::Global;
+use std::sync::ledger::Ledger;
+
+/// Ends an object that holds nothing, and that nothing holds but its one pin.
+fn give_up<L: Ledger>(heap: &mut Heap, o: Oid, steps: &mut Steps<L>)
+    requires live { IsLive heap.old.rows o }
+    requires pinned { pins_of heap.old o.birth ≡ 1 }
+    requires alone { refs_of heap.old o.birth ≡ 1 }
+    requires bare { option_map held_count (content_of heap.old o.birth) ≡ Some 0 }
+    ensures { option_map (λ c. ended o.birth c.kind (with_edit o.birth without_pin heap.old)) (content_of heap.old o.birth) ≡ Some heap.new }
+{
+    heap.unpin(o, steps);
+    heap.finish(o, steps);
+}
+
+/// Makes an object of a type and ends it at once. An error leaves the heap as it was.
+pub(crate) fn attempt<L: Ledger>(
+    heap: &mut Heap,
+    kind: TypeId,
+    alloc: Global,
+    steps: &mut Steps<L>,
+) -> Result<(), Memory>
+    ensures ok { OnOk result (heap.new ≡ given_up kind heap.old) }
+    ensures err { OnErr result (heap.new ≡ heap.old) }
+{
+    heap.facts();
+    let o = create(heap, alloc, kind, steps)?;
+    give_up(heap, o, steps);
+    Ok(())
+}
+
+/// Gives a new object its first slots, and makes it the child of another. An error leaves the
+/// object with the slots of its first properties alone.
+fn furnish<L: Ledger>(
+    heap: &mut Heap,
+    parent: Oid,
+    name: Name,
+    o: Oid,
+    kind: TypeId,
+    alloc: Global,
+    steps: &mut Steps<L>,
+) -> Result<(), Memory>
+    requires parent { IsLive heap.old.rows parent }
+    requires live { IsLive heap.old.rows o }
+    ensures ok { OnOk result (heap.new ≡ with_edit parent.birth (with_slot name (Child o)) (with_edit o.birth (with_slots (new_slots kind)) heap.old)) }
+    ensures err { OnErr result ((k : ℕ) × (heap.new ≡ with_edit o.birth (with_slots (first_slots k kind)) heap.old)) }
+{
+    add_fresh_slots(heap, o, kind, alloc, steps)?;
+    heap.add_child(parent, name, o, steps)?;
+    Ok(())
+}
+
+/// Makes an object of a type with its first slots, as a child of another. Where memory wants, the
+/// heap is as it was, or the object was made and ended.
+pub(crate) fn make_child<L: Ledger>(
+    heap: &mut Heap,
+    parent: Oid,
+    name: Name,
+    kind: TypeId,
+    alloc: Global,
+    steps: &mut Steps<L>,
+) -> Result<Oid, Memory>
+    requires { IsLive heap.old.rows parent }
+    ensures made { IfOk result (λ o. (o.birth ≡ heap.old.born + 1) × (heap.new ≡ with_child parent.birth name o kind (new_slots kind) heap.old)) }
+    ensures err { OnErr result (IsTried kind heap.old heap.new) }
+{
+    heap.facts();
+    let o = create(heap, alloc, kind, steps)?;
+    match furnish(heap, parent, name, o, kind, alloc, steps) {
+        Ok(()) => Ok(o),
+        Err(error) => {
+            give_up(heap, o, steps);
+            Err(error)
+        }
+    }
+}

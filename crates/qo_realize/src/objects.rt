@@ -1,0 +1,58 @@
+//! Adding and removing users' objects, and cutting the links of detached ones.
+
+use crate::board::Board;
+use crate::lookup::{child_place, object_of};
+use crate::severing::sever_links;
+use qo_heap::Steps;
+use qo_life::let_go;
+use qo_paths::is_attached;
+use qo_values::Code;
+use std::sync::ledger::Ledger;
+
+/// The birth of `/objects`, under which users' objects stand.
+const OBJECTS_BIRTH: u64 = 8;
+
+impl Board {
+    ghost use Rattle.std.specs.Prelude.{◌≡◌, OnErr};
+    ghost use Rattle.qo_model.specs.Board as model;
+    ghost use Rattle.qo_model.specs.Objects.{object_del, sever};
+    ghost use Rattle.qo_heap.specs.Board.{Shows};
+    ghost use Rattle.qo_realize.specs.Changes.{IsAnswered};
+    ghost use Rattle.qo_realize.specs.Pinned.{OnlyRootPinned};
+
+    /// Removes the user's object of an id: its slot at `/objects` is let go, and it is finalised
+    /// where nothing else refers to it (QEMU's QAPI, `object-del`). `E15` comes exactly where there
+    /// is no such slot. An error leaves the board as it was.
+    pub fn object_del<L: Ledger>(&mut self, id: &str, steps: &mut Steps<L>) -> Result<(), Code>
+        ensures change { (b : model.Board) → Shows b self.old → IsAnswered (object_del b id.now) result self.new }
+        ensures err { OnErr result (self.new ≡ self.old) }
+    {
+        let Some(objects) = object_of(&self.heap, OBJECTS_BIRTH) else {
+            return Err(Code::E15);
+        };
+        let Some(at) = child_place(&self.heap, objects, id, steps) else {
+            return Err(Code::E15);
+        };
+        let_go(&mut self.heap, objects, at, steps);
+        Ok(())
+    }
+
+    /// Cuts the strong links of a detached object, in order, which is held meanwhile and finalised
+    /// in the end where nothing refers to it (the profile's `x-sever`). `E33` comes exactly where no
+    /// object of that birth is live, else `E50` exactly where it is attached. An error leaves the
+    /// board as it was. It needs that birth 1 alone is pinned, as on every sound board.
+    pub fn sever<L: Ledger>(&mut self, birth: u64, steps: &mut Steps<L>) -> Result<(), Code>
+        requires pinned { OnlyRootPinned self.old }
+        ensures change { (b : model.Board) → Shows b self.old → IsAnswered (sever b birth) result self.new }
+        ensures err { OnErr result (self.new ≡ self.old) }
+    {
+        let Some(o) = object_of(&self.heap, birth) else {
+            return Err(Code::E33);
+        };
+        if is_attached(&self.heap, o, steps) {
+            return Err(Code::E50);
+        }
+        sever_links(&mut self.heap, o, steps);
+        Ok(())
+    }
+}
