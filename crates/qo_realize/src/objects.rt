@@ -44,6 +44,7 @@ impl Board {
     pub fn sever<L: Ledger>(&mut self, birth: u64, steps: &mut Steps<L>) -> Result<(), Code>
         requires pinned { OnlyRootPinned self.old }
         ensures change { (b : model.Board) → Shows b self.old → IsAnswered (sever b birth) result self.new }
+        ensures pinned { OnlyRootPinned self.new }
         ensures err { OnErr result (self.new ≡ self.old) }
     {
         let Some(o) = object_of(&self.heap, birth) else {

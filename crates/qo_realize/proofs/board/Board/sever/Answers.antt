@@ -8,7 +8,7 @@ use Rattle.qo_heap.proofs.ShowsReads.{shows-live_key}
 use Rattle.qo_life.proofs.TreeLemmas.{goes-shows}
 use Rattle.qo_realize.specs.Changes.{IsAnswered, severed}
 use Rattle.qo_realize.proofs.AnswerLemmas.{sever-absent, sever-attached, sever-done}
-use Rattle.qo_realize.proofs.PinLemmas.{pins-room}
+use Rattle.qo_realize.proofs.PinLemmas.{goes-pins, pins-room, severed-keeps}
 use Rattle.qo_realize.proofs.board.Board.sever.Goals as goal
 
 pub returns-in_default-clause-change : goal.returns-in_default-clause-change
@@ -30,3 +30,7 @@ returns-clause-change g c = λ b s.
     let seen = subst (λ (v : Objects). Shows b v) (sym c.self.view_is) s in
     let live = shows-live_key b c.self.inside.heap seen c.in-Some.o c.in-Some.ensures.live in
     sever-done b c.sever_links.new.heap c.args.birth c.in-Some.o.birth c.in-Some.ensures.born live (sym (c.if-is_attached.ensures b seen)) (goes-shows (λ d. severed d c.in-Some.o.birth) c.self.inside.heap c.sever_links.new.heap c.sever_links.ensures b seen)
+
+pub returns-clause-pinned : goal.returns-clause-pinned
+returns-clause-pinned g c =
+    goes-pins (λ b. severed b c.in-Some.o.birth) c.self.inside.heap c.sever_links.new.heap c.sever_links.ensures (rw (← c.self.view_is) at c.requires.pinned) (severed-keeps c.in-Some.o.birth)
