@@ -51,7 +51,12 @@ impl Heap {
 
     /// The first slot of an object that has the object of a birth as a child; `None` exactly where
     /// it has none.
-    pub fn child_slot<L: Ledger>(&self, o: Oid, child: u64, steps: &mut Steps<L>) -> Option<SlotView<'_>>
+    pub fn child_slot<L: Ledger>(
+        &self,
+        o: Oid,
+        child: u64,
+        steps: &mut Steps<L>,
+    ) -> Option<SlotView<'_>>
         requires { IsLive self.now.rows o }
         ensures { option_map (λ v. (v.name.now, v.what.now)) result ≡ find (λ s. names_child child s.1) (slots_of self.now o.birth) }
     {
