@@ -33,10 +33,9 @@ impl Heap {
         self.table.change(o, steps).point(at, target);
     }
 
-    /// Gives the plain slot at a place a value that its type takes.
+    /// Gives the plain slot at a place a value; any other slot stays.
     pub fn set<L: Ledger>(&mut self, o: Oid, at: usize, val: Val, steps: &mut Steps<L>)
         requires live { IsLive self.old.rows o }
-        requires takes { option_map (λ c. takes_at val c at) (content_of self.old o.birth) ≡ Some true }
         ensures { self.new ≡ with_edit o.birth (set_at val at) self.old }
     {
         self.table.change(o, steps).set(at, val);

@@ -12,7 +12,7 @@ use Rattle.qo_model.specs.FinalNotes.{NotesInOrder}
 use Rattle.qo_model.specs.FinalNotesRuns.{Change, added, deleted, wrote, severed, behind_write, changed}
 use Rattle.qo_model.specs.Objects.{Given, added_as, added_by, barred, is_object_named, object_add, object_del, objects_birth, place_from, refusal_of, sever, severed_from}
 use Rattle.qo_model.specs.Paths.{attached}
-use Rattle.qo_model.specs.Properties.{link_target, linked, may_set, pointed_at, relinked, row_of_property, write, written, written_by}
+use Rattle.qo_model.specs.Properties.{link_target, link_written, linked, may_set, pointed_at, relinked, row_of_property, write, written, written_by}
 use Rattle.qo_model.specs.Release.{drop_slot, let_go, pin, put_in_order, with_dropped}
 use Rattle.qo_model.specs.Types.{Kind, Property, TypeRow, row_named}
 use Rattle.qo_model.proofs.FinalNotesLemmas.{after-keeps, edit-keeps, let_go-keeps, pins-keep, unpin-keeps}
@@ -67,26 +67,39 @@ linked-keeps : (b : Board) (n i : ℕ) (target : Result (Option ℕ) Code) → N
 linked-keeps b n i (Ok target) o = relinked-keeps b n i target o
 linked-keeps b n i (Err code) o = o
 
-written-keeps : (b : Board) (n i : ℕ) (kind : Kind) (v : Val) → NotesInOrder b → NotesInOrder (behind_write b (written b n i kind v))
-written-keeps b n i (Kind.plain type first) v o = go (admits type v) refl
+link_written-keeps : (b : Board) (n i : ℕ) (t : TypeId) (v : Val) → NotesInOrder b → NotesInOrder (behind_write b (link_written b n i t v))
+link_written-keeps b n i t (val.Text path) o = linked-keeps b n i (link_target b t path) o
+link_written-keeps b n i t (val.Bool v) o = o
+link_written-keeps b n i t (val.Int v) o = o
+link_written-keeps b n i t (val.Uint v) o = o
+link_written-keeps b n i t val.Nothing o = o
+
+written-keeps : (b : Board) (n i : ℕ) (kind : Kind) (s : Option Slot) (v : Val) → NotesInOrder b → NotesInOrder (behind_write b (written b n i kind s v))
+written-keeps b n i (Kind.plain type first) (Some (plain old)) v o = go (admits type v) refl
   where
-    go : (t : Bool) → admits type v ≡ t → NotesInOrder (behind_write b (written b n i (Kind.plain type first) v))
+    go : (t : Bool) → admits type v ≡ t → NotesInOrder (behind_write b (written b n i (Kind.plain type first) (Some (plain old)) v))
     go true p = rw (written, p) (set-keeps b n i v o)
     go false p = rw (written, p) o
-written-keeps b n i (Kind.link t holds) (val.Text path) o = linked-keeps b n i (link_target b t path) o
-written-keeps b n i (Kind.link t holds) (val.Bool v) o = o
-written-keeps b n i (Kind.link t holds) (val.Int v) o = o
-written-keeps b n i (Kind.link t holds) (val.Uint v) o = o
-written-keeps b n i (Kind.link t holds) val.Nothing o = o
-written-keeps b n i (Kind.child t) v o = o
-written-keeps b n i (Kind.alias owner property) v o = o
+written-keeps b n i (Kind.link t holds) (Some (strong to target)) v o = link_written-keeps b n i to v o
+written-keeps b n i (Kind.link t holds) (Some (weak to target)) v o = link_written-keeps b n i to v o
+written-keeps b n i (Kind.plain type first) None v o = o
+written-keeps b n i (Kind.plain type first) (Some (child m)) v o = o
+written-keeps b n i (Kind.plain type first) (Some (strong to target)) v o = o
+written-keeps b n i (Kind.plain type first) (Some (weak to target)) v o = o
+written-keeps b n i (Kind.plain type first) (Some (alias m property)) v o = o
+written-keeps b n i (Kind.link t holds) None v o = o
+written-keeps b n i (Kind.link t holds) (Some (plain old)) v o = o
+written-keeps b n i (Kind.link t holds) (Some (child m)) v o = o
+written-keeps b n i (Kind.link t holds) (Some (alias m property)) v o = o
+written-keeps b n i (Kind.child t) s v o = o
+written-keeps b n i (Kind.alias owner property) s v o = o
 
 written_by-keeps : (b : Board) (n i : ℕ) (row : Option Property) (v : Val) → NotesInOrder b → NotesInOrder (behind_write b (written_by b n i row v))
 written_by-keeps b n i None v o = o
 written_by-keeps b n i (Some row) v o = go (may_set row.mark) refl
   where
     go : (t : Bool) → may_set row.mark ≡ t → NotesInOrder (behind_write b (written_by b n i (Some row) v))
-    go true p = rw (written_by, p) (written-keeps b n i row.kind v o)
+    go true p = rw (written_by, p) (written-keeps b n i row.kind (slot_at b n i) v o)
     go false p = rw (written_by, p) o
 
 pub write-keeps : (b : Board) (n : ℕ) (name : List ℕ) (v : Val) → NotesInOrder b → NotesInOrder (behind_write b (write b n name v))

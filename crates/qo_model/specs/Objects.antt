@@ -84,12 +84,13 @@ objects_birth = 8
 abbrev pub has_slot : Board → ℕ → List ℕ → Bool
 has_slot b n name = list_any (λ (s : List ℕ × Slot). bytes_eq s.0 name) (slots_at b n)
 
--- why an object of a named type, under an id, is refused before an attempt is made, if it is
+-- why an object of a named type, under an id, is refused before an attempt is made, if it is; E15 where `/objects` is not there, which it is on every sound board
 abbrev pub barred : Board → TypeRow → List ℕ → Option Code
 barred b row id =
     if row.is_abstract then Some E21
     else if not (is_a row.id (codes "user-creatable")) then Some E22
     else if not (is_id id) then Some E23
+    else if not (is_live b objects_birth) then Some E15
     else if has_slot b objects_birth id then Some E24
     else if leb 4096 (length b.records) then Some E43
     else None

@@ -74,17 +74,22 @@ abbrev pub linked : Board → ℕ → ℕ → Result (Option ℕ) Code → Resul
 linked b n i (Ok target) = Ok (relinked b n i target)
 linked b n i (Err code) = Err code
 
--- a value to the slot of n at a place, by the row of its property
-abbrev pub written : Board → ℕ → ℕ → Kind → Val → Result Board Code
-written b n i (Kind.plain type first) v = if admits type v then Ok (set n i v b) else Err E19
-written b n i (Kind.link t holds) (val.Text path) = linked b n i (link_target b t path)
-written b n i (Kind.link t holds) v = Err E19
-written b n i kind v = Err E18
+-- a value to a link to objects of a type, of n at a place: a text that names its target
+abbrev pub link_written : Board → ℕ → ℕ → TypeId → Val → Result Board Code
+link_written b n i t (val.Text path) = linked b n i (link_target b t path)
+link_written b n i t v = Err E19
+
+-- a value to the slot of n at a place, which holds this, by the row of its property; a slot that is not what its row says is not written
+abbrev pub written : Board → ℕ → ℕ → Kind → Option Slot → Val → Result Board Code
+written b n i (Kind.plain type first) (Some (plain old)) v = if admits type v then Ok (set n i v b) else Err E19
+written b n i (Kind.link t holds) (Some (strong to target)) v = link_written b n i to v
+written b n i (Kind.link t holds) (Some (weak to target)) v = link_written b n i to v
+written b n i kind s v = Err E18
 
 -- a value to the slot of n at a place, whose property has this row; a slot that no row of the type has is not written
 abbrev pub written_by : Board → ℕ → ℕ → Option Property → Val → Result Board Code
 written_by b n i None v = Err E18
-written_by b n i (Some row) v = if may_set row.mark then written b n i row.kind v else Err E18
+written_by b n i (Some row) v = if may_set row.mark then written b n i row.kind (slot_at b n i) v else Err E18
 
 -- a value to the property of a name of n
 abbrev pub write : Board → ℕ → List ℕ → Val → Result Board Code

@@ -135,9 +135,8 @@ impl Object {
         self.slots.point(at, target);
     }
 
-    /// Gives the plain slot at a place a value that its type takes. It takes no memory.
+    /// Gives the plain slot at a place a value; any other slot stays. It takes no memory.
     pub fn set(&mut self, at: usize, val: Val)
-        requires { takes_at val self.old at ≡ true }
         ensures { self.new ≡ set_at val at self.old }
     {
         self.slots.set(at, val);
