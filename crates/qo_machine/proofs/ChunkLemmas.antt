@@ -23,7 +23,7 @@ use Rattle.qo_sessions.specs.declared.modes.Mode.TheVariants.{Closed, Negotiatin
 use Rattle.qo_values.specs.declared.codes.Code.TheVariants.{E99}
 use Rattle.qo_machine.proofs.MachineLemmas.{behind_twice, serve_on, step_ended, step_on, stopped, with_same}
 use Rattle.qo_machine.proofs.RunLemmas.{outs_more, state_more}
-use Rattle.qo_machine.specs.Commands.{empty, perform}
+use Rattle.qo_commands.specs.Commands.{empty, perform}
 use Rattle.qo_machine.specs.Laws.{ChunksAreFree, CutAnywhere, Matches, in_one, in_two, quiet}
 use Rattle.qo_machine.specs.Machine.{Choice, Made, Message, State, Stepped, answered, behind, behind_command, defined, refused, event_outs, first, id_of, is_commanding, item_step, made_by, mode_of, numbers_below, opening, others, reply, serve, serve_unless, session_of, step, taken, those_commanding, told_of, unchanged, with_board, with_session}
 use Rattle.qo_machine.specs.Runs.{Turn, closed_where, outs_of, state_after}

@@ -14,7 +14,7 @@ use Rattle.qo_sessions.specs.declared.acts.SessionAct.TheVariants.{Answer, Negot
 use Rattle.qo_sessions.specs.declared.modes.Mode.{Mode}
 use Rattle.qo_sessions.specs.declared.modes.Mode.TheVariants.{Closed, Negotiating, Commanding}
 use Rattle.qo_machine.proofs.MachineLemmas.{told_more}
-use Rattle.qo_machine.specs.Commands.{perform}
+use Rattle.qo_commands.specs.Commands.{perform}
 use Rattle.qo_machine.specs.Machine.{Choice, Message, State, Stepped, behind, defined, refused, event_outs, first, input_step, is_commanding, item_step, made_by, mode_of, numbers_below, opened, others, serve, serve_unless, session_of, step, taken, those_commanding, told_of, unchanged, with_session}
 use Rattle.qo_machine.specs.Sending.{AreToLanes}
 

@@ -20,7 +20,7 @@ use Rattle.qo_sessions.specs.declared.acts.SessionAct.{SessionAct}
 use Rattle.qo_sessions.specs.declared.acts.SessionAct.TheVariants.{Answer, Negotiated, Do}
 use Rattle.qo_values.specs.declared.codes.Code.{Code}
 use Rattle.qo_values.specs.declared.codes.Code.TheVariants.{E99}
-use Rattle.qo_machine.specs.Commands.{Done, empty, perform}
+use Rattle.qo_commands.specs.Commands.{Done, empty, perform}
 use Rattle.qo_machine.specs.Machine.{Choice, Made, Message, Seen, State, Stepped, Answers, behind, behind_command, commanding, defined, refused, event_outs, first, input_step, item_step, made_by, mode_of, others, reply, serve, serve_unless, session_of, step, those_commanding, told_of, unchanged, with_session}
 use Rattle.qo_machine.specs.Serving.{CommandServed, Serves, moved}
 

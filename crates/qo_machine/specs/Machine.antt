@@ -23,7 +23,7 @@ use Rattle.qo_sessions.specs.declared.acts.SessionAct.{SessionAct}
 use Rattle.qo_sessions.specs.declared.acts.SessionAct.TheVariants.{Answer, Negotiated, Do}
 use Rattle.qo_sessions.specs.declared.modes.Mode.{Mode}
 use Rattle.qo_sessions.specs.declared.modes.Mode.TheVariants.{Commanding, Closed}
-use Rattle.qo_machine.specs.Commands.{Done, empty, perform}
+use Rattle.qo_commands.specs.Commands.{Done, empty, perform}
 
 -- a message: where it goes, and its bytes with their line end
 abbrev pub Message : Type 0

@@ -6,11 +6,11 @@ ghost use Rattle.qo_causes.specs.declared.inputs.Moment.{Moment};
 ghost use Rattle.qo_causes.specs.declared.inputs.What.TheVariants as What;
 ghost use Rattle.qo_model.specs.Opening.{opening_board};
 ghost use Rattle.qo_sessions.specs.Sessions.{closed};
-ghost use Rattle.qo_machine.specs.Commands.{perform};
+ghost use Rattle.qo_commands.specs.Commands.{perform};
 ghost use Rattle.qo_machine.specs.Machine.{Choice, Message, commanding, event_outs, reply, those_commanding, told_of};
 ghost use Rattle.qo_machine.specs.Serving.{CommandServed, Serves};
 ghost use Rattle.qo_machine.specs.Runs.{closed_where};
-ghost use Rattle.qo_machine.specs.Views.{body_data, data_of, done_of, has_float_in};
+ghost use Rattle.qo_commands.specs.Views.{body_data, data_of, done_of, has_float_in};
 ghost use Rattle.serde_json.specs.Written.{has_float};
 ghost use Rattle.qo_replies.specs.Replies.{return_reply};
 

@@ -1,8 +1,8 @@
 -- An item is served by what it comes to.
 use Rattle.std.proofs.Common.{ℕ, List, [], sym, ap, subst, ◌∙◌, append-nil, Option}
 use Rattle.qo_machine.proofs.MachineLemmas.{item_answered, item_done, item_negotiated, serves_ended}
-use Rattle.qo_machine.proofs.CommandLemmas.{empty_written}
-use Rattle.qo_machine.specs.Commands.{empty}
+use Rattle.qo_commands.proofs.CommandLemmas.{empty_written}
+use Rattle.qo_commands.specs.Commands.{empty}
 use Rattle.qo_machine.specs.Serving.{CommandServed, moved}
 use Rattle.qo_machine.proofs.machines.serve_item.Goals as goal
 

@@ -1,9 +1,9 @@
 -- What a command comes to on the board that the machine has.
 use Rattle.std.proofs.Common.{ap, ◌∙◌}
 use Rattle.qo_model.specs.Opening.{opening_board}
-use Rattle.qo_machine.proofs.CommandLemmas.{no_float}
-use Rattle.qo_machine.specs.Commands.{Done}
-use Rattle.qo_machine.specs.Views.{has_float_in}
+use Rattle.qo_commands.proofs.CommandLemmas.{no_float}
+use Rattle.qo_commands.specs.Commands.{Done}
+use Rattle.qo_commands.specs.Views.{has_float_in}
 use Rattle.qo_machine.proofs.machines.Machine.answer.Goals as goal
 
 pub reply_text-requires : goal.reply_text-requires

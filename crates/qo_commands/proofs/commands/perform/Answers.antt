@@ -1,9 +1,9 @@
 -- The opening board runs.
 use Rattle.std.proofs.Common.{ap, sym, ◌∙◌}
 use Rattle.qo_model.specs.Opening.{opening_board}
-use Rattle.qo_machine.specs.Commands.{perform}
-use Rattle.qo_machine.proofs.CommandLemmas.{unbuilt}
-use Rattle.qo_machine.proofs.commands.perform.Goals as goal
+use Rattle.qo_commands.specs.Commands.{perform}
+use Rattle.qo_commands.proofs.CommandLemmas.{unbuilt}
+use Rattle.qo_commands.proofs.commands.perform.Goals as goal
 
 pub returns-in-QueryStatus : goal.returns-in-QueryStatus
 unfolding perform opening_board

@@ -9,9 +9,9 @@ ghost use Rattle.qo_model.specs.Objects.{may_add};
 ghost use Rattle.qo_model.specs.Types.{row_named, row_of};
 ghost use Rattle.qo_types.specs.Rows.{kind_told, mark_told, property_told};
 ghost use Rattle.std.specs.Option.{option_map_or};
-ghost use Rattle.qo_machine.specs.Commands.{adding_properties, built, command_data, device_properties, empty, kind_word, listed, perform, property_data, refused_with, returned, type_data, types_of};
+ghost use Rattle.qo_commands.specs.Commands.{adding_properties, built, command_data, device_properties, empty, kind_word, listed, perform, property_data, refused_with, returned, type_data, types_of};
 ghost use Rattle.qo_machine.specs.Tree.{row};
-ghost use Rattle.qo_machine.specs.Views.{body_data, done_of, words_for_adding};
+ghost use Rattle.qo_commands.specs.Views.{body_data, done_of, words_for_adding};
 ghost use Rattle.qo_replies.specs.declared.events.Event.TheVariants as Event;
 
 use crate::tree::{self, Property};

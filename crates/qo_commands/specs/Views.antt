@@ -6,10 +6,10 @@ use Rattle.serde_json.specs.Written.{has_float}
 use Rattle.qo_values.specs.declared.codes.Code.{Code}
 use Rattle.qo_model.specs.Board.{Board}
 use Rattle.qo_model.specs.Types.{Property}
-use Rattle.qo_machine.specs.Commands as defined
-use Rattle.qo_machine.specs.declared.commands.Body.{Body}
-use Rattle.qo_machine.specs.declared.commands.Body.TheVariants.{Empty, Status, Value}
-use Rattle.qo_machine.specs.declared.commands.Done.{Done}
+use Rattle.qo_commands.specs.Commands as defined
+use Rattle.qo_commands.specs.declared.commands.Body.{Body}
+use Rattle.qo_commands.specs.declared.commands.Body.TheVariants.{Empty, Status, Value}
+use Rattle.qo_commands.specs.declared.commands.Done.{Done}
 
 -- what is returned, as data
 abbrev pub body_data : Body → Data

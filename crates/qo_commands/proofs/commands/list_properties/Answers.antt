@@ -1,10 +1,10 @@
 use Rattle.std.proofs.Common.{◌∙◌, ap, sym}
 use Rattle.serde_json.specs.Data.{Data}
-use Rattle.qo_machine.specs.Commands.{returned}
+use Rattle.qo_commands.specs.Commands.{returned}
 use Rattle.qo_model.specs.Opening.{opening_board}
 use Rattle.qo_model.specs.Types.{row_named}
-use Rattle.qo_machine.proofs.ListingLemmas.{device-listed}
-use Rattle.qo_machine.proofs.commands.list_properties.Goals as goal
+use Rattle.qo_commands.proofs.ListingLemmas.{device-listed}
+use Rattle.qo_commands.proofs.commands.list_properties.Goals as goal
 
 pub returns : goal.returns
 returns c =

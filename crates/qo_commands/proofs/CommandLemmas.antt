@@ -16,10 +16,10 @@ use Rattle.qo_machine.proofs.TreeLemmas.{rows_listing}
 use Rattle.std.specs.Str.{chars}
 use Rattle.serde_json.proofs.OnLiterals.{serde_json_on_literals}
 use Rattle.qo_replies.specs.Json.{ascii, json}
-use Rattle.qo_machine.specs.Commands.{Done, adding_properties, device_properties, empty, listed, perform, property_data, refused_with, returned, status_data, type_data, types_of}
+use Rattle.qo_commands.specs.Commands.{Done, adding_properties, device_properties, empty, listed, perform, property_data, refused_with, returned, status_data, type_data, types_of}
 use Rattle.qo_machine.specs.Tree.{birth_of, rows_of}
 use Rattle.qo_machine.specs.declared.tree.Object.{Object}
-use Rattle.qo_machine.specs.Views.{has_float_in}
+use Rattle.qo_commands.specs.Views.{has_float_in}
 
 rows_no_float : (rows : List (List ℕ × List ℕ)) → items_have_float (items_of (map property_data rows)) ≡ false
 rows_no_float [] = refl

@@ -11,8 +11,8 @@ use Rattle.qo_model.specs.Objects.{may_add}
 use Rattle.qo_model.specs.Types.{Kind, Mark, Property, TypeRow, is_a, property, row_of, slots_of}
 use Rattle.qo_types.specs.Rows.{property_told}
 use Rattle.qo_types.specs.declared.rows.SlotRow.{SlotRow}
-use Rattle.qo_machine.specs.Commands.{Done, adding_properties, device_properties, is_for_adding, kind_word, property_data, property_words, refused_with, returned, type_data}
-use Rattle.qo_machine.specs.Views.{words_for_adding}
+use Rattle.qo_commands.specs.Commands.{Done, adding_properties, device_properties, is_for_adding, kind_word, property_data, property_words, refused_with, returned, type_data}
+use Rattle.qo_commands.specs.Views.{words_for_adding}
 
 pub map-append : {A B : Type 0} (f : A → B) (xs ys : List A) → map f (xs ++ ys) ≡ map f xs ++ map f ys
 map-append f [] ys = refl

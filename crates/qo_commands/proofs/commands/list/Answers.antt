@@ -1,6 +1,6 @@
 -- The listing of an object is that of the board's.
-use Rattle.qo_machine.proofs.CommandLemmas.{listing_is}
-use Rattle.qo_machine.proofs.commands.list.Goals as goal
+use Rattle.qo_commands.proofs.CommandLemmas.{listing_is}
+use Rattle.qo_commands.proofs.commands.list.Goals as goal
 
 pub returns-in_ok-listing-in-Some : goal.returns-in_ok-listing-in-Some
 returns-in_ok-listing-in-Some c =

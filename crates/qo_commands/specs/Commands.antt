@@ -1,22 +1,28 @@
 -- What each command returns, or the code that refuses it (docs/PROFILE.md, commands).
 use Rattle.std.specs.Prelude.{ℕ, Bool, true, false, if◌then◌else◌, List, [], ◌∷◌, map, filter, filter_map, codes, Option, Some, None, unwrap_or, Result, Ok, Err}
-use Rattle.serde_json.specs.Data.{Data, Members, array, boolean, member, no_members, object, string}
+use Rattle.serde_json.specs.Data.{Data, Members, array, boolean, member, no_members, number, object, string, unsigned}
 use Rattle.serde_json.specs.View.{items_of}
 use Rattle.qo_values.specs.declared.codes.Code.{Code}
-use Rattle.qo_values.specs.declared.codes.Code.TheVariants.{E10, E15, E20, E22}
+use Rattle.qo_values.specs.declared.codes.Code.TheVariants.{E10, E20, E22}
 use Rattle.qo_values.specs.Kinds.{type_name}
 use Rattle.qo_values.specs.declared.kinds.TypeId.{TypeId}
 use Rattle.qo_model.specs.Board.{Board}
-use Rattle.qo_model.specs.Listing.{around, listing, value_word}
-use Rattle.qo_model.specs.Objects.{may_add}
-use Rattle.qo_model.specs.Paths.{resolve_absolute}
+use Rattle.qo_values.specs.Plain.{data_of}
+use Rattle.qo_model.specs.Listing.{around, value_word}
+use Rattle.qo_model.specs.Notes.{kept_of, note_text, total_of}
+use Rattle.qo_model.specs.Objects.{Changed, may_add, object_add, object_del, sever}
+use Rattle.qo_model.specs.declared.notes.Note.{Note}
+use Rattle.qo_notes.specs.Log.{Log, first_from, given_from}
+use Rattle.qo_realize.specs.At.{listing_at, read, write_at}
+use Rattle.qo_realize.specs.Reads.{detached_told}
+use Rattle.qo_realize.specs.declared.reads.Detached.{Detached}
 use Rattle.qo_model.specs.Types.{Kind, Property, TypeRow, is_a, row_named, row_of, slots_of}
 use Rattle.qo_types.specs.Rows.{listed as listed_types}
 use Rattle.qo_replies.specs.Replies.{version_data}
 use Rattle.qo_replies.specs.declared.events.Event.{Event}
 use Rattle.qo_replies.specs.declared.events.Event.TheVariants.{Shutdown}
 use Rattle.qo_requests.specs.declared.requests.Request.{Request}
-use Rattle.qo_requests.specs.declared.requests.Request.TheVariants.{DeviceListProperties, QomList, QomListTypes, QueryCommands, QueryStatus, QueryVersion, Quit}
+use Rattle.qo_requests.specs.declared.requests.Request.TheVariants.{DeviceListProperties, ObjectAdd, ObjectDel, QomGet, QomList, QomListTypes, QomSet, QueryCommands, QueryStatus, QueryVersion, Quit, XQueryDetached, XQueryNotes, XSever}
 
 -- what a command comes to: what it returns or the code that refuses it, the board behind it, its events, and whether it ends the run
 pub record Done : Type 0 where
@@ -40,10 +46,45 @@ empty = object no_members
 abbrev pub property_data : List ℕ × List ℕ → Data
 property_data p = object (member (codes "name") (string p.0) (member (codes "type") (string p.1) no_members))
 
--- the listing of an object, where the path leads to one
-abbrev pub listed : Board → Option ℕ → Done
-listed b None = refused_with b E15
-listed b (Some n) = returned b (array (items_of (map property_data (listing b n))))
+-- what a command returns that reads the board, or the code that refuses it; the board stays
+abbrev pub answered : {T : Type 0} → Board → (T → Data) → Result T Code → Done
+answered b f (Ok found) = returned b (f found)
+answered b f (Err code) = refused_with b code
+
+-- the properties of an object, each by its name and type text
+abbrev pub properties_data : List (List ℕ × List ℕ) → Data
+properties_data rows = array (items_of (map property_data rows))
+
+-- a write that makes another board, or the code that refuses it
+abbrev pub wrote : Board → Result Board Code → Done
+wrote b (Ok c) = returned c empty
+wrote b (Err code) = refused_with b code
+
+-- a change of the board by command; where it is refused the board is that of an attempt that was given up, if there was one
+abbrev pub changed : Changed → Done
+changed change = elim change.refusal [ None ↦ returned change.board empty | Some code ↦ refused_with change.board code ]
+
+-- notes from a number on, as they are told: the number of the first, the texts of at most 256, and how many there were
+abbrev pub log_of : List Note → Log
+log_of notes = record { total = total_of notes; kept = kept_of notes }
+
+abbrev pub note_data : Note → Data
+note_data note = string (note_text note)
+
+abbrev pub notes_data : ℕ → Log → Data
+notes_data from log =
+    object
+    (member (codes "first") (number (unsigned (first_from from log)))
+    (member (codes "notes") (array (items_of (map note_data (given_from from log))))
+    (member (codes "total") (number (unsigned log.total)) no_members)))
+
+-- an object without a parent, as it is told
+abbrev pub detached_data : Detached → Data
+detached_data d =
+    object
+    (member (codes "birth") (number (unsigned d.birth))
+    (member (codes "refs") (number (unsigned d.refs))
+    (member (codes "type") (string (type_name d.kind)) no_members)))
 
 -- a command by its name
 abbrev pub command_data : List ℕ → Data
@@ -53,13 +94,20 @@ command_data name = object (member (codes "name") (string name) no_members)
 abbrev pub built : List (List ℕ)
 built =
     codes "device-list-properties"
+    ∷ codes "object-add"
+    ∷ codes "object-del"
     ∷ codes "qmp_capabilities"
+    ∷ codes "qom-get"
     ∷ codes "qom-list"
     ∷ codes "qom-list-types"
+    ∷ codes "qom-set"
     ∷ codes "query-commands"
     ∷ codes "query-status"
     ∷ codes "query-version"
     ∷ codes "quit"
+    ∷ codes "x-query-detached"
+    ∷ codes "x-query-notes"
+    ∷ codes "x-sever"
     ∷ []
 
 -- a type: that it is abstract is said only where it is, and its parent only where it has one
@@ -80,10 +128,11 @@ type_data row = object (type_members row)
 abbrev pub types_of : List ℕ → Bool → List TypeRow
 types_of name with_abstract = filter_map row_of (listed_types name with_abstract)
 
--- the properties of a type of devices that the adding command writes, by name and type text, in row order
+-- whether the adding command writes a property
 abbrev pub is_for_adding : Property → Bool
 is_for_adding row = may_add row.mark
 
+-- the type text of a property by its row; that of an alias is the text of what it passes on to, and is empty here
 abbrev pub link_word : TypeId → List ℕ
 link_word t = around (codes "link") t
 
@@ -93,9 +142,11 @@ kind_word (Kind.link t holds) = link_word t
 kind_word (Kind.child t) = around (codes "child") t
 kind_word (Kind.alias owner of) = []
 
+-- a property by its name and type text
 abbrev pub property_words : Property → List ℕ × List ℕ
 property_words row = (row.name, kind_word row.kind)
 
+-- the properties of a type of devices that the adding command writes, in row order
 abbrev pub adding_properties : TypeId → List (List ℕ × List ℕ)
 adding_properties t = map property_words (filter is_for_adding (slots_of t))
 
@@ -116,10 +167,17 @@ status_data running =
 
 -- a command of a session that has negotiated; those that are not built are unknown
 unfoldable pub perform : Board → Request → Done
-perform b (QomList path) = listed b (resolve_absolute b path (codes "object"))
+perform b (QomList path) = answered b properties_data (listing_at b path)
+perform b (QomGet path property) = answered b data_of (read b path property)
+perform b (QomSet path property value) = wrote b (write_at b path property value)
 perform b (QomListTypes implements with_abstract) =
     returned b (array (items_of (map type_data (types_of (unwrap_or implements (codes "object")) (unwrap_or with_abstract false)))))
 perform b (DeviceListProperties typename) = device_properties b (row_named typename)
+perform b (ObjectAdd driver id props) = changed (object_add b driver id props)
+perform b (ObjectDel id) = changed (object_del b id)
+perform b (XSever birth) = changed (sever b birth)
+perform b (XQueryNotes from) = returned b (notes_data from (log_of b.notes))
+perform b XQueryDetached = returned b (array (items_of (map detached_data (detached_told b))))
 perform b QueryVersion = returned b version_data
 perform b QueryCommands = returned b (array (items_of (map command_data built)))
 perform b QueryStatus = returned b (status_data b.running)

@@ -1,0 +1,4 @@
+pub mod Changes
+pub mod Commands
+pub mod Stands
+pub mod Views
