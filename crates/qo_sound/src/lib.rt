@@ -1,0 +1,2 @@
+//! The changes of the board keep its tree sound.
+#![tactic(auto)]
