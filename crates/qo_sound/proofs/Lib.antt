@@ -1,2 +1,4 @@
+mod AliasRows
+pub mod FirmLemmas
 pub mod RecordLemmas
 pub mod SlotLemmas

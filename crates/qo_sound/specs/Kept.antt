@@ -1,12 +1,9 @@
 -- What keeps the tree of a board sound.
-use Rattle.std.specs.Prelude.{◌≡◌, ℕ, true, ◌==◌, if◌then◌else◌, List, [], ◌∷◌, ⊤}
+use Rattle.std.specs.Prelude.{◌≡◌, ℕ, true, ◌==◌, if◌then◌else◌, List, [], ⊤}
 use Rattle.std.specs.List.{AllByRecursion}
-use Rattle.qo_values.specs.declared.kinds.TypeId.{TypeId}
 use Rattle.qo_model.specs.Board.{Board, Record, Slot, alias}
 use Rattle.qo_model.specs.Depth.{among}
-use Rattle.qo_model.specs.FinalNotesRuns.{Change, behind, changed}
-use Rattle.qo_model.specs.Objects.{objects_birth, with_attempt}
-use Rattle.qo_model.specs.Opening.{opening_board}
+use Rattle.qo_model.specs.Objects.{objects_birth}
 use Rattle.qo_model.specs.Paths.{children_in}
 use Rattle.qo_model.specs.SoundGraph.{SoundGraph}
 

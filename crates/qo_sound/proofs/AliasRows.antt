@@ -1,0 +1,41 @@
+-- Why a sound tree is not enough: an alias of the machine that passes on to a tag under `/objects` outlasts the tag.
+use Rattle.std.proofs.Common.{◌≡◌, refl, rules, ap, sym, ◌∙◌, ℕ, true, false, List, [], ◌∷◌, ◌++◌, map, codes}
+use Rattle.std.specs.List.{IsDistinct}
+use Rattle.qo_values.specs.declared.kinds.TypeId.TheVariants.{Tag}
+use Rattle.qo_model.specs.Board.{Board, child, alias}
+use Rattle.qo_model.specs.Changes.{with_added}
+use Rattle.qo_model.specs.FinalNotesRuns.{deleted, changed}
+use Rattle.qo_model.specs.Opening.{opening_board, fresh_record}
+use Rattle.qo_model.specs.Release.{edited, drop_slot, finish, finalise, finalise_within, let_go}
+use Rattle.qo_model.specs.SoundGraph.{graph_of, SoundGraph}
+use Rattle.qo_model.specs.Types.{types}
+use Rattle.qo_model.proofs.GraphLemmas.{HasLater, none_round-from_later}
+
+-- the opening board with the tag `t`, and an alias of the machine that passes on to it
+abbrev aliased : Board
+aliased =
+    record opening_board {
+      records =
+          map (edited 8 (with_added (codes "t") (child 9))) (map (edited 2 (with_added (codes "a") (alias 9 (codes "text")))) opening_board.records)
+          ++ fresh_record 9 Tag ∷ [];
+      born = 9;
+    }
+
+aliased-sound : SoundGraph aliased
+unfolding types opening_board graph_of IsDistinct HasLater
+aliased-sound =
+    record {
+      rising = search rules;
+      within = search rules;
+      named = search rules;
+      live = search rules;
+      one_parent = search rules;
+      none_round = none_round-from_later aliased (search rules);
+      pinned = refl;
+      referred = search rules;
+    }
+
+-- behind `object-del` of the tag it is not sound
+deleted-unsound : SoundGraph (changed aliased (deleted (codes "t"))) → ⊥
+unfolding types opening_board graph_of drop_slot finish finalise finalise_within let_go
+deleted-unsound h = let gone : false ≡ true = h.live.1.0.1.1.1.1.1.1.0 in absurd cc

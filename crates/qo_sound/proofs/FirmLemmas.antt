@@ -1,0 +1,142 @@
+-- What of a board's soundness speaks of no reference and no pin: what it is, and that it is kept by a slot let go, by an end, and by a link that is pointed.
+use Rattle.std.proofs.Common.{◌≡◌, refl, ap, sym, subst, ◌∙◌, ℕ, ◌<◌, ◌≤◌, Bool, true, false, not, ◌&&◌, ◌==◌, List, [], ◌∷◌, map, filter, sum_by, count_by, slice_get, Option, Some, None, is_some, option_map, arith}
+use Rattle.std.specs.List.{AllByRecursion, IsDistinct}
+use Rattle.std.specs.Option.{option_map_or}
+use Rattle.std.specs.Str.{bytes_eq}
+use Rattle.std.proofs.lemmas.Bool.{eqb-true, eq-eqb}
+use Rattle.std.proofs.Math.Path.{fun_ext}
+use Rattle.qo_values.specs.Kinds.{type_name}
+use Rattle.qo_values.specs.declared.kinds.TypeId.{TypeId}
+use Rattle.qo_model.specs.Board.{Board, Record, Slot, plain, child, strong, weak, alias, record_of, kind_of, is_live, slots_at, slot_at, held}
+use Rattle.qo_model.specs.Changes.{point, pointed, with_changed}
+use Rattle.qo_model.specs.Depth.{among, leads, Leads, one, more}
+use Rattle.qo_model.specs.Paths.{births, is_child, children_in, children_of}
+use Rattle.qo_model.specs.References.{refs, refs_in}
+use Rattle.qo_model.specs.Release.{edit, edited, emptied, with_dropped, drop_slot, forgotten_in, forgotten, finish}
+use Rattle.qo_model.specs.SoundGraph.{Rises}
+use Rattle.qo_model.specs.Types.{is_a}
+use Rattle.qo_model.proofs.EditLemmas.{sum-edit_le, sum-filter_le, sum-without_hold_le, StandsAt, stands-at}
+use Rattle.qo_model.proofs.StepLemmas.{drop-record, drop-births, finish-record, finish-gone, finish-births, found_at, found-edited}
+use Rattle.qo_sound.proofs.RecordLemmas.{births_at, all-imply, all-map, all-filter, all-passing, all-edited, found-birth}
+use Rattle.qo_sound.proofs.SlotLemmas.{names_in, each_slot, distinct-dropped, names-changed, names-each, all-dropped, all-changed, children-dropped, children-each, children-changed, sum-changed_same, sum-each_same, one_child, left-child, child-forgotten, child-pointed, one_child-same}
+
+-- the target of a link is there and of the link's type, where `kinds` says the type of each object that is there
+abbrev pub FitsKind : (ℕ → Option TypeId) → TypeId → Option ℕ → Type 0
+FitsKind kinds t None = ⊤
+FitsKind kinds t (Some n) = option_map_or (λ (k : TypeId). is_a k (type_name t)) (kinds n) false ≡ true
+
+-- what a slot that is no alias names is there, and a link's target is of its type
+abbrev pub Linked : (ℕ → Option TypeId) → Slot → Type 0
+Linked kinds (plain v) = ⊤
+Linked kinds (child n) = is_some (kinds n) ≡ true
+Linked kinds (strong t target) = FitsKind kinds t target
+Linked kinds (weak t target) = FitsKind kinds t target
+Linked kinds (alias n name) = ⊤
+
+abbrev pub AllLinked : (ℕ → Option TypeId) → List Record → Type 0
+AllLinked kinds rs = AllByRecursion (λ (r : Record). AllByRecursion (λ (s : List ℕ × Slot). Linked kinds s.1) r.slots) rs
+
+abbrev pub HasNames : Record → Type 0
+HasNames r = IsDistinct bytes_eq (names_in r.slots)
+
+-- how often x is a child
+abbrev pub parents_in : ℕ → Record → ℕ
+parents_in x r = count_by (λ (s : List ℕ × Slot). is_child x s.1) r.slots
+
+abbrev pub parents_of : Board → ℕ → ℕ
+parents_of b x = sum_by (parents_in x) b.records
+
+pub record Firm (b : Board) : Type 0 where
+  pub rising : Rises (births b)
+  pub within : AllByRecursion (λ n. n ≤ b.born) (births b)
+  pub named : AllByRecursion HasNames b.records
+  pub linked : AllLinked (kind_of b) b.records
+  pub one_parent : (x : ℕ) → parents_of b x ≤ 1
+  pub none_round : (n : ℕ) → ¬ (Leads (children_of b) n n)
+
+-- what leads nowhere else makes no other round
+pub Leads-within : (next wide : ℕ → List ℕ) → ((n m : ℕ) → leads next n m ≡ true → leads wide n m ≡ true) → {n m : ℕ} → Leads next n m → Leads wide n m
+Leads-within next wide is (one {n} {m} e) = one (is n m e)
+Leads-within next wide is (more {n} {m} {k} e l) = more (is n m e) (Leads-within next wide is l)
+
+-- fewer of births that rise
+pub rises-filter : (p : ℕ → Bool) (ns : List ℕ) → Rises ns → Rises (filter p ns)
+rises-filter p [] h = tt
+rises-filter p (n ∷ ns) h = go (p n) refl (rises-filter p ns h.1)
+  where
+    go : (t : Bool) → p n ≡ t → Rises (filter p ns) → Rises (filter p (n ∷ ns))
+    go true q rest = rw q (all-filter (λ m. n < m) p ns h.0, rest)
+    go false q rest = rw q rest
+
+-- an edit that keeps births and types
+module _ (n : ℕ) (change : Record → Record) (same_birth : (r : Record) → (change r).birth ≡ r.birth) (same_kind : (r : Record) → (change r).kind ≡ r.kind) where
+  pub edited-births : (rs : List Record) → births_at (map (edited n change) rs) ≡ births_at rs
+  edited-births [] = refl
+  edited-births (r ∷ rs) = go (r.birth == n) refl (edited-births rs)
+    where
+      go : (t : Bool) → (r.birth == n) ≡ t → births_at (map (edited n change) rs) ≡ births_at rs → births_at (map (edited n change) (r ∷ rs)) ≡ births_at (r ∷ rs)
+      go true p rest = rw (edited, p, same_birth, rest) refl
+      go false p rest = rw (edited, p, rest) refl
+
+  pub edited-kind : (b : Board) (x : ℕ) → kind_of (edit n change b) x ≡ kind_of b x
+  edited-kind b x = ap (option_map (λ (r : Record). r.kind)) (found-edited n change same_birth x b.records) ∙ go (record_of b x)
+    where
+      at_record : (r : Record) (t : Bool) → (r.birth == n) ≡ t → (edited n change r).kind ≡ r.kind
+      at_record r true p = rw (edited, p) (same_kind r)
+      at_record r false p = rw (edited, p) refl
+
+      go : (o : Option Record) → option_map (λ (r : Record). r.kind) (option_map (edited n change) o) ≡ option_map (λ (r : Record). r.kind) o
+      go None = refl
+      go (Some r) = ap Some (at_record r (r.birth == n) refl)
+
+  pub edited-kinds : (b : Board) → kind_of (edit n change b) ≡ kind_of b
+  edited-kinds b = fun_ext (edited-kind b)
+
+  -- the children of an edited board
+  pub edited-leads : (b : Board) → ((r : Record) (y : ℕ) → record_of b n ≡ Some r → among (children_in (change r).slots) y ≡ true → among (children_in r.slots) y ≡ true) → (x y : ℕ) → leads (children_of (edit n change b)) x y ≡ true → leads (children_of b) x y ≡ true
+  edited-leads b few x y e = go (record_of b x) refl (subst (λ (o : Option Record). among (children_in (option_map_or (λ (r : Record). r.slots) o [])) y ≡ true) (found-edited n change same_birth x b.records) e)
+    where
+      at_record : (r : Record) → record_of b x ≡ Some r → (t : Bool) → (r.birth == n) ≡ t → among (children_in (edited n change r).slots) y ≡ true → among (children_in r.slots) y ≡ true
+      at_record r q true p k =
+          let is : x ≡ n = sym (found-birth x b.records r q) ∙ eqb-true r.birth n p in
+          few r y (subst (λ (z : ℕ). record_of b z ≡ Some r) is q) (rw (edited, p) at k)
+      at_record r q false p k = rw (edited, p) at k
+
+      go : (o : Option Record) → record_of b x ≡ o → among (children_in (option_map_or (λ (r : Record). r.slots) (option_map (edited n change) o) [])) y ≡ true → among (children_in (option_map_or (λ (r : Record). r.slots) o [])) y ≡ true
+      go None q k = k
+      go (Some r) q k = at_record r q (r.birth == n) refl k
+
+  -- what is to be shown of an edit
+  pub firm-edit : (b : Board) → Firm b → ((r : Record) → record_of b n ≡ Some r → HasNames r → HasNames (change r)) → ((r : Record) → record_of b n ≡ Some r → AllByRecursion (λ (s : List ℕ × Slot). Linked (kind_of b) s.1) r.slots → AllByRecursion (λ (s : List ℕ × Slot). Linked (kind_of b) s.1) (change r).slots) → ((x : ℕ) (r : Record) → parents_in x (change r) ≤ parents_in x r) → ((r : Record) (y : ℕ) → record_of b n ≡ Some r → among (children_in (change r).slots) y ≡ true → among (children_in r.slots) y ≡ true) → Firm (edit n change b)
+  firm-edit b h names links parents few =
+      record {
+        rising = subst Rises (sym (edited-births b.records)) h.rising;
+        within = subst (AllByRecursion (λ m. m ≤ b.born)) (sym (edited-births b.records)) h.within;
+        named = all-edited HasNames HasNames n change b.records h.rising (λ r p k. k) names h.named;
+        linked =
+            subst (λ (kinds : ℕ → Option TypeId). AllLinked kinds (map (edited n change) b.records)) (sym (edited-kinds b)) (all-edited (λ (r : Record). AllByRecursion (λ (s : List ℕ × Slot). Linked (kind_of b) s.1) r.slots) (λ (r : Record). AllByRecursion (λ (s : List ℕ × Slot). Linked (kind_of b) s.1) r.slots) n change b.records h.rising (λ r p k. k) links h.linked);
+        one_parent = λ x. omega (arith, sum-edit_le (parents_in x) n change (parents x) b.records, h.one_parent x);
+        none_round = λ m l. h.none_round m (Leads-within (children_of (edit n change b)) (children_of b) (edited-leads b few) l);
+      }
+
+-- what is left of a slot that was let go names nothing new
+left-linked : (kinds : ℕ → Option TypeId) (s left : Slot) → emptied s ≡ Some left → Linked kinds s → Linked kinds left
+left-linked kinds (plain v) left e h = subst (Linked kinds) (same_Some (plain v) left e) h
+left-linked kinds (child m) left e h = absurd (let clash : None ≡ Some left = e in cc)
+left-linked kinds (strong t target) left e h = subst (Linked kinds) (same_Some (strong t None) left e) tt
+left-linked kinds (weak t target) left e h = subst (Linked kinds) (same_Some (weak t None) left e) tt
+left-linked kinds (alias m property) left e h = subst (Linked kinds) (same_Some (alias m property) left e) h
+
+pub firm-drop : (b : Board) (n i : ℕ) → Firm b → Firm (drop_slot b n i)
+unfolding drop_slot
+firm-drop b n i h =
+    firm-edit n (with_dropped i) (λ r. refl) (λ r. refl) b h (λ r e k. distinct-dropped i r.slots k) (λ r e k. all-dropped (Linked (kind_of b)) (left-linked (kind_of b)) i r.slots k) (λ x r. sum-without_hold_le (one_child x) (left-child x) i r.slots) (λ r y e k. children-dropped y i r.slots k)
+
+
+pub firm-point : (b : Board) (n i m : ℕ) → ((s : Slot) → slot_at b n i ≡ Some s → Linked (kind_of b) (pointed m s)) → Firm b → Firm (point n i m b)
+unfolding point
+firm-point b n i m fits h =
+    firm-edit n (with_changed (pointed m) i) (λ r. refl) (λ r. refl) b h (λ r e k. subst (IsDistinct bytes_eq) (sym (names-changed (pointed m) i r.slots)) k) (λ r e k. all-changed (Linked (kind_of b)) (pointed m) i r.slots (λ s at_place old. fits s.1 (at_slot r e s at_place)) k) (λ x r. omega (arith, sum-changed_same (one_child x) (pointed m) (one_child-same (pointed m) (child-pointed m) x) i r.slots)) (λ r y e k. rw (children-changed (pointed m) (child-pointed m) i r.slots) at k)
+  where
+    at_slot : (r : Record) → record_of b n ≡ Some r → (s : List ℕ × Slot) → slice_get r.slots i ≡ Some s → slot_at b n i ≡ Some s.1
+    at_slot r e s at_place = rw (e, at_place) refl
