@@ -1,5 +1,5 @@
 -- Why a sound tree is not enough: an alias of the machine that passes on to a tag under `/objects` outlasts the tag.
-use Rattle.std.proofs.Common.{◌≡◌, refl, rules, ap, sym, ◌∙◌, ℕ, true, false, List, [], ◌∷◌, ◌++◌, map, codes}
+use Rattle.std.proofs.Common.{◌≡◌, refl, rules, true, false, [], ◌∷◌, ◌++◌, map, codes}
 use Rattle.std.specs.List.{IsDistinct}
 use Rattle.qo_values.specs.declared.kinds.TypeId.TheVariants.{Tag}
 use Rattle.qo_model.specs.Board.{Board, child, alias}

@@ -1,24 +1,25 @@
 -- What of a board's soundness speaks of no reference and no pin: what it is, and that it is kept by a slot let go, by an end, and by a link that is pointed.
-use Rattle.std.proofs.Common.{◌≡◌, refl, ap, sym, subst, ◌∙◌, ℕ, ◌<◌, ◌≤◌, Bool, true, false, not, ◌&&◌, ◌==◌, List, [], ◌∷◌, map, filter, sum_by, count_by, slice_get, Option, Some, None, is_some, option_map, arith}
+use Rattle.std.proofs.Common.{◌≡◌, refl, ap, sym, subst, ◌∙◌, ℕ, ◌<◌, ◌≤◌, Bool, true, false, ◌==◌, List, [], ◌∷◌, map, filter, sum_by, count_by, slice_get, Option, Some, None, is_some, option_map, arith}
+use Rattle.std.specs.Bool.{⊤}
 use Rattle.std.specs.List.{AllByRecursion, IsDistinct}
 use Rattle.std.specs.Option.{option_map_or}
 use Rattle.std.specs.Str.{bytes_eq}
-use Rattle.std.proofs.lemmas.Bool.{eqb-true, eq-eqb}
+use Rattle.std.proofs.lemmas.Bool.{eqb-true}
+use Rattle.std.proofs.lemmas.Option.{same_Some}
 use Rattle.std.proofs.Math.Path.{fun_ext}
 use Rattle.qo_values.specs.Kinds.{type_name}
 use Rattle.qo_values.specs.declared.kinds.TypeId.{TypeId}
-use Rattle.qo_model.specs.Board.{Board, Record, Slot, plain, child, strong, weak, alias, record_of, kind_of, is_live, slots_at, slot_at, held}
+use Rattle.qo_model.specs.Board.{Board, Record, Slot, plain, child, strong, weak, alias, record_of, kind_of, slot_at}
 use Rattle.qo_model.specs.Changes.{point, pointed, with_changed}
 use Rattle.qo_model.specs.Depth.{among, leads, Leads, one, more}
 use Rattle.qo_model.specs.Paths.{births, is_child, children_in, children_of}
-use Rattle.qo_model.specs.References.{refs, refs_in}
-use Rattle.qo_model.specs.Release.{edit, edited, emptied, with_dropped, drop_slot, forgotten_in, forgotten, finish}
+use Rattle.qo_model.specs.Release.{edit, edited, emptied, with_dropped, drop_slot}
 use Rattle.qo_model.specs.SoundGraph.{Rises}
 use Rattle.qo_model.specs.Types.{is_a}
-use Rattle.qo_model.proofs.EditLemmas.{sum-edit_le, sum-filter_le, sum-without_hold_le, StandsAt, stands-at}
-use Rattle.qo_model.proofs.StepLemmas.{drop-record, drop-births, finish-record, finish-gone, finish-births, found_at, found-edited}
-use Rattle.qo_sound.proofs.RecordLemmas.{births_at, all-imply, all-map, all-filter, all-passing, all-edited, found-birth}
-use Rattle.qo_sound.proofs.SlotLemmas.{names_in, each_slot, distinct-dropped, names-changed, names-each, all-dropped, all-changed, children-dropped, children-each, children-changed, sum-changed_same, sum-each_same, one_child, left-child, child-forgotten, child-pointed, one_child-same}
+use Rattle.qo_model.proofs.EditLemmas.{sum-edit_le, sum-without_hold_le}
+use Rattle.qo_model.proofs.StepLemmas.{found-edited}
+use Rattle.qo_sound.proofs.RecordLemmas.{births_at, all-filter, all-edited, found-birth}
+use Rattle.qo_sound.proofs.SlotLemmas.{names_in, distinct-dropped, names-changed, all-dropped, all-changed, children-dropped, children-changed, sum-changed_same, one_child, left-child, child-pointed, one_child-same}
 
 -- the target of a link is there and of the link's type, where `kinds` says the type of each object that is there
 abbrev pub FitsKind : (ℕ → Option TypeId) → TypeId → Option ℕ → Type 0
