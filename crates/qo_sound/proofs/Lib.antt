@@ -1,4 +1,5 @@
 mod AliasRows
+pub mod FinishLemmas
 pub mod FirmLemmas
 pub mod RecordLemmas
 pub mod SlotLemmas
