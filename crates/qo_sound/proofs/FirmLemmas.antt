@@ -10,16 +10,16 @@ use Rattle.std.proofs.Math.Path.{fun_ext}
 use Rattle.qo_values.specs.Kinds.{type_name}
 use Rattle.qo_values.specs.declared.kinds.TypeId.{TypeId}
 use Rattle.qo_model.specs.Board.{Board, Record, Slot, plain, child, strong, weak, alias, record_of, kind_of, slot_at}
-use Rattle.qo_model.specs.Changes.{point, pointed, with_changed}
+use Rattle.qo_model.specs.Changes.{with_changed}
 use Rattle.qo_model.specs.Depth.{among, leads, Leads, one, more}
-use Rattle.qo_model.specs.Paths.{births, is_child, children_in, children_of}
+use Rattle.qo_model.specs.Paths.{births, child_of, is_child, children_in, children_of}
 use Rattle.qo_model.specs.Release.{edit, edited, emptied, with_dropped, drop_slot}
 use Rattle.qo_model.specs.SoundGraph.{Rises}
 use Rattle.qo_model.specs.Types.{is_a}
 use Rattle.qo_model.proofs.EditLemmas.{sum-edit_le, sum-without_hold_le}
 use Rattle.qo_model.proofs.StepLemmas.{found-edited}
 use Rattle.qo_sound.proofs.RecordLemmas.{births_at, all-filter, all-edited, found-birth}
-use Rattle.qo_sound.proofs.SlotLemmas.{names_in, distinct-dropped, names-changed, all-dropped, all-changed, children-dropped, children-changed, sum-changed_same, one_child, left-child, child-pointed, one_child-same}
+use Rattle.qo_sound.proofs.SlotLemmas.{names_in, distinct-dropped, names-changed, all-dropped, all-changed, children-dropped, children-changed, sum-changed_same, one_child, left-child, one_child-same}
 
 -- the target of a link is there and of the link's type, where `kinds` says the type of each object that is there
 abbrev pub FitsKind : (ℕ → Option TypeId) → TypeId → Option ℕ → Type 0
@@ -134,10 +134,10 @@ firm-drop b n i h =
     firm-edit n (with_dropped i) (λ r. refl) (λ r. refl) b h (λ r e k. distinct-dropped i r.slots k) (λ r e k. all-dropped (Linked (kind_of b)) (left-linked (kind_of b)) i r.slots k) (λ x r. sum-without_hold_le (one_child x) (left-child x) i r.slots) (λ r y e k. children-dropped y i r.slots k)
 
 
-pub firm-point : (b : Board) (n i m : ℕ) → ((s : Slot) → slot_at b n i ≡ Some s → Linked (kind_of b) (pointed m s)) → Firm b → Firm (point n i m b)
-unfolding point
-firm-point b n i m fits h =
-    firm-edit n (with_changed (pointed m) i) (λ r. refl) (λ r. refl) b h (λ r e k. subst (IsDistinct bytes_eq) (sym (names-changed (pointed m) i r.slots)) k) (λ r e k. all-changed (Linked (kind_of b)) (pointed m) i r.slots (λ s at_place old. fits s.1 (at_slot r e s at_place)) k) (λ x r. omega (arith, sum-changed_same (one_child x) (pointed m) (one_child-same (pointed m) (child-pointed m) x) i r.slots)) (λ r y e k. rw (children-changed (pointed m) (child-pointed m) i r.slots) at k)
+-- a slot of n is changed, and names the same child
+pub firm-changed : (g : Slot → Slot) → ((s : Slot) → child_of (g s) ≡ child_of s) → (b : Board) (n i : ℕ) → ((s : Slot) → slot_at b n i ≡ Some s → Linked (kind_of b) s → Linked (kind_of b) (g s)) → Firm b → Firm (edit n (with_changed g i) b)
+firm-changed g same b n i fits h =
+    firm-edit n (with_changed g i) (λ r. refl) (λ r. refl) b h (λ r e k. subst (IsDistinct bytes_eq) (sym (names-changed g i r.slots)) k) (λ r e k. all-changed (Linked (kind_of b)) g i r.slots (λ s at_place old. fits s.1 (at_slot r e s at_place) old) k) (λ x r. omega (arith, sum-changed_same (one_child x) g (one_child-same g same x) i r.slots)) (λ r y e k. rw (children-changed g same i r.slots) at k)
   where
     at_slot : (r : Record) → record_of b n ≡ Some r → (s : List ℕ × Slot) → slice_get r.slots i ≡ Some s → slot_at b n i ≡ Some s.1
     at_slot r e s at_place = rw (e, at_place) refl
