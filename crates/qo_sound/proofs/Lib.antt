@@ -1,4 +1,5 @@
 mod AliasRows
+pub mod ChangeLemmas
 pub mod CountLemmas
 pub mod EmptyLemmas
 pub mod FinishLemmas
