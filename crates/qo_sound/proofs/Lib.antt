@@ -5,6 +5,8 @@ pub mod EmptyLemmas
 pub mod FinishLemmas
 pub mod FirmLemmas
 pub mod RecordLemmas
+pub mod SeverLemmas
 pub mod SlotLemmas
+pub mod TargetLemmas
 pub mod ViewLemmas
 pub mod WorkLemmas

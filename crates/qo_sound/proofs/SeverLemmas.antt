@@ -1,0 +1,151 @@
+-- An object that is held from outside while its strong links are let go, and then no longer.
+use Rattle.std.proofs.Common.{nat_eq, ◌≡◌, refl, ap, sym, ◌∙◌, ℕ, zero, suc, ◌≤◌, leb, Bool, true, false, ◌==◌, eqb, List, [], ◌∷◌, length, Option, Some, None, arith}
+use Rattle.std.specs.List.{list_any}
+use Rattle.std.proofs.lemmas.Bool.{eqb-true, eq-eqb}
+use Rattle.std.proofs.lemmas.List.Sums.{sum_by-cons}
+use Rattle.qo_model.specs.Board.{Board, Slot, plain, child, strong, weak, alias, is_live, slot_at, slots_at}
+use Rattle.qo_model.specs.Objects.{sever, severed_from}
+use Rattle.qo_model.specs.Paths.{attached}
+use Rattle.qo_model.specs.References.{refs}
+use Rattle.qo_model.specs.Release.{after, finalise, let_go, pin, put_in_order, unpin, without_first, without_pin}
+use Rattle.qo_model.proofs.ReleaseLeavesLemmas.{let_go-leaves, release_leaves}
+use Rattle.qo_sound.proofs.CountLemmas.{one_at, times}
+use Rattle.qo_sound.proofs.WorkLemmas.{Nearly, after-firm}
+use Rattle.qo_sound.proofs.ViewLemmas.{AtRest}
+use Rattle.qo_sound.proofs.ChangeLemmas.{near-unlinked}
+
+-- a pin more counts once, and one less counts for no other object
+put-times : (n x : ℕ) (ns : List ℕ) → times x ns ≤ times x (put_in_order n ns)
+put-times n x [] = omega arith
+put-times n x (m ∷ ns) = go (leb m n) refl (put-times n x ns)
+  where
+    go : (t : Bool) → leb m n ≡ t → times x ns ≤ times x (put_in_order n ns) → times x (m ∷ ns) ≤ times x (put_in_order n (m ∷ ns))
+    go true p rest = rw (put_in_order, p) (omega (arith, rest, sum_by-cons (one_at x) m ns, sum_by-cons (one_at x) m (put_in_order n ns)))
+    go false p rest = rw (put_in_order, p) (omega (arith, sum_by-cons (one_at x) n (m ∷ ns)))
+
+first-times : (n x : ℕ) → (x == n) ≡ false → (ns : List ℕ) → times x (without_first n ns) ≡ times x ns
+first-times n x apart [] = refl
+first-times n x apart (m ∷ ns) = go (m == n) refl (first-times n x apart ns)
+  where
+    go : (t : Bool) → (m == n) ≡ t → times x (without_first n ns) ≡ times x ns → times x (without_first n (m ∷ ns)) ≡ times x (m ∷ ns)
+    go true p rest =
+        let differs : (m == x) ≡ false = grind (arith, p, apart) in
+        let none : one_at x m ≡ 0 = rw differs refl in
+        rw (without_first, p) (omega (arith, none, sum_by-cons (one_at x) m ns))
+    go false p rest = rw (without_first, p) (omega (arith, rest, sum_by-cons (one_at x) m ns, sum_by-cons (one_at x) m (without_first n ns)))
+
+-- the pin of n beside that of birth 1, and without it again
+put-back : (n : ℕ) → without_first n (put_in_order n (1 ∷ [])) ≡ 1 ∷ []
+put-back n = go (leb 1 n) refl (1 == n) refl
+  where
+    own : (n == n) ≡ true
+    own = eq-eqb n n refl
+
+    go : (t : Bool) → leb 1 n ≡ t → (u : Bool) → (1 == n) ≡ u → without_first n (put_in_order n (1 ∷ [])) ≡ 1 ∷ []
+    go true p true q = rw (put_in_order, p, without_first, q) (ap (λ (k : ℕ). k ∷ []) (sym (eqb-true 1 n q)))
+    go true p false q = rw (put_in_order, p, without_first, q, own) refl
+    go false p u q = rw (put_in_order, p, without_first, own) refl
+
+put-among : (n : ℕ) → list_any (nat_eq n) (put_in_order n (1 ∷ [])) ≡ true
+put-among n = go (leb 1 n) refl (eqb n 1) refl
+  where
+    own : eqb n n ≡ true
+    own = eq-eqb n n refl
+
+    go : (t : Bool) → leb 1 n ≡ t → (u : Bool) → eqb n 1 ≡ u → list_any (nat_eq n) (put_in_order n (1 ∷ [])) ≡ true
+    go true p true q = rw (put_in_order, p, q) refl
+    go true p false q = rw (put_in_order, p, q, own) refl
+    go false p u q = rw (put_in_order, p, own) refl
+
+near-pin : (b : Board) (n : ℕ) → Nearly None b → Nearly None (pin b n)
+unfolding pin
+near-pin b n h =
+    record {
+      firm = record { rising = h.firm.rising; within = h.firm.within; named = h.firm.named; linked = h.firm.linked; one_parent = h.firm.one_parent; none_round = h.firm.none_round };
+      aliases = h.aliases;
+      used = λ m there none. h.used m there (omega (arith, none, put-times n m b.pins));
+    }
+
+pin-pins : (b : Board) (n : ℕ) → (pin b n).pins ≡ put_in_order n b.pins
+unfolding pin
+pin-pins b n = refl
+
+near-unpin : (b : Board) (n : ℕ) → list_any (nat_eq n) b.pins ≡ true → Nearly None b → Nearly None (unpin b n)
+unfolding unpin
+near-unpin b n e h = rw (unpin, e) (after-firm (without_pin b n) (Some n) free)
+  where
+    used : (m : ℕ) → is_live b m ≡ true → refs (without_pin b n) m ≡ 0 → Some n ≡ Some m
+    used m there none = go (m == n) refl
+      where
+        go : (t : Bool) → (m == n) ≡ t → Some n ≡ Some m
+        go true p = ap Some (sym (eqb-true m n p))
+        go false p =
+            let nothing : refs b m ≡ 0 = omega (arith, none, first-times n m p b.pins) in
+            absurd (let clash : None ≡ Some m = h.used m there nothing in cc)
+
+    free : Nearly (Some n) (without_pin b n)
+    free =
+        record {
+          firm = record { rising = h.firm.rising; within = h.firm.within; named = h.firm.named; linked = h.firm.linked; one_parent = h.firm.one_parent; none_round = h.firm.none_round };
+          aliases = h.aliases;
+          used = used;
+        }
+
+-- a release leaves the pins
+release-pins : (b : Board) (o : Option ℕ) → (after finalise b o).pins ≡ b.pins
+release-pins b None = refl
+release-pins b (Some m) = go (refs b m == 0) refl
+  where
+    go : (t : Bool) → (refs b m == 0) ≡ t → (after finalise b (Some m)).pins ≡ b.pins
+    go true p = rw (after, p) (release_leaves b m).pins
+    go false p = rw (after, p) refl
+
+unpin-pins : (b : Board) (n : ℕ) → list_any (nat_eq n) b.pins ≡ true → (unpin b n).pins ≡ without_first n b.pins
+unfolding unpin
+unpin-pins b n e = rw (unpin, e) (release-pins (without_pin b n) (Some n))
+
+severed-pins : (places i n : ℕ) (b : Board) → (severed_from places i n b).pins ≡ b.pins
+severed-pins zero i n b = refl
+severed-pins (suc places) i n b = go (slot_at b n i) refl (severed-pins places (suc i) n)
+  where
+    go : (s : Option Slot) → slot_at b n i ≡ s → ((c : Board) → (severed_from places (suc i) n c).pins ≡ c.pins) → (severed_from (suc places) i n b).pins ≡ b.pins
+    go None p rest = rw (severed_from, p) (rest b)
+    go (Some (plain v)) p rest = rw (severed_from, p) (rest b)
+    go (Some (child m)) p rest = rw (severed_from, p) (rest b)
+    go (Some (strong t target)) p rest = rw (severed_from, p) (rest (let_go b n i) ∙ (let_go-leaves b n i).pins)
+    go (Some (weak t target)) p rest = rw (severed_from, p) (rest b)
+    go (Some (alias m property)) p rest = rw (severed_from, p) (rest b)
+
+near-severed : (places i n : ℕ) (b : Board) → Nearly None b → Nearly None (severed_from places i n b)
+near-severed zero i n b h = h
+near-severed (suc places) i n b h = go (slot_at b n i) refl (near-severed places (suc i) n)
+  where
+    go : (s : Option Slot) → slot_at b n i ≡ s → ((c : Board) → Nearly None c → Nearly None (severed_from places (suc i) n c)) → Nearly None (severed_from (suc places) i n b)
+    go None p rest = rw (severed_from, p) (rest b h)
+    go (Some (plain v)) p rest = rw (severed_from, p) (rest b h)
+    go (Some (child m)) p rest = rw (severed_from, p) (rest b h)
+    go (Some (strong t target)) p rest = rw (severed_from, p) (rest (let_go b n i) (near-unlinked b n i t target p h))
+    go (Some (weak t target)) p rest = rw (severed_from, p) (rest b h)
+    go (Some (alias m property)) p rest = rw (severed_from, p) (rest b h)
+
+-- the strong links of n are let go while it is pinned
+severed-rest : (b : Board) (n places : ℕ) → AtRest b → AtRest (unpin (severed_from places 0 n (pin b n)) n)
+severed-rest b n places h =
+    let c : Board = severed_from places 0 n (pin b n) in
+    let pins : c.pins ≡ put_in_order n (1 ∷ []) = severed-pins places 0 n (pin b n) ∙ pinned in
+    let there : list_any (nat_eq n) c.pins ≡ true = ap (list_any (nat_eq n)) pins ∙ put-among n in
+    record {
+      used = near-unpin c n there (near-severed places 0 n (pin b n) (near-pin b n h.used));
+      pinned = unpin-pins c n there ∙ ap (without_first n) pins ∙ put-back n;
+    }
+  where
+    pinned : (pin b n).pins ≡ put_in_order n (1 ∷ [])
+    pinned = pin-pins b n ∙ ap (put_in_order n) h.pinned
+
+pub sever-rest : (b : Board) (n : ℕ) → AtRest b → AtRest (sever b n).board
+sever-rest b n h = go (is_live b n) refl (attached b n) refl
+  where
+    go : (there : Bool) → is_live b n ≡ there → (at_home : Bool) → attached b n ≡ at_home → AtRest (sever b n).board
+    go false p at_home q = rw (sever, p) h
+    go true p true q = rw (sever, p, q) h
+    go true p false q = rw (sever, p, q) (severed-rest b n (length (slots_at b n)) h)
