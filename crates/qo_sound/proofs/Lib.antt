@@ -4,6 +4,8 @@ pub mod CountLemmas
 pub mod EmptyLemmas
 pub mod FinishLemmas
 pub mod FirmLemmas
+pub mod FreshLemmas
+pub mod MadeLemmas
 pub mod RecordLemmas
 pub mod SeverLemmas
 pub mod SlotLemmas
