@@ -6,6 +6,7 @@ pub mod FinishLemmas
 pub mod FirmLemmas
 pub mod FreshLemmas
 pub mod MadeLemmas
+pub mod NamedLemmas
 pub mod RecordLemmas
 pub mod SeverLemmas
 pub mod SlotLemmas
