@@ -1,3 +1,4 @@
+pub mod AddLemmas
 mod AliasRows
 pub mod ChangeLemmas
 pub mod CountLemmas
@@ -13,3 +14,4 @@ pub mod SlotLemmas
 pub mod TargetLemmas
 pub mod ViewLemmas
 pub mod WorkLemmas
+pub mod WriteLemmas

@@ -57,7 +57,7 @@ grows-linked kinds wide more (strong t target) h = fits-more kinds wide more t t
 grows-linked kinds wide more (weak t target) h = fits-more kinds wide more t target h
 grows-linked kinds wide more (alias m name) h = tt
 
-children-none : (b : Board) (slots : List (List ℕ × Slot)) → AllByRecursion (λ (s : List ℕ × Slot). IsLone b s.1) slots → children_in slots ≡ []
+pub children-none : (b : Board) (slots : List (List ℕ × Slot)) → AllByRecursion (λ (s : List ℕ × Slot). IsLone b s.1) slots → children_in slots ≡ []
 children-none b [] h = refl
 children-none b (s ∷ slots) h = ap₂ cons_option h.0.no_child (children-none b slots h.1)
 
@@ -124,7 +124,7 @@ module _ (b : Board) (r : Record) (notes : List Note) (firm : Firm b) (new : IsN
           absurd (let clash : true ≡ false = sym e ∙ ap in_slots here ∙ nothing in cc)
       go None p false q = ap in_slots p ∙ sym (ap in_slots (grown-other x p q)) ∙ e
 
-  grown-parents : (x : ℕ) → parents_of (grown b r notes) x ≡ parents_of b x
+  pub grown-parents : (x : ℕ) → parents_of (grown b r notes) x ≡ parents_of b x
   grown-parents x = omega (arith, sum_by-append (parents_in x) b.records (r ∷ []), sum_by-cons (parents_in x) r [], parents-none b x r.slots new.lone)
 
   pub grown-firm : Firm (grown b r notes)

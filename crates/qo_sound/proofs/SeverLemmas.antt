@@ -92,7 +92,7 @@ near-unpin b n e h = rw (unpin, e) (after-firm (without_pin b n) (Some n) free)
         }
 
 -- a release leaves the pins
-release-pins : (b : Board) (o : Option ℕ) → (after finalise b o).pins ≡ b.pins
+pub release-pins : (b : Board) (o : Option ℕ) → (after finalise b o).pins ≡ b.pins
 release-pins b None = refl
 release-pins b (Some m) = go (refs b m == 0) refl
   where
