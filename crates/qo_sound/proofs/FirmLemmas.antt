@@ -133,7 +133,6 @@ unfolding drop_slot
 firm-drop b n i h =
     firm-edit n (with_dropped i) (λ r. refl) (λ r. refl) b h (λ r e k. distinct-dropped i r.slots k) (λ r e k. all-dropped (Linked (kind_of b)) (left-linked (kind_of b)) i r.slots k) (λ x r. sum-without_hold_le (one_child x) (left-child x) i r.slots) (λ r y e k. children-dropped y i r.slots k)
 
-
 -- a slot of n is changed, and names the same child
 pub firm-changed : (g : Slot → Slot) → ((s : Slot) → child_of (g s) ≡ child_of s) → (b : Board) (n i : ℕ) → ((s : Slot) → slot_at b n i ≡ Some s → Linked (kind_of b) s → Linked (kind_of b) (g s)) → Firm b → Firm (edit n (with_changed g i) b)
 firm-changed g same b n i fits h =

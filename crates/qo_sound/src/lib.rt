@@ -1,2 +1,20 @@
-//! The changes of the board keep its tree sound.
+//! The commands on objects keep the tree of a board sound: functions without effect, whose
+//! contracts say so. The definitions of the tree and of its changes stand in `qo_model`.
 #![tactic(auto)]
+
+ghost use Rattle.qo_sound.specs.Kept.{SoundKeptLaw};
+ghost use Rattle.qo_sound.specs.Stays.{StaysLaw};
+
+/// Where the tree is sound, and no alias outlasts the child that it passes on to, so it is behind
+/// each command on objects, taken or refused. So the tree is sound behind any such commands of the
+/// opening board.
+#[tactic(auto, using(crate::proofs::KeptLemmas::sound_kept_lem))]
+pub fn law_sound_kept()
+    ensures { SoundKeptLaw }
+{}
+
+/// A command on objects leaves of a board all but its objects, births, pins, notes and events.
+#[tactic(auto, using(crate::proofs::StaysLemmas::stays_lem))]
+pub fn law_stays()
+    ensures { StaysLaw }
+{}

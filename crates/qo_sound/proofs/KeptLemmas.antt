@@ -1,0 +1,62 @@
+-- The law: each change keeps the tree sound, and so do any changes of the opening board.
+use Rattle.std.proofs.Common.{rules, ◌+◌, ◌≤◌, List, [], ◌∷◌, arith}
+use Rattle.qo_values.specs.declared.kinds.TypeId.{TypeId}
+use Rattle.qo_model.specs.Board.{Board}
+use Rattle.qo_model.specs.FinalNotesRuns.{Change, added, deleted, wrote, severed, behind, changed}
+use Rattle.qo_model.specs.Objects.{with_attempt}
+use Rattle.qo_model.specs.Opening.{opening_board}
+use Rattle.qo_model.specs.Paths.{births}
+use Rattle.qo_model.specs.SoundGraph.{graph_of, SoundGraph}
+use Rattle.qo_model.specs.Types.{types}
+use Rattle.qo_model.proofs.OpeningLemmas.{opening_sound}
+use Rattle.qo_sound.specs.Kept.{OwnAliases, SoundKeptLaw, SoundTree}
+use Rattle.qo_sound.proofs.RecordLemmas.{all-imply}
+use Rattle.qo_sound.proofs.AddLemmas.{object_add-rest}
+use Rattle.qo_sound.proofs.SeverLemmas.{sever-rest}
+use Rattle.qo_sound.proofs.ViewLemmas.{AtRest, rest-from_sound, sound-from_rest}
+use Rattle.qo_sound.proofs.WriteLemmas.{object_del-rest, write-rest}
+
+changed-rest : (b : Board) (change : Change) → AtRest b → AtRest (changed b change)
+changed-rest b (added driver id props) h = object_add-rest b driver id props h
+changed-rest b (deleted id) h = object_del-rest b id h
+changed-rest b (wrote n name v) h = write-rest b n name v h
+changed-rest b (severed n) h = sever-rest b n h
+
+pub changed-sound : (b : Board) (change : Change) → SoundTree b → SoundTree (changed b change)
+changed-sound b change h = sound-from_rest (changed b change) (changed-rest b change (rest-from_sound b h))
+
+attempt-sound : (b : Board) (t : TypeId) → SoundGraph b → SoundGraph (with_attempt b t)
+unfolding graph_of
+attempt-sound b t h =
+    record {
+      rising = h.rising;
+      within = all-imply (λ n. n ≤ b.born) (λ n. n ≤ b.born + 1) (λ n k. omega (arith, k)) (births (graph_of b)) h.within;
+      named = h.named;
+      live = h.live;
+      one_parent = h.one_parent;
+      none_round = h.none_round;
+      pinned = h.pinned;
+      referred = h.referred;
+    }
+
+opening-own : OwnAliases opening_board
+unfolding types opening_board
+opening-own = search rules
+
+opening-tree : SoundTree opening_board
+opening-tree = (opening_sound.graph, opening-own)
+
+pub behind-sound : (b : Board) (changes : List Change) → SoundTree b → SoundTree (behind b changes)
+behind-sound b [] h = h
+behind-sound b (change ∷ changes) h = behind-sound (changed b change) changes (changed-sound b change h)
+
+pub sound_kept_lem : SoundKeptLaw
+sound_kept_lem =
+    record {
+      change = changed-sound;
+      attempt = attempt-sound;
+      attempt_aliases = λ b t h. h;
+      opening = opening-tree;
+      run = λ changes. (behind-sound opening_board changes opening-tree).0;
+      run_aliases = λ changes. (behind-sound opening_board changes opening-tree).1;
+    }
