@@ -3,8 +3,7 @@
 ghost use Rattle.std.specs.Prelude.{◌≡◌, true, Some, IfSome, option_map};
 ghost use Rattle.std.specs.List.{list_all};
 ghost use Rattle.qo_values.specs.Names.{is_name_byte};
-ghost use Rattle.qo_values.specs.declared.properties.Val.TheVariants as val;
-ghost use Rattle.qo_object.specs.Content.{empty_link_at, held_count, takes_at};
+ghost use Rattle.qo_object.specs.Content.{empty_link_at, held_count};
 ghost use Rattle.qo_table.specs.Rows.{IsLive};
 ghost use Rattle.qo_heap.specs.Objects.{content_of};
 
@@ -35,7 +34,7 @@ pub enum Call {
     Empty(u64, usize),
     /// Points a link at an object.
     Point(u64, usize, u64),
-    /// Gives a truth value.
+    /// Gives a plain slot a truth value; any other stays.
     Set(u64, usize, bool),
     /// Removes a link.
     Cut(u64, usize),
@@ -308,20 +307,6 @@ fn cut<L: Ledger>(heap: &mut Heap, birth: u64, at: usize, steps: &mut Steps<L>) 
     Said::Done
 }
 
-/// Whether a truth value stands at a place.
-fn takes_truth<L: Ledger>(heap: &Heap, o: Oid, at: usize, value: bool, steps: &mut Steps<L>) -> bool
-    requires live { IsLive heap.now.rows o }
-    ensures { result ≡ true → option_map (λ c. takes_at (val.Bool value) c at) (content_of heap.now o.birth) ≡ Some true }
-{
-    match heap.slot_at(o, at, steps) {
-        Some(view) => match view.what {
-            Slot::Plain(PropType::Bool, _) => true,
-            _ => false,
-        },
-        None => false,
-    }
-}
-
 fn set<L: Ledger>(
     heap: &mut Heap,
     birth: u64,
@@ -332,9 +317,6 @@ fn set<L: Ledger>(
     let Some(o) = found(heap, birth) else {
         return Said::Nothing;
     };
-    if !takes_truth(heap, o, at, value, steps) {
-        return Said::Unfit;
-    }
     heap.set(o, at, Val::Bool(value), steps);
     Said::Done
 }

@@ -9,7 +9,7 @@ use std::sync::ledger::Ledger;
 
 impl Heap {
     ghost use Rattle.std.specs.Prelude.{◌≡◌, ◌<◌, ◌^◌, true, Some, option_map, option_and_then};
-    ghost use Rattle.qo_object.specs.Content.{dropped_at, named_at, empty_link_at, takes_at, pointed_at, set_at, cut_at, with_pin, without_pin};
+    ghost use Rattle.qo_object.specs.Content.{dropped_at, named_at, empty_link_at, pointed_at, set_at, cut_at, with_pin, without_pin};
     ghost use Rattle.qo_table.specs.Rows.{IsLive};
     ghost use Rattle.qo_heap.specs.Objects.{content_of, pins_of, with_edit};
 

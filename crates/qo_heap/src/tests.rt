@@ -164,7 +164,8 @@ fn links_are_pointed_and_cut_and_values_set(rt: HostRuntime) -> Result<(), Fail>
         (Point(1, 0, 2), Unfit),
         (Set(1, 1, true), Done),
         (At(1, 1), Holds(true)),
-        (Set(1, 0, true), Unfit),
+        (Set(1, 0, true), Done),
+        (At(1, 0), LinksTo(2)),
         (Cut(1, 0), Unfit),
         (Empty(1, 0), Number(2)),
         (Cut(1, 0), Done),
@@ -172,7 +173,7 @@ fn links_are_pointed_and_cut_and_values_set(rt: HostRuntime) -> Result<(), Fail>
         (At(1, 1), Nothing),
         (Find(1, "link"), Nothing),
     ];
-    assert_eq!(rt; right(rt.alloc(), &calls)?, 17);
+    assert_eq!(rt; right(rt.alloc(), &calls)?, 18);
     Ok(())
 }
 

@@ -22,5 +22,6 @@ opening_sound =
             pinned = refl;
             referred = search rules;
           };
+      aliases = search rules;
       events = record { none = refl };
     }

@@ -8,6 +8,8 @@ use Rattle.qo_model.specs.Board.{Board, Record, Slot, plain, child, strong, weak
 use Rattle.qo_model.specs.Depth.{among, leads, IsTree, IsLocal, by_depth}
 use Rattle.qo_model.specs.Opening.{opening_board}
 use Rattle.qo_model.specs.Paths.{births, children_in, children_of, is_child, place_in, place_of, parent_of, attached, attached_turn, steps_to, steps_turn, canonical}
+use Rattle.std.specs.List.{AllByRecursion}
+use Rattle.qo_model.specs.SoundAliases.{PassesTo, lasting}
 use Rattle.qo_model.specs.SoundGraph.{graph_of, Rises, SoundGraph, GraphFacts}
 use Rattle.qo_model.specs.Laws.{PathsLaw, FrameLaw}
 use Rattle.qo_model.proofs.DepthLemmas.{Leads-back, by_objects_is}
@@ -157,4 +159,10 @@ paths_lem =
     }
 
 pub frame_lem : FrameLaw
-frame_lem = record { graph = λ b c e h. subst GraphFacts e h; events = λ b c e h. record { none = sym e ∙ h.none } }
+frame_lem =
+    record {
+      graph = λ b c e h. subst GraphFacts e h;
+      aliases = λ b c e h.
+          subst (λ (records : List Record). AllByRecursion (λ (r : Record). AllByRecursion (λ (s : List ℕ × Slot). PassesTo (lasting r) s.1) r.slots) records) e h;
+      events = λ b c e h. record { none = sym e ∙ h.none };
+    }

@@ -11,6 +11,7 @@ use Rattle.qo_model.specs.ReleaseKeeps.{Leaves, WeakLinksLive}
 use Rattle.qo_model.specs.ReleaseNotes.{NotesEnds}
 use Rattle.qo_model.specs.ReleaseRules.{Finalises}
 use Rattle.qo_model.specs.Sound.{IsSound}
+use Rattle.qo_model.specs.SoundAliases.{SoundAliases}
 use Rattle.qo_model.specs.SoundEvents.{SoundEvents}
 use Rattle.qo_model.specs.SoundGraph.{SoundGraph, graph_of}
 use Rattle.qo_model.specs.Types.{chain, has_finaliser}
@@ -50,6 +51,7 @@ pub record PathsLaw : Type 0 where
 -- two boards that agree in all that a group of facts speaks of agree in that group
 pub record FrameLaw : Type 0 where
   pub graph : (b c : Board) → graph_of b ≡ graph_of c → SoundGraph b → SoundGraph c
+  pub aliases : (b c : Board) → b.records ≡ c.records → SoundAliases b → SoundAliases c
   pub events : (b c : Board) → b.events ≡ c.events → SoundEvents b → SoundEvents c
 
 -- what a release is, on every board

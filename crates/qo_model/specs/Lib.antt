@@ -17,6 +17,7 @@ pub mod ReleaseKeeps
 pub mod ReleaseNotes
 pub mod ReleaseRules
 pub mod Sound
+pub mod SoundAliases
 pub mod SoundEvents
 pub mod SoundGraph
 pub mod Types

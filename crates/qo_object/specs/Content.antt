@@ -7,7 +7,7 @@ use Rattle.qo_values.specs.declared.kinds.TypeId.{TypeId}
 use Rattle.qo_values.specs.declared.properties.Val.{Val}
 use Rattle.qo_slots.specs.declared.keys.Key.{Key}
 use Rattle.qo_object.specs.declared.slots.Slot.{Slot}
-use Rattle.qo_object.specs.Slots.{names_of, named_in, slot_in, changed_at, let_go_at, each_changed, held, holds, names_child, is_empty_link, takes, pointed, with_val, forgotten_in}
+use Rattle.qo_object.specs.Slots.{names_of, named_in, slot_in, changed_at, let_go_at, each_changed, held, holds, names_child, is_empty_link, pointed, with_val, forgotten_in}
 
 -- its type, its slots by name in the order of adding, and how often it is held from outside the tree
 pub record Content : Type 0 where
@@ -37,12 +37,9 @@ named_at c i = named_in c.slots i
 abbrev pub dropped_at : ℕ → Content → Content
 dropped_at i c = record c { slots = let_go_at i c.slots }
 
--- whether a link without a target stands at a place, and whether a plain slot that takes a value does
+-- whether a link without a target stands at a place
 abbrev pub empty_link_at : Content → ℕ → Bool
 empty_link_at c i = option_map_or is_empty_link (slot_in c.slots i) false
-
-abbrev pub takes_at : Val → Content → ℕ → Bool
-takes_at val c i = option_map_or (takes val) (slot_in c.slots i) false
 
 -- the link at a place points at a target; the plain slot at a place has a value; the slot at a place is removed
 abbrev pub pointed_at : Key → ℕ → Content → Content

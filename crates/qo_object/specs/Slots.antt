@@ -3,7 +3,6 @@ use Rattle.std.specs.Prelude.{ℕ, zero, suc, Bool, true, false, ◌==◌, if◌
 use Rattle.std.specs.List.{list_any}
 use Rattle.std.specs.Option.{option_and_then}
 use Rattle.std.specs.Str.{bytes_eq}
-use Rattle.qo_values.specs.Properties.{admits}
 use Rattle.qo_values.specs.declared.properties.Val.{Val}
 use Rattle.qo_slots.specs.declared.keys.Key.{Key}
 use Rattle.qo_object.specs.declared.slots.Slot.{Slot}
@@ -44,11 +43,6 @@ names_child birth s = is_born birth (child_of s)
 abbrev pub is_empty_link : Slot → Bool
 is_empty_link (Link ty strong None) = true
 is_empty_link _ = false
-
--- whether it is a plain slot that takes a value
-abbrev pub takes : Val → Slot → Bool
-takes val (Plain ty old) = admits ty val
-takes val _ = false
 
 -- a link without its target, and a link to a target; anything else stays
 abbrev pub unlinked : Slot → Slot

@@ -39,7 +39,7 @@ impl Object {
     ghost use Rattle.std.specs.Prelude.{◌≡◌, ◌<◌, ◌≤◌, ◌^◌, ◌==◌, true, false, IfSome, OnOk, OnErr, length, position, slice_get, option_map};
     ghost use Rattle.std.specs.Str.{bytes_eq};
     ghost use Rattle.qo_object.specs.Slots.{has_name};
-    ghost use Rattle.qo_object.specs.Content.{IsObject, fresh, with_slot, named_at, dropped_at, empty_link_at, takes_at, pointed_at, set_at, cut_at, with_pin, without_pin, forgotten, holding, is_parent, held_count};
+    ghost use Rattle.qo_object.specs.Content.{IsObject, fresh, with_slot, named_at, dropped_at, empty_link_at, pointed_at, set_at, cut_at, with_pin, without_pin, forgotten, holding, is_parent, held_count};
     ghost use Rattle.qo_object.specs.declared.errors.AddError.TheVariants.{Duplicate, Memory};
 
     /// An object of a type, without slots, pinned once. It takes no memory.

@@ -10,21 +10,24 @@ use Rattle.std.specs.Str.{bytes_eq}
 use Rattle.std.proofs.lemmas.Option.{same_Some}
 use Rattle.std.proofs.lemmas.List.{length-map}
 use Rattle.qo_values.specs.Kinds.{type_name}
-use Rattle.qo_values.specs.declared.codes.Code.TheVariants.{E20, E21, E22, E23, E24, E43}
+use Rattle.qo_values.specs.declared.codes.Code.TheVariants.{E15, E20, E21, E22, E23, E24, E43}
 use Rattle.qo_values.specs.declared.codes.Code.{Code}
 use Rattle.qo_values.specs.declared.kinds.TypeId.{TypeId}
 use Rattle.qo_model.specs.Types.{TypeRow, is_a, row_named, row_of, types}
 use Rattle.qo_types.specs.Rows.{Told, type_told, type_told_of}
 use Rattle.qo_types.specs.declared.rows.TypeRow as code
-use Rattle.qo_model.specs.Board.{Board}
+use Rattle.qo_model.specs.Board.{Board, is_live}
 use Rattle.qo_model.specs.Board as board
 use Rattle.qo_model.specs.Objects.{barred, has_slot, objects_birth}
+use Rattle.qo_slots.specs.declared.keys.Key.{Key}
+use Rattle.qo_table.specs.Rows.{IsLive}
+use Rattle.qo_object.specs.Content.{Content}
 use Rattle.qo_object.specs.Shown.{shown_slots}
 use Rattle.qo_object.specs.Slots.{Named}
 use Rattle.qo_heap.specs.Board.{Shows, record_of}
-use Rattle.qo_heap.specs.Objects.{Objects, slots_of}
+use Rattle.qo_heap.specs.Objects.{Objects, content_of, slots_of}
 use Rattle.qo_heap.proofs.HeapLemmas.{is_some-find}
-use Rattle.qo_heap.proofs.ShowsReads.{shows-slots}
+use Rattle.qo_heap.proofs.ShowsReads.{shows-live, shows-live_key, shows-slots}
 use Rattle.qo_realize.specs.Changes.{barred_by, place_refusal, row_refusal, type_refusal}
 
 -- each row is that of its own type
@@ -85,18 +88,28 @@ taken-is f o b v s n id t is e some =
 pub many-shown : (b : Board) (v : Objects) → Shows b v → length b.records ≡ length v.rows
 many-shown b v s = ap (λ (l : List board.Record). length l) s.records ∙ length-map v.rows record_of
 
-pub place-taken : (b : Board) (id : List ℕ) → has_slot b objects_birth id ≡ true → Some E24 ≡ place_refusal b id
-place-taken b id is = rw (place_refusal, is) refl
+pub place-gone : (b : Board) (v : Objects) → Shows b v → (id : List ℕ) → content_of v 8 ≡ None → Some E15 ≡ place_refusal b id
+place-gone b v s id none =
+    let gone : is_live b objects_birth ≡ false = shows-live b v s objects_birth ∙ ap (λ (o : Option Content). is_some o) none in
+    rw (place_refusal, gone) refl
 
-pub place-full : (b : Board) (v : Objects) → Shows b v → (id : List ℕ) → has_slot b objects_birth id ≡ false → 4096 ≤ length v.rows → Some E43 ≡ place_refusal b id
-place-full b v s id none many =
-    let so : leb 4096 (length b.records) ≡ true = grind (arith, nat_tests, many-shown b v s, many) in
-    rw (place_refusal, none, so) refl
+-- `/objects`, by its name
+module _ (b : Board) (v : Objects) (s : Shows b v) (key : Key) (live : IsLive v.rows key) (is : key.birth ≡ objects_birth) (id : List ℕ) where
+  lives : is_live b objects_birth ≡ true
+  lives = ap (is_live b) (sym is) ∙ shows-live_key b v s key live
 
-pub place-vacant : (b : Board) (v : Objects) → Shows b v → (id : List ℕ) → has_slot b objects_birth id ≡ false → length v.rows < 4096 → None ≡ place_refusal b id
-place-vacant b v s id none few =
-    let so : leb 4096 (length b.records) ≡ false = grind (arith, nat_tests, many-shown b v s, few) in
-    rw (place_refusal, none, so) refl
+  pub place-taken : has_slot b objects_birth id ≡ true → Some E24 ≡ place_refusal b id
+  place-taken taken = rw (place_refusal, lives, taken) refl
+
+  pub place-full : has_slot b objects_birth id ≡ false → 4096 ≤ length v.rows → Some E43 ≡ place_refusal b id
+  place-full none many =
+      let so : leb 4096 (length b.records) ≡ true = grind (arith, nat_tests, many-shown b v s, many) in
+      rw (place_refusal, lives, none, so) refl
+
+  pub place-vacant : has_slot b objects_birth id ≡ false → length v.rows < 4096 → None ≡ place_refusal b id
+  place-vacant none few =
+      let so : leb 4096 (length b.records) ≡ false = grind (arith, nat_tests, many-shown b v s, few) in
+      rw (place_refusal, lives, none, so) refl
 
 -- an id is a name
 

@@ -17,7 +17,7 @@ use Rattle.qo_notes.specs.Log.{empty_log}
 use Rattle.qo_notes.proofs.Logs.{none_lem}
 use Rattle.qo_object.specs.declared.slots.Slot.TheVariants.{Child}
 use Rattle.qo_object.specs.Slots.{Named}
-use Rattle.qo_object.specs.Content.{Content, fresh, takes_at, with_slot}
+use Rattle.qo_object.specs.Content.{Content, fresh, with_slot}
 use Rattle.qo_object.specs.Content as content
 use Rattle.qo_heap.specs.Board.{Shows}
 use Rattle.qo_heap.specs.Objects.{IsHeap, Objects, content_of, pins_of, slots_of, with_edit}
@@ -162,10 +162,6 @@ pub clock-period : (v : Objects) (n : ℕ) → content_of v n ≡ Some new_clock
 unfolding types
 clock-period v n there = rw there refl
 
-takes-period : takes_at (Uint system_period) new_clock 1 ≡ true
-unfolding types
-takes-period = refl
-
 pub period-place : (v : Objects) (n i : ℕ) → content_of v n ≡ Some new_clock → Some i ≡ position (λ (s : Named). bytes_eq (codes "period") s.0) (slots_of v n) → i ≡ 1
 period-place v n i there at = let same : Some i ≡ Some 1 = at ∙ clock-period v n there in cc
 
@@ -174,9 +170,6 @@ absent i e = cc
 
 pub period-there : (v : Objects) (n : ℕ) → content_of v n ≡ Some new_clock → None ≡ position (λ (s : Named). bytes_eq (codes "period") s.0) (slots_of v n) → ⊥
 period-there v n there at = absent 1 (at ∙ clock-period v n there)
-
-pub clock-takes : (v : Objects) (n i : ℕ) → content_of v n ≡ Some new_clock → i ≡ 1 → option_map (λ (c : Content). takes_at (Uint system_period) c i) (content_of v n) ≡ Some true
-clock-takes v n i there at = rw (there, at) (ap Some takes-period)
 
 -- the beginning and the end
 

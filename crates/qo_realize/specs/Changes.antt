@@ -5,8 +5,8 @@ use Rattle.qo_values.specs.declared.codes.Code.{Code}
 use Rattle.qo_object.specs.declared.slots.Slot.{Slot}
 use Rattle.qo_object.specs.declared.slots.Slot.TheVariants.{Link}
 use Rattle.qo_object.specs.Slots.{Named, slot_in}
-use Rattle.qo_model.specs.Board.{Board, slot_at, slots_at, strong}
-use Rattle.qo_values.specs.declared.codes.Code.TheVariants.{E20, E21, E22, E24, E43}
+use Rattle.qo_model.specs.Board.{Board, is_live, slot_at, slots_at, strong}
+use Rattle.qo_values.specs.declared.codes.Code.TheVariants.{E15, E20, E21, E22, E24, E43}
 use Rattle.qo_model.specs.Objects.{Changed, barred, has_slot, objects_birth, severed_from}
 use Rattle.qo_model.specs.Types.{TypeRow, is_a, row_named}
 use Rattle.qo_model.specs.Release.{let_go, pin, unpin}
@@ -50,6 +50,6 @@ type_refusal driver = option_map_or row_refusal (row_named driver) (Some E20)
 abbrev pub barred_by : Board → List ℕ → List ℕ → Option Code
 barred_by b driver id = option_map_or (λ (row : TypeRow). barred b row id) (row_named driver) (Some E20)
 
--- why no object is made under an id: `/objects` has a slot of that name, or there are 4,096 objects
+-- why no object is made under an id: `/objects` is not there, it has a slot of that name, or there are 4,096 objects
 abbrev pub place_refusal : Board → List ℕ → Option Code
-place_refusal b id = if has_slot b objects_birth id then Some E24 else if leb 4096 (length b.records) then Some E43 else None
+place_refusal b id = if not (is_live b objects_birth) then Some E15 else if has_slot b objects_birth id then Some E24 else if leb 4096 (length b.records) then Some E43 else None

@@ -14,6 +14,7 @@ ghost use Rattle.qo_heap.specs.Board.{Shows};
 ghost use Rattle.qo_realize.specs.Changes.{barred_by, place_refusal, refusal_in, type_refusal};
 
 use crate::fresh::name_of;
+use crate::lookup::{OBJECTS_BIRTH, object_of};
 use crate::refusals::Refusal;
 use qo_heap::{Heap, Oid, Steps};
 use qo_types::TypeTable;
@@ -38,19 +39,21 @@ fn creatable(driver: &str) -> Result<TypeId, Code>
     Ok(kind)
 }
 
-/// Whether a user's object may stand under an id.
-fn vacant<L: Ledger>(heap: &Heap, objects: Oid, id: &str, steps: &mut Steps<L>) -> Result<(), Code>
-    requires live { IsLive heap.now.rows objects }
-    requires objects { objects.birth ≡ objects_birth }
-    ensures { (b : Board) → Shows b heap.now → refusal_in result ≡ place_refusal b id.now }
+/// `/objects`, where a user's object may stand there under an id.
+fn vacant<L: Ledger>(heap: &Heap, id: &str, steps: &mut Steps<L>) -> Result<Oid, Code>
+    ensures objects { IfOk result (λ o. (o.birth ≡ objects_birth) × IsLive heap.now.rows o) }
+    ensures refused { (b : Board) → Shows b heap.now → refusal_in result ≡ place_refusal b id.now }
 {
+    let Some(objects) = object_of(heap, OBJECTS_BIRTH) else {
+        return Err(Code::E15);
+    };
     if heap.slot(objects, id, steps).is_some() {
         return Err(Code::E24);
     }
     if heap.live() as u64 >= LIVE_OBJECTS_MAX {
         return Err(Code::E43);
     }
-    Ok(())
+    Ok(objects)
 }
 
 /// The name that an id is. `E23` comes exactly where it is none.
@@ -68,19 +71,28 @@ fn id_name(id: &str, alloc: Global) -> Result<Name, Refusal>
     }
 }
 
-/// The type and the name of a user's object, where an attempt may be made. A refusal comes before
-/// any attempt, by the first code in order: `E20`, `E21`, `E22`, `E23`, `E24`, `E43`.
+/// What an admitted object begins with.
+pub(crate) struct Admitted {
+    /// `/objects`, under which it is to stand.
+    pub(crate) objects: Oid,
+    /// Its name there.
+    pub(crate) name: Name,
+    /// Its type.
+    pub(crate) kind: TypeId,
+}
+
+/// The place, the name and the type of a user's object, where an attempt may be made. A refusal
+/// comes before any attempt, by the first code in order: `E20`, `E21`, `E22`, `E23`, `E15`, `E24`,
+/// `E43`.
 pub(crate) fn admit<L: Ledger>(
     heap: &Heap,
-    objects: Oid,
     driver: &str,
     id: &str,
     alloc: Global,
     steps: &mut Steps<L>,
-) -> Result<(TypeId, Name), Refusal>
-    requires live { IsLive heap.now.rows objects }
-    requires objects { objects.birth ≡ objects_birth }
-    ensures admitted { IfOk result (λ a. (option_map (λ r. r.id) (row_named driver.now) ≡ Some a.0) × (a.1 ≡ id.now)) }
+) -> Result<Admitted, Refusal>
+    ensures kind { IfOk result (λ a. option_map (λ r. r.id) (row_named driver.now) ≡ Some a.kind) }
+    ensures place { IfOk result (λ a. (a.objects.birth ≡ objects_birth) × IsLive heap.now.rows a.objects × (a.name ≡ id.now)) }
     ensures open { OnOk result ((b : Board) → Shows b heap.now → barred_by b driver.now id.now ≡ None) }
     ensures refused { (b : Board) (code : Code) → Shows b heap.now → result ≡ Err (Refused code) → barred_by b driver.now id.now ≡ Some code }
 {
@@ -92,8 +104,12 @@ pub(crate) fn admit<L: Ledger>(
         Ok(name) => name,
         Err(refusal) => return Err(refusal),
     };
-    match vacant(heap, objects, id, steps) {
-        Ok(()) => Ok((kind, name)),
+    match vacant(heap, id, steps) {
+        Ok(objects) => Ok(Admitted {
+            objects,
+            name,
+            kind,
+        }),
         Err(code) => Err(Refusal::Refused(code)),
     }
 }

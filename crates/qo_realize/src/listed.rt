@@ -14,7 +14,8 @@ ghost use Rattle.qo_realize.specs.Listed.{prop_told, word_of};
 
 use crate::board::Board;
 use crate::errors::Memory;
-use crate::naming::{live_of, object_at};
+use crate::lookup::object_of;
+use crate::naming::object_at;
 use crate::refusals::Refusal;
 use qo_heap::{Heap, Oid, Slot, Steps};
 use qo_types::{RowKind, TypeTable};
@@ -113,7 +114,7 @@ fn passed_text<L: Ledger>(
     ensures { (b : Tree) → Shows b heap.now → IfOk result (λ text. string_bytes text ≡ option_map_or (own_text b birth of.now) (slot_named b birth of.now) []) }
 {
     heap.facts();
-    let Some(o) = live_of(heap, birth) else {
+    let Some(o) = object_of(heap, birth) else {
         return Ok(String::new(alloc));
     };
     let Some(slot) = heap.slot(o, of, steps) else {

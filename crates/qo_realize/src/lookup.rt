@@ -1,6 +1,7 @@
 //! Finding objects of the heap, and the slots of users' objects.
 
-ghost use Rattle.std.specs.Prelude.{◌≡◌, IfSome, IfNone, None};
+ghost use Rattle.std.specs.Prelude.{◌≡◌, IfSome, IfNone, None, position};
+ghost use Rattle.std.specs.Str.{bytes_eq};
 ghost use Rattle.qo_model.specs.Objects.{is_object_named, place_from};
 ghost use Rattle.qo_object.specs.Shown.{shown_slot, shown_slots};
 ghost use Rattle.qo_table.specs.Rows.{IsLive};
@@ -9,6 +10,9 @@ ghost use Rattle.qo_heap.specs.Objects.{content_of, slots_of};
 use qo_heap::{Heap, Oid, Slot, Steps};
 use qo_values::Name;
 use std::sync::ledger::Ledger;
+
+/// The birth of `/objects`, under which users' objects stand.
+pub(crate) const OBJECTS_BIRTH: u64 = 8;
 
 /// The live object of a birth; `None` exactly where there is none.
 pub(crate) fn object_of(heap: &Heap, birth: u64) -> Option<Oid>
@@ -22,6 +26,20 @@ pub(crate) fn object_of(heap: &Heap, birth: u64) -> Option<Oid>
         return Some(o);
     }
     None
+}
+
+/// The place of the slot of a name of an object; `None` where it has none.
+pub(crate) fn place_named<L: Ledger>(
+    heap: &Heap,
+    o: Oid,
+    name: &str,
+    steps: &mut Steps<L>,
+) -> Option<usize>
+    requires { IsLive heap.now.rows o }
+    ensures { result ≡ position (λ s. bytes_eq name.now s.0) (slots_of heap.now o.birth) }
+{
+    let slot = heap.slot(o, name, steps)?;
+    Some(slot.at)
 }
 
 /// Whether a slot has a child under a name.

@@ -1,12 +1,11 @@
 //! Objects by path and by birth, and the texts that name them.
 
-ghost use Rattle.std.specs.Prelude.{◌≡◌, ◌++◌, codes, decimal, string_bytes, IfOk, IfSome, IfNone, None};
+ghost use Rattle.std.specs.Prelude.{◌≡◌, ◌++◌, codes, decimal, string_bytes, IfOk};
 ghost use Rattle.qo_model.specs.Board.{Board};
 ghost use Rattle.qo_model.specs.Properties.{object_at, path_text, target_text};
 ghost use Rattle.qo_object.specs.Shown.{birth_of};
 ghost use Rattle.qo_table.specs.Rows.{IsLive};
 ghost use Rattle.qo_heap.specs.Board.{Shows};
-ghost use Rattle.qo_heap.specs.Objects.{content_of};
 ghost use Rattle.qo_realize.specs.Reads.{birth_told};
 
 use crate::errors::Memory;
@@ -31,20 +30,6 @@ pub(crate) fn object_at<L: Ledger>(
         Err(PathError::NotFound) => Err(Code::E15),
         Err(PathError::Ambiguous) => Err(Code::E16),
     }
-}
-
-/// The live object of a birth.
-pub(crate) fn live_of(heap: &Heap, birth: u64) -> Option<Oid>
-    ensures birth { IfSome result (λ o. o.birth ≡ birth) }
-    ensures live { IfSome result (IsLive heap.now.rows) }
-    ensures none { IfNone result (content_of heap.now birth ≡ None) }
-{
-    heap.facts();
-    let o = heap.from_birth(birth)?;
-    if o.birth == birth {
-        return Some(o);
-    }
-    None
 }
 
 /// The text of a detached object: `detached:` and its birth.

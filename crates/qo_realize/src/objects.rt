@@ -1,16 +1,13 @@
 //! Adding and removing users' objects, and cutting the links of detached ones.
 
 use crate::board::Board;
-use crate::lookup::{child_place, object_of};
+use crate::lookup::{OBJECTS_BIRTH, child_place, object_of};
 use crate::severing::sever_links;
 use qo_heap::Steps;
 use qo_life::let_go;
 use qo_paths::is_attached;
 use qo_values::Code;
 use std::sync::ledger::Ledger;
-
-/// The birth of `/objects`, under which users' objects stand.
-const OBJECTS_BIRTH: u64 = 8;
 
 impl Board {
     ghost use Rattle.std.specs.Prelude.{◌≡◌, OnErr};

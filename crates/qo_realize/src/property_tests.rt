@@ -4,7 +4,7 @@ ghost use Rattle.std.specs.Prelude.{◌≡◌, ◌<◌};
 ghost use Rattle.qo_values.specs.Names.{IsName};
 
 use crate::fresh::{add_fresh_slots, name_of};
-use crate::naming::live_of;
+use crate::lookup::object_of;
 use crate::{Board, Memory, Prop, Refusal};
 use qo_heap::{Heap, Steps};
 use qo_values::{Code, Text, TypeId, Val};
@@ -34,14 +34,14 @@ fn add<L: Ledger>(
 {
     let name = name_of(name, alloc)?;
     let birth = heap.make(alloc, kind, steps)?.birth;
-    let Some(made) = live_of(heap, birth) else {
+    let Some(made) = object_of(heap, birth) else {
         return Err(Memory);
     };
     add_fresh_slots(heap, made, kind, alloc, steps)?;
-    let Some(objects) = live_of(heap, 8) else {
+    let Some(objects) = object_of(heap, 8) else {
         return Err(Memory);
     };
-    let Some(child) = live_of(heap, birth) else {
+    let Some(child) = object_of(heap, birth) else {
         return Err(Memory);
     };
     heap.add_child(objects, name, child, steps)?;
@@ -231,7 +231,7 @@ fn properties_are_written(rt: HostRuntime) -> Result<(), Fail> {
 
 /// Takes the child of a name away from the objects of users.
 fn detach<L: Ledger>(heap: &mut Heap, name: &str, steps: &mut Steps<L>) -> bool {
-    let Some(objects) = live_of(heap, 8) else {
+    let Some(objects) = object_of(heap, 8) else {
         return false;
     };
     let place = heap.slot(objects, name, steps).map(|slot| slot.at);

@@ -1,7 +1,6 @@
 //! Making the objects of the opening board, in the order of births.
 
-ghost use Rattle.std.specs.Prelude.{◌≡◌, Some, position, IfOk, OnOk};
-ghost use Rattle.std.specs.Str.{bytes_eq};
+ghost use Rattle.std.specs.Prelude.{◌≡◌, Some, IfOk, OnOk};
 ghost use Rattle.qo_values.specs.Names.{IsName};
 ghost use Rattle.qo_values.specs.declared.kinds.TypeId.TheVariants.{Clock};
 ghost use Rattle.qo_values.specs.declared.properties.Val.TheVariants.{Uint};
@@ -10,12 +9,13 @@ ghost use Rattle.qo_model.specs.Opening.{system_period};
 ghost use Rattle.qo_table.specs.Rows.{IsLive};
 ghost use Rattle.qo_object.specs.Content.{set_at};
 ghost use Rattle.qo_heap.specs.Board.{Shows};
-ghost use Rattle.qo_heap.specs.Objects.{content_of, slots_of, with_edit};
+ghost use Rattle.qo_heap.specs.Objects.{content_of, with_edit};
 ghost use Rattle.qo_realize.specs.Fresh.{new_slots};
 ghost use Rattle.qo_realize.specs.Start.{IsMade, KeepsNames, with_new, with_new_child, with_clock, with_containers, with_buses, with_machine, with_all};
 
 use crate::errors::Memory;
 use crate::fresh::{add_fresh_slots, name_of};
+use crate::lookup::place_named;
 use qo_heap::{Heap, Oid, Steps};
 use qo_values::{TypeId, Val};
 use std::alloc::Global;
@@ -62,14 +62,6 @@ fn make_child<L: Ledger>(
     heap.facts();
     heap.unpin(child, steps);
     Ok(child)
-}
-
-/// The place of the slot of a name of an object; `None` where it has none.
-fn place_named<L: Ledger>(heap: &Heap, o: Oid, name: &str, steps: &mut Steps<L>) -> Option<usize>
-    requires { IsLive heap.now.rows o }
-    ensures { result ≡ position (λ s. bytes_eq name.now s.0) (slots_of heap.now o.birth) }
-{
-    heap.slot(o, name, steps).map(|slot| slot.at)
 }
 
 /// Sets the period of a new clock to the system's.

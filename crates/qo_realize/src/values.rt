@@ -13,7 +13,8 @@ ghost use Rattle.qo_realize.specs.Reads.{Answers};
 
 use crate::board::Board;
 use crate::errors::Memory;
-use crate::naming::{live_of, object_at, path_text, target_text};
+use crate::lookup::object_of;
+use crate::naming::{object_at, path_text, target_text};
 use crate::refusals::Refusal;
 use qo_heap::{Heap, Oid, Slot, Steps};
 use qo_values::{Code, Text, Val};
@@ -66,7 +67,7 @@ fn passed_on<L: Ledger>(
 ) -> Result<Option<Val>, Memory>
     ensures { (b : Tree) → Shows b heap.now → IfOk result (λ val. val ≡ option_map (own_value b) (slot_named b birth of.now)) }
 {
-    let Some(o) = live_of(heap, birth) else {
+    let Some(o) = object_of(heap, birth) else {
         return Ok(None);
     };
     let Some(slot) = heap.slot(o, of, steps) else {

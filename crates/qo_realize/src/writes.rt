@@ -1,10 +1,9 @@
 //! Writing the properties of objects (docs/devel/qom.rst, "The QEMU Object Model": properties and
 //! link; QEMU's QAPI, `qom-set`).
 
-ghost use Rattle.std.specs.Prelude.{◌≡◌, true, false, Some, IfOk, IfSome, OnErr, option_map, option_and_then, position};
-ghost use Rattle.std.specs.Str.{bytes_eq};
+ghost use Rattle.std.specs.Prelude.{◌≡◌, true, false, Some, IfOk, IfSome, OnErr, option_map, option_and_then};
 ghost use Rattle.qo_slots.specs.declared.keys.Key.{Key};
-ghost use Rattle.qo_model.specs.Board.{Board as Tree};
+ghost use Rattle.qo_model.specs.Board.{Board as Tree, slot_at};
 ghost use Rattle.qo_model.specs.Properties.{link_target, pointed_at, relinked, write};
 ghost use Rattle.qo_realize.specs.At.{write_at};
 ghost use Rattle.qo_object.specs.Content.{empty_link_at};
@@ -13,9 +12,10 @@ ghost use Rattle.qo_object.specs.Slots.{held, slot_in};
 ghost use Rattle.qo_table.specs.Rows.{IsLive};
 ghost use Rattle.qo_heap.specs.Board.{Shows};
 ghost use Rattle.qo_heap.specs.Objects.{content_of, slots_of};
-ghost use Rattle.qo_realize.specs.Writes.{Writes, is_link_at, kind_written, link_written, no_target, plain_written, row_written, takes_val_at, target_told};
+ghost use Rattle.qo_realize.specs.Writes.{Writes, is_link_at, is_plain_at, kind_written, link_type_at, no_target, row_written, target_told, to_link, to_plain};
 
 use crate::board::Board;
+use crate::lookup::place_named;
 use crate::naming::object_at;
 use crate::refusals::Refusal;
 use crate::values::copy_of;
@@ -74,17 +74,15 @@ fn held_at<L: Ledger>(heap: &Heap, o: Oid, at: usize, steps: &mut Steps<L>) -> O
     }
 }
 
-/// Whether the slot of an object at a place is a link; not past the last.
-fn is_link<L: Ledger>(heap: &Heap, o: Oid, at: usize, steps: &mut Steps<L>) -> bool
+/// The type to whose objects the slot of an object at a place is a link; `None` where it is no link.
+fn link_type<L: Ledger>(heap: &Heap, o: Oid, at: usize, steps: &mut Steps<L>) -> Option<TypeId>
     requires { IsLive heap.now.rows o }
-    ensures { result ≡ is_link_at heap.now o.birth at }
+    ensures { result ≡ link_type_at heap.now o.birth at }
 {
-    let Some(slot) = heap.slot_at(o, at, steps) else {
-        return false;
-    };
+    let slot = heap.slot_at(o, at, steps)?;
     match slot.what {
-        Slot::Link { .. } => true,
-        _ => false,
+        Slot::Link { ty, .. } => Some(*ty),
+        _ => None,
     }
 }
 
@@ -122,22 +120,19 @@ fn relink<L: Ledger>(heap: &mut Heap, o: Oid, at: usize, target: Option<Oid>, st
     drop_hold(heap, held, steps);
 }
 
-/// Whether the slot of an object at a place is plain and takes a value; not past the last.
-fn takes<L: Ledger>(heap: &Heap, o: Oid, at: usize, val: &Val, steps: &mut Steps<L>) -> bool
+/// Whether the slot of an object at a place is plain; not past the last.
+fn is_plain<L: Ledger>(heap: &Heap, o: Oid, at: usize, steps: &mut Steps<L>) -> bool
     requires { IsLive heap.now.rows o }
-    ensures { result ≡ takes_val_at heap.now o.birth at val.now }
+    ensures { result ≡ is_plain_at heap.now o.birth at }
 {
     let Some(slot) = heap.slot_at(o, at, steps) else {
         return false;
     };
-    match slot.what {
-        Slot::Plain(ty, _) => ty.admit(val).is_ok(),
-        _ => false,
-    }
+    matches!(slot.what, Slot::Plain(_, _))
 }
 
-/// Gives the plain slot of an object at a place a value; refused with E19 where the value is not of
-/// the type. An error leaves the heap as it was.
+/// Gives the slot of an object at a place a value; refused with E18 where the slot is not plain, and
+/// E19 where the value is not of the type. An error leaves the heap as it was.
 fn write_plain<L: Ledger>(
     heap: &mut Heap,
     o: Oid,
@@ -148,41 +143,40 @@ fn write_plain<L: Ledger>(
     steps: &mut Steps<L>,
 ) -> Result<(), Refusal>
     requires live { IsLive heap.old.rows o }
-    ensures written { (b : Tree) → Shows b heap.old → Writes heap.new result (plain_written b o.birth at ty val.now) }
+    ensures written { (b : Tree) → Shows b heap.old → Writes heap.new result (to_plain b o.birth at ty (slot_at b o.birth at) val.now) }
     ensures err { OnErr result (heap.new ≡ heap.old) }
 {
+    if !is_plain(heap, o, at, steps) {
+        return Err(Refusal::Refused(Code::E18));
+    }
     if let Err(Misfit) = ty.admit(val) {
         return Err(Refusal::Refused(Code::E19));
-    }
-    if !takes(heap, o, at, val, steps) {
-        return Err(Refusal::Memory);
     }
     let copy = copy_of(val, alloc)?;
     heap.set(o, at, copy, steps);
     Ok(())
 }
 
-/// Points the link of an object at a place at what a text names; refused with E19 where the value
-/// is no text. An error leaves the heap as it was.
+/// Points the link of an object at a place at what a text names; refused with E18 where the slot is
+/// no link, and E19 where the value is no text. An error leaves the heap as it was.
 fn write_link<L: Ledger>(
     heap: &mut Heap,
     o: Oid,
     at: usize,
-    ty: TypeId,
     val: &Val,
     steps: &mut Steps<L>,
 ) -> Result<(), Refusal>
     requires live { IsLive heap.old.rows o }
-    ensures written { (b : Tree) → Shows b heap.old → Writes heap.new result (link_written b o.birth at ty val.now) }
+    ensures written { (b : Tree) → Shows b heap.old → Writes heap.new result (to_link b o.birth at (slot_at b o.birth at) val.now) }
     ensures err { OnErr result (heap.new ≡ heap.old) }
 {
+    let Some(ty) = link_type(heap, o, at, steps) else {
+        return Err(Refusal::Refused(Code::E18));
+    };
     let Val::Text(path) = val else {
         return Err(Refusal::Refused(Code::E19));
     };
     let target = link_target(heap, ty, path.as_str(), steps)?;
-    if !is_link(heap, o, at, steps) {
-        return Err(Refusal::Memory);
-    }
     relink(heap, o, at, target, steps);
     Ok(())
 }
@@ -203,7 +197,7 @@ fn write_kind<L: Ledger>(
 {
     match kind {
         RowKind::Plain(ty, _) => write_plain(heap, o, at, ty, val, alloc, steps),
-        RowKind::Link { ty, .. } => write_link(heap, o, at, ty, val, steps),
+        RowKind::Link { .. } => write_link(heap, o, at, val, steps),
         RowKind::Child(_) => Err(Refusal::Refused(Code::E18)),
         RowKind::Alias { .. } => Err(Refusal::Refused(Code::E18)),
     }
@@ -230,15 +224,6 @@ fn write_row<L: Ledger>(
     }
 }
 
-/// The place of the slot of a name of an object.
-fn place_of<L: Ledger>(heap: &Heap, o: Oid, name: &str, steps: &mut Steps<L>) -> Option<usize>
-    requires { IsLive heap.now.rows o }
-    ensures { result ≡ position (λ s. bytes_eq name.now s.0) (slots_of heap.now o.birth) }
-{
-    let slot = heap.slot(o, name, steps)?;
-    Some(slot.at)
-}
-
 /// Writes the property of a name of an object. An error leaves the heap as it was.
 fn write<L: Ledger>(
     heap: &mut Heap,
@@ -252,7 +237,7 @@ fn write<L: Ledger>(
     ensures written { (b : Tree) → Shows b heap.old → Writes heap.new result (write b o.birth name.now val.now) }
     ensures err { OnErr result (heap.new ≡ heap.old) }
 {
-    let Some(at) = place_of(heap, o, name, steps) else {
+    let Some(at) = place_named(heap, o, name, steps) else {
         return Err(Refusal::Refused(Code::E17));
     };
     let kind = heap.kind(o, steps);
@@ -268,8 +253,8 @@ impl Board {
     /// refers to it any more. Refused with E15 where a path leads to no object and E16 where to
     /// several, E17 where the object has no such property, E18 where `qom-set` does not write it,
     /// E19 where the value does not fit, and E31 where the target is not of the link's type. The
-    /// other error is want of memory; it comes too where a slot is not what the row of its property
-    /// says, which no slot of a new object is. An error leaves the board as it was.
+    /// other error is want of memory, which comes only where a value is copied. An error leaves the
+    /// board as it was.
     pub fn qom_set<L: Ledger>(
         &mut self,
         path: &str,

@@ -8,7 +8,7 @@ use Rattle.qo_realize.proofs.barring.admit.Goals as goal
 
 pub returns-in-Ok-vacant-clause-open : goal.returns-in-Ok-vacant-clause-open
 returns-in-Ok-vacant-clause-open g c = λ b s.
-    barred-place b c.args.driver.now c.args.id.now (sym c.in-Ok.ensures.refused) c.in-Ok-id_name.ensures.name.1 ∙ sym (c.in-Ok-vacant.ensures b s)
+    barred-place b c.args.driver.now c.args.id.now (sym c.in-Ok.ensures.refused) c.in-Ok-id_name.ensures.name.1 ∙ sym (c.in-Ok-vacant.ensures.refused b s)
 
 pub returns-in-Err-clause-refused : goal.returns-in-Err-clause-refused
 returns-in-Err-clause-refused g c = λ b code s e.
@@ -24,4 +24,4 @@ returns-in-Err-id_name-clause-refused g c = λ b code s e.
 pub returns-in-Err-vacant-clause-refused : goal.returns-in-Err-vacant-clause-refused
 returns-in-Err-vacant-clause-refused g c = λ b code s e.
     let same : c.in-Err-vacant.code ≡ code = cc e in
-    barred-place b c.args.driver.now c.args.id.now (sym c.in-Ok.ensures.refused) c.in-Ok-id_name.ensures.name.1 ∙ sym (c.in-Err-vacant.ensures b s) ∙ ap (λ (x : Code). Some x) same
+    barred-place b c.args.driver.now c.args.id.now (sym c.in-Ok.ensures.refused) c.in-Ok-id_name.ensures.name.1 ∙ sym (c.in-Err-vacant.ensures.refused b s) ∙ ap (λ (x : Code). Some x) same

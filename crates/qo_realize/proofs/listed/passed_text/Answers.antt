@@ -17,7 +17,7 @@ returns-in_default g c = λ b s.
 pub returns-in_default-slot : goal.returns-in_default-slot
 returns-in_default-slot g c = λ b s.
     let none : board.slot_named b c.args.birth c.args.of.now ≡ None =
-    ap (λ (n : ℕ). board.slot_named b n c.args.of.now) (sym c.in-Some.ensures.birth) ∙ named-is b c.args.heap.now s c.in-Some.o.birth c.args.of.now None c.in_default-slot.ensures.slot in
+    ap (λ (n : ℕ). board.slot_named b n c.args.of.now) (sym c.in-Some.ensures.born) ∙ named-is b c.args.heap.now s c.in-Some.o.birth c.args.of.now None c.in_default-slot.ensures.slot in
     c.new-in_default-slot.ensures.bytes ∙ sym (ap (λ (o : Option board.Slot). option_map_or (own_text b c.args.birth c.args.of.now) o []) none)
 
 pub own_text-requires-clause-target : goal.own_text-requires-clause-target
@@ -27,9 +27,9 @@ own_text-requires-clause-target g c =
 pub returns : goal.returns
 returns g c = λ b s.
     let there : board.slot_named b c.args.birth c.args.of.now ≡ Some (shown_slot c.in-Some-slot.slot.what.now) =
-    ap (λ (n : ℕ). board.slot_named b n c.args.of.now) (sym c.in-Some.ensures.birth)
+    ap (λ (n : ℕ). board.slot_named b n c.args.of.now) (sym c.in-Some.ensures.born)
     ∙ named-is b c.args.heap.now s c.in-Some.o.birth c.args.of.now (Some (c.in-Some-slot.slot.name.now, c.in-Some-slot.slot.what.now)) c.in-Some-slot.ensures.slot in
     let text : own_text b c.in-Some.o.birth c.args.of.now (shown_slot c.in-Some-slot.slot.what.now) ≡ option_map_or (own_text b c.args.birth c.args.of.now) (board.slot_named b c.args.birth c.args.of.now) [] =
-    ap (λ (n : ℕ). own_text b n c.args.of.now (shown_slot c.in-Some-slot.slot.what.now)) c.in-Some.ensures.birth
+    ap (λ (n : ℕ). own_text b n c.args.of.now (shown_slot c.in-Some-slot.slot.what.now)) c.in-Some.ensures.born
     ∙ sym (ap (λ (o : Option board.Slot). option_map_or (own_text b c.args.birth c.args.of.now) o []) there) in
     subst (λ (x : List ℕ). IfOk c.own_text.result (λ text. string_bytes text ≡ x)) text (c.own_text.ensures b s)

@@ -3,12 +3,8 @@ use Rattle.qo_values.specs.declared.properties.Val.TheVariants.{Uint}
 use Rattle.qo_model.specs.Opening.{system_period}
 use Rattle.qo_object.specs.Content.{set_at}
 use Rattle.qo_heap.specs.Objects.{with_edit}
-use Rattle.qo_realize.proofs.StartLemmas.{clock-takes, period-place, period-there}
+use Rattle.qo_realize.proofs.StartLemmas.{period-place, period-there}
 use Rattle.qo_realize.proofs.start.set_period.Goals as goal
-
-pub set-requires-clause-takes : goal.set-requires-clause-takes
-set-requires-clause-takes g c =
-    clock-takes c.args.heap.now c.args.clock.birth c.in-Some.at c.requires.content (period-place c.args.heap.now c.args.clock.birth c.in-Some.at c.requires.content c.in-Some.ensures)
 
 pub returns-in-Some : goal.returns-in-Some
 returns-in-Some g c =

@@ -11,9 +11,9 @@ returns-in_default g c = λ b s. ap (option_map (own_value b)) (sym (named-gone 
 
 pub returns-in_default-slot : goal.returns-in_default-slot
 returns-in_default-slot g c = λ b s.
-    ap (option_map (own_value b)) (sym (ap (λ n. board.slot_named b n c.args.of.now) (sym c.in-Some.ensures.birth) ∙ named-is b c.args.heap.now s c.in-Some.o.birth c.args.of.now None c.in_default-slot.ensures.slot))
+    ap (option_map (own_value b)) (sym (ap (λ n. board.slot_named b n c.args.of.now) (sym c.in-Some.ensures.born) ∙ named-is b c.args.heap.now s c.in-Some.o.birth c.args.of.now None c.in_default-slot.ensures.slot))
 
 pub returns : goal.returns
 returns g c = λ b s.
     ap Some (c.in_ok-own_value.ensures b s)
-    ∙ ap (option_map (own_value b)) (sym (ap (λ n. board.slot_named b n c.args.of.now) (sym c.in-Some.ensures.birth) ∙ named-is b c.args.heap.now s c.in-Some.o.birth c.args.of.now (Some (c.in-Some-slot.slot.name.now, c.in-Some-slot.slot.what.now)) c.in-Some-slot.ensures.slot))
+    ∙ ap (option_map (own_value b)) (sym (ap (λ n. board.slot_named b n c.args.of.now) (sym c.in-Some.ensures.born) ∙ named-is b c.args.heap.now s c.in-Some.o.birth c.args.of.now (Some (c.in-Some-slot.slot.name.now, c.in-Some-slot.slot.what.now)) c.in-Some-slot.ensures.slot))

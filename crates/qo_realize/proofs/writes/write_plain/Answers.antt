@@ -1,10 +1,20 @@
-use Rattle.std.proofs.Common.{◌≡◌, refl, true, ap, sym, ◌∙◌}
+use Rattle.std.proofs.Common.{◌≡◌, refl, true, false, ap, sym, ◌∙◌}
 use Rattle.qo_values.specs.Properties.{admits}
 use Rattle.qo_model.specs.Changes.{set}
 use Rattle.qo_heap.proofs.ShowsChanges.{shows-set}
+use Rattle.qo_realize.proofs.WriteLemmas.{plain-is}
 use Rattle.qo_realize.proofs.writes.write_plain.Goals as goal
+
+pub returns-then-not-is_plain-clause-written : goal.returns-then-not-is_plain-clause-written
+returns-then-not-is_plain-clause-written g c = λ b s.
+    plain-is b c.args.heap.now s c.args.o.birth c.args.at c.args.val.now c.args.ty false (sym c.is_plain.ensures ∙ c.if-not-is_plain.true)
+
+pub returns-in-Err-clause-written : goal.returns-in-Err-clause-written
+returns-in-Err-clause-written g c = λ b s.
+    let misfits : admits c.args.ty c.args.val.now ≡ false = sym c.in-Err.ensures in
+    plain-is b c.args.heap.now s c.args.o.birth c.args.at c.args.val.now c.args.ty true (sym c.is_plain.ensures ∙ c.if-not-is_plain.false) ∙ rw misfits refl
 
 pub returns-clause-written : goal.returns-clause-written
 returns-clause-written g c = λ b s.
     let fits : admits c.args.ty c.args.val.now ≡ true = sym c.in_default.ensures in
-    (set c.args.o.birth c.args.at c.args.val.now b, rw fits refl, rw (c.set.ensures, c.in_ok-copy.ensures) (shows-set b c.args.heap.now s c.args.o.birth c.args.at c.args.val.now))
+    (set c.args.o.birth c.args.at c.args.val.now b, plain-is b c.args.heap.now s c.args.o.birth c.args.at c.args.val.now c.args.ty true (sym c.is_plain.ensures ∙ c.if-not-is_plain.false) ∙ rw fits refl, rw (c.set.ensures, c.in_ok-copy.ensures) (shows-set b c.args.heap.now s c.args.o.birth c.args.at c.args.val.now))
