@@ -16,7 +16,7 @@ use Rattle.qo_model.specs.References.{refs, refs_in, holds_it}
 use Rattle.qo_model.specs.Release.{drop_slot, edit, edited, emptied, let_go, with_dropped, without_hold}
 use Rattle.qo_model.proofs.EditLemmas.{StandsAt, stands-at}
 use Rattle.qo_model.proofs.StepLemmas.{drop-live, drop-record, live-among}
-use Rattle.qo_sound.specs.Kept.{lasting, PassesTo}
+use Rattle.qo_model.specs.SoundAliases.{lasting, PassesTo}
 use Rattle.qo_sound.proofs.RecordLemmas.{all-edited, found-birth, sum-edited}
 use Rattle.qo_sound.proofs.SlotLemmas.{all-changed, all-dropped, child-pointed, children-changed, children-stay, sum-changed}
 use Rattle.qo_sound.proofs.FirmLemmas.{FitsKind, Linked, Firm, edited-births, edited-kinds, firm-drop, firm-changed}

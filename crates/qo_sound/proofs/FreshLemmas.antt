@@ -14,7 +14,7 @@ use Rattle.qo_model.specs.Opening.{first_slot, first_value, fresh_slots}
 use Rattle.qo_model.specs.Paths.{child_of}
 use Rattle.qo_model.specs.Properties.{link_target}
 use Rattle.qo_model.specs.Types.{Kind, Property, slots_of, types}
-use Rattle.qo_sound.specs.Kept.{PassesTo}
+use Rattle.qo_model.specs.SoundAliases.{PassesTo}
 use Rattle.qo_sound.proofs.RecordLemmas.{all-map}
 use Rattle.qo_sound.proofs.SlotLemmas.{names_in}
 use Rattle.qo_sound.proofs.FirmLemmas.{FitsKind, Linked}

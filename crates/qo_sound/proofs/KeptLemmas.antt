@@ -1,5 +1,5 @@
 -- The law: each change keeps the tree sound, and so do any changes of the opening board.
-use Rattle.std.proofs.Common.{rules, ◌+◌, ◌≤◌, List, [], ◌∷◌, arith}
+use Rattle.std.proofs.Common.{◌+◌, ◌≤◌, List, [], ◌∷◌, arith}
 use Rattle.qo_values.specs.declared.kinds.TypeId.{TypeId}
 use Rattle.qo_model.specs.Board.{Board}
 use Rattle.qo_model.specs.FinalNotesRuns.{Change, added, deleted, wrote, severed, behind, changed}
@@ -7,9 +7,8 @@ use Rattle.qo_model.specs.Objects.{with_attempt}
 use Rattle.qo_model.specs.Opening.{opening_board}
 use Rattle.qo_model.specs.Paths.{births}
 use Rattle.qo_model.specs.SoundGraph.{graph_of, SoundGraph}
-use Rattle.qo_model.specs.Types.{types}
 use Rattle.qo_model.proofs.OpeningLemmas.{opening_sound}
-use Rattle.qo_sound.specs.Kept.{OwnAliases, SoundKeptLaw, SoundTree}
+use Rattle.qo_sound.specs.Kept.{SoundKeptLaw, SoundTree}
 use Rattle.qo_sound.proofs.RecordLemmas.{all-imply}
 use Rattle.qo_sound.proofs.AddLemmas.{object_add-rest}
 use Rattle.qo_sound.proofs.SeverLemmas.{sever-rest}
@@ -39,12 +38,8 @@ attempt-sound b t h =
       referred = h.referred;
     }
 
-opening-own : OwnAliases opening_board
-unfolding types opening_board
-opening-own = search rules
-
 opening-tree : SoundTree opening_board
-opening-tree = (opening_sound.graph, opening-own)
+opening-tree = (opening_sound.graph, opening_sound.aliases)
 
 pub behind-sound : (b : Board) (changes : List Change) → SoundTree b → SoundTree (behind b changes)
 behind-sound b [] h = h
@@ -56,7 +51,6 @@ sound_kept_lem =
       change = changed-sound;
       attempt = attempt-sound;
       attempt_aliases = λ b t h. h;
-      opening = opening-tree;
       run = λ changes. (behind-sound opening_board changes opening-tree).0;
       run_aliases = λ changes. (behind-sound opening_board changes opening-tree).1;
     }

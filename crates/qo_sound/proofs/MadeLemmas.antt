@@ -16,7 +16,7 @@ use Rattle.qo_model.specs.References.{refs, refs_in}
 use Rattle.qo_model.specs.SoundGraph.{Rises}
 use Rattle.qo_model.specs.Types.{is_a}
 use Rattle.qo_model.proofs.StepLemmas.{found_at}
-use Rattle.qo_sound.specs.Kept.{lasting, PassesTo}
+use Rattle.qo_model.specs.SoundAliases.{lasting, PassesTo}
 use Rattle.qo_sound.proofs.RecordLemmas.{births_at, all-append, all-imply}
 use Rattle.qo_sound.proofs.SlotLemmas.{one_child}
 use Rattle.qo_sound.proofs.FirmLemmas.{FitsKind, Linked, HasNames, parents_in, parents_of, Firm, Leads-within}

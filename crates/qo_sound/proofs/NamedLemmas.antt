@@ -19,7 +19,7 @@ use Rattle.qo_model.specs.References.{refs, refs_in}
 use Rattle.qo_model.specs.Release.{edit, edited}
 use Rattle.qo_model.specs.SoundGraph.{Rises}
 use Rattle.qo_model.proofs.StepLemmas.{found-edited, live-among}
-use Rattle.qo_sound.specs.Kept.{lasting, PassesTo}
+use Rattle.qo_model.specs.SoundAliases.{lasting, PassesTo}
 use Rattle.qo_sound.proofs.RecordLemmas.{all-append, all-edited, found-birth, sum-edited}
 use Rattle.qo_sound.proofs.SlotLemmas.{names_in, one_child}
 use Rattle.qo_sound.proofs.FirmLemmas.{Linked, AllLinked, HasNames, parents_in, parents_of, edited-births, edited-kinds}

@@ -15,7 +15,8 @@ use Rattle.qo_model.specs.SoundGraph.{graph_of, without_value, without_values, N
 use Rattle.qo_model.proofs.GraphLemmas.{births-graph_of, children_of-graph_of}
 use Rattle.qo_model.proofs.EditLemmas.{one_is}
 use Rattle.qo_model.proofs.StepLemmas.{found_at, live-among, is_some-map}
-use Rattle.qo_sound.specs.Kept.{lasting, PassesTo, SoundTree}
+use Rattle.qo_model.specs.SoundAliases.{lasting, PassesTo}
+use Rattle.qo_sound.specs.Kept.{SoundTree}
 use Rattle.qo_sound.proofs.RecordLemmas.{all-both, all-map, all-unmap}
 use Rattle.qo_sound.proofs.SlotLemmas.{names-each, one_child, one_child-same, sum-each_same}
 use Rattle.qo_sound.proofs.FirmLemmas.{Linked, AllLinked, HasNames, parents_in, parents_of, Firm}

@@ -17,7 +17,7 @@ use Rattle.qo_model.specs.SoundGraph.{Rises}
 use Rattle.qo_model.proofs.EditLemmas.{sum-held, one_is, held-forgotten, sum-without_hold, StandsAt, stands-at}
 use Rattle.qo_model.proofs.ReleaseKeepsLemmas.{after_keeps}
 use Rattle.qo_model.proofs.StepLemmas.{drop-live, drop-refs, finish-live, finish-refs, found_at}
-use Rattle.qo_sound.specs.Kept.{lasting, PassesTo}
+use Rattle.qo_model.specs.SoundAliases.{lasting, PassesTo}
 use Rattle.qo_sound.proofs.RecordLemmas.{all-imply, all-map, all-passing, all-edited, found-birth, sum-edited, sum-filtered}
 use Rattle.qo_sound.proofs.SlotLemmas.{each_slot, children-each, child-forgotten}
 use Rattle.qo_sound.proofs.FirmLemmas.{Firm, firm-drop}
