@@ -1,4 +1,4 @@
--- Why a sound tree is not enough: an alias of the machine that passes on to a tag under `/objects` outlasts the tag.
+-- Why the aliases have to be sound too: one of the machine that passes on to a tag under `/objects` outlasts the tag, and what was sound is not.
 use Rattle.std.proofs.Common.{◌≡◌, refl, rules, true, false, [], ◌∷◌, ◌++◌, map, codes}
 use Rattle.std.specs.List.{IsDistinct}
 use Rattle.qo_values.specs.declared.kinds.TypeId.TheVariants.{Tag}
@@ -35,7 +35,7 @@ aliased-sound =
       referred = search rules;
     }
 
--- behind `object-del` of the tag it is not sound
+-- behind `object-del` of the tag the alias names what is gone
 deleted-unsound : SoundGraph (changed aliased (deleted (codes "t"))) → ⊥
 unfolding types opening_board graph_of drop_slot finish finalise finalise_within let_go
 deleted-unsound h = let gone : false ≡ true = h.live.1.0.1.1.1.1.1.1.0 in absurd cc
