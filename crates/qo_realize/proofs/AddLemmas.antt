@@ -1,5 +1,5 @@
 -- The newest object of a heap.
-use Rattle.std.proofs.Common.{◌≡◌, refl, ap, sym, subst, ◌∙◌, ℕ, zero, suc, ◌+◌, ◌-◌, ◌<◌, ◌≤◌, Bool, true, false, not, cond, ◌==◌, eqb, List, [], ◌∷◌, ◌++◌, map, filter, filter_map, count_by, sum_by, length, take, Option, Some, None, is_some, option_map, IsSomeAnd, append-nil, arith}
+use Rattle.std.proofs.Common.{◌≡◌, refl, ap, sym, subst, ◌∙◌, ℕ, zero, suc, ◌+◌, ◌-◌, ◌<◌, ◌≤◌, Bool, true, false, not, cond, ◌==◌, eqb, List, [], ◌∷◌, ◌++◌, map, filter, filter_map, count_by, sum_by, length, take, Option, Some, None, is_some, option_map, IsSomeAnd, inl, inr, replicate, append-nil, arith}
 use Rattle.std.specs.List.{AllByRecursion, cons_option}
 use Rattle.std.specs.Option.{option_map_or}
 use Rattle.std.proofs.lemmas.Bool.{eqb-true, eq-eqb}
@@ -7,24 +7,37 @@ use Rattle.std.proofs.lemmas.List.Sums.{sum_by-cons, sum_by-append}
 use Rattle.qo_values.specs.declared.kinds.TypeId.{TypeId}
 use Rattle.qo_slots.specs.declared.keys.Key.{Key}
 use Rattle.qo_table.specs.Rows.{IsLive, Rises, births, edit, object_at, row_at, without}
+use Rattle.qo_values.specs.Registers.{fresh_registers}
+use Rattle.qo_model.specs.Board as board
 use Rattle.qo_model.specs.Board.{Board}
+use Rattle.qo_model.specs.Changes.{add, with_added}
+use Rattle.qo_model.specs.Release.{edited}
 use Rattle.qo_model.specs.Opening.{first_value}
 use Rattle.qo_model.specs.Types.{Kind, Property, slots_of}
 use Rattle.qo_realize.specs.Fresh.{first_slots, new_slots, slot_begun, with_slots}
-use Rattle.qo_model.specs.Objects.{with_attempt}
+use Rattle.qo_model.specs.Objects.{Given, given_slots, objects_birth, with_attempt, with_object}
 use Rattle.qo_notes.proofs.Logs.{all_lem}
 use Rattle.qo_object.specs.Content.{Content, forgotten, fresh, held_count, holding, with_slot, without_pin}
 use Rattle.qo_object.specs.Slots.{Named, forgotten_in, held, holds, is_born, target_of}
 use Rattle.qo_object.specs.declared.slots.Slot.{Slot}
 use Rattle.qo_object.specs.declared.slots.Slot.TheVariants.{Plain, Child, Link, Alias}
-use Rattle.qo_heap.specs.Board.{Shows}
+use Rattle.qo_object.specs.Shown.{shown_slots}
+use Rattle.std.proofs.lemmas.List.{map-append}
+use Rattle.qo_heap.specs.Board.{Shows, pins_in, record_of}
+use Rattle.qo_heap.specs.Objects as heap
+use Rattle.qo_heap.proofs.HeapLemmas.{live-edit}
+use Rattle.qo_heap.proofs.ShowsChanges.{shows-added}
 use Rattle.qo_heap.specs.Objects.{IsHeap, Objects, content_of, ended, final_notes, forgets, pins_of, refs_of, targets, with_edit}
 use Rattle.qo_heap.proofs.ShowsEdits.{there-above}
 use Rattle.qo_heap.proofs.ShowsLive.{content-edited, live-content}
 use Rattle.std.proofs.lemmas.Option.{same_Some}
-use Rattle.qo_notes.specs.Log.{IsLogOf, Log, noted_all}
-use Rattle.qo_life.specs.Life.{init_notes}
-use Rattle.qo_realize.specs.Adding.{given_up, with_child, with_newest}
+use Rattle.qo_notes.specs.Log.{IsLogOf, Log, empty_log, noted_all}
+use Rattle.qo_life.specs.Life.{init_notes, with_log}
+use Rattle.qo_life.proofs.TreeLemmas.{tree, tree-shows}
+use Rattle.qo_realize.specs.declared.filling.Fill.{Fill}
+use Rattle.qo_realize.specs.Filling.{filled, with_filled}
+use Rattle.qo_realize.proofs.FillingLemmas.{edit-twice}
+use Rattle.qo_realize.specs.Adding.{IsTried, given_up, with_child, with_newest}
 
 -- a pin taken from an object that nothing else holds
 
@@ -145,19 +158,36 @@ module _ (n : ℕ) where
   sum-none [] all = refl
   sum-none (row ∷ rows) all = omega (arith, sum-none rows all.1, holding-none row.1.slots all.0.1, sum_by-cons (λ (x : Key × Content). holding n x.1) row rows)
 
+-- rows of objects that are not n
+
+abbrev Others : ℕ → List (Key × Content) → Type 0
+Others n rows = AllByRecursion (λ (row : Key × Content). eqb row.0.birth n ≡ false) rows
+
+others : (n : ℕ) (rows : List (Key × Content)) → Apart n rows → Others n rows
+others n [] all = tt
+others n (row ∷ rows) all = (all.0.0, others n rows all.1)
+
+others-edited : (n m : ℕ) (f : Content → Content) (rows : List (Key × Content)) → Others n rows → Others n (edit m f rows)
+others-edited n m f [] all = tt
+others-edited n m f (row ∷ rows) all = go (eqb row.0.birth m) refl (others-edited n m f rows all.1)
+  where
+    go : (t : Bool) → eqb row.0.birth m ≡ t → Others n (edit m f rows) → Others n (edit m f (row ∷ rows))
+    go true p rest = rw p (all.0, rest)
+    go false p rest = rw p (all.0, rest)
+
 -- rows with the newest behind them
 
 module _ (o : Key) (c : Content) where
   own : eqb o.birth o.birth ≡ true
   own = eq-eqb o.birth o.birth refl
 
-  row-newest : (rows : List (Key × Content)) → Apart o.birth rows → row_at (rows ++ (o, c) ∷ []) o.birth ≡ Some (o, c)
+  row-newest : (rows : List (Key × Content)) → Others o.birth rows → row_at (rows ++ (o, c) ∷ []) o.birth ≡ Some (o, c)
   row-newest [] all = rw own refl
-  row-newest (row ∷ rows) all = rw (all.0.0) (row-newest rows all.1)
+  row-newest (row ∷ rows) all = rw all.0 (row-newest rows all.1)
 
-  edit-newest : (f : Content → Content) (rows : List (Key × Content)) → Apart o.birth rows → edit o.birth f (rows ++ (o, c) ∷ []) ≡ rows ++ (o, f c) ∷ []
+  edit-newest : (f : Content → Content) (rows : List (Key × Content)) → Others o.birth rows → edit o.birth f (rows ++ (o, c) ∷ []) ≡ rows ++ (o, f c) ∷ []
   edit-newest f [] all = rw own refl
-  edit-newest f (row ∷ rows) all = rw (all.0.0) (ap (λ (l : List (Key × Content)). row ∷ l) (edit-newest f rows all.1))
+  edit-newest f (row ∷ rows) all = rw all.0 (ap (λ (l : List (Key × Content)). row ∷ l) (edit-newest f rows all.1))
 
   end-newest : (rows : List (Key × Content)) → Apart o.birth rows → map (forgets o.birth) (without o.birth (rows ++ (o, c) ∷ [])) ≡ rows
   end-newest [] all = rw own refl
@@ -189,7 +219,7 @@ module _ (v w : Objects) (o : Key) (c : Content) (good : IsHeap v) (birth : o.bi
   apart = apart-from v o.birth (omega (arith, birth)) good
 
   newest-row : row_at w.rows o.birth ≡ Some (o, c)
-  newest-row = ap (λ (x : Objects). row_at x.rows o.birth) is ∙ row-newest o c v.rows apart
+  newest-row = ap (λ (x : Objects). row_at x.rows o.birth) is ∙ row-newest o c v.rows (others o.birth v.rows apart)
 
   pub newest-content : content_of w o.birth ≡ Some c
   newest-content = ap (option_map (λ (row : Key × Content). row.1)) newest-row
@@ -220,7 +250,7 @@ module _ (v w : Objects) (o : Key) (c : Content) (good : IsHeap v) (birth : o.bi
   pub newest-ends : (u : Objects) → option_map (λ (d : Content). ended o.birth d.kind (with_edit o.birth without_pin w)) (content_of w o.birth) ≡ Some u → u ≡ given_up c.kind v
   newest-ends u e =
       let now : ended o.birth c.kind (with_edit o.birth without_pin w) ≡ u = same_Some (ended o.birth c.kind (with_edit o.birth without_pin w)) u (sym (ap (option_map (λ (d : Content). ended o.birth d.kind (with_edit o.birth without_pin w))) newest-content) ∙ e) in
-      let rows : map (forgets o.birth) (without o.birth (edit o.birth without_pin (v.rows ++ (o, c) ∷ []))) ≡ v.rows = ap (λ (l : List (Key × Content)). map (forgets o.birth) (without o.birth l)) (edit-newest o c without_pin v.rows apart) ∙ end-newest o (without_pin c) v.rows apart in
+      let rows : map (forgets o.birth) (without o.birth (edit o.birth without_pin (v.rows ++ (o, c) ∷ []))) ≡ v.rows = ap (λ (l : List (Key × Content)). map (forgets o.birth) (without o.birth l)) (edit-newest o c without_pin v.rows (others o.birth v.rows apart)) ∙ end-newest o (without_pin c) v.rows apart in
       sym now
       ∙ ap (λ (x : Objects). ended o.birth c.kind (with_edit o.birth without_pin x)) is
       ∙ (λ j. record { rows = rows j; born = v.born + 1; log = noted_all (final_notes (birth j) c.kind) (noted_all (init_notes (birth j) c.kind) v.log) })
@@ -242,7 +272,7 @@ newest-keeps v w o c is key live = subst (λ (x : Objects). IsLive x.rows key) (
 
 pub newest-edited : (v w u : Objects) (o : Key) (c : Content) (f : Content → Content) → IsHeap v → o.birth ≡ v.born + 1 → w ≡ with_newest o c v → u ≡ with_edit o.birth f w → (f c).kind ≡ c.kind → u ≡ with_newest o (f c) v
 newest-edited v w u o c f good birth is change same =
-    let rows = edit-newest o c f v.rows (apart-from v o.birth (omega (arith, birth)) good) in
+    let rows = edit-newest o c f v.rows (others o.birth v.rows (apart-from v o.birth (omega (arith, birth)) good)) in
     change
     ∙ ap (λ (x : Objects). with_edit o.birth f x) is
     ∙ (λ j. record { rows = rows j; born = v.born + 1; log = noted_all (init_notes o.birth (sym same j)) v.log })
@@ -294,6 +324,86 @@ pub done-furnish : (v w u : Objects) (o parent : Key) (name : List ℕ) (t : Typ
 done-furnish v w u o parent name t good birth live is change =
     let slots = newest-edited v w (with_edit o.birth (with_slots (new_slots t)) w) o (fresh t) (with_slots (new_slots t)) good birth is refl refl in
     newest-beside v (with_edit o.birth (with_slots (new_slots t)) w) u o parent (with_slots (new_slots t) (fresh t)) (with_slot name (Child o)) good birth live slots change
+
+-- the newest object as a child
+
+module _ (v w : Objects) (o parent : Key) (name : List ℕ) (t : TypeId) (slots : List Named) (good : IsHeap v) (birth : o.birth ≡ v.born + 1) (is : w ≡ with_child parent.birth name o t slots v) where
+  abbrev begun : Content
+  begun = record { kind = t; slots = slots; pins = 1 }
+
+  abbrev beside : Objects
+  beside = with_edit parent.birth (with_slot name (Child o)) v
+
+  child-others : Others o.birth beside.rows
+  child-others = others-edited o.birth parent.birth (with_slot name (Child o)) v.rows (others o.birth v.rows (apart-from v o.birth (omega (arith, birth)) good))
+
+  child-row : row_at w.rows o.birth ≡ Some (o, begun)
+  child-row = ap (λ (x : Objects). row_at x.rows o.birth) is ∙ row-newest o begun beside.rows child-others
+
+  child-content : content_of w o.birth ≡ Some begun
+  child-content = ap (option_map (λ (row : Key × Content). row.1)) child-row
+
+  pub child-live : IsLive w.rows o
+  child-live = subst (λ (x : Option (Key × Content)). IsSomeAnd x (λ r. r.0.index ≡ o.index)) (sym child-row) refl
+
+  pub child-slots : heap.slots_of w o.birth ≡ slots
+  child-slots = ap (λ (x : Option Content). option_map_or (λ (d : Content). d.slots) x []) child-content
+
+  pub child-keeps : (key : Key) → IsLive v.rows key → IsLive w.rows key
+  child-keeps key live = subst (λ (x : Objects). IsLive x.rows key) (sym is) (row-more beside.rows (o, begun) key (live-edit parent.birth (with_slot name (Child o)) v.rows key live))
+
+  pub child-pins : (u : Objects) (f : Content → Content) → (f begun).pins ≡ 1 → u ≡ with_edit o.birth f w → pins_of u o.birth ≡ 1
+  child-pins u f one change =
+      ap (λ (x : Objects). pins_of x o.birth) change
+      ∙ ap (λ (x : Option Content). option_map_or (λ (d : Content). d.pins) x 0) (content-edited w o.birth f ∙ ap (option_map f) child-content)
+      ∙ one
+
+  -- it is filled, and its pin is taken away
+  pub child-settled : (u x : Objects) (plan : List Fill) → u ≡ with_edit o.birth (with_filled 0 plan) w → x ≡ with_edit o.birth without_pin u → x ≡ with_newest o (record { kind = t; slots = filled plan slots; pins = 0 }) beside
+  child-settled u x plan fill unpin =
+      let f : Content → Content = λ c. without_pin (with_filled 0 plan c) in
+      let rows = edit-newest o begun f beside.rows child-others in
+      unpin
+      ∙ ap (λ (y : Objects). with_edit o.birth without_pin y) fill
+      ∙ edit-twice o.birth without_pin (with_filled 0 plan) f (λ c. refl) w
+      ∙ ap (λ (y : Objects). with_edit o.birth f y) is
+      ∙ (λ j. record { rows = rows j; born = v.born + 1; log = noted_all (init_notes o.birth t) v.log })
+
+-- an object that nothing pins adds no pin
+pins-last : (rows : List (Key × Content)) (o : Key) (c : Content) → c.pins ≡ 0 → pins_in (rows ++ (o, c) ∷ []) ≡ pins_in rows
+pins-last [] o c none = rw none refl
+pins-last (row ∷ rows) o c none = ap (λ (l : List ℕ). replicate row.1.pins row.0.birth ++ l) (pins-last rows o c none)
+
+-- the board with an object more
+pub shows-object : (b : Board) (v : Objects) → Shows b v → (o parent : Key) → parent.birth ≡ objects_birth → o.birth ≡ v.born + 1 → (name : List ℕ) (t : TypeId) (props : List Given) (slots : List Named) → shown_slots slots ≡ given_slots b t props → Shows (with_object b t name props) (with_newest o (record { kind = t; slots = slots; pins = 0 }) (with_edit parent.birth (with_slot name (Child o)) v))
+unfolding add
+shows-object b v s o parent place birth name t props slots given =
+    let rows : Objects = with_edit parent.birth (with_slot name (Child o)) v in
+    let more = shows-added b v s parent.birth name (Child o) in
+    let its : b.born + 1 ≡ o.birth = ap (λ (k : ℕ). k + 1) s.born ∙ sym birth in
+    record {
+      records =
+          (λ j. map (edited (sym place j) (with_added name (board.child (its j)))) b.records ++ record { birth = its j; kind = t; slots = sym given j; registers = fresh_registers t; device_id = None; kept_path = None } ∷ [])
+          ∙ ap (λ (l : List board.Record). l ++ record_of (o, record { kind = t; slots = slots; pins = 0 }) ∷ []) more.records
+          ∙ sym (map-append record_of rows.rows ((o, record { kind = t; slots = slots; pins = 0 }) ∷ []));
+      born = ap (λ (k : ℕ). k + 1) s.born;
+      pins = more.pins ∙ sym (pins-last rows.rows o (record { kind = t; slots = slots; pins = 0 }) refl);
+      notes = subst (λ (k : ℕ). IsLogOf (b.notes ++ init_notes k t) (noted_all (init_notes o.birth t) v.log)) (sym its) (all_lem b.notes (init_notes o.birth t) v.log s.notes);
+      events = s.events;
+    }
+
+-- the same pins
+
+pub object-pins : (v : Objects) (o parent : Key) (name : List ℕ) (t : TypeId) (slots : List Named) (w : Objects) → w ≡ with_newest o (record { kind = t; slots = slots; pins = 0 }) (with_edit parent.birth (with_slot name (Child o)) v) → pins_in w.rows ≡ pins_in v.rows
+unfolding add
+object-pins v o parent name t slots w is =
+    let rows : Objects = with_edit parent.birth (with_slot name (Child o)) v in
+    let more = shows-added (tree v) (with_log empty_log v) (tree-shows v) parent.birth name (Child o) in
+    ap (λ (x : Objects). pins_in x.rows) is ∙ pins-last rows.rows o (record { kind = t; slots = slots; pins = 0 }) refl ∙ sym more.pins ∙ (tree-shows v).pins
+
+pub tried-pins : (v w : Objects) (t : TypeId) → IsTried t v w → pins_in w.rows ≡ pins_in v.rows
+tried-pins v w t (inl same) = ap (λ (x : Objects). pins_in x.rows) same
+tried-pins v w t (inr same) = ap (λ (x : Objects). pins_in x.rows) same
 
 -- the board behind an attempt
 pub shows-tried : (b : Board) (v : Objects) → Shows b v → (t : TypeId) → Shows (with_attempt b t) (given_up t v)

@@ -1,7 +1,9 @@
 mod AddLemmas
 mod AnswerLemmas
 mod BarLemmas
+mod FillingLemmas
 pub mod FreshLemmas
+mod GivenLemmas
 pub mod ListLemmas
 mod LookupLemmas
 mod PinLemmas

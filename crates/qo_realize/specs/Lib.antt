@@ -1,7 +1,9 @@
 pub mod Adding
 pub mod At
 pub mod Changes
+pub mod Filling
 pub mod Fresh
+pub mod Given
 pub mod Listed
 pub mod Pinned
 pub mod Reads

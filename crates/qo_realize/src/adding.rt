@@ -2,18 +2,25 @@
 
 ghost use Rattle.std.specs.Prelude.{◌≡◌, ℕ, ◌+◌, Some, option_map, IfOk, OnOk, OnErr, List};
 ghost use Rattle.qo_table.specs.Rows.{IsLive};
+ghost use Rattle.qo_model.specs.Board.{Board};
+ghost use Rattle.qo_model.specs.Objects.{objects_birth, with_object};
 ghost use Rattle.qo_object.specs.Content.{held_count, with_slot, without_pin};
 ghost use Rattle.qo_object.specs.Slots.{Named};
 ghost use Rattle.qo_object.specs.declared.slots.Slot.TheVariants.{Child};
+ghost use Rattle.qo_heap.specs.Board.{Shows, pins_in};
 ghost use Rattle.qo_heap.specs.Objects.{content_of, ended, pins_of, refs_of, with_edit};
-ghost use Rattle.qo_realize.specs.Adding.{IsTried, given_up, with_child};
+ghost use Rattle.qo_realize.specs.Adding.{Adds, IsTried, given_up, with_child};
 ghost use Rattle.qo_realize.specs.Fresh.{first_slots, new_slots, with_slots};
 
+use crate::barring::{Admitted, admit};
 use crate::errors::Memory;
+use crate::filling::{plan_of, settle};
 use crate::fresh::add_fresh_slots;
+use crate::given::check_given;
+use crate::refusals::Refusal;
 use qo_heap::{Heap, Oid, Steps};
 use qo_life::create;
-use qo_values::{Name, TypeId};
+use qo_values::{Name, PropList, TypeId};
 use std::alloc::Global;
 use std::sync::ledger::Ledger;
 
@@ -89,4 +96,56 @@ pub(crate) fn make_child<L: Ledger>(
             Err(error)
         }
     }
+}
+
+/// Makes an object of a type with the values given, as a child of `/objects`, which alone holds it
+/// then. Where memory wants, the heap is as it was, or the object was made and ended.
+fn add_filled<L: Ledger>(
+    heap: &mut Heap,
+    admitted: Admitted,
+    props: &PropList,
+    alloc: Global,
+    steps: &mut Steps<L>,
+) -> Result<(), Memory>
+    requires live { IsLive heap.old.rows admitted.objects }
+    requires objects { admitted.objects.birth ≡ objects_birth }
+    ensures ok { OnOk result ((b : Board) → Shows b heap.old → Shows (with_object b admitted.kind admitted.name props.now) heap.new) }
+    ensures err { OnErr result (IsTried admitted.kind heap.old heap.new) }
+    ensures pins { pins_in heap.new.rows ≡ pins_in heap.old.rows }
+{
+    let Admitted {
+        objects,
+        name,
+        kind,
+    } = admitted;
+    heap.facts();
+    let plan = plan_of(heap, kind, props, alloc, steps)?;
+    let o = make_child(heap, objects, name, kind, alloc, steps)?;
+    settle(heap, o, plan, steps);
+    heap.unpin(o, steps);
+    Ok(())
+}
+
+/// Makes a user's object of a type's name under an id, with the values given to its properties. A
+/// refusal by the type, the id or the number of objects comes before any attempt and leaves the heap
+/// as it was; one of a property comes behind an attempt that is given up. Where memory wants, the
+/// heap is as it was, or an attempt was given up.
+pub(crate) fn add_object<L: Ledger>(
+    heap: &mut Heap,
+    driver: &str,
+    id: &str,
+    props: &PropList,
+    alloc: Global,
+    steps: &mut Steps<L>,
+) -> Result<(), Refusal>
+    ensures change { (b : Board) → Shows b heap.old → Adds b driver.now id.now props.now result heap.new }
+    ensures pins { pins_in heap.new.rows ≡ pins_in heap.old.rows }
+{
+    let admitted = admit(heap, driver, id, alloc, steps)?;
+    if let Err(code) = check_given(heap, admitted.kind, props, steps) {
+        attempt(heap, admitted.kind, alloc, steps)?;
+        return Err(Refusal::Refused(code));
+    }
+    add_filled(heap, admitted, props, alloc, steps)?;
+    Ok(())
 }

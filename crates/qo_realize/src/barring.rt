@@ -72,6 +72,7 @@ fn id_name(id: &str, alloc: Global) -> Result<Name, Refusal>
 }
 
 /// What an admitted object begins with.
+#[derive(Drop)]
 pub(crate) struct Admitted {
     /// `/objects`, under which it is to stand.
     pub(crate) objects: Oid,

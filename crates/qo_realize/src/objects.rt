@@ -1,12 +1,15 @@
 //! Adding and removing users' objects, and cutting the links of detached ones.
 
+use crate::adding::add_object;
 use crate::board::Board;
 use crate::lookup::{OBJECTS_BIRTH, child_place, object_of};
+use crate::refusals::Refusal;
 use crate::severing::sever_links;
 use qo_heap::Steps;
 use qo_life::let_go;
 use qo_paths::is_attached;
-use qo_values::Code;
+use qo_values::{Code, PropList};
+use std::alloc::Global;
 use std::sync::ledger::Ledger;
 
 impl Board {
@@ -14,8 +17,30 @@ impl Board {
     ghost use Rattle.qo_model.specs.Board as model;
     ghost use Rattle.qo_model.specs.Objects.{object_del, sever};
     ghost use Rattle.qo_heap.specs.Board.{Shows};
+    ghost use Rattle.qo_realize.specs.Adding.{Adds};
     ghost use Rattle.qo_realize.specs.Changes.{IsAnswered};
     ghost use Rattle.qo_realize.specs.Pinned.{OnlyRootPinned};
+
+    /// Makes a user's object of a type's name under an id, with values for its properties, as a
+    /// child of `/objects` that nothing else holds (QEMU's QAPI, `object-add`). Of two values for
+    /// one property the first counts. Refused, in this order, with `E20` where no type has the name,
+    /// `E21` where it is abstract, `E22` where users may not make it, `E23` where the id is malformed,
+    /// `E15` where `/objects` is not there, `E24` where it has such a slot, and `E43` at 4,096 objects;
+    /// the board is then as it was. A property that is refused, the first in the order given, is so
+    /// with `E17`, `E18`, `E19`, `E15`, `E16` or `E31` behind an attempt that is given up: the object
+    /// was made and ended. Where memory wants, the board is as it was, or an attempt was given up.
+    pub fn object_add<L: Ledger>(
+        &mut self,
+        driver: &str,
+        id: &str,
+        props: &PropList,
+        alloc: Global,
+        steps: &mut Steps<L>,
+    ) -> Result<(), Refusal>
+        ensures change { (b : model.Board) → Shows b self.old → Adds b driver.now id.now props.now result self.new }
+    {
+        add_object(&mut self.heap, driver, id, props, alloc, steps)
+    }
 
     /// Removes the user's object of an id: its slot at `/objects` is let go, and it is finalised
     /// where nothing else refers to it (QEMU's QAPI, `object-del`). `E15` comes exactly where there

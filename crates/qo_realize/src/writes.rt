@@ -38,7 +38,7 @@ fn no_target<L: Ledger>(heap: &Heap, path: &str, steps: &mut Steps<L>) -> Code
 }
 
 /// What a text names as the target of a link to objects of a type: no target where it is empty.
-fn link_target<L: Ledger>(
+pub(crate) fn link_target<L: Ledger>(
     heap: &Heap,
     ty: TypeId,
     path: &str,
