@@ -1,33 +1,65 @@
 -- What commands return has a text: no number has a fraction.
-use Rattle.std.proofs.Common.{◌≡◌, ℕ, Bool, true, false, if◌then◌else◌, unwrap_or, List, [], ◌∷◌, map, refl, ◌∙◌, ap, Option, None, Some}
+use Rattle.std.proofs.Common.{◌≡◌, ℕ, Bool, true, false, if◌then◌else◌, unwrap_or, List, [], ◌∷◌, map, refl, Option, None, Some, Result, Ok, Err, pos, negsuc}
 use Rattle.std.specs.Prelude.{codes}
 use Rattle.serde_json.specs.Data.{Data, array}
 use Rattle.serde_json.specs.View.{items_of}
-use Rattle.serde_json.specs.Written.{items_have_float}
+use Rattle.serde_json.specs.Written.{items_have_float, has_float}
 use Rattle.qo_model.specs.Board.{Board}
+use Rattle.qo_model.specs.declared.notes.Note.{Note}
+use Rattle.qo_values.specs.declared.codes.Code.{Code}
+use Rattle.qo_values.specs.Plain.{data_of}
+use Rattle.qo_values.specs.declared.properties.Val.{Val}
+use Rattle.qo_values.specs.declared.properties.Val.TheVariants as val
 use Rattle.qo_values.specs.declared.codes.Code.TheVariants.{E10, E22}
+use Rattle.qo_model.specs.Objects.{Changed, object_add, object_del, sever}
 use Rattle.qo_model.specs.Types.{TypeRow, is_a, row_named}
-use Rattle.qo_model.specs.Listing.{listing}
-use Rattle.qo_model.specs.Paths.{resolve_absolute}
+use Rattle.qo_notes.specs.Log.{given_from}
+use Rattle.qo_realize.specs.At.{listing_at, read, write_at}
+use Rattle.qo_realize.specs.Reads.{detached_told}
+use Rattle.qo_realize.specs.declared.reads.Detached.{Detached}
 use Rattle.qo_requests.specs.declared.requests.Request.{Request}
 use Rattle.qo_requests.specs.declared.requests.Request.TheVariants.{QmpCapabilities, QueryVersion, QueryCommands, QueryStatus, Stop, Cont, SystemReset, Quit, QomList, QomGet, QomSet, QomListTypes, DeviceListProperties, ObjectAdd, ObjectDel, DeviceAdd, DeviceDel, ChardevAdd, ChardevRemove, RingbufRead, RingbufWrite, XResetHold, XResetRelease, XSever, XQueryNotes, XQueryDetached, XGuest, XStep}
-use Rattle.qo_model.specs.Opening.{opening_board}
-use Rattle.qo_machine.proofs.TreeLemmas.{rows_listing}
 use Rattle.std.specs.Str.{chars}
 use Rattle.serde_json.proofs.OnLiterals.{serde_json_on_literals}
 use Rattle.qo_replies.specs.Json.{ascii, json}
-use Rattle.qo_commands.specs.Commands.{Done, adding_properties, device_properties, empty, listed, perform, property_data, refused_with, returned, status_data, type_data, types_of}
-use Rattle.qo_machine.specs.Tree.{birth_of, rows_of}
-use Rattle.qo_machine.specs.declared.tree.Object.{Object}
+use Rattle.qo_commands.specs.Commands.{adding_properties, answered, changed, detached_data, device_properties, empty, log_of, note_data, perform, properties_data, property_data, refused_with, returned, status_data, type_data, types_of, wrote}
+use Rattle.qo_commands.specs.Changes.{is_change}
 use Rattle.qo_commands.specs.Views.{has_float_in}
 
 rows_no_float : (rows : List (List ℕ × List ℕ)) → items_have_float (items_of (map property_data rows)) ≡ false
 rows_no_float [] = refl
 rows_no_float (r ∷ rs) = rows_no_float rs
 
-listed_no_float : (b : Board) (found : Option ℕ) → has_float_in (listed b found).result ≡ false
-listed_no_float b None = refl
-listed_no_float b (Some n) = rows_no_float (listing b n)
+answered_no_float : {T : Type 0} (b : Board) (f : T → Data) → ((x : T) → has_float (f x) ≡ false) → (r : Result T Code) → has_float_in (answered b f r).result ≡ false
+answered_no_float b f h (Ok x) = h x
+answered_no_float b f h (Err code) = refl
+
+val_no_float : (v : Val) → has_float (data_of v) ≡ false
+val_no_float (val.Bool t) = refl
+val_no_float (val.Int (pos n)) = refl
+val_no_float (val.Int (negsuc n)) = refl
+val_no_float (val.Uint n) = refl
+val_no_float (val.Text t) = refl
+val_no_float val.Nothing = refl
+
+wrote_no_float : (b : Board) (r : Result Board Code) → has_float_in (wrote b r).result ≡ false
+wrote_no_float b (Ok c) = refl
+wrote_no_float b (Err code) = refl
+
+changed_no_float : (c : Changed) → has_float_in (changed c).result ≡ false
+changed_no_float c = by c.refusal
+  where
+    by : (r : Option Code) → has_float_in (changed (record { refusal = r; board = c.board })).result ≡ false
+    by None = refl
+    by (Some code) = refl
+
+notes_no_float : (notes : List Note) → items_have_float (items_of (map note_data notes)) ≡ false
+notes_no_float [] = refl
+notes_no_float (n ∷ ns) = notes_no_float ns
+
+detached_no_float : (ds : List Detached) → items_have_float (items_of (map detached_data ds)) ≡ false
+detached_no_float [] = refl
+detached_no_float (d ∷ ds) = detached_no_float ds
 
 types_no_float : (rows : List TypeRow) → items_have_float (items_of (map type_data rows)) ≡ false
 types_no_float [] = refl
@@ -57,13 +89,13 @@ no_float b Stop = refl
 no_float b Cont = refl
 no_float b SystemReset = refl
 no_float b Quit = refl
-no_float b (QomList path) = listed_no_float b (resolve_absolute b path (codes "object"))
-no_float b (QomGet path property) = refl
-no_float b (QomSet path property value) = refl
+no_float b (QomList path) = answered_no_float b properties_data rows_no_float (listing_at b path)
+no_float b (QomGet path property) = answered_no_float b data_of val_no_float (read b path property)
+no_float b (QomSet path property value) = wrote_no_float b (write_at b path property value)
 no_float b (QomListTypes implements with_abstract) = types_no_float (types_of (unwrap_or implements (codes "object")) (unwrap_or with_abstract false))
 no_float b (DeviceListProperties typename) = device_no_float b (row_named typename)
-no_float b (ObjectAdd driver id props) = refl
-no_float b (ObjectDel id) = refl
+no_float b (ObjectAdd driver id props) = changed_no_float (object_add b driver id props)
+no_float b (ObjectDel id) = changed_no_float (object_del b id)
 no_float b (DeviceAdd driver id bus props) = refl
 no_float b (DeviceDel id) = refl
 no_float b (ChardevAdd id kind size) = refl
@@ -72,16 +104,11 @@ no_float b (RingbufRead device size format) = refl
 no_float b (RingbufWrite device payload format) = refl
 no_float b (XResetHold path) = refl
 no_float b (XResetRelease path) = refl
-no_float b (XSever birth) = refl
-no_float b (XQueryNotes start) = refl
-no_float b XQueryDetached = refl
+no_float b (XSever birth) = changed_no_float (sever b birth)
+no_float b (XQueryNotes start) = rw (notes_no_float (given_from start (log_of b.notes))) refl
+no_float b XQueryDetached = detached_no_float (detached_told b)
 no_float b (XGuest line) = refl
 no_float b (XStep ns) = refl
-
--- the listing of an object is that of the opening board's
-pub listing_is : (path : List ℕ) (o : Object) (rows : List (List ℕ × List ℕ)) (value : Data) (d : Done) → Some (birth_of o) ≡ resolve_absolute opening_board path (codes "object") → rows ≡ rows_of o → value ≡ array (items_of (map property_data rows)) → d ≡ returned opening_board value → d ≡ listed opening_board (resolve_absolute opening_board path (codes "object"))
-listing_is path o rows value d found table listed_is is =
-    is ∙ ap (returned opening_board) (listed_is ∙ ap (λ (rs : List (List ℕ × List ℕ)). array (items_of (map property_data rs))) (table ∙ rows_listing o)) ∙ ap (listed opening_board) found
 
 -- The texts that are written already.
 
@@ -98,33 +125,33 @@ unfolding json ascii chars serde_json_on_literals
 paused_written = refl
 
 -- a command that is not built is unknown
-pub unbuilt : (b : Board) (r : Request) → (r ≡ QueryVersion → ⊥) → (r ≡ QueryCommands → ⊥) → (r ≡ QueryStatus → ⊥) → (r ≡ Quit → ⊥) → ((path : List ℕ) → r ≡ QomList path → ⊥) → ((implements : Option (List ℕ)) (with_abstract : Option Bool) → r ≡ QomListTypes implements with_abstract → ⊥) → ((typename : List ℕ) → r ≡ DeviceListProperties typename → ⊥) → refused_with b E10 ≡ perform b r
+pub unbuilt : (b : Board) (r : Request) → is_change r ≡ false → ((path : List ℕ) → r ≡ QomList path → ⊥) → ((path property : List ℕ) → r ≡ QomGet path property → ⊥) → ((implements : Option (List ℕ)) (with_abstract : Option Bool) → r ≡ QomListTypes implements with_abstract → ⊥) → ((typename : List ℕ) → r ≡ DeviceListProperties typename → ⊥) → ((start : ℕ) → r ≡ XQueryNotes start → ⊥) → (r ≡ XQueryDetached → ⊥) → (r ≡ QueryVersion → ⊥) → (r ≡ QueryCommands → ⊥) → (r ≡ QueryStatus → ⊥) → (r ≡ Quit → ⊥) → refused_with b E10 ≡ perform b r
 unfolding perform
-unbuilt b (QmpCapabilities enable) v k s q l t p = refl
-unbuilt b QueryVersion v k s q l t p = absurd (v refl)
-unbuilt b QueryCommands v k s q l t p = absurd (k refl)
-unbuilt b QueryStatus v k s q l t p = absurd (s refl)
-unbuilt b Stop v k s q l t p = refl
-unbuilt b Cont v k s q l t p = refl
-unbuilt b SystemReset v k s q l t p = refl
-unbuilt b Quit v k s q l t p = absurd (q refl)
-unbuilt b (QomList path) v k s q l t p = absurd (l path refl)
-unbuilt b (QomGet path property) v k s q l t p = refl
-unbuilt b (QomSet path property value) v k s q l t p = refl
-unbuilt b (QomListTypes implements with_abstract) v k s q l t p = absurd (t implements with_abstract refl)
-unbuilt b (DeviceListProperties typename) v k s q l t p = absurd (p typename refl)
-unbuilt b (ObjectAdd driver id props) v k s q l t p = refl
-unbuilt b (ObjectDel id) v k s q l t p = refl
-unbuilt b (DeviceAdd driver id bus props) v k s q l t p = refl
-unbuilt b (DeviceDel id) v k s q l t p = refl
-unbuilt b (ChardevAdd id kind size) v k s q l t p = refl
-unbuilt b (ChardevRemove id) v k s q l t p = refl
-unbuilt b (RingbufRead device size format) v k s q l t p = refl
-unbuilt b (RingbufWrite device payload format) v k s q l t p = refl
-unbuilt b (XResetHold path) v k s q l t p = refl
-unbuilt b (XResetRelease path) v k s q l t p = refl
-unbuilt b (XSever birth) v k s q l t p = refl
-unbuilt b (XQueryNotes start) v k s q l t p = refl
-unbuilt b XQueryDetached v k s q l t p = refl
-unbuilt b (XGuest line) v k s q l t p = refl
-unbuilt b (XStep ns) v k s q l t p = refl
+unbuilt b (QmpCapabilities enable) stays list get types declared told detached version commands status quit = refl
+unbuilt b QueryVersion stays list get types declared told detached version commands status quit = absurd (version refl)
+unbuilt b QueryCommands stays list get types declared told detached version commands status quit = absurd (commands refl)
+unbuilt b QueryStatus stays list get types declared told detached version commands status quit = absurd (status refl)
+unbuilt b Stop stays list get types declared told detached version commands status quit = refl
+unbuilt b Cont stays list get types declared told detached version commands status quit = refl
+unbuilt b SystemReset stays list get types declared told detached version commands status quit = refl
+unbuilt b Quit stays list get types declared told detached version commands status quit = absurd (quit refl)
+unbuilt b (QomList path) stays list get types declared told detached version commands status quit = absurd (list path refl)
+unbuilt b (QomGet path property) stays list get types declared told detached version commands status quit = absurd (get path property refl)
+unbuilt b (QomSet path property value) stays list get types declared told detached version commands status quit = cc
+unbuilt b (QomListTypes implements with_abstract) stays list get types declared told detached version commands status quit = absurd (types implements with_abstract refl)
+unbuilt b (DeviceListProperties typename) stays list get types declared told detached version commands status quit = absurd (declared typename refl)
+unbuilt b (ObjectAdd driver id props) stays list get types declared told detached version commands status quit = cc
+unbuilt b (ObjectDel id) stays list get types declared told detached version commands status quit = cc
+unbuilt b (DeviceAdd driver id bus props) stays list get types declared told detached version commands status quit = refl
+unbuilt b (DeviceDel id) stays list get types declared told detached version commands status quit = refl
+unbuilt b (ChardevAdd id kind size) stays list get types declared told detached version commands status quit = refl
+unbuilt b (ChardevRemove id) stays list get types declared told detached version commands status quit = refl
+unbuilt b (RingbufRead device size format) stays list get types declared told detached version commands status quit = refl
+unbuilt b (RingbufWrite device payload format) stays list get types declared told detached version commands status quit = refl
+unbuilt b (XResetHold path) stays list get types declared told detached version commands status quit = refl
+unbuilt b (XResetRelease path) stays list get types declared told detached version commands status quit = refl
+unbuilt b (XSever birth) stays list get types declared told detached version commands status quit = cc
+unbuilt b (XQueryNotes start) stays list get types declared told detached version commands status quit = absurd (told start refl)
+unbuilt b XQueryDetached stays list get types declared told detached version commands status quit = absurd (detached refl)
+unbuilt b (XGuest line) stays list get types declared told detached version commands status quit = refl
+unbuilt b (XStep ns) stays list get types declared told detached version commands status quit = refl

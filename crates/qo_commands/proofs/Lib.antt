@@ -1,2 +1,5 @@
+mod ChangeLemmas
 pub mod CommandLemmas
-pub mod ListingLemmas
+mod ListingLemmas
+mod NoteLemmas
+pub mod RunningLemmas

@@ -1,5 +1,5 @@
 -- Lists of types and of properties, as they are made one after another.
-use Rattle.std.proofs.Common.{◌≡◌, refl, ap, ap₂, sym, ◌∙◌, ℕ, ◌+◌, ◌<◌, ◌≤◌, Bool, true, false, cond, if◌then◌else◌, List, [], ◌∷◌, ◌++◌, map, filter, filter_map, flat_map, length, take, get_or, zero, suc, codes, Option, Some, None, option_map, IfSome, arith}
+use Rattle.std.proofs.Common.{◌≡◌, refl, ap, sym, ◌∙◌, ℕ, ◌+◌, ◌<◌, ◌≤◌, Bool, true, false, cond, if◌then◌else◌, List, [], ◌∷◌, ◌++◌, map, filter, filter_map, flat_map, length, take, get_or, zero, suc, codes, Option, Some, None, option_map, IfSome, arith}
 use Rattle.std.proofs.lemmas.List.{take_more, take_all}
 use Rattle.std.proofs.lemmas.List.Elements.{filter_map-append}
 use Rattle.serde_json.specs.Data.{Data, array}
@@ -11,7 +11,7 @@ use Rattle.qo_model.specs.Objects.{may_add}
 use Rattle.qo_model.specs.Types.{Kind, Mark, Property, TypeRow, is_a, property, row_of, slots_of}
 use Rattle.qo_types.specs.Rows.{property_told}
 use Rattle.qo_types.specs.declared.rows.SlotRow.{SlotRow}
-use Rattle.qo_commands.specs.Commands.{Done, adding_properties, device_properties, is_for_adding, kind_word, property_data, property_words, refused_with, returned, type_data}
+use Rattle.qo_commands.specs.Commands.{adding_properties, device_properties, is_for_adding, kind_word, property_data, property_words, refused_with, returned, type_data}
 use Rattle.qo_commands.specs.Views.{words_for_adding}
 
 pub map-append : {A B : Type 0} (f : A → B) (xs ys : List A) → map f (xs ++ ys) ≡ map f xs ++ map f ys
@@ -50,6 +50,14 @@ words-all (p ∷ rows) = by (is_for_adding p) (words-all rows)
 pub device-listed : (b : Board) (row : Option TypeRow) (t : TypeId) → Some t ≡ option_map (λ (r : TypeRow). r.id) row → is_a t (codes "device") ≡ true → returned b (array (items_of (map property_data (adding_properties t)))) ≡ device_properties b row
 device-listed b None t is of = cc
 device-listed b (Some row) t is of = let same : t ≡ row.id = cc is in rw (← same, of) refl
+
+pub device-other : (b : Board) (row : Option TypeRow) (t : TypeId) → Some t ≡ option_map (λ (r : TypeRow). r.id) row → is_a t (codes "device") ≡ false → refused_with b E22 ≡ device_properties b row
+device-other b None t is of = cc
+device-other b (Some row) t is of = let same : t ≡ row.id = cc is in rw (← same, of) refl
+
+pub device-none : (b : Board) (row : Option TypeRow) → None ≡ option_map (λ (r : TypeRow). r.id) row → refused_with b E20 ≡ device_properties b row
+device-none b None is = refl
+device-none b (Some row) is = cc
 
 -- what rows tell, the first of them, and the rest
 told-first : (r : SlotRow) (s : Property) (rows : List SlotRow) (slots : List Property) → map property_told (r ∷ rows) ≡ map Some (s ∷ slots) → property_told r ≡ Some s

@@ -71,12 +71,15 @@ log_of notes = record { total = total_of notes; kept = kept_of notes }
 abbrev pub note_data : Note → Data
 note_data note = string (note_text note)
 
-abbrev pub notes_data : ℕ → Log → Data
-notes_data from log =
+abbrev pub notes_told : ℕ → List Note → ℕ → Data
+notes_told first notes total =
     object
-    (member (codes "first") (number (unsigned (first_from from log)))
-    (member (codes "notes") (array (items_of (map note_data (given_from from log))))
-    (member (codes "total") (number (unsigned log.total)) no_members)))
+    (member (codes "first") (number (unsigned first))
+    (member (codes "notes") (array (items_of (map note_data notes)))
+    (member (codes "total") (number (unsigned total)) no_members)))
+
+abbrev pub notes_data : ℕ → Log → Data
+notes_data from log = notes_told (first_from from log) (given_from from log) log.total
 
 -- an object without a parent, as it is told
 abbrev pub detached_data : Detached → Data

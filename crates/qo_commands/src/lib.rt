@@ -1,6 +1,16 @@
 //! Commands over the board: what each returns, what it changes, and the code that refuses it.
 #![tactic(auto)]
 
+mod built;
+mod changes;
 mod commands;
+mod detached;
+mod listings;
+mod notes;
+#[cfg(test)]
+mod tests;
+mod types;
+mod values;
 
-pub use commands::{Body, Done};
+pub use changes::is_change;
+pub use commands::{Body, Done, ask};

@@ -2,10 +2,9 @@ use Rattle.std.proofs.Common.{◌∙◌, ◌++◌, ◌∷◌, [], ap, sym, map, 
 use Rattle.qo_commands.specs.Commands.{property_data}
 use Rattle.serde_json.specs.Data.{Data}
 use Rattle.serde_json.specs.View.{view}
-use Rattle.qo_model.specs.Objects.{may_add}
 use Rattle.qo_types.specs.Rows.{kind_told, mark_told}
 use Rattle.qo_commands.proofs.ListingLemmas.{row-pushed, map-append}
-use Rattle.qo_commands.proofs.commands.push_row.Goals as goal
+use Rattle.qo_commands.proofs.types.push_row.Goals as goal
 
 pub returns : goal.returns
 returns c =

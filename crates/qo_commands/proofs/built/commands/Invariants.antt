@@ -2,7 +2,7 @@
 use Rattle.std.proofs.Common.{◌≡◌, map, take}
 use Rattle.serde_json.specs.View.{view}
 use Rattle.qo_commands.specs.Commands.{command_data}
-use Rattle.qo_commands.proofs.commands.commands.Given as goal
+use Rattle.qo_commands.proofs.built.commands.Given as goal
 
 abbrev pub invariant-loop-name : goal.invariant-loop-name
 invariant-loop-name l = map view l.values.items ≡ map command_data (map (λ name. name.now) (take l.name-index l.names))

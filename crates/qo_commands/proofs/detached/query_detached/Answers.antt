@@ -1,0 +1,12 @@
+-- What the board tells is told.
+use Rattle.std.proofs.Common.{◌∙◌, ap, map, List}
+use Rattle.serde_json.specs.Data.{Data, array}
+use Rattle.serde_json.specs.View.{items_of}
+use Rattle.qo_realize.specs.declared.reads.Detached.{Detached}
+use Rattle.qo_commands.specs.Commands.{detached_data, returned}
+use Rattle.qo_commands.proofs.detached.query_detached.Goals as goal
+
+pub returns : goal.returns
+returns g c = λ b s.
+    c.returned.ensures b
+    ∙ ap (λ (d : Data). returned b d) (c.in_ok-value.ensures ∙ ap (λ (l : List Detached). array (items_of (map detached_data l))) (c.deref.ensures.value ∙ c.in-Ok.ensures b s))

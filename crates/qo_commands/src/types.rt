@@ -1,0 +1,146 @@
+//! Types and the properties that they declare: `qom-list-types`, `device-list-properties`.
+
+ghost use Rattle.std.specs.Prelude.{◌≡◌, ◌++◌, [], ◌∷◌, codes, map, filter_map, Some, option_map, string_bytes, IfOk, IfSome, OnOk};
+ghost use Rattle.std.specs.Option.{option_map_or};
+ghost use Rattle.serde_json.specs.Data.{array};
+ghost use Rattle.serde_json.specs.View.{items_of, view};
+ghost use Rattle.qo_model.specs.Board.{Board as Tree};
+ghost use Rattle.qo_model.specs.Objects.{may_add};
+ghost use Rattle.qo_model.specs.Types.{row_named, row_of};
+ghost use Rattle.qo_types.specs.Rows.{kind_told, mark_told, property_told};
+ghost use Rattle.qo_commands.specs.Commands.{adding_properties, device_properties, kind_word, property_data, returned, type_data, types_of};
+ghost use Rattle.qo_commands.specs.Views.{done_of, words_for_adding};
+
+use crate::commands::{Body, Done, refused, returned};
+use crate::listings::property_value;
+use qo_types::{Mark, RowKind, SlotRow, TypeTable};
+use qo_values::{Code, PropType, Text, TypeId};
+use serde_json::{Value, json};
+use std::alloc::{AllocError, Global};
+
+/// A type, as `qom-list-types` tells of it.
+fn type_value(alloc: Global, t: TypeId) -> Result<Value, AllocError>
+    ensures { IfOk result (λ v. Some (view v) ≡ option_map type_data (row_of t)) }
+{
+    let row = TypeTable::board().row(t);
+    match (row.is_abstract, row.parent) {
+        (true, Some(parent)) => {
+            json!(in alloc; {"abstract": true, "name": row.name, "parent": parent.name()})
+        }
+        (true, None) => json!(in alloc; {"abstract": true, "name": row.name}),
+        (false, Some(parent)) => json!(in alloc; {"name": row.name, "parent": parent.name()}),
+        (false, None) => json!(in alloc; {"name": row.name}),
+    }
+}
+
+/// Adds a type to a list.
+fn push_type(alloc: Global, values: &mut Vec<Value>, t: TypeId) -> Result<(), AllocError>
+    ensures { OnOk result (map view values.new.items ≡ map view values.old.items ++ map type_data (filter_map row_of (t ∷ []))) }
+{
+    let value = type_value(alloc, t)?;
+    values.push(value)?;
+    Ok(())
+}
+
+/// Types as a list.
+fn type_listing(alloc: Global, types: &[TypeId]) -> Result<Value, AllocError>
+    ensures { IfOk result (λ v. view v ≡ array (items_of (map type_data (filter_map row_of types.now)))) }
+{
+    let mut values = Vec::new(alloc);
+    for t in types {
+        push_type(alloc, &mut values, *t)?;
+    }
+    Ok(Value::Array(values))
+}
+
+/// The name that types are to be of: `object` where none is given.
+fn name_given(implements: Option<&Text>) -> &str
+    ensures { result.now ≡ option_map_or (λ name. name.now) implements.entry (codes "object") }
+{
+    match implements {
+        Some(name) => name.as_str(),
+        None => "object",
+    }
+}
+
+/// The types of a name, `object` where none is given.
+pub(crate) fn list_types(
+    alloc: Global,
+    implements: Option<&Text>,
+    with_abstract: bool,
+) -> Result<Value, AllocError>
+    ensures { IfOk result (λ v. view v ≡ array (items_of (map type_data (types_of (option_map_or (λ name. name.now) implements.entry (codes "object")) with_abstract)))) }
+{
+    let Ok(types) = TypeTable::board().list(alloc, name_given(implements), with_abstract) else {
+        return Err(AllocError);
+    };
+    type_listing(alloc, &types)
+}
+
+/// The type text of a property with a row; that of an alias is the text of what it passes on to,
+/// and is empty here.
+fn kind_text(alloc: Global, kind: &RowKind) -> Result<String, AllocError>
+    ensures { IfOk result (λ text. IfSome (kind_told kind.now) (λ k. string_bytes text ≡ kind_word k)) }
+{
+    match kind {
+        RowKind::Plain(PropType::Bool, _) => String::from_str(alloc, "bool"),
+        RowKind::Plain(PropType::Int { .. }, _) => String::from_str(alloc, "int64"),
+        RowKind::Plain(PropType::Uint { .. }, _) => String::from_str(alloc, "uint64"),
+        RowKind::Plain(PropType::Text, _) => String::from_str(alloc, "string"),
+        RowKind::Child(ty) => format!(in alloc; "child<{}>", ty.name()),
+        RowKind::Link { ty, .. } => format!(in alloc; "link<{}>", ty.name()),
+        RowKind::Alias { .. } => Ok(String::new(alloc)),
+    }
+}
+
+/// Whether the adding command writes a property with a mark.
+fn is_for_adding(mark: Mark) -> bool
+    ensures { result ≡ may_add (mark_told mark) }
+{
+    match mark {
+        Mark::Add => true,
+        Mark::Both => true,
+        Mark::Never => false,
+        Mark::Set => false,
+    }
+}
+
+/// Adds a property to a list, where the adding command writes it.
+fn push_row(alloc: Global, values: &mut Vec<Value>, row: &SlotRow) -> Result<(), AllocError>
+    ensures { OnOk result (IfSome (property_told row.now) (λ p. map view values.new.items ≡ map view values.old.items ++ map property_data (words_for_adding p))) }
+{
+    if !is_for_adding(row.mark) {
+        return Ok(());
+    }
+    let text = kind_text(alloc, &row.kind)?;
+    let value = property_value(alloc, row.name, &text)?;
+    values.push(value)?;
+    Ok(())
+}
+
+/// The properties of a type that the adding command writes, as a list.
+fn row_listing(alloc: Global, t: TypeId) -> Result<Value, AllocError>
+    ensures { IfOk result (λ v. view v ≡ array (items_of (map property_data (adding_properties t)))) }
+{
+    let rows = TypeTable::board().props(t);
+    let mut values = Vec::new(alloc);
+    for row in rows {
+        push_row(alloc, &mut values, row)?;
+    }
+    Ok(Value::Array(values))
+}
+
+/// The properties of a named type of devices that the adding command writes.
+pub(crate) fn list_properties(alloc: Global, typename: &str) -> Result<Done, AllocError>
+    ensures { (b : Tree) → IfOk result (λ d. done_of b d ≡ device_properties b (row_named typename.now)) }
+{
+    let types = TypeTable::board();
+    let Some(t) = types.find(typename) else {
+        return Ok(refused(alloc, Code::E20));
+    };
+    if !types.is_a(t, "device") {
+        return Ok(refused(alloc, Code::E22));
+    }
+    let listing = row_listing(alloc, t)?;
+    Ok(returned(alloc, Body::Value(listing)))
+}
