@@ -119,6 +119,7 @@ pub fn drop_pin<L: Ledger>(heap: &mut Heap, o: Oid, steps: &mut Steps<L>)
 pub fn drop_hold<L: Ledger>(heap: &mut Heap, held: Option<Oid>, steps: &mut Steps<L>)
     requires { IfSome held (IsLive heap.old.rows) }
     ensures release { (b : Board) → Shows b heap.old → Shows (after finalise b (birth_of held)) heap.new }
+    ensures goes { Goes (λ b. after finalise b (birth_of held)) heap.old heap.new }
     ensures names { KeepsNames heap.old heap.new }
 {
     end_unheld(heap, held, steps);

@@ -100,7 +100,7 @@ pub(crate) fn make_child<L: Ledger>(
 
 /// Makes an object of a type with the values given, as a child of `/objects`, which alone holds it
 /// then. Where memory wants, the heap is as it was, or the object was made and ended.
-fn add_filled<L: Ledger>(
+pub(crate) fn add_filled<L: Ledger>(
     heap: &mut Heap,
     admitted: Admitted,
     props: &PropList,

@@ -7,7 +7,8 @@ use std::alloc::Global;
 use std::marker::Model;
 use std::sync::ledger::Ledger;
 
-/// The board: the objects of the machine.
+/// The board: the objects of the machine. Between two calls nothing holds them from outside the
+/// tree but the one pin of the root.
 #[derive(Drop)]
 pub struct Board {
     pub(crate) heap: Heap,
@@ -15,10 +16,13 @@ pub struct Board {
 
 impl Model for Board {
     ghost use Rattle.qo_heap.specs.Objects.{Objects};
+    ghost use Rattle.qo_realize.specs.Pinned.{OnlyRootPinned};
 
     ghost Value = { Objects };
 
     ghost view = { λ b. b.heap };
+
+    ghost invariant = { λ b. OnlyRootPinned b.heap };
 }
 
 impl Board {

@@ -2,6 +2,8 @@
 //! Object Model"; the opening board is the profile's).
 #![tactic(auto)]
 
+#[cfg(test)]
+mod add_tests;
 mod adding;
 mod barring;
 mod board;

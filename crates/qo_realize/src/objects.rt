@@ -19,7 +19,6 @@ impl Board {
     ghost use Rattle.qo_heap.specs.Board.{Shows};
     ghost use Rattle.qo_realize.specs.Adding.{Adds};
     ghost use Rattle.qo_realize.specs.Changes.{IsAnswered};
-    ghost use Rattle.qo_realize.specs.Pinned.{OnlyRootPinned};
 
     /// Makes a user's object of a type's name under an id, with values for its properties, as a
     /// child of `/objects` that nothing else holds (QEMU's QAPI, `object-add`). Of two values for
@@ -62,11 +61,9 @@ impl Board {
     /// Cuts the strong links of a detached object, in order, which is held meanwhile and finalised
     /// in the end where nothing refers to it (the profile's `x-sever`). `E33` comes exactly where no
     /// object of that birth is live, else `E50` exactly where it is attached. An error leaves the
-    /// board as it was. It needs that birth 1 alone is pinned, as on every sound board.
+    /// board as it was.
     pub fn sever<L: Ledger>(&mut self, birth: u64, steps: &mut Steps<L>) -> Result<(), Code>
-        requires pinned { OnlyRootPinned self.old }
         ensures change { (b : model.Board) → Shows b self.old → IsAnswered (sever b birth) result self.new }
-        ensures pinned { OnlyRootPinned self.new }
         ensures err { OnErr result (self.new ≡ self.old) }
     {
         let Some(o) = object_of(&self.heap, birth) else {

@@ -2,12 +2,15 @@
 //! memory. What they give is compared with rows written by hand.
 ghost use Rattle.std.specs.Prelude.{◌≡◌, ◌<◌};
 ghost use Rattle.qo_values.specs.Names.{IsName};
+ghost use Rattle.qo_heap.specs.Board.{pins_in};
 
-use crate::fresh::{add_fresh_slots, name_of};
-use crate::lookup::object_of;
+use crate::adding::add_filled;
+use crate::barring::Admitted;
+use crate::fresh::name_of;
+use crate::lookup::{OBJECTS_BIRTH, object_of};
 use crate::{Board, Memory, Prop, Refusal};
 use qo_heap::{Heap, Steps};
-use qo_values::{Code, Text, TypeId, Val};
+use qo_values::{Code, PropList, Text, TypeId, Val};
 use std::alloc::Global;
 use std::marker::Brand;
 use std::sync::ledger::{Blank, Ledger};
@@ -22,7 +25,7 @@ static CLOCK: [(&str, &str); 5] = [
     ("source", "link<clock>"),
 ];
 
-/// Adds an object of a type to the objects of users, where it stays pinned.
+/// Adds an object of a type to the objects of users, also of one that users may not make.
 fn add<L: Ledger>(
     heap: &mut Heap,
     name: &str,
@@ -31,21 +34,19 @@ fn add<L: Ledger>(
     steps: &mut Steps<L>,
 ) -> Result<(), Memory>
     requires { IsName name.now }
+    ensures { pins_in heap.new.rows ≡ pins_in heap.old.rows }
 {
+    let Some(objects) = object_of(heap, OBJECTS_BIRTH) else {
+        return Err(Memory);
+    };
     let name = name_of(name, alloc)?;
-    let birth = heap.make(alloc, kind, steps)?.birth;
-    let Some(made) = object_of(heap, birth) else {
-        return Err(Memory);
+    let admitted = Admitted {
+        objects,
+        name,
+        kind,
     };
-    add_fresh_slots(heap, made, kind, alloc, steps)?;
-    let Some(objects) = object_of(heap, 8) else {
-        return Err(Memory);
-    };
-    let Some(child) = object_of(heap, birth) else {
-        return Err(Memory);
-    };
-    heap.add_child(objects, name, child, steps)?;
-    Ok(())
+    let none = PropList::from_vec(Vec::new(alloc));
+    add_filled(heap, admitted, &none, alloc, steps)
 }
 
 /// The opening board, and the tags `a` and `b` and the serial port `u` of users.
@@ -58,7 +59,7 @@ fn with_objects<L: Ledger>(alloc: Global, steps: &mut Steps<L>) -> Result<Board,
 }
 
 /// A text as a value.
-fn text(of: &str, alloc: Global) -> Result<Val, Memory> {
+pub(crate) fn text(of: &str, alloc: Global) -> Result<Val, Memory> {
     Ok(Val::Text(Text::from_string(String::from_str(alloc, of)?)))
 }
 
@@ -71,7 +72,7 @@ fn is_text(val: &Val, of: &str) -> bool {
 }
 
 /// Whether a property reads as this text.
-fn reads<L: Ledger>(
+pub(crate) fn reads<L: Ledger>(
     board: &Board,
     path: &str,
     name: &str,
@@ -101,7 +102,7 @@ fn refuses<L: Ledger>(
 }
 
 /// Whether a text is written to a property.
-fn writes<L: Ledger>(
+pub(crate) fn writes<L: Ledger>(
     board: &mut Board,
     path: &str,
     name: &str,
@@ -229,18 +230,6 @@ fn properties_are_written(rt: HostRuntime) -> Result<(), Fail> {
     Ok(())
 }
 
-/// Takes the child of a name away from the objects of users.
-fn detach<L: Ledger>(heap: &mut Heap, name: &str, steps: &mut Steps<L>) -> bool {
-    let Some(objects) = object_of(heap, 8) else {
-        return false;
-    };
-    let place = heap.slot(objects, name, steps).map(|slot| slot.at);
-    match place {
-        Some(at) => heap.empty(objects, at, steps).is_some(),
-        None => false,
-    }
-}
-
 /// The references of the tag of birth 10, if it alone is detached; else 0.
 fn detached_refs<L: Ledger>(board: &Board, alloc: Global, steps: &mut Steps<L>) -> u64 {
     let Ok(list) = board.detached(alloc, steps) else {
@@ -261,7 +250,7 @@ fn detached_refs<L: Ledger>(board: &Board, alloc: Global, steps: &mut Steps<L>) 
     }
 }
 
-/// Whether a detached tag is told, with its pin and the link to it.
+/// Whether a detached tag is told, with the links to it.
 fn tell_all<L: Ledger>(alloc: Global, blank: Blank) -> Result<bool, Memory>
     requires name { blank.name ≡ L.name }
     requires parts { blank.parts ≡ L.parts }
@@ -271,12 +260,13 @@ fn tell_all<L: Ledger>(alloc: Global, blank: Blank) -> Result<bool, Memory>
     let mut board = with_objects(alloc, &mut steps)?;
     let none = detached_refs(&board, alloc, &mut steps);
     let pointed = writes(&mut board, "a", "next", "b", alloc, &mut steps);
-    let taken = detach(&mut board.heap, "b", &mut steps);
+    let itself = writes(&mut board, "b", "next", "b", alloc, &mut steps);
+    let taken = board.object_del("b", &mut steps).is_ok();
     let two = detached_refs(&board, alloc, &mut steps);
     let there = reads(&board, "a", "next", "detached:10", alloc, &mut steps);
     let emptied = writes(&mut board, "a", "next", "", alloc, &mut steps);
     let one = detached_refs(&board, alloc, &mut steps);
-    Ok(none == 0 && pointed && taken && two == 2 && there && emptied && one == 1)
+    Ok(none == 0 && pointed && itself && taken && two == 2 && there && emptied && one == 1)
 }
 
 #[test]

@@ -10,7 +10,7 @@ ghost use Rattle.qo_object.specs.Content.{empty_link_at};
 ghost use Rattle.qo_object.specs.Shown.{birth_of};
 ghost use Rattle.qo_object.specs.Slots.{held, slot_in};
 ghost use Rattle.qo_table.specs.Rows.{IsLive};
-ghost use Rattle.qo_heap.specs.Board.{Shows};
+ghost use Rattle.qo_heap.specs.Board.{Shows, pins_in};
 ghost use Rattle.qo_heap.specs.Objects.{content_of, slots_of};
 ghost use Rattle.qo_realize.specs.Writes.{Writes, is_link_at, is_plain_at, kind_written, link_type_at, no_target, row_written, target_told, to_link, to_plain};
 
@@ -99,6 +99,7 @@ fn point_at<L: Ledger>(
     requires link { option_map (λ c. empty_link_at c at) (content_of heap.old o.birth) ≡ Some true }
     ensures shown { (b : Tree) → Shows b heap.old → Shows (pointed_at (birth_of target) o.birth at b) heap.new }
     ensures names { (key : Key) → IsLive heap.old.rows key → IsLive heap.new.rows key }
+    ensures pins { pins_in heap.new.rows ≡ pins_in heap.old.rows }
 {
     if let Some(to) = target {
         heap.point(o, at, to, steps);
@@ -111,7 +112,8 @@ fn relink<L: Ledger>(heap: &mut Heap, o: Oid, at: usize, target: Option<Oid>, st
     requires live { IsLive heap.old.rows o }
     requires target { IfSome target (IsLive heap.old.rows) }
     requires link { is_link_at heap.old o.birth at ≡ true }
-    ensures { (b : Tree) → Shows b heap.old → Shows (relinked b o.birth at (birth_of target)) heap.new }
+    ensures shown { (b : Tree) → Shows b heap.old → Shows (relinked b o.birth at (birth_of target)) heap.new }
+    ensures pins { pins_in heap.new.rows ≡ pins_in heap.old.rows }
 {
     heap.facts();
     let held = held_at(heap, o, at, steps);
@@ -145,6 +147,7 @@ fn write_plain<L: Ledger>(
     requires live { IsLive heap.old.rows o }
     ensures written { (b : Tree) → Shows b heap.old → Writes heap.new result (to_plain b o.birth at ty (slot_at b o.birth at) val.now) }
     ensures err { OnErr result (heap.new ≡ heap.old) }
+    ensures pins { pins_in heap.new.rows ≡ pins_in heap.old.rows }
 {
     if !is_plain(heap, o, at, steps) {
         return Err(Refusal::Refused(Code::E18));
@@ -169,6 +172,7 @@ fn write_link<L: Ledger>(
     requires live { IsLive heap.old.rows o }
     ensures written { (b : Tree) → Shows b heap.old → Writes heap.new result (to_link b o.birth at (slot_at b o.birth at) val.now) }
     ensures err { OnErr result (heap.new ≡ heap.old) }
+    ensures pins { pins_in heap.new.rows ≡ pins_in heap.old.rows }
 {
     let Some(ty) = link_type(heap, o, at, steps) else {
         return Err(Refusal::Refused(Code::E18));
@@ -194,6 +198,7 @@ fn write_kind<L: Ledger>(
     requires live { IsLive heap.old.rows o }
     ensures written { (b : Tree) → Shows b heap.old → Writes heap.new result (kind_written b o.birth at kind val.now) }
     ensures err { OnErr result (heap.new ≡ heap.old) }
+    ensures pins { pins_in heap.new.rows ≡ pins_in heap.old.rows }
 {
     match kind {
         RowKind::Plain(ty, _) => write_plain(heap, o, at, ty, val, alloc, steps),
@@ -217,6 +222,7 @@ fn write_row<L: Ledger>(
     requires live { IsLive heap.old.rows o }
     ensures written { (b : Tree) → Shows b heap.old → Writes heap.new result (row_written b o.birth at row val.now) }
     ensures err { OnErr result (heap.new ≡ heap.old) }
+    ensures pins { pins_in heap.new.rows ≡ pins_in heap.old.rows }
 {
     match row.mark {
         Mark::Both => write_kind(heap, o, at, row.kind, val, alloc, steps),
@@ -236,6 +242,7 @@ fn write<L: Ledger>(
     requires live { IsLive heap.old.rows o }
     ensures written { (b : Tree) → Shows b heap.old → Writes heap.new result (write b o.birth name.now val.now) }
     ensures err { OnErr result (heap.new ≡ heap.old) }
+    ensures pins { pins_in heap.new.rows ≡ pins_in heap.old.rows }
 {
     let Some(at) = place_named(heap, o, name, steps) else {
         return Err(Refusal::Refused(Code::E17));

@@ -1,6 +1,8 @@
+use Rattle.std.proofs.Common.{refl}
 use Rattle.qo_object.specs.Content.{pointed_at}
 use Rattle.qo_heap.proofs.HeapLemmas.{live-edit}
 use Rattle.qo_heap.proofs.ShowsChanges.{shows-pointed}
+use Rattle.qo_realize.proofs.PinLemmas.{edited-pins}
 use Rattle.qo_realize.proofs.writes.point_at.Goals as goal
 
 pub returns-in-Some-clause-shown : goal.returns-in-Some-clause-shown
@@ -10,3 +12,6 @@ returns-in-Some-clause-shown g c = λ b s.
 pub returns-in-Some-clause-names : goal.returns-in-Some-clause-names
 returns-in-Some-clause-names g c = λ key live.
     rw c.point.ensures (live-edit c.args.o.birth (pointed_at c.in-Some.to c.args.at) c.args.heap.now.rows key live)
+
+pub returns-in-Some-clause-pins : goal.returns-in-Some-clause-pins
+returns-in-Some-clause-pins g c = edited-pins c.args.heap.now c.point.new.self c.args.o.birth (pointed_at c.in-Some.to c.args.at) (λ d. refl) c.point.ensures

@@ -2,6 +2,8 @@ use Rattle.std.proofs.Common.{◌≡◌, refl, true, false, ap, sym, ◌∙◌}
 use Rattle.qo_values.specs.Properties.{admits}
 use Rattle.qo_model.specs.Changes.{set}
 use Rattle.qo_heap.proofs.ShowsChanges.{shows-set}
+use Rattle.qo_object.specs.Content.{set_at}
+use Rattle.qo_realize.proofs.PinLemmas.{edited-pins}
 use Rattle.qo_realize.proofs.WriteLemmas.{plain-is}
 use Rattle.qo_realize.proofs.writes.write_plain.Goals as goal
 
@@ -18,3 +20,6 @@ pub returns-clause-written : goal.returns-clause-written
 returns-clause-written g c = λ b s.
     let fits : admits c.args.ty c.args.val.now ≡ true = sym c.in_default.ensures in
     (set c.args.o.birth c.args.at c.args.val.now b, plain-is b c.args.heap.now s c.args.o.birth c.args.at c.args.val.now c.args.ty true (sym c.is_plain.ensures ∙ c.if-not-is_plain.false) ∙ rw fits refl, rw (c.set.ensures, c.in_ok-copy.ensures) (shows-set b c.args.heap.now s c.args.o.birth c.args.at c.args.val.now))
+
+pub returns-clause-pins : goal.returns-clause-pins
+returns-clause-pins g c = edited-pins c.args.heap.now c.set.new.self c.args.o.birth (set_at c.in_ok-copy.copy c.args.at) (λ d. refl) c.set.ensures

@@ -23,7 +23,7 @@ returns-then-is_attached-clause-change g c = λ b s.
     subst (λ (v : Objects). IsAnswered {T = Unit} (sever b c.args.birth) (Err E50) v) c.self.view_is (sever-attached b c.self.inside.heap seen c.args.birth c.in-Some.o.birth c.in-Some.ensures.born live (sym (c.if-is_attached.ensures b seen)))
 
 pub sever_links-requires-clause-room : goal.sever_links-requires-clause-room
-sever_links-requires-clause-room g c = pins-room c.self.inside.heap (rw (← c.self.view_is) at c.requires.pinned) c.in-Some.o.birth
+sever_links-requires-clause-room g c = pins-room c.self.inside.heap c.self.invariant c.in-Some.o.birth
 
 pub returns-clause-change : goal.returns-clause-change
 returns-clause-change g c = λ b s.
@@ -31,6 +31,6 @@ returns-clause-change g c = λ b s.
     let live = shows-live_key b c.self.inside.heap seen c.in-Some.o c.in-Some.ensures.live in
     sever-done b c.sever_links.new.heap c.args.birth c.in-Some.o.birth c.in-Some.ensures.born live (sym (c.if-is_attached.ensures b seen)) (goes-shows (λ d. severed d c.in-Some.o.birth) c.self.inside.heap c.sever_links.new.heap c.sever_links.ensures b seen)
 
-pub returns-clause-pinned : goal.returns-clause-pinned
-returns-clause-pinned g c =
-    goes-pins (λ b. severed b c.in-Some.o.birth) c.self.inside.heap c.sever_links.new.heap c.sever_links.ensures (rw (← c.self.view_is) at c.requires.pinned) (severed-keeps c.in-Some.o.birth)
+pub invariant_of-self : goal.invariant_of-self
+invariant_of-self g c =
+    goes-pins (λ b. severed b c.in-Some.o.birth) c.self.inside.heap c.sever_links.new.heap c.sever_links.ensures c.self.invariant (severed-keeps c.in-Some.o.birth)
