@@ -1,11 +1,12 @@
 -- What the board's calls leave is what the commands define.
-use Rattle.std.proofs.Common.{◌≡◌, refl, ap, sym, subst, ◌∙◌, ℕ, List, true, Some, None, Result, Ok, Err, OnErr, inl}
+use Rattle.std.proofs.Common.{◌≡◌, refl, ap, sym, subst, ◌∙◌, ℕ, List, true, Some, None, Result, Ok, Err, OnErr, inl, inr}
 use Rattle.qo_values.specs.declared.codes.Code.{Code}
 use Rattle.qo_values.specs.declared.properties.Val.{Val}
 use Rattle.qo_model.specs.Board.{Board}
-use Rattle.qo_model.specs.Objects.{Changed, Given, object_del, sever}
+use Rattle.qo_model.specs.Objects.{Changed, Given, object_add, object_del, sever}
 use Rattle.qo_heap.specs.Board.{Shows}
 use Rattle.qo_heap.specs.Objects.{Objects}
+use Rattle.qo_realize.specs.Adding.{Adds}
 use Rattle.qo_realize.specs.At.{write_at}
 use Rattle.qo_realize.specs.Changes.{IsAnswered}
 use Rattle.qo_realize.specs.Writes.{Writes}
@@ -16,7 +17,7 @@ use Rattle.qo_requests.specs.declared.requests.Request.TheVariants.{QmpCapabilit
 use Rattle.qo_commands.specs.Changes.{Changes, is_change}
 use Rattle.qo_commands.specs.Commands.{Done, changed, empty, perform, refused_with, returned, wrote}
 use Rattle.qo_commands.specs.Stands.{Stands}
-use Rattle.qo_commands.proofs.RunningLemmas.{performed_running}
+use Rattle.qo_commands.proofs.RunningLemmas.{attempted_running, performed_running}
 
 -- a command that came to something, by what it came to
 done-ok : (b c : Board) (r : Request) (v w : Objects) → Stands b v → perform b r ≡ returned c empty → Shows c w → Changes b r (Ok tt) w
@@ -59,6 +60,14 @@ sever-ok b v w n s h = changed-ok b (XSever n) (sever b n) v w s refl h.refusal 
 pub sever-err : (b : Board) (v w : Objects) (n : ℕ) (code : Code) → Stands b v → IsAnswered {T = Unit} (sever b n) (Err code) w → Changes b (XSever n) (Err (Refused code)) w
 unfolding perform
 sever-err b v w n code s h = changed-err b (XSever n) (sever b n) code v w s refl h.refusal h.board
+
+-- an object was added, or not; for want of memory the board is as it was, or an attempt was given up
+pub add-changes : (b : Board) (v w : Objects) (driver id : List ℕ) (props : List Given) (result : Result Unit Refusal) → Stands b v → Adds b driver id props result w → Changes b (ObjectAdd driver id props) result w
+unfolding perform
+add-changes b v w driver id props (Ok u) s (none, now) = changed-ok b (ObjectAdd driver id props) (object_add b driver id props) v w s refl none now
+add-changes b v w driver id props (Err (Refused code)) s (some, now) = changed-err b (ObjectAdd driver id props) (object_add b driver id props) code v w s refl some now
+add-changes b v w driver id props (Err Memory) s (inl now) = inl (record { shows = now; running = s.running })
+add-changes b v w driver id props (Err Memory) s (inr now) = inr (record { shows = now; running = attempted_running b (ObjectAdd driver id props) ∙ s.running })
 
 -- there is no other change
 pub no-other : (r : Request) → is_change r ≡ true → ((path name : List ℕ) (val : Val) → r ≡ QomSet path name val → ⊥) → ((driver id : List ℕ) (props : List Given) → r ≡ ObjectAdd driver id props → ⊥) → ((id : List ℕ) → r ≡ ObjectDel id → ⊥) → ((birth : ℕ) → r ≡ XSever birth → ⊥) → ⊥

@@ -1,9 +1,17 @@
 //! Commands that change the board, or are refused.
 
-ghost use Rattle.std.specs.Prelude.{◌≡◌};
-ghost use Rattle.qo_commands.specs.Changes.{is_change};
+ghost use Rattle.std.specs.Prelude.{◌≡◌, true};
+ghost use Rattle.qo_model.specs.Board.{Board as Tree};
+ghost use Rattle.qo_requests.specs.declared.requests.Request.TheVariants as request;
+ghost use Rattle.qo_commands.specs.Changes.{Changes, is_change};
+ghost use Rattle.qo_commands.specs.Stands.{Stands};
 
+use qo_heap::Steps;
+use qo_realize::{Board, Refusal};
 use qo_requests::Request;
+use qo_values::{PropList, Val};
+use std::alloc::Global;
+use std::sync::ledger::Ledger;
 
 /// Whether a command changes the board where it is not refused.
 pub fn is_change(request: &Request) -> bool
@@ -15,5 +23,75 @@ pub fn is_change(request: &Request) -> bool
         Request::ObjectDel { .. } => true,
         Request::XSever { .. } => true,
         _ => false,
+    }
+}
+
+/// Writes the property of a name of the object at a path.
+fn set<L: Ledger>(
+    alloc: Global,
+    board: &mut Board,
+    path: &str,
+    name: &str,
+    val: &Val,
+    steps: &mut Steps<L>,
+) -> Result<(), Refusal>
+    ensures { (b : Tree) → Stands b board.old → Changes b (request.QomSet path.now name.now val.now) result board.new }
+{
+    board.qom_set(path, name, val, alloc, steps)
+}
+
+/// Removes the object of an id.
+fn remove<L: Ledger>(board: &mut Board, id: &str, steps: &mut Steps<L>) -> Result<(), Refusal>
+    ensures { (b : Tree) → Stands b board.old → Changes b (request.ObjectDel id.now) result board.new }
+{
+    board.object_del(id, steps)?;
+    Ok(())
+}
+
+/// Adds an object of a type's name under an id, with properties.
+fn add<L: Ledger>(
+    alloc: Global,
+    board: &mut Board,
+    driver: &str,
+    id: &str,
+    props: &PropList,
+    steps: &mut Steps<L>,
+) -> Result<(), Refusal>
+    ensures { (b : Tree) → Stands b board.old → Changes b (request.ObjectAdd driver.now id.now props.now) result board.new }
+{
+    board.object_add(driver, id, props, alloc, steps)
+}
+
+/// Cuts the strong links of the detached object of a birth.
+fn sever<L: Ledger>(board: &mut Board, birth: u64, steps: &mut Steps<L>) -> Result<(), Refusal>
+    ensures { (b : Tree) → Stands b board.old → Changes b (request.XSever birth) result board.new }
+{
+    board.sever(birth, steps)?;
+    Ok(())
+}
+
+/// A command that changes the board, or is refused. Where it is refused the board is as it was, but
+/// for an attempt of `object-add` that was given up.
+pub fn change<L: Ledger>(
+    alloc: Global,
+    board: &mut Board,
+    request: &Request,
+    steps: &mut Steps<L>,
+) -> Result<(), Refusal>
+    requires { is_change request.now ≡ true }
+    ensures { (b : Tree) → Stands b board.old → Changes b request.now result board.new }
+{
+    match request {
+        Request::QomSet {
+            path,
+            property,
+            value,
+        } => set(alloc, board, path.as_str(), property.as_str(), value, steps),
+        Request::ObjectAdd { driver, id, props } => {
+            add(alloc, board, driver.as_str(), id.as_str(), props, steps)
+        }
+        Request::ObjectDel { id } => remove(board, id.as_str(), steps),
+        Request::XSever { birth } => sever(board, *birth, steps),
+        _ => unreachable!(),
     }
 }

@@ -12,5 +12,5 @@ mod tests;
 mod types;
 mod values;
 
-pub use changes::is_change;
+pub use changes::{change, is_change};
 pub use commands::{Body, Done, ask};

@@ -1,13 +1,13 @@
 //! What no clause says: that commands are answered where there is enough memory. What they tell is
 //! compared with texts written by hand.
-ghost use Rattle.std.specs.Prelude.{◌≡◌, ◌<◌, false};
+ghost use Rattle.std.specs.Prelude.{◌≡◌, ◌<◌, false, true};
 ghost use Rattle.qo_commands.specs.Changes.{is_change};
 
-use crate::{Body, Done, ask};
+use crate::{Body, Done, ask, change};
 use qo_heap::Steps;
-use qo_realize::{Board, Memory};
+use qo_realize::{Board, Memory, Refusal};
 use qo_requests::Request;
-use qo_values::{Code, Text};
+use qo_values::{Code, PropList, Text, Val};
 use std::alloc::{AllocError, Global};
 use std::marker::Brand;
 use std::sync::ledger::{Blank, Ledger};
@@ -75,5 +75,70 @@ fn reads<L: Ledger>(alloc: Global, blank: Blank) -> Result<bool, Memory>
 #[test]
 fn the_opening_board_is_read(rt: HostRuntime) -> Result<(), Fail> {
     assert!(rt; reads::<Brand>(rt.alloc(), Blank::new(1))?);
+    Ok(())
+}
+
+/// Whether a change is refused with this code.
+fn bars<L: Ledger>(
+    alloc: Global,
+    board: &mut Board,
+    request: &Request,
+    code: Code,
+    steps: &mut Steps<L>,
+) -> bool
+    requires { is_change request.now ≡ true }
+{
+    match change(alloc, board, request, steps) {
+        Err(Refusal::Refused(given)) => given == code,
+        _ => false,
+    }
+}
+
+/// The opening board with a tag, whose text is written.
+fn with_tag<L: Ledger>(alloc: Global, steps: &mut Steps<L>) -> Result<Board, Refusal> {
+    let mut board = Board::start(alloc, steps)?;
+    let added = Request::ObjectAdd {
+        driver: text(alloc, "tag")?,
+        id: text(alloc, "t")?,
+        props: PropList::from_vec(Vec::new(alloc)),
+    };
+    change(alloc, &mut board, &added, steps)?;
+    let written = Request::QomSet {
+        path: text(alloc, "/objects/t")?,
+        property: text(alloc, "text")?,
+        value: Val::Text(text(alloc, "seen")?),
+    };
+    change(alloc, &mut board, &written, steps)?;
+    Ok(board)
+}
+
+/// Whether a tag is added, written and removed, which leaves its notes.
+fn changes<L: Ledger>(alloc: Global, blank: Blank) -> Result<bool, Refusal>
+    requires name { blank.name ≡ L.name }
+    requires parts { blank.parts ≡ L.parts }
+    requires some { 0 < blank.parts }
+{
+    let mut steps = Steps::<L>::from_blank(blank);
+    let mut board = with_tag(alloc, &mut steps)?;
+    let path = text(alloc, "t")?;
+    let property = text(alloc, "text")?;
+    let read = Request::QomGet { path, property };
+    let is_read = tells(alloc, &board, &read, "\"seen\"", &mut steps)?;
+    let id = text(alloc, "t")?;
+    change(alloc, &mut board, &Request::ObjectDel { id }, &mut steps)?;
+    let is_noted = tells(
+        alloc,
+        &board,
+        &Request::XQueryNotes { from: 1 },
+        "{\"first\":1,\"notes\":[\"final 9 tag\"],\"total\":2}",
+        &mut steps,
+    )?;
+    let severed = Request::XSever { birth: 9 };
+    Ok(is_read && is_noted && bars(alloc, &mut board, &severed, Code::E33, &mut steps))
+}
+
+#[test]
+fn a_tag_comes_and_goes(rt: HostRuntime) -> Result<(), Fail> {
+    assert!(rt; changes::<Brand>(rt.alloc(), Blank::new(1))?);
     Ok(())
 }
