@@ -262,6 +262,55 @@ fn a_strong_link_holds_what_is_removed(rt: HostRuntime) -> Result<(), Fail> {
 }
 
 #[test]
+fn links_lead_to_a_detached_object(rt: HostRuntime) -> Result<(), Fail> {
+    let rows = [
+        ("object-add {\"qom-type\":\"tag\",\"id\":\"a\"}", "R"),
+        ("object-add {\"qom-type\":\"tag\",\"id\":\"b\"}", "R"),
+        (
+            "object-add {\"qom-type\":\"tag\",\"id\":\"c\",\"next\":\"a\"}",
+            "R",
+        ),
+        ("object-del {\"id\":\"a\"}", "R"),
+        (
+            "qom-set {\"path\":\"b\",\"property\":\"next\",\"value\":\"c/next\"}",
+            "R",
+        ),
+        (
+            "x-query-detached",
+            "[{\"birth\":9,\"refs\":2,\"type\":\"tag\"}]",
+        ),
+        (
+            "qom-set {\"path\":\"c\",\"property\":\"next\",\"value\":\"\"}",
+            "R",
+        ),
+        (
+            "qom-set {\"path\":\"b\",\"property\":\"seen\",\"value\":\"b/next\"}",
+            "R",
+        ),
+        (
+            "x-query-detached",
+            "[{\"birth\":9,\"refs\":1,\"type\":\"tag\"}]",
+        ),
+        (
+            "qom-get {\"path\":\"b\",\"property\":\"seen\"}",
+            "\"detached:9\"",
+        ),
+        (
+            "qom-set {\"path\":\"b\",\"property\":\"next\",\"value\":\"b\"}",
+            "R",
+        ),
+        ("qom-get {\"path\":\"b\",\"property\":\"seen\"}", "\"\""),
+        (
+            "x-query-notes {\"from\":3}",
+            "{\"first\":3,\"notes\":[\"final 9 tag\"],\"total\":4}",
+        ),
+        ("x-sever {\"birth\":10}", "E50"),
+    ];
+    assert!(rt; holds(rt.alloc(), rows.as_slice())?);
+    Ok(())
+}
+
+#[test]
 fn partial_paths_are_found_where_one_leads(rt: HostRuntime) -> Result<(), Fail> {
     let machine =
         "[{\"name\":\"type\",\"type\":\"string\"},{\"name\":\"peripheral\",\"type\":\"child<container>\"},{\"name\":\"peripheral-anon\",\"type\":\"child<container>\"},{\"name\":\"sysclk\",\"type\":\"child<clock>\"},{\"name\":\"root.0\",\"type\":\"child<slot-bus>\"},{\"name\":\"mem.0\",\"type\":\"child<mem-bus>\"}]";
