@@ -14,6 +14,8 @@ pub use no_hub::NoHub;
 pub use statuses::{Ran, Status};
 
 #[cfg(test)]
+mod object_rows;
+#[cfg(test)]
 mod rows;
 #[cfg(test)]
 mod tests;

@@ -213,7 +213,7 @@ const ANSWERED: [(&str, &str); 5] = [
     ),
     (
         "{\"execute\":\"query-commands\"}",
-        "0 {\"return\":[{\"name\":\"device-list-properties\"},{\"name\":\"qmp_capabilities\"},{\"name\":\"qom-list\"},{\"name\":\"qom-list-types\"},{\"name\":\"query-commands\"},{\"name\":\"query-status\"},{\"name\":\"query-version\"},{\"name\":\"quit\"}]}\r\n",
+        "0 {\"return\":[{\"name\":\"device-list-properties\"},{\"name\":\"object-add\"},{\"name\":\"object-del\"},{\"name\":\"qmp_capabilities\"},{\"name\":\"qom-get\"},{\"name\":\"qom-list\"},{\"name\":\"qom-list-types\"},{\"name\":\"qom-set\"},{\"name\":\"query-commands\"},{\"name\":\"query-status\"},{\"name\":\"query-version\"},{\"name\":\"quit\"},{\"name\":\"x-query-detached\"},{\"name\":\"x-query-notes\"},{\"name\":\"x-sever\"}]}\r\n",
     ),
     (
         "{\"execute\":\"query-version\"}",
@@ -224,7 +224,7 @@ const ANSWERED: [(&str, &str); 5] = [
         "0 {\"error\":{\"class\":\"CommandNotFound\",\"desc\":\"E10 unknown command\"}}\r\n",
     ),
     (
-        "{\"execute\":\"qom-list\",\"arguments\":{\"path\":\"machine\"},\"id\":[1,null,{\"b\":-2,\"a\":true}]}",
+        "{\"execute\":\"qom-list\",\"arguments\":{\"path\":\"nowhere\"},\"id\":[1,null,{\"b\":-2,\"a\":true}]}",
         "0 {\"error\":{\"class\":\"DeviceNotFound\",\"desc\":\"E15 path not found\"},\"id\":[1,null,{\"a\":true,\"b\":-2}]}\r\n",
     ),
 ];

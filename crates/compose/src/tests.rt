@@ -37,6 +37,18 @@ pub(crate) fn call(
     takes: &[u64],
     puts: &[u64],
 ) -> Result<Left, Fail> {
+    call_with_room(alloc, words, record, takes, puts, 65_536)
+}
+
+/// The same, with a sink that has room for so many bytes.
+pub(crate) fn call_with_room(
+    alloc: Global,
+    words: &[&str],
+    record: &[u8],
+    takes: &[u64],
+    puts: &[u64],
+    room: usize,
+) -> Result<Left, Fail> {
     let mut texts: Vec<String> = Vec::new(alloc);
     for word in words {
         texts.push(String::from_str(alloc, word)?)?;
@@ -45,7 +57,7 @@ pub(crate) fn call(
         Vec::from_slice(alloc, record)?,
         Vec::from_slice(alloc, takes)?,
     );
-    let sink = ByteSink::new(alloc, 65_536, Vec::from_slice(alloc, puts)?)?;
+    let sink = ByteSink::new(alloc, room, Vec::from_slice(alloc, puts)?)?;
     let mut complaints = ByteSink::new(alloc, 4_096, Vec::new(alloc))?;
     let mut hub = NoHub;
     let Ran {

@@ -1,7 +1,7 @@
 -- The messages of a step go to lanes of the sixteen sessions.
 use Rattle.std.proofs.Common.{◌≡◌, ℕ, zero, suc, ◌<◌, ◌≤◌, Bool, true, false, if◌then◌else◌, List, [], ◌∷◌, ◌++◌, refl, subst, sym, arith, nat_lt}
 use Rattle.std.proofs.lemmas.Bool.{ltb-true}
-use Rattle.qo_causes.specs.declared.inputs.Input.{Input}
+use Rattle.qo_causes.specs.declared.hubs.Lane.TheVariants.{Session}
 use Rattle.qo_causes.specs.declared.inputs.Moment.{Moment}
 use Rattle.qo_causes.specs.declared.inputs.What.{What}
 use Rattle.qo_causes.specs.declared.inputs.What.TheVariants.{Open, Bytes, Shut, Guest as GuestLine, Step, End}
@@ -15,7 +15,7 @@ use Rattle.qo_sessions.specs.declared.modes.Mode.{Mode}
 use Rattle.qo_sessions.specs.declared.modes.Mode.TheVariants.{Closed, Negotiating, Commanding}
 use Rattle.qo_machine.proofs.MachineLemmas.{told_more}
 use Rattle.qo_commands.specs.Commands.{perform}
-use Rattle.qo_machine.specs.Machine.{Choice, Message, State, Stepped, behind, defined, refused, event_outs, first, input_step, is_commanding, item_step, made_by, mode_of, numbers_below, opened, others, serve, serve_unless, session_of, step, taken, those_commanding, told_of, unchanged, with_session}
+use Rattle.qo_machine.specs.Machine.{Choice, Message, State, Stepped, behind, defined, given_up, refused, event_outs, first, input_step, is_commanding, item_step, made_by, mode_of, numbers_below, opened, others, serve, serve_unless, session_of, taken, those_commanding, told_of, unchanged, with_session}
 use Rattle.qo_machine.specs.Sending.{AreToLanes}
 
 lanes_more : (a b : List Message) → AreToLanes a → AreToLanes b → AreToLanes (a ++ b)
@@ -41,6 +41,7 @@ made_lanes defined at n s (Answer code id) below = (below, tt)
 made_lanes defined at n s (Negotiated id) below = (below, tt)
 made_lanes defined at n s (Do request id) below = lanes_more (event_outs at s (perform s.board request).events) _ (events_told (perform s.board request).events s at) (below, tt)
 made_lanes refused at n s what below = (below, tt)
+made_lanes given_up at n s what below = (below, tt)
 
 item_lanes : (choice : Choice) (at : Moment) (n : ℕ) (s : State) (item : Item) → n < 16 → AreToLanes (item_step choice at n s item).outs
 unfolding item_step
@@ -56,10 +57,9 @@ serve_lanes (item ∷ items) at n s cs below =
     unless_lanes s.ended (unchanged s cs) (behind (item_step (first cs) at n s item).outs (serve at n items (item_step (first cs) at n s item).state (others cs))) tt
     (lanes_more (item_step (first cs) at n s item).outs (serve at n items (item_step (first cs) at n s item).state (others cs)).outs (item_lanes (first cs) at n s item below) (serve_lanes items at n (item_step (first cs) at n s item).state (others cs) below))
 
--- messages go to the lanes of the sixteen sessions
-pub to_lanes : (s : State) (i : Input) (cs : List Choice) → AreToLanes (step s i cs).outs
-unfolding step
-to_lanes s i cs = on s.ended
+-- what an input sends goes to the lanes of the sixteen sessions
+pub input_lanes : (s : State) (at : Moment) (w : What) (cs : List Choice) → AreToLanes (input_step s at w cs).outs
+input_lanes s at w cs = what_lanes w
   where
     open_lanes : (n : ℕ) (mode : Mode) (t : Bool) → nat_lt n 16 ≡ t → AreToLanes (if t then opened s n mode cs else unchanged s cs).outs
     open_lanes n Closed true h = (ltb-true n 16 h, tt)
@@ -67,15 +67,15 @@ to_lanes s i cs = on s.ended
     open_lanes n Commanding true h = tt
     open_lanes n mode false h = tt
 
-    bytes_lanes : (n : ℕ) (bytes : List ℕ) (t : Bool) → nat_lt n 16 ≡ t → AreToLanes (if t then taken i.at s n bytes cs else unchanged s cs).outs
-    bytes_lanes n bytes true h = serve_lanes (fed (session_of s n) bytes).items i.at n (with_session s n (fed (session_of s n) bytes).session) cs (ltb-true n 16 h)
+    bytes_lanes : (n : ℕ) (bytes : List ℕ) (t : Bool) → nat_lt n 16 ≡ t → AreToLanes (if t then taken at s n bytes cs else unchanged s cs).outs
+    bytes_lanes n bytes true h = serve_lanes (fed (session_of s n) bytes).items at n (with_session s n (fed (session_of s n) bytes).session) cs (ltb-true n 16 h)
     bytes_lanes n bytes false h = tt
 
     shut_lanes : (n : ℕ) (t : Bool) (a b : State) → AreToLanes (if t then unchanged a cs else unchanged b cs).outs
     shut_lanes n true a b = tt
     shut_lanes n false a b = tt
 
-    what_lanes : (w : What) → AreToLanes (input_step s i.at w cs).outs
+    what_lanes : (w : What) → AreToLanes (input_step s at w cs).outs
     what_lanes (Open n) = open_lanes n (mode_of s n) (nat_lt n 16) refl
     what_lanes (Bytes n bytes) = bytes_lanes n bytes (nat_lt n 16) refl
     what_lanes (Shut n) = shut_lanes n (nat_lt n 16) _ _
@@ -83,6 +83,16 @@ to_lanes s i cs = on s.ended
     what_lanes (Step ns) = tt
     what_lanes End = tt
 
-    on : (e : Bool) → AreToLanes (serve_unless e (unchanged s cs) (input_step s i.at i.what cs)).outs
-    on true = tt
-    on false = what_lanes i.what
+-- no message, one, and one behind some
+pub no_lanes : (outs : List Message) → outs ≡ [] → AreToLanes outs
+no_lanes outs none = subst AreToLanes (sym none) tt
+
+pub one_lane : (n : ℕ) (text : List ℕ) → n < 16 → AreToLanes ((Session n, text) ∷ [])
+one_lane n text below = (below, tt)
+
+pub told_lanes : (es : List Event) (s : State) (at : Moment) (n : ℕ) (text : List ℕ) (told front : List Message) → told ≡ event_outs at s es → front ≡ told ++ (Session n, text) ∷ [] → n < 16 → AreToLanes front
+told_lanes es s at n text told front tells is below =
+    subst AreToLanes (sym is) (lanes_more told ((Session n, text) ∷ []) (subst AreToLanes (sym tells) (events_told es s at)) (below, tt))
+
+pub more_lanes : (a front b : List Message) → b ≡ a ++ front → AreToLanes a → AreToLanes front → AreToLanes b
+more_lanes a front b is p q = subst AreToLanes (sym is) (lanes_more a front p q)

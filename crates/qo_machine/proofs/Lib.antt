@@ -1,9 +1,11 @@
+pub mod ChangeLemmas
 pub mod ChunkLemmas
-pub mod CommandLemmas
+pub mod KeepLemmas
 pub mod LaneLemmas
 pub mod LawLemmas
-pub mod ListingLemmas
 pub mod MachineLemmas
+pub mod NoteLemmas
 pub mod RunLemmas
 pub mod SendingLemmas
+pub mod SoundLemmas
 pub mod TreeLemmas

@@ -1,6 +1,6 @@
 -- One step of the machine.
-use Rattle.std.proofs.Common.{◌≡◌, ◌<◌, ◌+◌, ℕ, zero, suc, Bool, true, false, List, [], ◌∷◌, ◌++◌, length, refl, sym, subst, ◌∙◌, ap, append_assoc, Option, Result, Ok, Err, IfOk, slice_set, slice_index_or, take}
-use Rattle.std.proofs.lemmas.Bool.{lt-ltb}
+use Rattle.std.proofs.Common.{◌≡◌, ◌<◌, ◌+◌, ℕ, zero, suc, Bool, true, false, List, [], ◌∷◌, ◌++◌, length, refl, sym, subst, ◌∙◌, ap, append_assoc, Option, Result, Ok, Err, ◌⊎◌, inl, inr, IfOk, OnErr, OnOk, nat_lt, ◌≤◌, replicate, arith, slice_set, slice_index_or, take}
+use Rattle.std.proofs.lemmas.Bool.{lt-ltb, ltb-true}
 use Rattle.std.proofs.lemmas.List.Elements.{filter-append}
 use Rattle.std.proofs.lemmas.Grind.{flat_map-append}
 use Rattle.std.proofs.lemmas.List.{append-nil, map-append, take_more}
@@ -20,9 +20,17 @@ use Rattle.qo_sessions.specs.declared.acts.SessionAct.{SessionAct}
 use Rattle.qo_sessions.specs.declared.acts.SessionAct.TheVariants.{Answer, Negotiated, Do}
 use Rattle.qo_values.specs.declared.codes.Code.{Code}
 use Rattle.qo_values.specs.declared.codes.Code.TheVariants.{E99}
+use Rattle.qo_model.specs.Board.{Board}
+use Rattle.qo_model.specs.Opening.{opening_board}
+use Rattle.qo_heap.specs.Board.{Shows}
+use Rattle.qo_heap.specs.Objects.{Objects}
+use Rattle.qo_commands.specs.Changes.{attempted}
 use Rattle.qo_commands.specs.Commands.{Done, empty, perform}
-use Rattle.qo_machine.specs.Machine.{Choice, Made, Message, Seen, State, Stepped, Answers, behind, behind_command, commanding, defined, refused, event_outs, first, input_step, item_step, made_by, mode_of, others, reply, serve, serve_unless, session_of, step, those_commanding, told_of, unchanged, with_session}
-use Rattle.qo_machine.specs.Serving.{CommandServed, Serves, moved}
+use Rattle.qo_commands.specs.Views.{done_of}
+use Rattle.qo_commands.specs.declared.commands.Done as code
+use Rattle.qo_commands.specs.Stands.{Stands}
+use Rattle.qo_machine.specs.Machine.{Choice, IsIn, Made, Message, Seen, State, Stepped, Answers, opening, behind, behind_command, commanding, defined, given_up, refused, event_outs, first, input_step, item_step, made_by, mode_of, others, reply, serve, serve_unless, session_of, state_at, step, those_commanding, told_of, unchanged, with_board, with_session}
+use Rattle.qo_machine.specs.Serving.{Changed, CommandServed, Serves, ServesTo, moved}
 
 -- behind the end nothing is served
 pub step_ended : (s : State) (i : Input) (cs : List Choice) → s.ended ≡ true → step s i cs ≡ unchanged s cs
@@ -34,26 +42,35 @@ pub step_on : (s : State) (i : Input) (w : What) (cs : List Choice) → s.ended 
 unfolding step
 step_on s i w cs h e = rw (h, e) refl
 
--- whether a machine's run has ended is part of its state
-pub state_ended : {m n : Seen} → m ≡ n → m.state.ended ≡ n.state.ended
-state_ended is = ap (λ (m : Seen). m.state.ended) is
+-- whether a machine's run has ended is part of what is seen of it
+pub seen_ended : {m n : Seen} → m ≡ n → m.ended ≡ n.ended
+seen_ended is = ap (λ (m : Seen). m.ended) is
+
+-- a state that a machine is in, by its board
+pub in_at : (b : Board) (m : Seen) → Stands b m.objects → IsIn (state_at b m) m
+in_at b m stands = record { stands = stands; rest = refl }
+
+-- what is so of a state that a machine is in, is so of its board with the rest of the machine
+pub by_board : (P : State → Type 0) (m : Seen) → ((b : Board) → Stands b m.objects → P (state_at b m)) → (s : State) → IsIn s m → P s
+by_board P m h s at = subst P (sym at.rest) (h s.board at.stands)
 
 -- what a step is, by its answer
-pub answers_by : (s t : State) (i : Input) (outs : List Message) (cs rest : List Choice) → step s i cs ≡ record { outs = outs; state = t; rest = rest } → Answers s i outs t
-answers_by s t i outs cs rest is = (cs, ap (λ (r : Stepped). r.outs) is, ap (λ (r : Stepped). r.state) is)
+pub answers_by : (s t : State) (i : Input) (outs : List Message) (m : Seen) (cs rest : List Choice) → step s i cs ≡ record { outs = outs; state = t; rest = rest } → IsIn t m → Answers s i outs m
+answers_by s t i outs m cs rest is at =
+    (cs, ap (λ (r : Stepped). r.outs) is, subst (λ (x : State). IsIn x m) (sym (ap (λ (r : Stepped). r.state) is)) at)
 
 -- an input that is served behind no end
-pub answers_on : (s t : State) (i : Input) (w : What) (outs : List Message) (cs rest : List Choice) → s.ended ≡ false → i.what ≡ w → input_step s i.at w cs ≡ record { outs = outs; state = t; rest = rest } → Answers s i outs t
-answers_on s t i w outs cs rest going what is = answers_by s t i outs cs rest (step_on s i w cs going what ∙ is)
+pub answers_on : (s t : State) (i : Input) (w : What) (outs : List Message) (m : Seen) (cs rest : List Choice) → s.ended ≡ false → i.what ≡ w → input_step s i.at w cs ≡ record { outs = outs; state = t; rest = rest } → IsIn t m → Answers s i outs m
+answers_on s t i w outs m cs rest going what is at = answers_by s t i outs m cs rest (step_on s i w cs going what ∙ is) at
 
 -- nothing was sent
 pub leaves : (s : State) (outs : List Message) → outs ≡ [] → unchanged s [] ≡ record { outs = outs; state = s; rest = [] }
 leaves s outs none = ap (λ (o : List Message). record { outs = o; state = s; rest = [] }) (sym none)
 
 -- an input behind the end
-pub answers_ended : (s : State) (i : Input) (outs : List Message) → s.ended ≡ true → outs ≡ [] → Answers s i outs s
-answers_ended s i outs over none =
-    ([], ap (λ (r : Stepped). r.outs) (step_ended s i [] over) ∙ sym none, ap (λ (r : Stepped). r.state) (step_ended s i [] over))
+pub answers_ended : (s : State) (i : Input) (outs : List Message) (m : Seen) → s.ended ≡ true → outs ≡ [] → IsIn s m → Answers s i outs m
+answers_ended s i outs m over none at =
+    answers_by s s i outs m [] [] (step_ended s i [] over ∙ leaves s outs none) at
 
 -- a fact on what came
 pub if_ok : {T E : Type 0} {P Q : T → Type 0} (r : Result T E) → ((x : T) → P x → Q x) → IfOk r P → IfOk r Q
@@ -143,18 +160,25 @@ item_negotiated at n s t item id text going is to written =
     (item_made at n s t item defined (Negotiated id) ((to_session n, text) ∷ []) is (rw (to, written) refl))
 
 -- a command
-pub item_done : (at : Moment) (n : ℕ) (s mid t : State) (item : Item) (request : Request) (id : Option (List ℕ)) (outs : List Message) → s.ended ≡ false → Do request id ≡ act (mode_of s n) item → mid ≡ moved s n (Do request id) → CommandServed at n mid request id outs t → Serves at n s (item ∷ []) outs t
-item_done at n s mid t item request id outs going is to p =
-    serves_one at n s t item p.0 outs going (item_made at n s t item p.0 (Do request id) outs is (rw to at p.1))
+pub item_done : (at : Moment) (n : ℕ) (s : State) (m : Seen) (item : Item) (request : Request) (id : Option (List ℕ)) (outs : List Message) → s.ended ≡ false → Do request id ≡ act (mode_of s n) item → CommandServed at n s request id outs m → ServesTo at n s (item ∷ []) outs m
+item_done at n s m item request id outs going is p =
+    let t = (made_by p.0 at n s (Do request id)).state in (
+      t,
+      p.2,
+      serves_one at n s t item p.0 outs going (item_made at n s t item p.0 (Do request id) outs is (ap (λ (o : List Message). record { outs = o; state = t }) p.1)),
+    )
 
--- a command that was done
-pub command_done : (at : Moment) (n : ℕ) (s t : State) (request : Request) (id : Option (List ℕ)) (d : Done) (text : List ℕ) → d ≡ perform s.board request → d.board ≡ s.board → text ≡ reply id (perform s.board request).result → t ≡ behind_command d.ends s → CommandServed at n s request id (event_outs at s d.events ++ (to_session n, text) ∷ []) t
-command_done at n s t request id d text is same written to =
-    (defined, rw (← is, written, ← is, same, to) refl)
+-- a command was done as it is defined
+pub command_done : (at : Moment) (n : ℕ) (s : State) (request : Request) (id : Option (List ℕ)) (outs : List Message) (m : Seen) → event_outs at s (perform s.board request).events ++ (to_session n, reply id (perform s.board request).result) ∷ [] ≡ outs → IsIn (behind_command (perform s.board request).ends (with_board s (perform s.board request).board)) m → CommandServed at n s request id outs m
+command_done at n s request id outs m sent to = (defined, sent, to)
 
--- a command that was refused for want of memory
-pub command_refused : (at : Moment) (n : ℕ) (s : State) (request : Request) (id : Option (List ℕ)) (text : List ℕ) → text ≡ error_reply id E99 → CommandServed at n s request id ((to_session n, text) ∷ []) s
-command_refused at n s request id text written = (refused, rw written refl)
+-- a command was refused for want of memory
+pub command_refused : (at : Moment) (n : ℕ) (s : State) (request : Request) (id : Option (List ℕ)) (text : List ℕ) (m : Seen) → text ≡ error_reply id E99 → IsIn s m → CommandServed at n s request id ((to_session n, text) ∷ []) m
+command_refused at n s request id text m written to = (refused, rw written refl, to)
+
+-- a command was refused for want of memory, behind an attempt
+pub command_given_up : (at : Moment) (n : ℕ) (s : State) (request : Request) (id : Option (List ℕ)) (text : List ℕ) (m : Seen) → text ≡ error_reply id E99 → IsIn (with_board s (attempted s.board request)) m → CommandServed at n s request id ((to_session n, text) ∷ []) m
+command_given_up at n s request id text m written to = (given_up, rw written refl, to)
 
 -- all items of some bytes
 serve_all : (at : Moment) (n : ℕ) (s t : State) (items : List Item) (outs : List Message) → (p : Serves at n s items outs t) → serve at n items s p.0 ≡ record { outs = outs; state = t; rest = [] }
@@ -163,9 +187,173 @@ serve_all at n s t items outs p =
     ∙ ap (λ (o : List Message). record { outs = o; state = t; rest = [] }) (append-nil outs)
 
 -- bytes of a session
-pub bytes_taken : (at : Moment) (n : ℕ) (s mid t : State) (bytes : List ℕ) (items : List Item) (outs : List Message) → n < 16 → items ≡ (fed (session_of s n) bytes).items → mid ≡ with_session s n (fed (session_of s n) bytes).session → Serves at n mid items outs t → (choices : List Choice) × (input_step s at (Bytes n bytes) choices ≡ record { outs = outs; state = t; rest = [] })
-bytes_taken at n s mid t bytes items outs below is to p =
+pub bytes_taken : (at : Moment) (n : ℕ) (s : State) (m : Seen) (bytes : List ℕ) (items : List Item) (outs : List Message) → n < 16 → items ≡ (fed (session_of s n) bytes).items → ServesTo at n (with_session s n (fed (session_of s n) bytes).session) items outs m → (choices : List Choice) × (t : State) × IsIn t m × (input_step s at (Bytes n bytes) choices ≡ record { outs = outs; state = t; rest = [] })
+bytes_taken at n s m bytes items outs below is p =
     let f = fed (session_of s n) bytes in
     let start = with_session s n f.session in
-    let q : Serves at n start f.items outs t = subst (λ (js : List Item). Serves at n start js outs t) is (subst (λ (m : State). Serves at n m items outs t) to p) in
-    (q.0, rw (lt-ltb n 16 below) (serve_all at n start t f.items outs q))
+    let q : Serves at n start f.items outs p.0 = subst (λ (js : List Item). Serves at n start js outs p.0) is p.2 in
+    (q.0, p.0, p.1, rw (lt-ltb n 16 below) (serve_all at n start p.0 f.items outs q))
+
+-- A machine that moved beside its board.
+
+-- from a state that it was in it is in the one that is moved so
+pub in_moved : (f : State → State) (m to : Seen) → ((b : Board) → state_at b to ≡ f (state_at b m)) → to.objects ≡ m.objects → (s : State) → IsIn s m → IsIn (f s) to
+in_moved f m to move same s at =
+    by_board (λ (x : State). IsIn (f x) to) m (λ b stands. subst (λ (x : State). IsIn x to) (move b) (in_at b to (subst (Stands b) (sym same) stands))) s at
+
+-- it did not move
+pub in_still : (m to : Seen) → to ≡ m → (s : State) → IsIn s m → IsIn s to
+in_still m to same s at = subst (IsIn s) (sym same) at
+
+-- an input that touches no board, as the machine answers it
+pub answers_moved : (i : Input) (w : What) (outs : List Message) (m to : Seen) → m.ended ≡ false → i.what ≡ w → ((b : Board) → input_step (state_at b m) i.at w [] ≡ record { outs = outs; state = state_at b to; rest = [] }) → to.objects ≡ m.objects → (s : State) → IsIn s m → Answers s i outs to
+answers_moved i w outs m to going what is same s at =
+    by_board (λ (x : State). Answers x i outs to) m
+    (λ b stands. answers_on (state_at b m) (state_at b to) i w outs to [] [] going what (is b) (in_at b to (subst (Stands b) (sym same) stands))) s at
+
+-- an input that changes nothing
+pub answers_still : (i : Input) (w : What) (outs : List Message) (m to : Seen) → m.ended ≡ false → i.what ≡ w → outs ≡ [] → to ≡ m → ((s : State) → input_step s i.at w [] ≡ unchanged s []) → (s : State) → IsIn s m → Answers s i outs to
+answers_still i w outs m to going what none same is s at =
+    answers_on s s i w outs to [] [] (ap (λ (x : State). x.ended) at.rest ∙ going) what (is s ∙ leaves s outs none) (in_still m to same s at)
+
+-- bytes of a session, as the machine answers them
+pub answers_taken : (i : Input) (w : What) (outs : List Message) (m to : Seen) → m.ended ≡ false → i.what ≡ w → (s : State) → IsIn s m → (choices : List Choice) × (t : State) × IsIn t to × (input_step s i.at w choices ≡ record { outs = outs; state = t; rest = [] }) → Answers s i outs to
+answers_taken i w outs m to going what s at p =
+    answers_on s p.1 i w outs to p.0 [] (ap (λ (x : State). x.ended) at.rest ∙ going) what p.3 p.2
+
+-- A machine serves.
+
+-- the items served so far, and one more
+pub serves_on : (at : Moment) (n : ℕ) (s : State) (mid to : Seen) (is js : List Item) (a b : List Message) → ServesTo at n s is a mid → ((t : State) → IsIn t mid → ServesTo at n t js b to) → ServesTo at n s (is ++ js) (a ++ b) to
+serves_on at n s mid to is js a b p q =
+    let next = q p.0 p.1 in (next.0, next.1, serves_more at n s p.0 next.0 is js a b p.2 next.2)
+
+-- a refused item, and a negotiation, as the machine serves them
+pub serves_answer : (at : Moment) (n : ℕ) (m to : Seen) (item : Item) (code : Code) (id : Option (List ℕ)) (text : List ℕ) → m.ended ≡ false → ((b : Board) → Answer code id ≡ act (mode_of (state_at b m) n) item) → ((b : Board) → state_at b to ≡ moved (state_at b m) n (Answer code id)) → to.objects ≡ m.objects → text ≡ error_reply id code → (s : State) → IsIn s m → ServesTo at n s (item ∷ []) ((to_session n, text) ∷ []) to
+serves_answer at n m to item code id text going is move same written s here =
+    by_board (λ (x : State). ServesTo at n x (item ∷ []) ((to_session n, text) ∷ []) to) m
+    (λ b stands. (
+      state_at b to,
+      in_at b to (subst (Stands b) (sym same) stands),
+      item_answered at n (state_at b m) (state_at b to) item code id text going (is b) (move b) written,
+    )) s here
+
+pub serves_negotiation : (at : Moment) (n : ℕ) (m to : Seen) (item : Item) (id : Option (List ℕ)) (text : List ℕ) → m.ended ≡ false → ((b : Board) → Negotiated id ≡ act (mode_of (state_at b m) n) item) → ((b : Board) → state_at b to ≡ moved (state_at b m) n (Negotiated id)) → to.objects ≡ m.objects → text ≡ return_reply id empty → (s : State) → IsIn s m → ServesTo at n s (item ∷ []) ((to_session n, text) ∷ []) to
+serves_negotiation at n m to item id text going is move same written s here =
+    by_board (λ (x : State). ServesTo at n x (item ∷ []) ((to_session n, text) ∷ []) to) m
+    (λ b stands. (
+      state_at b to,
+      in_at b to (subst (Stands b) (sym same) stands),
+      item_negotiated at n (state_at b m) (state_at b to) item id text going (is b) (move b) written,
+    )) s here
+
+-- a command, as the machine serves it
+pub serves_command : (at : Moment) (n : ℕ) (m mid to : Seen) (item : Item) (request : Request) (id : Option (List ℕ)) (outs : List Message) → m.ended ≡ false → ((b : Board) → Do request id ≡ act (mode_of (state_at b m) n) item) → ((b : Board) → state_at b mid ≡ moved (state_at b m) n (Do request id)) → mid.objects ≡ m.objects → ((s : State) → IsIn s mid → CommandServed at n s request id outs to) → (s : State) → IsIn s m → ServesTo at n s (item ∷ []) outs to
+serves_command at n m mid to item request id outs going is move same served s here =
+    by_board (λ (x : State). ServesTo at n x (item ∷ []) outs to) m
+    (λ b stands.
+    item_done at n (state_at b m) to item request id outs going (is b)
+    (served (state_at b m) (subst (λ (x : State). IsIn x mid) (move b) (in_at b mid (subst (Stands b) (sym same) stands))))) s here
+
+-- an item behind the end
+pub serves_over : (at : Moment) (n : ℕ) (m to : Seen) (item : Item) → m.ended ≡ true → to ≡ m → (s : State) → IsIn s m → ServesTo at n s (item ∷ []) [] to
+serves_over at n m to item over same s here =
+    (s, in_still m to same s here, serves_ended at n s item (ap (λ (x : State). x.ended) here.rest ∙ over))
+
+-- Commands.
+
+-- one that leaves the board
+pub served_ask : (at : Moment) (n : ℕ) (m to : Seen) (request : Request) (id : Option (List ℕ)) (d : code.Done) (text : List ℕ) (told front : List Message) → ((b : Board) → Stands b m.objects → (done_of b d ≡ perform b request) × (text ≡ reply id (perform b request).result)) → ((b : Board) → told ≡ event_outs at (state_at b m) d.events.items) → front ≡ told ++ (to_session n, text) ∷ [] → ((b : Board) → state_at b to ≡ behind_command d.ends (state_at b m)) → to.objects ≡ m.objects → (s : State) → IsIn s m → CommandServed at n s request id front to
+served_ask at n m to request id d text told front done tells is move same s here =
+    by_board (λ (x : State). CommandServed at n x request id front to) m
+    (λ b stands.
+    let does = done b stands in
+    command_done at n (state_at b m) request id front to
+    (ap (λ (x : Done). event_outs at (state_at b m) x.events ++ (to_session n, reply id x.result) ∷ []) (sym does.0)
+    ∙ ap (λ (outs : List Message). outs ++ (to_session n, reply id (done_of b d).result) ∷ []) (sym (tells b))
+    ∙ ap (λ (bytes : List ℕ). told ++ (to_session n, bytes) ∷ []) (ap (λ (x : Done). reply id x.result) does.0 ∙ sym does.1)
+    ∙ sym is)
+    (subst (λ (x : State). IsIn x to) (move b ∙ ap (λ (x : Done). behind_command x.ends (with_board (state_at b m) x.board)) does.0)
+    (in_at b to (subst (Stands b) (sym same) stands)))) s here
+
+-- one that changes the board: done, or refused for want of memory
+pub served_change : (at : Moment) (n : ℕ) (m to : Seen) (request : Request) (id : Option (List ℕ)) (text : List ℕ) → ((b : Board) → Stands b m.objects → Changed b request id text to.objects) → ((b : Board) → state_at b to ≡ state_at b m) → (s : State) → IsIn s m → CommandServed at n s request id ((to_session n, text) ∷ []) to
+served_change at n m to request id text done move s here =
+    by_board (λ (x : State). CommandServed at n x request id ((to_session n, text) ∷ []) to) m
+    (λ b stands.
+    let d = done b stands in
+    command_done at n (state_at b m) request id ((to_session n, text) ∷ []) to
+    (ap (λ (es : List Event). event_outs at (state_at b m) es ++ (to_session n, reply id (perform b request).result) ∷ []) d.quiet
+    ∙ ap (λ (bytes : List ℕ). (to_session n, bytes) ∷ []) (sym d.replied))
+    (subst (λ (x : State). IsIn x to) (move (perform b request).board ∙ ap (λ (e : Bool). behind_command e (with_board (state_at b m) (perform b request).board)) (sym d.going))
+    (in_at (perform b request).board to d.stands))) s here
+
+pub served_want : (at : Moment) (n : ℕ) (m to : Seen) (request : Request) (id : Option (List ℕ)) (text : List ℕ) → text ≡ error_reply id E99 → ((b : Board) → Stands b m.objects → Stands b to.objects ⊎ Stands (attempted b request) to.objects) → ((b : Board) → state_at b to ≡ state_at b m) → (s : State) → IsIn s m → CommandServed at n s request id ((to_session n, text) ∷ []) to
+served_want at n m to request id text written kept move s here =
+    by_board (λ (x : State). CommandServed at n x request id ((to_session n, text) ∷ []) to) m
+    (λ b stands. by b (kept b stands)) s here
+  where
+    by : (b : Board) → Stands b to.objects ⊎ Stands (attempted b request) to.objects → CommandServed at n (state_at b m) request id ((to_session n, text) ∷ []) to
+    by b (inl stands) =
+        command_refused at n (state_at b m) request id text to written (subst (λ (x : State). IsIn x to) (move b) (in_at b to stands))
+    by b (inr stands) =
+        command_given_up at n (state_at b m) request id text to written (subst (λ (x : State). IsIn x to) (move (attempted b request)) (in_at (attempted b request) to stands))
+
+-- The answers of the machine's own calls.
+
+-- an input that touches no board
+pub served_beside : {E : Type 0} (r : Result (List Message) E) (i : Input) (w : What) (m to : Seen) → m.ended ≡ false → i.what ≡ w → ((b : Board) (at : Moment) → IfOk r (λ outs. input_step (state_at b m) at w [] ≡ record { outs = outs; state = state_at b to; rest = [] })) → to.objects ≡ m.objects → (s : State) → IsIn s m → IfOk r (λ outs. Answers s i outs to)
+served_beside r i w m to going what is same s here =
+    by_board (λ (x : State). IfOk r (λ outs. Answers x i outs to)) m
+    (λ b stands. if_ok r (λ outs h. answers_on (state_at b m) (state_at b to) i w outs to [] [] going what h (in_at b to (subst (Stands b) (sym same) stands))) (is b i.at)) s here
+
+-- bytes of a session
+pub served_bytes : {E : Type 0} (r : Result (List Message) E) (i : Input) (w : What) (m to : Seen) → m.ended ≡ false → i.what ≡ w → ((s : State) → IsIn s m → IfOk r (λ outs. (choices : List Choice) × (t : State) × IsIn t to × (input_step s i.at w choices ≡ record { outs = outs; state = t; rest = [] }))) → (s : State) → IsIn s m → IfOk r (λ outs. Answers s i outs to)
+served_bytes r i w m to going what is s here = if_ok r (λ outs p. answers_taken i w outs m to going what s here p) (is s here)
+
+-- the items that bytes complete
+pub served_items : {E : Type 0} (r : Result (List Message) E) (at : Moment) (n : ℕ) (m mid to : Seen) (bytes : List ℕ) (items : List Item) → n < 16 → ((b : Board) → items ≡ (fed (session_of (state_at b m) n) bytes).items) → ((b : Board) → state_at b mid ≡ with_session (state_at b m) n (fed (session_of (state_at b m) n) bytes).session) → mid.objects ≡ m.objects → IfOk r (λ outs. (s : State) → IsIn s mid → ServesTo at n s items outs to) → (s : State) → IsIn s m → IfOk r (λ outs. (choices : List Choice) × (t : State) × IsIn t to × (input_step s at (Bytes n bytes) choices ≡ record { outs = outs; state = t; rest = [] }))
+served_items r at n m mid to bytes items below cuts move same served s here =
+    by_board
+    (λ (x : State). IfOk r (λ outs. (choices : List Choice) × (t : State) × IsIn t to × (input_step x at (Bytes n bytes) choices ≡ record { outs = outs; state = t; rest = [] }))) m
+    (λ b stands.
+    if_ok r
+    (λ outs h.
+    bytes_taken at n (state_at b m) to bytes items outs below (cuts b)
+    (h (with_session (state_at b m) n (fed (session_of (state_at b m) n) bytes).session)
+    (subst (λ (x : State). IsIn x mid) (move b) (in_at b mid (subst (Stands b) (sym same) stands))))) served) s here
+
+-- bytes of a number that is no session's
+pub beyond : (at : Moment) (n : ℕ) (bytes : List ℕ) (s : State) (outs : List Message) → 16 ≤ n → outs ≡ [] → input_step s at (Bytes n bytes) [] ≡ record { outs = outs; state = s; rest = [] }
+beyond at n bytes s outs high none = by (nat_lt n 16) refl
+  where
+    by : (t : Bool) → nat_lt n 16 ≡ t → input_step s at (Bytes n bytes) [] ≡ record { outs = outs; state = s; rest = [] }
+    by true is = let below : n < 16 = ltb-true n 16 is in absurd (omega (arith, below, high))
+    by false is = rw is (leaves s outs none)
+
+-- a machine at first
+pub starts : (m : Seen) → Shows opening_board m.objects → m.sessions ≡ replicate 16 closed → m.ended ≡ false → IsIn opening m
+unfolding opening_board
+starts m shows shut going =
+    record {
+      stands = record { shows = shows; running = refl };
+      rest =
+          ap (λ (ss : List sessions.State). record { board = opening_board; sessions = ss; guest_line = []; ended = false }) (sym shut)
+          ∙ ap (λ (e : Bool). record { board = opening_board; sessions = m.sessions; guest_line = []; ended = e }) (sym going);
+    }
+
+pub on_ok : {T E P Q : Type 0} (r : Result T E) → (P → Q) → OnOk r P → OnOk r Q
+on_ok (Ok x) f p = f p
+on_ok (Err e) f p = tt
+
+-- what holds where memory ran out
+pub on_err : {T E P : Type 0} (r : Result T E) → P → OnErr r P
+on_err (Ok x) p = tt
+on_err (Err e) p = p
+
+-- a heap by the view of the machine that has it
+pub stands_in : (b : Board) (v : Objects) (m : Seen) → v ≡ m.objects → Stands b m.objects → Stands b v
+stands_in b v m is stands = subst (Stands b) (sym is) stands
+
+pub seen_objects : {m n : Seen} → m ≡ n → m.objects ≡ n.objects
+seen_objects is = ap (λ (m : Seen). m.objects) is

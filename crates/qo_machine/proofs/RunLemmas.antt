@@ -1,5 +1,5 @@
 -- Runs: one turn after another.
-use Rattle.std.proofs.Common.{◌≡◌, ℕ, zero, suc, ◌+◌, ◌<◌, ◌≤◌, Bool, true, false, if◌then◌else◌, ◌||◌, List, [], ◌∷◌, ◌++◌, length, take, refl, sym, ◌∙◌, ap, subst, add-one, arith, append_assoc, length-append, Option, None, Some, Ok, Err, option_map, slice_index_or, slice_set, replicate}
+use Rattle.std.proofs.Common.{◌≡◌, ℕ, zero, suc, ◌+◌, ◌<◌, ◌≤◌, Bool, true, false, if◌then◌else◌, ◌||◌, List, [], ◌∷◌, ◌++◌, length, take, refl, sym, ◌∙◌, ap, subst, add-one, arith, append_assoc, length-append, Option, None, Some, Result, Ok, Err, option_map, slice_index_or, slice_set, replicate}
 use Rattle.std.specs.Prelude.{option_to_list}
 use Rattle.std.proofs.lemmas.Bool.{true≢false}
 use Rattle.std.proofs.lemmas.Grind.{flat_map-append}
@@ -13,7 +13,7 @@ use Rattle.qo_causes.specs.declared.hubs.Lane.{Lane}
 use Rattle.qo_causes.specs.declared.inputs.Input.{Input}
 use Rattle.qo_causes.specs.declared.inputs.What.{What}
 use Rattle.qo_causes.specs.declared.inputs.What.TheVariants.{Open, Bytes, Shut, Guest as GuestLine, Step, End}
-use Rattle.qo_machine.specs.Machine.{Message, State, Stepped, Choice, opening, step}
+use Rattle.qo_machine.specs.Machine.{IsIn, Message, Seen, State, Stepped, Choice, opening, step}
 use Rattle.qo_machine.specs.Runs.{AllLostHad, Cut, CutRun, RunMeets, Told, Turn, TurnMeets, Turns, after, close_lost, closed_where, cut_to, has_end, is_lost, lane_at, lane_bytes, lane_of, outs_at, outs_of, risen, risen_by, state_after, told, transcript, turn_inputs}
 use Rattle.qo_machine.specs.Sending.{Sent, SentFront}
 use Rattle.qo_machine.specs.declared.running.Ending.{Ending}
@@ -134,12 +134,16 @@ pub closed_else : (i : ℕ) (lost : List Bool) (sessions before now : List Sessi
 closed_else i lost sessions before now below within flag was is =
     is ∙ was ∙ sym (rw flag at (closed_more i lost sessions below within))
 
--- whole turns from the opening to a state, so many of them, in which the run has not ended
-pub record GoneOn (old new : Told) (state : State) (count : ℕ) (turns : List Turn) : Type 0 where
+-- whole turns from the opening to the state that a machine is in, so many of them; its run has not ended
+pub record GoneOn (old new : Told) (m : Seen) (count : ℕ) (turns : List Turn) : Type 0 where
   pub turns_are : Turns opening old new turns
-  pub state_is : state_after opening turns ≡ state
+  pub is_in : IsIn (state_after opening turns) m
   pub count_is : length turns ≡ count
-  pub going : state.ended ≡ false
+  pub going : m.ended ≡ false
+
+-- whether the run has ended, by a machine
+pub ended_in : (s : State) (m : Seen) → IsIn s m → s.ended ≡ m.ended
+ended_in s m at = ap (λ (x : State). x.ended) at.rest
 
 -- One turn.
 
@@ -188,8 +192,8 @@ at_end oi mi ni bad i same given over = subst (λ (x : Option (List Input)). AtE
     ended = rw over at given
 
 -- an input was taken, and what it makes was sent
-pub one_turn : (s u to : State) (i : Input) (cs : List Choice) (slice outs : List Message) (lost : List Bool) (oi mi ni : Option (List Input)) (os ms ns : Option (List ℕ)) (og mg ng : Lane → Option (List ℕ)) (ol ml nl : ℕ → ℕ) (bad : Option (Option ℕ)) → (step s i cs).outs ≡ outs → (step s i cs).state ≡ u → slice ≡ outs → Gives oi mi bad (given_by i) → ms ≡ os → ((l : Lane) → mg l ≡ og l) → ((n : ℕ) → ml n ≡ ol n) → Sent (told mi ms mg ml) (told ni ns ng nl) slice lost → to ≡ close_lost lost u → TurnMeets s to (told oi os og ol) (told ni ns ng nl) bad (Ok tt)
-one_turn s u to i cs slice outs lost oi mi ni os ms ns og mg ng ol ml nl bad is leads same given sent got losses h shut = (
+pub one_turn : (s : State) (to : Seen) (i : Input) (cs : List Choice) (slice outs : List Message) (lost : List Bool) (oi mi ni : Option (List Input)) (os ms ns : Option (List ℕ)) (og mg ng : Lane → Option (List ℕ)) (ol ml nl : ℕ → ℕ) (bad : Option (Option ℕ)) → (step s i cs).outs ≡ outs → slice ≡ outs → Gives oi mi bad (given_by i) → ms ≡ os → ((l : Lane) → mg l ≡ og l) → ((n : ℕ) → ml n ≡ ol n) → Sent (told mi ms mg ml) (told ni ns ng nl) slice lost → IsIn (close_lost lost (step s i cs).state) to → TurnMeets s to (told oi os og ol) (told ni ns ng nl) bad (Ok tt)
+one_turn s to i cs slice outs lost oi mi ni os ms ns og mg ng ol ml nl bad is same given sent got losses h shut = (
   record { input = i; choices = cs; lost = lost; cut = h.lanes.0 },
   record {
     took = took_one oi ni bad (given_by i) (rw h.inputs given);
@@ -199,7 +203,7 @@ one_turn s u to i cs slice outs lost oi mi ni os ms ns og mg ng ol ml nl bad is 
     losses = λ n. rw (← losses n) (h.losses n);
     had = (λ l f. rw outs_is (h.had l f), tt);
   },
-  shut ∙ ap (close_lost lost) (sym leads),
+  shut,
   at_end oi mi ni bad i h.inputs given,
 )
   where
@@ -230,29 +234,37 @@ cut_none limit i t g n = (
   omega arith,
 )
 
-pub gone_none : (s : State) (i : Option (List Input)) (t : Option (List ℕ)) (g : Lane → Option (List ℕ)) (n : ℕ → ℕ) → s ≡ opening → (turns : List Turn) × GoneOn (told i t g n) (told i t g n) s 0 turns
-gone_none s i t g n is =
-    ([], record { turns_are = turns_none opening i t g n; state_is = sym is; count_is = refl; going = ap (λ (x : State). x.ended) is })
+pub gone_none : (m : Seen) (i : Option (List Input)) (t : Option (List ℕ)) (g : Lane → Option (List ℕ)) (n : ℕ → ℕ) → IsIn opening m → (turns : List Turn) × GoneOn (told i t g n) (told i t g n) m 0 turns
+gone_none m i t g n at =
+    ([], record { turns_are = turns_none opening i t g n; is_in = at; count_is = refl; going = sym (ended_in opening m at) })
+
+-- what a turn does from each state that a machine is in
+abbrev TurnsFrom : Seen → Seen → Told → Told → Option (Option ℕ) → Result (Unit {0}) Ending → Type 0
+TurnsFrom m to b c bad answer = (s : State) → IsIn s m → TurnMeets s to b c bad answer
 
 -- one turn more
-joined : (a b c : Told) (s to : State) (count : ℕ) (bad : Option (Option ℕ)) (ts : List Turn) → GoneOn a b s count ts → (p : TurnMeets s to b c bad (Ok tt)) → Turns opening a c (ts ++ p.0 ∷ [])
-joined a b c s to count bad ts h p =
-    turns_more opening a b c ts (p.0 ∷ []) h.turns_are (subst (λ (x : State). Turns x b c (p.0 ∷ [])) (sym h.state_is) p.1)
+abbrev further : (m to : Seen) (b c : Told) (bad : Option (Option ℕ)) (ts : List Turn) → IsIn (state_after opening ts) m → TurnsFrom m to b c bad (Ok tt) → Turn
+further m to b c bad ts at p = (p (state_after opening ts) at).0
 
-joined_state : (a b c : Told) (s to : State) (count : ℕ) (bad : Option (Option ℕ)) (ts : List Turn) → GoneOn a b s count ts → (p : TurnMeets s to b c bad (Ok tt)) → state_after opening (ts ++ p.0 ∷ []) ≡ to
-joined_state a b c s to count bad ts h p =
-    state_more ts (p.0 ∷ []) opening ∙ ap (λ (x : State). after x p.0) h.state_is ∙ sym p.2
+joined : (a b c : Told) (m to : Seen) (count : ℕ) (bad : Option (Option ℕ)) (ts : List Turn) → (h : GoneOn a b m count ts) → (p : TurnsFrom m to b c bad (Ok tt)) → Turns opening a c (ts ++ further m to b c bad ts h.is_in p ∷ [])
+joined a b c m to count bad ts h p =
+    turns_more opening a b c ts (further m to b c bad ts h.is_in p ∷ []) h.turns_are (p (state_after opening ts) h.is_in).1
 
-pub going_on : (a b c : Told) (s to : State) (count : ℕ) (bad : Option (Option ℕ)) → (turns : List Turn) × GoneOn a b s count turns → TurnMeets s to b c bad (Ok tt) → to.ended ≡ false → (turns : List Turn) × GoneOn a c to (count + 1) turns
-going_on a b c s to count bad h p going = (
-  h.0 ++ p.0 ∷ [],
-  record {
-    turns_are = joined a b c s to count bad h.0 h.1 p;
-    state_is = joined_state a b c s to count bad h.0 h.1 p;
-    count_is = length-append h.0 (p.0 ∷ []) ∙ ap (λ (n : ℕ). n + 1) h.1.count_is;
-    going = going;
-  },
-)
+joined_state : (a b c : Told) (m to : Seen) (count : ℕ) (bad : Option (Option ℕ)) (ts : List Turn) → (h : GoneOn a b m count ts) → (p : TurnsFrom m to b c bad (Ok tt)) → IsIn (state_after opening (ts ++ further m to b c bad ts h.is_in p ∷ [])) to
+joined_state a b c m to count bad ts h p =
+    subst (λ (x : State). IsIn x to) (sym (state_more ts (further m to b c bad ts h.is_in p ∷ []) opening)) (p (state_after opening ts) h.is_in).2
+
+pub going_on : (a b c : Told) (m to : Seen) (count : ℕ) (bad : Option (Option ℕ)) → (turns : List Turn) × GoneOn a b m count turns → TurnsFrom m to b c bad (Ok tt) → to.ended ≡ false → (turns : List Turn) × GoneOn a c to (count + 1) turns
+going_on a b c m to count bad h p going =
+    let t = further m to b c bad h.0 h.1.is_in p in (
+      h.0 ++ t ∷ [],
+      record {
+        turns_are = joined a b c m to count bad h.0 h.1 p;
+        is_in = joined_state a b c m to count bad h.0 h.1 p;
+        count_is = length-append h.0 (t ∷ []) ∙ ap (λ (n : ℕ). n + 1) h.1.count_is;
+        going = going;
+      },
+    )
 
 -- a run that has ended stays so, and its end ends it
 after_ended : (s : State) (t : Turn) → s.ended ≡ true → (after s t).ended ≡ true
@@ -307,43 +319,45 @@ last_within : (ts : List Turn) (last : Option Turn) (count limit : ℕ) → leng
 last_within ts None count limit is few = omega (arith, is)
 last_within ts (Some t) count limit is few = omega (arith, is)
 
-pub done : (a b c : Told) (s to : State) (count limit : ℕ) (bad other : Option (Option ℕ)) → bad ≡ other → count < limit → (turns : List Turn) × GoneOn a b s count turns → TurnMeets s to b c bad (Ok tt) → to.ended ≡ true → RunMeets Done limit a c other
-done a b c s to count limit bad other is few h p over =
+-- the run of a machine goes on, by the turns that led there
+still_going : (a b : Told) (m : Seen) (count : ℕ) (ts : List Turn) → GoneOn a b m count ts → (state_after opening ts).ended ≡ false
+still_going a b m count ts h = ended_in (state_after opening ts) m h.is_in ∙ h.going
+
+pub done : (a b c : Told) (m to : Seen) (count limit : ℕ) (bad other : Option (Option ℕ)) → bad ≡ other → count < limit → (turns : List Turn) × GoneOn a b m count turns → TurnsFrom m to b c bad (Ok tt) → to.ended ≡ true → RunMeets Done limit a c other
+done a b c m to count limit bad other is few h p over =
+    let t = further m to b c bad h.0 h.1.is_in p in
+    let ts = h.0 ++ t ∷ [] in
+    let at = joined_state a b c m to count bad h.0 h.1 p in
     subst (RunMeets Done limit a c) is (
-      h.0 ++ p.0 ∷ [],
-      joined a b c s to count bad h.0 h.1 p,
-      (
-        h.0,
-        p.0,
-        refl,
-        ap (λ (x : State). x.ended) h.1.state_is ∙ h.1.going,
-        ap (λ (x : State). x.ended) (joined_state a b c s to count bad h.0 h.1 p) ∙ over,
-      ),
-      within h.0 p.0 count limit h.1.count_is few,
-      λ e. p.3 (has_end_last h.0 p.0 opening (ap (λ (x : State). x.ended) h.1.state_is ∙ h.1.going) e),
+      ts,
+      joined a b c m to count bad h.0 h.1 p,
+      (h.0, t, refl, still_going a b m count h.0 h.1, ended_in (state_after opening ts) to at ∙ over),
+      within h.0 t count limit h.1.count_is few,
+      λ e. (p (state_after opening h.0) h.1.is_in).3 (has_end_last h.0 t opening (still_going a b m count h.0 h.1) e),
     )
 
 -- whole turns, and then nothing more
-also : (a b c : Told) (s : State) (count : ℕ) (ts : List Turn) → GoneOn a b s count ts → Turns s b c [] → Turns opening a c ts
-also a b c s count ts h p =
-    subst (λ (us : List Turn). Turns opening a c us) (append-nil ts) (turns_more opening a b c ts [] h.turns_are (subst (λ (x : State). Turns x b c []) (sym h.state_is) p))
+also : (a b c : Told) (m : Seen) (count : ℕ) (ts : List Turn) → GoneOn a b m count ts → Turns (state_after opening ts) b c [] → Turns opening a c ts
+also a b c m count ts h p =
+    subst (λ (us : List Turn). Turns opening a c us) (append-nil ts) (turns_more opening a b c ts [] h.turns_are p)
 
 -- a turn that stopped the run
-pub stopped_by : (a b c : Told) (s to : State) (count limit : ℕ) (bad : Option (Option ℕ)) (e : Ending) → count < limit → (turns : List Turn) × GoneOn a b s count turns → TurnMeets s to b c bad (Err e) → RunMeets e limit a c bad
-stopped_by a b c s to count limit bad Done few h p = absurd p
-stopped_by a b c s to count limit bad Limit few h p = absurd p
-stopped_by a b c s to count limit bad (Bad n) few h p = (
-  h.0,
-  (also a b c s count h.0 h.1 p.0, ap (λ (x : State). x.ended) h.1.state_is ∙ h.1.going),
-  (let few_turns : length h.0 < limit = omega (arith, h.1.count_is) in few_turns),
-  p.1,
-)
-stopped_by a b c s to count limit bad NextFailed few h p = (
-  h.0,
-  (also a b c s count h.0 h.1 p, ap (λ (x : State). x.ended) h.1.state_is ∙ h.1.going),
-  (let few_turns : length h.0 < limit = omega (arith, h.1.count_is) in few_turns),
-)
-stopped_by a b c s to count limit bad SendFailed few h p =
-    (b, h.0, p.0, h.1.turns_are, subst (λ (x : State). Cut x b c p.0) (sym h.1.state_is) p.1, last_within h.0 p.0 count limit h.1.count_is few)
-stopped_by a b c s to count limit bad Memory few h p =
-    (b, h.0, p.0, h.1.turns_are, subst (λ (x : State). Cut x b c p.0) (sym h.1.state_is) p.1, last_within h.0 p.0 count limit h.1.count_is few)
+pub stopped_by : (a b c : Told) (m to : Seen) (count limit : ℕ) (bad : Option (Option ℕ)) (e : Ending) → count < limit → (turns : List Turn) × GoneOn a b m count turns → TurnsFrom m to b c bad (Err e) → RunMeets e limit a c bad
+stopped_by a b c m to count limit bad e few h p = by e (p (state_after opening h.0) h.1.is_in)
+  where
+    by : (e : Ending) → TurnMeets (state_after opening h.0) to b c bad (Err e) → RunMeets e limit a c bad
+    by Done q = absurd q
+    by Limit q = absurd q
+    by (Bad n) q = (
+      h.0,
+      (also a b c m count h.0 h.1 q.0, still_going a b m count h.0 h.1),
+      (let few_turns : length h.0 < limit = omega (arith, h.1.count_is) in few_turns),
+      q.1,
+    )
+    by NextFailed q = (
+      h.0,
+      (also a b c m count h.0 h.1 q, still_going a b m count h.0 h.1),
+      (let few_turns : length h.0 < limit = omega (arith, h.1.count_is) in few_turns),
+    )
+    by SendFailed q = (b, h.0, q.0, h.1.turns_are, q.1, last_within h.0 q.0 count limit h.1.count_is few)
+    by Memory q = (b, h.0, q.0, h.1.turns_are, q.1, last_within h.0 q.0 count limit h.1.count_is few)

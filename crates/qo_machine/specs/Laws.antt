@@ -2,10 +2,13 @@
 use Rattle.std.specs.Prelude.{◌≡◌, ◌≢◌, ℕ, List, [], ◌∷◌, ◌++◌, ⊤}
 use Rattle.std.specs.List.{AllByRecursion}
 use Rattle.qo_causes.specs.declared.hubs.Lane.TheVariants.{Session as to_session}
+use Rattle.qo_causes.specs.declared.inputs.Input.{Input}
 use Rattle.qo_causes.specs.declared.inputs.Moment.{Moment}
 use Rattle.qo_causes.specs.declared.inputs.What.{What}
 use Rattle.qo_causes.specs.declared.inputs.What.TheVariants.{Open, Bytes, Shut, Guest}
 use Rattle.qo_framing.specs.declared.items.Item.{Item}
+use Rattle.qo_model.specs.FinalNotes.{FinalOnce}
+use Rattle.qo_sound.specs.Kept.{SoundTree}
 use Rattle.qo_sessions.specs.Acts.{act}
 use Rattle.qo_sessions.specs.declared.acts.SessionAct.{SessionAct}
 use Rattle.qo_sessions.specs.declared.acts.SessionAct.TheVariants.{Answer, Negotiated, Do}
@@ -67,3 +70,12 @@ CutAnywhere piece = (before behind : List Turn) (at : Moment) (a b : List ℕ) �
 -- bytes of a session, and of the guest, may be cut anywhere
 abbrev pub ChunksAreFree : Type 0
 ChunksAreFree = ((n : ℕ) → CutAnywhere (Bytes n)) × CutAnywhere Guest
+
+-- over every run each birth has its final notes at most once, derived first, and no note behind them
+abbrev pub FinalOnceInRuns : Type 0
+FinalOnceInRuns = (turns : List Turn) (n : ℕ) → FinalOnce n (state_after opening turns).board.notes
+
+-- each step keeps the tree of the board sound, and so it is over every run
+pub record SoundInRuns : Type 0 where
+  pub step : (s : State) (input : Input) (choices : List Choice) → SoundTree s.board → SoundTree (step s input choices).state.board
+  pub run : (turns : List Turn) → SoundTree (state_after opening turns).board

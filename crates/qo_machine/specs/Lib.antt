@@ -1,8 +1,5 @@
-pub mod Commands
 pub mod Laws
 pub mod Machine
 pub mod Runs
 pub mod Sending
 pub mod Serving
-pub mod Tree
-pub mod Views

@@ -23,7 +23,10 @@ use Rattle.qo_sessions.specs.declared.acts.SessionAct.{SessionAct}
 use Rattle.qo_sessions.specs.declared.acts.SessionAct.TheVariants.{Answer, Negotiated, Do}
 use Rattle.qo_sessions.specs.declared.modes.Mode.{Mode}
 use Rattle.qo_sessions.specs.declared.modes.Mode.TheVariants.{Commanding, Closed}
+use Rattle.qo_heap.specs.Objects.{Objects}
+use Rattle.qo_commands.specs.Changes.{attempted}
 use Rattle.qo_commands.specs.Commands.{Done, empty, perform}
+use Rattle.qo_commands.specs.Stands.{Stands}
 
 -- a message: where it goes, and its bytes with their line end
 abbrev pub Message : Type 0
@@ -40,10 +43,11 @@ pub record State : Type 0 where
 abbrev pub opening : State
 opening = record { board = opening_board; sessions = replicate 16 closed; guest_line = []; ended = false }
 
--- how an item is served: as it is defined, or refused for want of memory. A missing choice is `defined`.
+-- how an item is served: as it is defined; refused for want of memory; or so refused behind an attempt that was given up. A missing choice is `defined`.
 pub data Choice : Type 0 where
   defined : Choice
   refused : Choice
+  given_up : Choice
 
 abbrev pub first : List Choice → Choice
 first [] = defined
@@ -144,10 +148,16 @@ id_of (Answer code id) = id
 id_of (Negotiated id) = id
 id_of (Do request id) = id
 
--- refused for want of memory: E99 with the id, and nothing changes
+-- the state behind an attempt of a command that was given up
+abbrev pub behind_attempt : State → SessionAct → State
+behind_attempt s (Do request id) = with_board s (attempted s.board request)
+behind_attempt s what = s
+
+-- refused for want of memory: E99 with the id, and nothing changes, or what an attempt leaves
 abbrev pub made_by : Choice → Moment → ℕ → State → SessionAct → Made
 made_by defined at n s what = made at n s what
 made_by refused at n s what = answered s n (error_reply (id_of what) E99)
+made_by given_up at n s what = answered (behind_attempt s what) n (error_reply (id_of what) E99)
 
 -- each item of a session makes exactly one reply
 unfoldable pub item_step : Choice → Moment → ℕ → State → Item → Made
@@ -187,11 +197,26 @@ input_step s at what choices = unchanged s choices
 unfoldable pub step : State → Input → List Choice → Stepped
 step s input choices = serve_unless s.ended (unchanged s choices) (input_step s input.at input.what choices)
 
--- by some choices, a step sends this and leads there
-abbrev pub Answers : State → Input → List Message → State → Type 0
-Answers s input outs t = (choices : List Choice) × ((step s input choices).outs ≡ outs) × ((step s input choices).state ≡ t)
-
--- what is seen of a machine: its state, and whether it ran out of memory
+-- what is seen of a machine: its objects, its sessions, whether its run has ended, and whether it ran out of memory
 pub record Seen : Type 0 where
-  pub state : State
+  pub objects : Objects
+  pub sessions : List sessions.State
+  pub ended : Bool
   pub spent : Bool
+
+-- the state of a machine that stands at a board; it keeps no guest line yet
+abbrev pub state_at : Board → Seen → State
+state_at b m = record { board = b; sessions = m.sessions; guest_line = []; ended = m.ended }
+
+-- the same but for the board, for which the opening one stands: what is read of sessions alone is the same on every board
+abbrev pub beside : Seen → State
+beside m = state_at opening_board m
+
+-- a machine is in a state: its objects stand for the state's board, and the rest is its own
+pub record IsIn (s : State) (m : Seen) : Type 0 where
+  pub stands : Stands s.board m.objects
+  pub rest : s ≡ state_at s.board m
+
+-- by some choices, a step from a state sends this, and a machine is then in the state that it leads to
+abbrev pub Answers : State → Input → List Message → Seen → Type 0
+Answers s input outs m = (choices : List Choice) × ((step s input choices).outs ≡ outs) × IsIn (step s input choices).state m

@@ -7,7 +7,7 @@ use Rattle.qo_causes.specs.Hub.{AtEnd, given_by, is_end, line, part, same_lane}
 use Rattle.qo_causes.specs.declared.hubs.Lane.{Lane}
 use Rattle.qo_causes.specs.declared.hubs.Lane.TheVariants.{Session, Guest}
 use Rattle.qo_causes.specs.declared.inputs.Input.{Input}
-use Rattle.qo_machine.specs.Machine.{Message, State, Choice, step, opening}
+use Rattle.qo_machine.specs.Machine.{IsIn, Message, Seen, State, Choice, step, opening}
 use Rattle.qo_sessions.specs.Sessions.{State as SessionState, closed}
 use Rattle.qo_machine.specs.declared.running.Ending.{Ending}
 use Rattle.qo_machine.specs.declared.running.Ending.TheVariants.{Done, Bad, Memory, NextFailed, SendFailed, Limit}
@@ -150,10 +150,10 @@ CutRun limit old new =
     (mid : Told) × (turns : List Turn) × (last : Option Turn) × Turns opening old mid turns × Cut (state_after opening turns) mid new last
     × (length turns + length (option_to_list last) ≤ limit)
 
--- what one turn did by its answer; the hub has this bad place
-abbrev pub TurnMeets : State → State → Told → Told → Option (Option ℕ) → Result (Unit {0}) Ending → Type 0
+-- what one turn did by its answer, from a state; a machine is then in the state behind it; the hub has this bad place
+abbrev pub TurnMeets : State → Seen → Told → Told → Option (Option ℕ) → Result (Unit {0}) Ending → Type 0
 TurnMeets from to old new bad (Ok u) =
-    (t : Turn) × Turns from old new (t ∷ []) × (to ≡ after from t) × (is_end t.input.what ≡ true → AtEnd new.inputs bad None)
+    (t : Turn) × Turns from old new (t ∷ []) × IsIn (after from t) to × (is_end t.input.what ≡ true → AtEnd new.inputs bad None)
 TurnMeets from to old new bad (Err (Bad n)) = Turns from old new [] × AtEnd new.inputs bad (Some n)
 TurnMeets from to old new bad (Err NextFailed) = Turns from old new []
 TurnMeets from to old new bad (Err SendFailed) = (last : Option Turn) × Cut from old new last

@@ -1,5 +1,5 @@
 -- Items served one after another, whatever choices and whatever items come behind.
-use Rattle.std.specs.Prelude.{◌≡◌, ℕ, List, ◌++◌, Option}
+use Rattle.std.specs.Prelude.{◌≡◌, ℕ, false, List, [], ◌++◌, Option}
 use Rattle.qo_causes.specs.declared.inputs.Moment.{Moment}
 use Rattle.qo_framing.specs.declared.items.Item.{Item}
 use Rattle.qo_requests.specs.declared.requests.Request.{Request}
@@ -7,7 +7,11 @@ use Rattle.qo_sessions.specs.Sessions.{in_mode}
 use Rattle.qo_sessions.specs.declared.acts.SessionAct.{SessionAct}
 use Rattle.qo_sessions.specs.declared.acts.SessionAct.TheVariants.{Answer, Negotiated, Do}
 use Rattle.qo_sessions.specs.declared.modes.Mode.TheVariants.{Commanding}
-use Rattle.qo_machine.specs.Machine.{Choice, Message, State, behind, made_by, serve, session_of, with_session}
+use Rattle.qo_model.specs.Board.{Board}
+use Rattle.qo_heap.specs.Objects.{Objects}
+use Rattle.qo_commands.specs.Commands.{perform}
+use Rattle.qo_commands.specs.Stands.{Stands}
+use Rattle.qo_machine.specs.Machine.{Choice, IsIn, Message, Seen, State, behind, made_by, reply, serve, session_of, with_session}
 
 -- the state when it is known what an item comes to
 abbrev pub moved : State → ℕ → SessionAct → State
@@ -15,11 +19,23 @@ moved s n (Answer code id) = s
 moved s n (Negotiated id) = with_session s n (in_mode Commanding (session_of s n))
 moved s n (Do request id) = s
 
--- by some choice this command sends this and leads there
-abbrev pub CommandServed : Moment → ℕ → State → Request → Option (List ℕ) → List Message → State → Type 0
-CommandServed at n s request id outs t = (choice : Choice) × (made_by choice at n s (Do request id) ≡ record { outs = outs; state = t })
+-- by some choice this command sends this, and a machine is then in the state that it leads to
+abbrev pub CommandServed : Moment → ℕ → State → Request → Option (List ℕ) → List Message → Seen → Type 0
+CommandServed at n s request id outs m =
+    (choice : Choice) × ((made_by choice at n s (Do request id)).outs ≡ outs) × IsIn (made_by choice at n s (Do request id)).state m
 
 -- by some choices these items send this and lead there, and then further items go on from there
 abbrev pub Serves : Moment → ℕ → State → List Item → List Message → State → Type 0
 Serves at n s items outs t =
     (choices : List Choice) × ((further : List Item) (rest : List Choice) → serve at n (items ++ further) s (choices ++ rest) ≡ behind outs (serve at n further t rest))
+
+-- by some choices these items send this, and a machine is then in the state that they lead to
+abbrev pub ServesTo : Moment → ℕ → State → List Item → List Message → Seen → Type 0
+ServesTo at n s items outs m = (t : State) × IsIn t m × Serves at n s items outs t
+
+-- a command that changes the board was done as it is defined: without events, and the run goes on; this is its reply, and its board stands
+pub record Changed (b : Board) (request : Request) (id : Option (List ℕ)) (text : List ℕ) (v : Objects) : Type 0 where
+  pub stands : Stands (perform b request).board v
+  pub quiet : (perform b request).events ≡ []
+  pub going : (perform b request).ends ≡ false
+  pub replied : text ≡ reply id (perform b request).result

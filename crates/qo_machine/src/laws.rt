@@ -1,6 +1,7 @@
-//! What holds of the machine alone: who is touched by what, and that pieces of bytes may be cut anywhere.
+//! What holds of the machine alone: who is touched by what, that pieces of bytes may be cut anywhere, and
+//! what holds of objects over whole runs.
 
-ghost use Rattle.qo_machine.specs.Laws.{ChunksAreFree, LanesAreApart};
+ghost use Rattle.qo_machine.specs.Laws.{ChunksAreFree, FinalOnceInRuns, LanesAreApart, SoundInRuns};
 
 /// Opening, shutting, and each item of a session that is no command leave the board, the guest line
 /// and all other sessions as they are, and send to that session alone.
@@ -12,4 +13,16 @@ pub fn law_lanes()
 /// and the other way round: the same is sent, and the same state is left.
 pub fn law_chunks()
     ensures { ChunksAreFree }
+{}
+
+/// Over every run from the opening each object has its final notes at most once, those of its type derived
+/// first, and no note behind them.
+pub fn law_final_once()
+    ensures { FinalOnceInRuns }
+{}
+
+/// Each step keeps the tree of the board sound: births, names, targets, children, pins, references and
+/// what aliases pass on to. So it is sound over every run from the opening.
+pub fn law_sound()
+    ensures { SoundInRuns }
 {}

@@ -1,13 +1,15 @@
 //! The machine: what one input does, and runs of inputs from a hub.
 #![tactic(auto)]
 
-mod commands;
 pub mod laws;
 mod machines;
+mod outs;
+mod replying;
 mod running;
+mod serving;
 #[cfg(test)]
 mod tests;
-mod tree;
 
-pub use machines::{Machine, Outs};
+pub use machines::Machine;
+pub use outs::Outs;
 pub use running::{Ending, run};

@@ -1,76 +1,27 @@
-//! The machine: its state, and what one input does.
+//! The machine: its board and its sessions, and what one input does.
 
-ghost use Rattle.std.specs.Prelude.{◌≡◌, ◌<◌, false, [], ◌∷◌, ◌++◌, List, length, option_map, replicate, IfOk, OnOk};
-ghost use Rattle.qo_causes.specs.declared.hubs.Lane.TheVariants as Lane;
+ghost use Rattle.std.specs.Prelude.{◌≡◌, ◌<◌, [], List, length, option_map, replicate, IfOk};
 ghost use Rattle.qo_causes.specs.declared.inputs.Moment.{Moment};
 ghost use Rattle.qo_causes.specs.declared.inputs.What.TheVariants as What;
-ghost use Rattle.qo_model.specs.Opening.{opening_board};
 ghost use Rattle.qo_sessions.specs.Sessions.{closed};
-ghost use Rattle.qo_commands.specs.Commands.{perform};
-ghost use Rattle.qo_machine.specs.Machine.{Choice, Message, commanding, event_outs, reply, those_commanding, told_of};
-ghost use Rattle.qo_machine.specs.Serving.{CommandServed, Serves};
+ghost use Rattle.qo_machine.specs.Machine.{Choice, reply};
 ghost use Rattle.qo_machine.specs.Runs.{closed_where};
-ghost use Rattle.qo_commands.specs.Views.{body_data, data_of, done_of, has_float_in};
-ghost use Rattle.serde_json.specs.Written.{has_float};
-ghost use Rattle.qo_replies.specs.Replies.{return_reply};
 
-use crate::commands::{Body, Done, perform};
-use qo_causes::{Input, Lane, Memory, Moment, What};
+use crate::outs::Outs;
+use crate::replying::{EMPTY, reply_text};
+use crate::serving::serve_items;
+use qo_causes::{Input, Memory, Moment, What};
+use qo_commands::{Done, ask, change};
 use qo_framing::Item;
-use qo_replies::{Event, error_text, event_text, return_text, return_written};
+use qo_heap::Steps;
+use qo_realize::{Board, Refusal};
+use qo_replies::{error_text, return_written};
 use qo_requests::Request;
 use qo_sessions::{Mode, Session, SessionAct};
-use qo_values::{Chars, Code, SESSIONS, Text};
+use qo_values::{Chars, SESSIONS, Text};
 use std::alloc::{AllocError, Global};
-use std::marker::Model;
-
-/// The messages of one step, in order: where each goes, and its bytes with their line end.
-#[derive(Drop)]
-pub struct Outs {
-    messages: Vec<(Lane, Chars)>,
-}
-
-impl Model for Outs {
-    ghost use Rattle.std.specs.Prelude.{List};
-    ghost use Rattle.qo_machine.specs.Machine.{Message};
-
-    ghost Value = { List Message };
-
-    ghost view = { λ o. o.messages.items };
-}
-
-impl Outs {
-    /// The messages of a vector. It takes no memory.
-    pub fn from_vec(messages: Vec<(Lane, Chars)>) -> Outs
-        ensures { result ≡ messages.items }
-    {
-        Outs { messages }
-    }
-
-    /// The messages as a slice. It takes no memory.
-    pub fn as_slice(&self) -> &[(Lane, Chars)]
-        ensures { result.now ≡ self.now }
-    {
-        self.messages.as_slice()
-    }
-
-    /// No message. It takes no memory.
-    fn none(alloc: Global) -> Outs
-        ensures { result ≡ [] }
-    {
-        Outs {
-            messages: Vec::new(alloc),
-        }
-    }
-
-    /// Adds one message to a session.
-    fn push(&mut self, session: u8, text: Chars) -> Result<(), AllocError>
-        ensures { OnOk result (self.new ≡ self.old ++ (Lane.Session session, text) ∷ []) }
-    {
-        self.messages.push((Lane::Session(session), text))?;
-        Ok(())
-    }
-}
+use std::marker::{Brand, Model};
+use std::sync::ledger::{Blank, Ledger};
 
 /// Sixteen sessions that are not open.
 fn closed_sessions(alloc: Global) -> Result<Vec<Session>, AllocError>
@@ -105,39 +56,60 @@ fn close_where(sessions: &mut Vec<Session>, lost: &[bool; 16])
 /// answers `Memory`.
 #[derive(Drop)]
 pub struct Machine {
+    board: Board,
     sessions: Vec<Session>,
     ended: bool,
     spent: bool,
 }
 
 impl Model for Machine {
-    ghost use Rattle.std.specs.Prelude.{◌≡◌, [], length};
-    ghost use Rattle.qo_model.specs.Opening.{opening_board};
+    ghost use Rattle.std.specs.Prelude.{◌≡◌, length};
     ghost use Rattle.qo_machine.specs.Machine.{Seen};
 
     ghost Value = { Seen };
 
-    ghost view = { λ m. record { state = record { board = opening_board; sessions = m.sessions.items; guest_line = []; ended = m.ended }; spent = m.spent } };
+    ghost view = { λ m. record { objects = m.board; sessions = m.sessions.items; ended = m.ended; spent = m.spent } };
 
     ghost invariant = { λ m. length m.sessions.items ≡ 16 };
 }
 
 impl Machine {
-    ghost use Rattle.std.specs.Prelude.{true, IsErr, OnErr};
+    ghost use Rattle.std.specs.Prelude.{true, false, ◌⊎◌, IsErr, OnErr, OnOk};
+    ghost use Rattle.qo_model.specs.Board.{Board as Tree};
     ghost use Rattle.qo_model.specs.Sound.{IsSound};
     ghost use Rattle.qo_sessions.specs.Acts.{act};
     ghost use Rattle.qo_sessions.specs.Sessions.{fed};
-    ghost use Rattle.qo_machine.specs.Machine.{Answers, behind_command, finished, input_step, mode_of, opening, session_of, with_session};
+    ghost use Rattle.qo_commands.specs.Changes.{attempted, is_change};
+    ghost use Rattle.qo_commands.specs.Commands.{perform};
+    ghost use Rattle.qo_commands.specs.Stands.{Stands};
+    ghost use Rattle.qo_commands.specs.Views.{done_of};
+    ghost use Rattle.qo_machine.specs.Machine.{Answers, IsIn, State, behind_command, beside, finished, input_step, mode_of, opening, session_of, state_at, with_session};
     ghost use Rattle.qo_machine.specs.Runs.{close_lost};
-    ghost use Rattle.qo_machine.specs.Serving.{moved};
+    ghost use Rattle.qo_machine.specs.Sending.{AreToLanes};
+    ghost use Rattle.qo_machine.specs.Serving.{Changed, moved};
 
     /// The machine at first: the opening board, and all sessions closed.
     pub fn start(alloc: Global) -> Result<Machine, Memory>
-        ensures state { IfOk result (λ m. (m.state ≡ opening) × (m.spent ≡ false)) }
-        ensures sound { IfOk result (λ m. IsSound m.state.board) }
+        ensures state { IfOk result (λ m. IsIn opening m × (m.spent ≡ false)) }
+        ensures sound { IfOk result (λ m. (s : State) → IsIn s m → IsSound s.board) }
     {
+        Machine::start_counting::<Brand>(alloc, Blank::new(1))
+    }
+
+    /// The machine at first, made with a counter of steps over a blank.
+    fn start_counting<L: Ledger>(alloc: Global, blank: Blank) -> Result<Machine, Memory>
+        requires name { blank.name ≡ L.name }
+        requires parts { blank.parts ≡ L.parts }
+        requires some { 0 < blank.parts }
+        ensures state { IfOk result (λ m. IsIn opening m × (m.spent ≡ false)) }
+    {
+        let mut steps = Steps::<L>::from_blank(blank);
+        let Ok(board) = Board::start(alloc, &mut steps) else {
+            return Err(Memory);
+        };
         match closed_sessions(alloc) {
             Ok(sessions) => Ok(Machine {
+                board,
                 sessions,
                 ended: false,
                 spent: false,
@@ -148,7 +120,7 @@ impl Machine {
 
     /// Whether the run has ended. It takes no memory.
     pub fn ended(&self) -> bool
-        ensures { result ≡ self.now.state.ended }
+        ensures { result ≡ self.now.ended }
     {
         self.ended
     }
@@ -156,18 +128,20 @@ impl Machine {
     /// Does what one input does, and gives the messages that it makes.
     ///
     /// A reply may instead be E99, where memory runs out for the defined one; the item has then done
-    /// nothing. It answers `Memory` where memory runs out otherwise, and from then on always: the run has
-    /// then ended, and all sessions are closed.
+    /// nothing, but that `object-add` may have made and ended an object. It answers `Memory` where
+    /// memory runs out otherwise, and from then on always: the run has then ended, and all sessions
+    /// are closed; nothing is said of the board.
     pub fn step(&mut self, alloc: Global, input: &Input) -> Result<Outs, Memory>
-        ensures answered { IfOk result (λ outs. Answers self.old.state input.now outs self.new.state) }
-        ensures closes { OnErr result (self.new.state ≡ finished self.old.state) }
+        ensures answered { (s : State) → IsIn s self.old → IfOk result (λ outs. Answers s input.now outs self.new) }
+        ensures lanes { IfOk result AreToLanes }
+        ensures closes { OnErr result ((b : Tree) → state_at b self.new ≡ finished (state_at b self.old)) }
         ensures lasts { OnOk result (self.new.spent ≡ false) }
         ensures spends { OnErr result (self.new.spent ≡ true) }
         ensures spent { self.old.spent ≡ true → IsErr result }
-        ensures sound { OnOk result (IsSound self.old.state.board → IsSound self.new.state.board) }
+        ensures sound { (s : State) → IsIn s self.old → IsSound s.board → OnOk result ((t : State) → IsIn t self.new → IsSound t.board) }
     {
         if !self.spent {
-            match self.serve(alloc, input) {
+            match self.step_counting::<Brand>(alloc, input, Blank::new(1)) {
                 Ok(outs) => return Ok(outs),
                 Err(AllocError) => self.spent = true,
             }
@@ -176,17 +150,41 @@ impl Machine {
         Err(Memory)
     }
 
+    /// One step, with a counter of steps over a blank.
+    fn step_counting<L: Ledger>(
+        &mut self,
+        alloc: Global,
+        input: &Input,
+        blank: Blank,
+    ) -> Result<Outs, AllocError>
+        requires name { blank.name ≡ L.name }
+        requires parts { blank.parts ≡ L.parts }
+        requires some { 0 < blank.parts }
+        ensures answered { (s : State) → IsIn s self.old → IfOk result (λ outs. Answers s input.now outs self.new) }
+        ensures lanes { IfOk result AreToLanes }
+        ensures lasts { self.new.spent ≡ self.old.spent }
+    {
+        let mut steps = Steps::<L>::from_blank(blank);
+        self.serve(alloc, input, &mut steps)
+    }
+
     /// Closes the sessions that are lost, as if each was shut. It takes no memory.
     pub(crate) fn close_lost(&mut self, lost: &[bool; 16])
-        ensures state { self.new.state ≡ close_lost lost.now self.old.state }
+        ensures state { (s : State) → IsIn s self.old → IsIn (close_lost lost.now s) self.new }
         ensures lasts { self.new.spent ≡ self.old.spent }
     {
         close_where(&mut self.sessions, lost);
     }
 
     /// One step, while memory has not run out.
-    fn serve(&mut self, alloc: Global, input: &Input) -> Result<Outs, AllocError>
-        ensures answered { IfOk result (λ outs. Answers self.old.state input.now outs self.new.state) }
+    fn serve<L: Ledger>(
+        &mut self,
+        alloc: Global,
+        input: &Input,
+        steps: &mut Steps<L>,
+    ) -> Result<Outs, AllocError>
+        ensures answered { (s : State) → IsIn s self.old → IfOk result (λ outs. Answers s input.now outs self.new) }
+        ensures lanes { IfOk result AreToLanes }
         ensures lasts { self.new.spent ≡ self.old.spent }
     {
         if self.ended {
@@ -195,7 +193,7 @@ impl Machine {
         match &input.what {
             What::Open(session) => self.open(alloc, *session),
             What::Bytes(session, bytes) => {
-                self.take(alloc, input.at, *session, bytes.as_slice())
+                self.take(alloc, input.at, *session, bytes.as_slice(), steps)
             }
             What::Shut(session) => {
                 self.shut(*session);
@@ -212,7 +210,9 @@ impl Machine {
 
     /// A session opens, and is greeted.
     fn open(&mut self, alloc: Global, session: u8) -> Result<Outs, AllocError>
-        ensures answered { IfOk result (λ outs. (at : Moment) → input_step self.old.state at (What.Open session) [] ≡ record { outs = outs; state = self.new.state; rest = [] }) }
+        ensures answered { (b : Tree) (at : Moment) → IfOk result (λ outs. input_step (state_at b self.old) at (What.Open session) [] ≡ record { outs = outs; state = state_at b self.new; rest = [] }) }
+        ensures lanes { IfOk result AreToLanes }
+        ensures objects { self.new.objects ≡ self.old.objects }
         ensures lasts { self.new.spent ≡ self.old.spent }
     {
         let mut outs = Outs::none(alloc);
@@ -229,7 +229,8 @@ impl Machine {
 
     /// A session is shut: what is unfinished of it is dropped. It takes no memory.
     fn shut(&mut self, session: u8)
-        ensures answered { (at : Moment) → input_step self.old.state at (What.Shut session) [] ≡ record { outs = []; state = self.new.state; rest = [] } }
+        ensures answered { (b : Tree) (at : Moment) → input_step (state_at b self.old) at (What.Shut session) [] ≡ record { outs = []; state = state_at b self.new; rest = [] } }
+        ensures objects { self.new.objects ≡ self.old.objects }
         ensures lasts { self.new.spent ≡ self.old.spent }
     {
         if session < SESSIONS {
@@ -238,28 +239,31 @@ impl Machine {
     }
 
     /// Bytes of a session come: the items that they complete are served in turn.
-    fn take(
+    fn take<L: Ledger>(
         &mut self,
         alloc: Global,
         at: Moment,
         session: u8,
         bytes: &[u8],
+        steps: &mut Steps<L>,
     ) -> Result<Outs, AllocError>
-        ensures answered { IfOk result (λ outs. (choices : List Choice) × (input_step self.old.state at (What.Bytes session bytes.now) choices ≡ record { outs = outs; state = self.new.state; rest = [] })) }
+        ensures answered { (s : State) → IsIn s self.old → IfOk result (λ outs. (choices : List Choice) × (t : State) × IsIn t self.new × (input_step s at (What.Bytes session bytes.now) choices ≡ record { outs = outs; state = t; rest = [] })) }
+        ensures lanes { IfOk result AreToLanes }
         ensures lasts { self.new.spent ≡ self.old.spent }
     {
         if session >= SESSIONS {
             return Ok(Outs::none(alloc));
         }
         let items = self.feed(alloc, session, bytes)?;
-        serve_items(self, alloc, at, session, &items)
+        serve_items(self, alloc, at, session, &items, steps)
     }
 
     /// The items that bytes of a session complete.
     fn feed(&mut self, alloc: Global, session: u8, bytes: &[u8]) -> Result<Vec<Item>, AllocError>
         requires { session < 16 }
-        ensures items { IfOk result (λ items. items.items ≡ (fed (session_of self.old.state session) bytes.now).items) }
-        ensures state { IfOk result (λ items. self.new.state ≡ with_session self.old.state session (fed (session_of self.old.state session) bytes.now).session) }
+        ensures items { (b : Tree) → IfOk result (λ items. items.items ≡ (fed (session_of (state_at b self.old) session) bytes.now).items) }
+        ensures state { (b : Tree) → IfOk result (λ items. state_at b self.new ≡ with_session (state_at b self.old) session (fed (session_of (state_at b self.old) session) bytes.now).session) }
+        ensures objects { self.new.objects ≡ self.old.objects }
         ensures lasts { self.new.spent ≡ self.old.spent }
     {
         match self.sessions[usize::from(session)].feed(alloc, bytes) {
@@ -269,18 +273,24 @@ impl Machine {
     }
 
     /// The mode of a session.
-    fn mode(&self, session: u8) -> Mode
+    pub(crate) fn mode(&self, session: u8) -> Mode
         requires { session < 16 }
-        ensures { result ≡ mode_of self.now.state session }
+        ensures { result ≡ mode_of (beside self.now) session }
     {
         self.sessions[usize::from(session)].mode()
     }
 
     /// What an item of a session comes to; a negotiation changes its mode.
-    fn heed(&mut self, alloc: Global, session: u8, item: &Item) -> Result<SessionAct, AllocError>
+    pub(crate) fn heed(
+        &mut self,
+        alloc: Global,
+        session: u8,
+        item: &Item,
+    ) -> Result<SessionAct, AllocError>
         requires { session < 16 }
-        ensures act { IfOk result (λ what. what ≡ act (mode_of self.old.state session) item.now) }
-        ensures state { IfOk result (λ what. self.new.state ≡ moved self.old.state session what) }
+        ensures act { (b : Tree) → IfOk result (λ what. what ≡ act (mode_of (state_at b self.old) session) item.now) }
+        ensures state { (b : Tree) → IfOk result (λ what. state_at b self.new ≡ moved (state_at b self.old) session what) }
+        ensures objects { self.new.objects ≡ self.old.objects }
         ensures lasts { self.new.spent ≡ self.old.spent }
     {
         match self.sessions[usize::from(session)].act(alloc, item) {
@@ -289,26 +299,51 @@ impl Machine {
         }
     }
 
-    /// What a command comes to, and the text of its reply.
-    fn answer(
+    /// What a command comes to that leaves the board, and the text of its reply.
+    pub(crate) fn answer<L: Ledger>(
         &self,
         alloc: Global,
         request: &Request,
         id: Option<&Text>,
+        steps: &mut Steps<L>,
     ) -> Result<(Done, Chars), AllocError>
-        ensures done { IfOk result (λ a. done_of self.now.state.board a.0 ≡ perform self.now.state.board request.now) }
-        ensures text { IfOk result (λ a. a.1 ≡ reply (option_map (λ id. id.now) id.entry) (perform self.now.state.board request.now).result) }
+        requires { is_change request.now ≡ false }
+        ensures done { (b : Tree) → Stands b self.now.objects → IfOk result (λ a. done_of b a.0 ≡ perform b request.now) }
+        ensures text { (b : Tree) → Stands b self.now.objects → IfOk result (λ a. a.1 ≡ reply (option_map (λ id. id.now) id.entry) (perform b request.now).result) }
     {
-        // The board is the opening one, as the type's view says.
-        let _ = &self.sessions;
-        let done = perform(alloc, request)?;
+        let done = ask(alloc, &self.board, request, steps)?;
         let text = reply_text(alloc, id, &done.result)?;
         Ok((done, text))
     }
 
+    /// Does a command that changes the board, and gives the text of its reply. The text that says that
+    /// it was done is made first, so that nothing is done that could not be answered. Where memory
+    /// runs out the board is as it was, or an attempt was given up.
+    pub(crate) fn change<L: Ledger>(
+        &mut self,
+        alloc: Global,
+        request: &Request,
+        id: Option<&Text>,
+        steps: &mut Steps<L>,
+    ) -> Result<Chars, AllocError>
+        requires { is_change request.now ≡ true }
+        ensures changed { (b : Tree) → Stands b self.old.objects → IfOk result (λ text. Changed b request.now (option_map (λ id. id.now) id.entry) text self.new.objects) }
+        ensures kept { (b : Tree) → Stands b self.old.objects → OnErr result (Stands b self.new.objects ⊎ Stands (attempted b request.now) self.new.objects) }
+        ensures rest { (b : Tree) → state_at b self.new ≡ state_at b self.old }
+        ensures lasts { self.new.spent ≡ self.old.spent }
+    {
+        let text = return_written(alloc, id, EMPTY)?;
+        match change(alloc, &mut self.board, request, steps) {
+            Ok(()) => Ok(text),
+            Err(Refusal::Refused(code)) => error_text(alloc, id, code),
+            Err(Refusal::Memory) => Err(AllocError),
+        }
+    }
+
     /// The run ends where a command ends it. It takes no memory.
-    fn conclude(&mut self, ends: bool)
-        ensures state { self.new.state ≡ behind_command ends self.old.state }
+    pub(crate) fn conclude(&mut self, ends: bool)
+        ensures state { (b : Tree) → state_at b self.new ≡ behind_command ends (state_at b self.old) }
+        ensures objects { self.new.objects ≡ self.old.objects }
         ensures lasts { self.new.spent ≡ self.old.spent }
     {
         if ends {
@@ -318,172 +353,11 @@ impl Machine {
 
     /// The run ends: all sessions are closed. It takes no memory.
     fn finish(&mut self)
-        ensures done { self.new.state ≡ finished self.old.state }
+        ensures done { (b : Tree) → state_at b self.new ≡ finished (state_at b self.old) }
+        ensures objects { self.new.objects ≡ self.old.objects }
         ensures lasts { self.new.spent ≡ self.old.spent }
     {
         close_where(&mut self.sessions, &[true; 16]);
         self.ended = true;
     }
-}
-
-/// The texts of what commands return most often.
-const EMPTY: &str = "{}";
-
-const RUNNING: &str = "{\"running\":true,\"status\":\"running\"}";
-
-const PAUSED: &str = "{\"running\":false,\"status\":\"paused\"}";
-
-/// The reply to a command that was done.
-#[tactic(auto, using(crate::proofs::CommandLemmas::empty_written, crate::proofs::CommandLemmas::running_written, crate::proofs::CommandLemmas::paused_written))]
-fn done_text(alloc: Global, id: Option<&Text>, body: &Body) -> Result<Chars, AllocError>
-    requires { has_float (body_data body.now) ≡ false }
-    ensures { IfOk result (λ text. text ≡ return_reply (option_map (λ id. id.now) id.entry) (body_data body.now)) }
-{
-    match body {
-        Body::Empty => return_written(alloc, id, EMPTY),
-        Body::Status(true) => return_written(alloc, id, RUNNING),
-        Body::Status(false) => return_written(alloc, id, PAUSED),
-        Body::Value(value) => return_text(alloc, id, value),
-    }
-}
-
-/// The text of a reply.
-fn reply_text(
-    alloc: Global,
-    id: Option<&Text>,
-    outcome: &Result<Body, Code>,
-) -> Result<Chars, AllocError>
-    requires { has_float_in (data_of outcome.now) ≡ false }
-    ensures { IfOk result (λ text. text ≡ reply (option_map (λ id. id.now) id.entry) (data_of outcome.now)) }
-{
-    match outcome {
-        Ok(body) => done_text(alloc, id, body),
-        Err(code) => error_text(alloc, id, *code),
-    }
-}
-
-/// One session is told of an event, if it commands.
-fn tell_one(
-    machine: &Machine,
-    alloc: Global,
-    at: Moment,
-    session: u8,
-    event: &Event,
-    outs: &mut Outs,
-) -> Result<(), AllocError>
-    requires { session < 16 }
-    ensures { OnOk result (outs.new ≡ outs.old ++ told_of event.now at (those_commanding machine.now.state (session ∷ []))) }
-{
-    if machine.mode(session) == Mode::Commanding {
-        outs.push(session, event_text(alloc, at, event)?)?;
-    }
-    Ok(())
-}
-
-/// Each session that commands is told of an event.
-fn tell(
-    machine: &Machine,
-    alloc: Global,
-    at: Moment,
-    event: &Event,
-    outs: &mut Outs,
-) -> Result<(), AllocError>
-    ensures { OnOk result (outs.new ≡ outs.old ++ told_of event.now at (commanding machine.now.state)) }
-{
-    for session in 0..SESSIONS {
-        tell_one(machine, alloc, at, session, event, outs)?;
-    }
-    Ok(())
-}
-
-/// Each session that commands is told of each event.
-fn tell_all(
-    machine: &Machine,
-    alloc: Global,
-    at: Moment,
-    events: &[Event],
-    outs: &mut Outs,
-) -> Result<(), AllocError>
-    ensures { OnOk result (outs.new ≡ outs.old ++ event_outs at machine.now.state events.now) }
-{
-    for event in events {
-        tell(machine, alloc, at, event, outs)?;
-    }
-    Ok(())
-}
-
-/// A command is done, or refused for want of memory.
-fn serve_command(
-    machine: &mut Machine,
-    alloc: Global,
-    at: Moment,
-    session: u8,
-    request: &Request,
-    id: Option<&Text>,
-    outs: &mut Outs,
-) -> Result<(), AllocError>
-    ensures served { OnOk result ((front : List Message) × (outs.new ≡ outs.old ++ front) × CommandServed at session machine.old.state request.now (option_map (λ id. id.now) id.entry) front machine.new.state) }
-    ensures lasts { machine.new.spent ≡ machine.old.spent }
-{
-    match machine.answer(alloc, request, id) {
-        Ok((done, text)) => {
-            tell_all(machine, alloc, at, &done.events, outs)?;
-            outs.push(session, text)?;
-            machine.conclude(done.ends);
-            Ok(())
-        }
-        Err(AllocError) => {
-            outs.push(session, error_text(alloc, id, Code::E99)?)?;
-            Ok(())
-        }
-    }
-}
-
-/// An item of a session is served, unless the run has ended.
-fn serve_item(
-    machine: &mut Machine,
-    alloc: Global,
-    at: Moment,
-    session: u8,
-    item: &Item,
-    outs: &mut Outs,
-) -> Result<(), AllocError>
-    requires { session < 16 }
-    ensures served { OnOk result ((front : List Message) × (outs.new ≡ outs.old ++ front) × Serves at session machine.old.state (item.now ∷ []) front machine.new.state) }
-    ensures lasts { machine.new.spent ≡ machine.old.spent }
-{
-    if machine.ended() {
-        return Ok(());
-    }
-    match machine.heed(alloc, session, item)? {
-        SessionAct::Answer(code, id) => {
-            outs.push(session, error_text(alloc, id.as_ref(), code)?)?;
-        }
-        SessionAct::Negotiated(id) => {
-            outs.push(session, return_written(alloc, id.as_ref(), EMPTY)?)?;
-        }
-        SessionAct::Do(request, id) => {
-            serve_command(machine, alloc, at, session, &request, id.as_ref(), outs)?;
-        }
-    }
-    Ok(())
-}
-
-/// Items of a session are served in turn.
-fn serve_items(
-    machine: &mut Machine,
-    alloc: Global,
-    at: Moment,
-    session: u8,
-    items: &[Item],
-) -> Result<Outs, AllocError>
-    requires { session < 16 }
-    ensures served { IfOk result (λ outs. Serves at session machine.old.state items.now outs machine.new.state) }
-    ensures lasts { machine.new.spent ≡ machine.old.spent }
-{
-    let mut outs = Outs::none(alloc);
-    for item in items {
-        serve_item(machine, alloc, at, session, item, &mut outs)?;
-    }
-    Ok(outs)
 }

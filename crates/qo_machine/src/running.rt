@@ -2,7 +2,7 @@
 
 ghost use Rattle.std.specs.Prelude.{◌≡◌, ◌≤◌, List, [], ◌∷◌, ◌++◌, OnErr, OnOk};
 ghost use Rattle.qo_causes.specs.Cause.{HasCause, Rose};
-ghost use Rattle.qo_machine.specs.Machine.{Message};
+ghost use Rattle.qo_machine.specs.Machine.{IsIn, Message, State};
 ghost use Rattle.qo_machine.specs.Runs.{RunMeets, Told, TurnMeets, is_lost, told};
 ghost use Rattle.qo_machine.specs.declared.running.Ending.TheVariants as Ending;
 ghost use Rattle.qo_machine.specs.Sending.{AreToLanes, IsLane, SendsAll, Sent, SentFront};
@@ -89,7 +89,7 @@ fn send_all<H: Hub>(hub: &mut H, outs: &[(Lane, Chars)]) -> Result<[bool; 16], F
 
 /// One turn: an input is taken and done, and what it makes is sent.
 fn turn<H: Hub>(alloc: Global, hub: &mut H, machine: &mut Machine) -> Result<(), Ending>
-    ensures meets { TurnMeets machine.old.state machine.new.state (told (H.inputs hub.old) (H.sent hub.old) (H.got hub.old) (H.losses hub.old)) (told (H.inputs hub.new) (H.sent hub.new) (H.got hub.new) (H.losses hub.new)) (H.bad hub.old) result }
+    ensures meets { (s : State) → IsIn s machine.old → TurnMeets s machine.new (told (H.inputs hub.old) (H.sent hub.old) (H.got hub.old) (H.losses hub.old)) (told (H.inputs hub.new) (H.sent hub.new) (H.got hub.new) (H.losses hub.new)) (H.bad hub.old) result }
     ensures bad { H.bad hub.new ≡ H.bad hub.old }
     ensures asked { H.asked hub.new ≡ H.asked hub.old }
     ensures next_count { H.next_faults hub.old ≤ H.next_faults hub.new }

@@ -19,12 +19,12 @@ loop-init g c =
 
 pub returns-then-ended-clause-meets : goal.returns-then-ended-clause-meets
 returns-then-ended-clause-meets g c =
-    done _ _ _ c.loop.machine.state c.turn.new.machine.state c.loop.counter c.args.limit (g.H.Hub.bad c.loop.hub) (g.H.Hub.bad c.args.hub.now) c.loop.invariant.bad (omega arith) c.loop.invariant.gone c.in_default-turn.ensures.meets (sym c.if-ended.ensures)
+    done _ _ _ c.loop.machine c.turn.new.machine c.loop.counter c.args.limit (g.H.Hub.bad c.loop.hub) (g.H.Hub.bad c.args.hub.now) c.loop.invariant.bad (omega arith) c.loop.invariant.gone c.in_default-turn.ensures.meets (sym c.if-ended.ensures)
 
 pub loop-preserved : goal.loop-preserved
 loop-preserved g c =
     record {
-      gone = going_on _ _ _ c.loop.machine.state c.turn.new.machine.state c.loop.counter (g.H.Hub.bad c.loop.hub) c.loop.invariant.gone c.in_default-turn.ensures.meets (sym c.if-ended.ensures);
+      gone = going_on _ _ _ c.loop.machine c.turn.new.machine c.loop.counter (g.H.Hub.bad c.loop.hub) c.loop.invariant.gone c.in_default-turn.ensures.meets (sym c.if-ended.ensures);
       bad = c.turn.ensures.bad ∙ c.loop.invariant.bad;
       asked = c.turn.ensures.asked ∙ c.loop.invariant.asked;
       next_count = omega arith;

@@ -1,16 +1,14 @@
--- What a command comes to on the board that the machine has.
-use Rattle.std.proofs.Common.{ap, ◌∙◌}
-use Rattle.qo_model.specs.Opening.{opening_board}
+-- What a command comes to has a text.
+use Rattle.std.proofs.Common.{ap, ◌∙◌, ℕ, List, Option, option_map}
 use Rattle.qo_commands.proofs.CommandLemmas.{no_float}
 use Rattle.qo_commands.specs.Commands.{Done}
 use Rattle.qo_commands.specs.Views.{has_float_in}
+use Rattle.qo_machine.proofs.MachineLemmas.{seen_objects, stands_in}
+use Rattle.qo_machine.specs.Machine.{reply}
 use Rattle.qo_machine.proofs.machines.Machine.answer.Goals as goal
 
-pub reply_text-requires : goal.reply_text-requires
-reply_text-requires c = ap (λ (d : Done). has_float_in d.result) c.in_ok-done.ensures ∙ no_float opening_board c.args.request.now
-
-pub returns-clause-done : goal.returns-clause-done
-returns-clause-done c = rw (← c.self.view_is) c.in_ok-done.ensures
-
 pub returns-clause-text : goal.returns-clause-text
-returns-clause-text c = rw (← c.self.view_is, ← c.in_ok-done.ensures) c.in_ok-text.ensures
+returns-clause-text g c = λ b stands.
+    let does = c.in_ok-done.ensures b (stands_in b c.self.inside.board c.args.self.now (seen_objects c.self.view_is) stands) in
+    c.in_ok-text.ensures (ap (λ (d : Done). has_float_in d.result) does ∙ no_float b c.args.request.now)
+    ∙ ap (λ (d : Done). reply (option_map (λ id. id.now) c.args.id) d.result) does

@@ -1,33 +1,36 @@
 -- An input does what it does by itself, while the run goes on.
-use Rattle.std.proofs.Common.{[], ◌∙◌, ap, sym}
+use Rattle.std.proofs.Common.{[], ◌∙◌, ap, sym, refl, List}
 use Rattle.qo_causes.specs.declared.inputs.What.TheVariants.{Bytes}
-use Rattle.qo_machine.specs.Machine.{unchanged}
-use Rattle.qo_machine.proofs.MachineLemmas.{answers_ended, answers_on, if_ok, leaves, state_ended}
+use Rattle.qo_machine.specs.Machine.{Message, State, Stepped, state_at, unchanged}
+use Rattle.qo_machine.proofs.MachineLemmas.{answers_ended, answers_moved, answers_still, leaves, seen_ended, served_beside, served_bytes}
 use Rattle.qo_machine.proofs.machines.Machine.serve.Goals as goal
 
 pub returns-then-self-clause-answered : goal.returns-then-self-clause-answered
-returns-then-self-clause-answered c = answers_ended _ c.args.input.now _ (sym (state_ended c.self.view_is) ∙ c.if-self.true) c.none.ensures
+returns-then-self-clause-answered g c = λ s here.
+    answers_ended s c.args.input.now _ _ (ap (λ (x : State). x.ended) here.rest ∙ sym (seen_ended c.self.view_is) ∙ c.if-self.true) c.none.ensures here
 
 pub returns-in-Open-clause-answered : goal.returns-in-Open-clause-answered
-returns-in-Open-clause-answered c =
-    if_ok c.open.result (λ outs h. answers_on _ _ c.args.input.now _ outs [] [] (sym (state_ended c.self.view_is) ∙ c.if-self.false) c.in-Open.is (h c.args.input.now.at)) c.open.ensures.answered
+returns-in-Open-clause-answered g c =
+    served_beside c.open.result c.args.input.now _ c.args.self.now c.open.new.self (sym (seen_ended c.self.view_is) ∙ c.if-self.false) c.in-Open.is c.open.ensures.answered c.open.ensures.objects
 
 pub returns-in-Bytes-clause-answered : goal.returns-in-Bytes-clause-answered
-returns-in-Bytes-clause-answered c =
-    if_ok c.take.result (λ outs h. answers_on _ _ c.args.input.now _ outs h.0 [] (sym (state_ended c.self.view_is) ∙ c.if-self.false) (c.in-Bytes.is ∙ ap (Bytes c.in-Bytes.session) (sym c.as_slice.ensures.value)) h.1) c.take.ensures.answered
+returns-in-Bytes-clause-answered g c =
+    served_bytes c.take.result c.args.input.now _ c.args.self.now c.take.new.self (sym (seen_ended c.self.view_is) ∙ c.if-self.false) (c.in-Bytes.is ∙ ap (Bytes c.in-Bytes.session) (sym c.as_slice.ensures.value)) c.take.ensures.answered
 
 pub returns-in-Shut-clause-answered : goal.returns-in-Shut-clause-answered
-returns-in-Shut-clause-answered c =
-    answers_on _ _ c.args.input.now _ _ [] [] (sym (state_ended c.self.view_is) ∙ c.if-self.false) c.in-Shut.is (c.shut.ensures.answered c.args.input.now.at ∙ leaves _ _ c.none-in-Shut.ensures)
+returns-in-Shut-clause-answered g c =
+    answers_moved c.args.input.now _ _ c.args.self.now c.shut.new.self (sym (seen_ended c.self.view_is) ∙ c.if-self.false) c.in-Shut.is
+    (λ b. c.shut.ensures.answered b c.args.input.now.at ∙ ap (λ (outs : List Message). record { outs = outs; state = state_at b c.shut.new.self; rest = [] }) (sym c.none-in-Shut.ensures)) c.shut.ensures.objects
 
 pub returns-in-End-clause-answered : goal.returns-in-End-clause-answered
-returns-in-End-clause-answered c =
-    answers_on _ _ c.args.input.now _ _ [] [] (sym (state_ended c.self.view_is) ∙ c.if-self.false) c.in-End.is (ap (λ s. unchanged s []) (sym c.finish.ensures.done) ∙ leaves _ _ c.none-in-End.ensures)
+returns-in-End-clause-answered g c =
+    answers_moved c.args.input.now _ _ c.args.self.now c.finish.new.self (sym (seen_ended c.self.view_is) ∙ c.if-self.false) c.in-End.is
+    (λ b. ap (λ (s : State). unchanged s []) (sym (c.finish.ensures.done b)) ∙ leaves (state_at b c.finish.new.self) _ c.none-in-End.ensures) c.finish.ensures.objects
 
 pub returns-in-Guest-clause-answered : goal.returns-in-Guest-clause-answered
-returns-in-Guest-clause-answered c =
-    answers_on _ _ c.args.input.now _ _ [] [] (sym (state_ended c.self.view_is) ∙ c.if-self.false) c.in-Guest.is (leaves _ _ c.none-in-Guest.ensures)
+returns-in-Guest-clause-answered g c =
+    answers_still c.args.input.now _ _ c.args.self.now c.args.self.now (sym (seen_ended c.self.view_is) ∙ c.if-self.false) c.in-Guest.is c.none-in-Guest.ensures refl (λ s. refl)
 
 pub returns-in-Step-clause-answered : goal.returns-in-Step-clause-answered
-returns-in-Step-clause-answered c =
-    answers_on _ _ c.args.input.now _ _ [] [] (sym (state_ended c.self.view_is) ∙ c.if-self.false) c.in-Step.is (leaves _ _ c.none-in-Step.ensures)
+returns-in-Step-clause-answered g c =
+    answers_still c.args.input.now _ _ c.args.self.now c.args.self.now (sym (seen_ended c.self.view_is) ∙ c.if-self.false) c.in-Step.is c.none-in-Step.ensures refl (λ s. refl)

@@ -1,0 +1,523 @@
+//! Worked sessions with users' objects, byte for byte through the top call. Expected texts are
+//! written out by hand.
+
+use crate::Status;
+use crate::tests::{call, call_with_room};
+use std::alloc::Global;
+use std::test::Fail;
+
+const GREETING: &str =
+    "0 {\"QMP\":{\"capabilities\":[],\"version\":{\"package\":\"compose\",\"qemu\":{\"major\":1,\"micro\":0,\"minor\":0}}}}\r\n";
+
+const EMPTY: &str = "0 {\"return\":{}}\r\n";
+
+/// The error replies, by their codes.
+const ERRORS: [(&str, &str, &str); 14] = [
+    ("E15", "DeviceNotFound", "path not found"),
+    ("E16", "GenericError", "path ambiguous"),
+    ("E17", "GenericError", "property not found"),
+    ("E18", "GenericError", "property not writable"),
+    ("E19", "GenericError", "value does not fit"),
+    ("E20", "GenericError", "type unknown"),
+    ("E21", "GenericError", "type abstract"),
+    ("E22", "GenericError", "type not creatable here"),
+    ("E23", "GenericError", "id malformed"),
+    ("E24", "GenericError", "id taken"),
+    ("E31", "GenericError", "link target of wrong type"),
+    ("E33", "DeviceNotFound", "device not found"),
+    ("E43", "GenericError", "too many objects"),
+    ("E50", "GenericError", "object not detached"),
+];
+
+/// Adds an entry of a command to session 0: its name, and behind a space its arguments, if it has any.
+fn add_command(alloc: Global, record: &mut Vec<u8>, command: &str) -> Result<(), Fail> {
+    let text = match command.split_once(" ") {
+        Some((name, arguments)) => {
+            format!(in alloc; "{{\"execute\":\"{}\",\"arguments\":{}}}", name, arguments)?
+        }
+        None => format!(in alloc; "{{\"execute\":\"{}\"}}", command)?,
+    };
+    let head = format!(in alloc; "bytes 1.000000 0 {}\n", text.len())?;
+    record.extend_from_slice(head.as_bytes())?;
+    record.extend_from_slice(text.as_bytes())?;
+    record.push(b'\n')?;
+    Ok(())
+}
+
+/// Adds the line of a reply: `R` for one that returns nothing, a code, or what is returned.
+fn add_reply(alloc: Global, want: &mut String, reply: &str) -> Result<(), Fail> {
+    if reply == "R" {
+        want.push_str(EMPTY)?;
+        return Ok(());
+    }
+    for (code, class, text) in ERRORS {
+        if code == reply {
+            let line = format!(in alloc;
+                "0 {{\"error\":{{\"class\":\"{}\",\"desc\":\"{} {}\"}}}}\r\n",
+                class, code, text
+            )?;
+            want.push_str(&line)?;
+            return Ok(());
+        }
+    }
+    let line = format!(in alloc; "0 {{\"return\":{}}}\r\n", reply)?;
+    want.push_str(&line)?;
+    Ok(())
+}
+
+/// A record in which session 0 opens and negotiates.
+fn opening(alloc: Global) -> Result<Vec<u8>, Fail> {
+    let mut record = Vec::from_slice(alloc, b"qrec 1\nopen 1.000000 0\n")?;
+    add_command(alloc, &mut record, "qmp_capabilities")?;
+    Ok(record)
+}
+
+/// What is told of opening and negotiating.
+fn greeted(alloc: Global) -> Result<String, Fail> {
+    let mut want = String::from_str(alloc, GREETING)?;
+    want.push_str(EMPTY)?;
+    Ok(want)
+}
+
+/// Whether commands on a fresh board are answered so, in order.
+fn holds(alloc: Global, rows: &[(&str, &str)]) -> Result<bool, Fail> {
+    let mut record = opening(alloc)?;
+    let mut want = greeted(alloc)?;
+    for (command, reply) in rows {
+        add_command(alloc, &mut record, command)?;
+        add_reply(alloc, &mut want, reply)?;
+    }
+    let left = call(alloc, &["replay"], record.as_slice(), &[], &[])?;
+    Ok(left.status == Status::Done && left.held.as_slice() == want.as_bytes())
+}
+
+#[test]
+fn two_that_hold_each_other_are_severed(rt: HostRuntime) -> Result<(), Fail> {
+    let rows = [
+        ("object-add {\"qom-type\":\"tag\",\"id\":\"a\"}", "R"),
+        (
+            "object-add {\"qom-type\":\"tag\",\"id\":\"b\",\"next\":\"/objects/a\"}",
+            "R",
+        ),
+        (
+            "qom-set {\"path\":\"/objects/a\",\"property\":\"next\",\"value\":\"/objects/b\"}",
+            "R",
+        ),
+        ("object-del {\"id\":\"a\"}", "R"),
+        ("object-del {\"id\":\"b\"}", "R"),
+        (
+            "x-query-detached",
+            "[{\"birth\":9,\"refs\":1,\"type\":\"tag\"},{\"birth\":10,\"refs\":1,\"type\":\"tag\"}]",
+        ),
+        ("x-sever {\"birth\":9}", "R"),
+        (
+            "x-query-notes {\"from\":2}",
+            "{\"first\":2,\"notes\":[\"final 10 tag\",\"final 9 tag\"],\"total\":4}",
+        ),
+        ("x-query-detached", "[]"),
+    ];
+    assert!(rt; holds(rt.alloc(), rows.as_slice())?);
+    Ok(())
+}
+
+#[test]
+fn three_in_a_ring_are_severed(rt: HostRuntime) -> Result<(), Fail> {
+    let rows = [
+        ("object-add {\"qom-type\":\"tag\",\"id\":\"a\"}", "R"),
+        (
+            "object-add {\"qom-type\":\"tag\",\"id\":\"c\",\"next\":\"a\"}",
+            "R",
+        ),
+        (
+            "object-add {\"qom-type\":\"tag\",\"id\":\"b\",\"next\":\"c\"}",
+            "R",
+        ),
+        (
+            "qom-set {\"path\":\"a\",\"property\":\"next\",\"value\":\"b\"}",
+            "R",
+        ),
+        ("object-del {\"id\":\"a\"}", "R"),
+        ("object-del {\"id\":\"b\"}", "R"),
+        ("object-del {\"id\":\"c\"}", "R"),
+        (
+            "x-query-detached",
+            "[{\"birth\":9,\"refs\":1,\"type\":\"tag\"},{\"birth\":10,\"refs\":1,\"type\":\"tag\"},{\"birth\":11,\"refs\":1,\"type\":\"tag\"}]",
+        ),
+        ("x-sever {\"birth\":11}", "R"),
+        (
+            "x-query-notes {\"from\":0}",
+            "{\"first\":0,\"notes\":[\"init 9 tag\",\"init 10 tag\",\"init 11 tag\",\"final 9 tag\",\"final 10 tag\",\"final 11 tag\"],\"total\":6}",
+        ),
+        ("x-query-detached", "[]"),
+    ];
+    assert!(rt; holds(rt.alloc(), rows.as_slice())?);
+    Ok(())
+}
+
+#[test]
+fn one_that_holds_itself_is_severed(rt: HostRuntime) -> Result<(), Fail> {
+    let rows = [
+        ("object-add {\"qom-type\":\"tag\",\"id\":\"a\"}", "R"),
+        (
+            "qom-set {\"path\":\"/objects/a\",\"property\":\"next\",\"value\":\"/objects/a\"}",
+            "R",
+        ),
+        ("object-del {\"id\":\"a\"}", "R"),
+        (
+            "x-query-detached",
+            "[{\"birth\":9,\"refs\":1,\"type\":\"tag\"}]",
+        ),
+        ("x-sever {\"birth\":9}", "R"),
+        (
+            "x-query-notes {\"from\":1}",
+            "{\"first\":1,\"notes\":[\"final 9 tag\"],\"total\":2}",
+        ),
+        ("x-sever {\"birth\":9}", "E33"),
+    ];
+    assert!(rt; holds(rt.alloc(), rows.as_slice())?);
+    Ok(())
+}
+
+#[test]
+fn a_weak_link_holds_nothing(rt: HostRuntime) -> Result<(), Fail> {
+    let rows = [
+        ("object-add {\"qom-type\":\"tag\",\"id\":\"a\"}", "R"),
+        (
+            "object-add {\"qom-type\":\"tag\",\"id\":\"b\",\"seen\":\"/objects/a\"}",
+            "R",
+        ),
+        (
+            "qom-get {\"path\":\"b\",\"property\":\"seen\"}",
+            "\"/objects/a\"",
+        ),
+        (
+            "qom-set {\"path\":\"a\",\"property\":\"next\",\"value\":\"b\"}",
+            "R",
+        ),
+        ("object-del {\"id\":\"b\"}", "R"),
+        ("object-del {\"id\":\"a\"}", "R"),
+        (
+            "x-query-notes {\"from\":2}",
+            "{\"first\":2,\"notes\":[\"final 10 tag\",\"final 9 tag\"],\"total\":4}",
+        ),
+        ("object-add {\"qom-type\":\"tag\",\"id\":\"a\"}", "R"),
+        (
+            "object-add {\"qom-type\":\"tag\",\"id\":\"b\",\"seen\":\"a\"}",
+            "R",
+        ),
+        ("object-del {\"id\":\"a\"}", "R"),
+        ("qom-get {\"path\":\"b\",\"property\":\"seen\"}", "\"\""),
+        (
+            "x-query-notes {\"from\":6}",
+            "{\"first\":6,\"notes\":[\"final 11 tag\"],\"total\":7}",
+        ),
+    ];
+    assert!(rt; holds(rt.alloc(), rows.as_slice())?);
+    Ok(())
+}
+
+#[test]
+fn a_strong_link_holds_what_is_removed(rt: HostRuntime) -> Result<(), Fail> {
+    let rows = [
+        ("object-add {\"qom-type\":\"tag\",\"id\":\"a\"}", "R"),
+        ("object-add {\"qom-type\":\"tag\",\"id\":\"b\"}", "R"),
+        (
+            "object-add {\"qom-type\":\"tag\",\"id\":\"c\",\"next\":\"a\"}",
+            "R",
+        ),
+        ("object-del {\"id\":\"a\"}", "R"),
+        (
+            "qom-get {\"path\":\"c\",\"property\":\"next\"}",
+            "\"detached:9\"",
+        ),
+        (
+            "x-query-detached",
+            "[{\"birth\":9,\"refs\":1,\"type\":\"tag\"}]",
+        ),
+        (
+            "qom-set {\"path\":\"c\",\"property\":\"next\",\"value\":\"b\"}",
+            "R",
+        ),
+        ("x-query-detached", "[]"),
+        (
+            "x-query-notes {\"from\":3}",
+            "{\"first\":3,\"notes\":[\"final 9 tag\"],\"total\":4}",
+        ),
+        (
+            "qom-set {\"path\":\"c\",\"property\":\"next\",\"value\":\"/objects/b\"}",
+            "R",
+        ),
+        (
+            "qom-set {\"path\":\"c\",\"property\":\"next\",\"value\":\"\"}",
+            "R",
+        ),
+        ("qom-get {\"path\":\"c\",\"property\":\"next\"}", "\"\""),
+        (
+            "x-query-notes {\"from\":9}",
+            "{\"first\":4,\"notes\":[],\"total\":4}",
+        ),
+    ];
+    assert!(rt; holds(rt.alloc(), rows.as_slice())?);
+    Ok(())
+}
+
+#[test]
+fn links_lead_to_a_detached_object(rt: HostRuntime) -> Result<(), Fail> {
+    let rows = [
+        ("object-add {\"qom-type\":\"tag\",\"id\":\"a\"}", "R"),
+        ("object-add {\"qom-type\":\"tag\",\"id\":\"b\"}", "R"),
+        (
+            "object-add {\"qom-type\":\"tag\",\"id\":\"c\",\"next\":\"a\"}",
+            "R",
+        ),
+        ("object-del {\"id\":\"a\"}", "R"),
+        (
+            "qom-set {\"path\":\"b\",\"property\":\"next\",\"value\":\"c/next\"}",
+            "R",
+        ),
+        (
+            "x-query-detached",
+            "[{\"birth\":9,\"refs\":2,\"type\":\"tag\"}]",
+        ),
+        (
+            "qom-set {\"path\":\"c\",\"property\":\"next\",\"value\":\"\"}",
+            "R",
+        ),
+        (
+            "qom-set {\"path\":\"b\",\"property\":\"seen\",\"value\":\"b/next\"}",
+            "R",
+        ),
+        (
+            "x-query-detached",
+            "[{\"birth\":9,\"refs\":1,\"type\":\"tag\"}]",
+        ),
+        (
+            "qom-get {\"path\":\"b\",\"property\":\"seen\"}",
+            "\"detached:9\"",
+        ),
+        (
+            "qom-set {\"path\":\"b\",\"property\":\"next\",\"value\":\"b\"}",
+            "R",
+        ),
+        ("qom-get {\"path\":\"b\",\"property\":\"seen\"}", "\"\""),
+        (
+            "x-query-notes {\"from\":3}",
+            "{\"first\":3,\"notes\":[\"final 9 tag\"],\"total\":4}",
+        ),
+        ("x-sever {\"birth\":10}", "E50"),
+    ];
+    assert!(rt; holds(rt.alloc(), rows.as_slice())?);
+    Ok(())
+}
+
+#[test]
+fn partial_paths_are_found_where_one_leads(rt: HostRuntime) -> Result<(), Fail> {
+    let machine =
+        "[{\"name\":\"type\",\"type\":\"string\"},{\"name\":\"peripheral\",\"type\":\"child<container>\"},{\"name\":\"peripheral-anon\",\"type\":\"child<container>\"},{\"name\":\"sysclk\",\"type\":\"child<clock>\"},{\"name\":\"root.0\",\"type\":\"child<slot-bus>\"},{\"name\":\"mem.0\",\"type\":\"child<mem-bus>\"}]";
+    let rows = [
+        (
+            "object-add {\"qom-type\":\"tag\",\"id\":\"t1\",\"next\":\"/machine\"}",
+            "R",
+        ),
+        (
+            "object-add {\"qom-type\":\"tag\",\"id\":\"t2\",\"next\":\"/machine\"}",
+            "R",
+        ),
+        ("qom-list {\"path\":\"next\"}", "E16"),
+        ("qom-list {\"path\":\"t1/next\"}", machine),
+        ("qom-list {\"path\":\"nothing\"}", "E15"),
+        ("qom-list {\"path\":\"\"}", "E16"),
+        ("qom-list {\"path\":\"/objects//t2/next/\"}", machine),
+        (
+            "qom-list {\"path\":\"t2\"}",
+            "[{\"name\":\"type\",\"type\":\"string\"},{\"name\":\"text\",\"type\":\"string\"},{\"name\":\"number\",\"type\":\"int64\"},{\"name\":\"flag\",\"type\":\"bool\"},{\"name\":\"next\",\"type\":\"link<object>\"},{\"name\":\"seen\",\"type\":\"link<object>\"}]",
+        ),
+        (
+            "qom-get {\"path\":\"/\",\"property\":\"objects\"}",
+            "\"/objects\"",
+        ),
+        (
+            "qom-set {\"path\":\"t1\",\"property\":\"seen\",\"value\":\"next\"}",
+            "E16",
+        ),
+    ];
+    assert!(rt; holds(rt.alloc(), rows.as_slice())?);
+    Ok(())
+}
+
+#[test]
+fn properties_are_read_and_written(rt: HostRuntime) -> Result<(), Fail> {
+    let rows = [
+        (
+            "object-add {\"qom-type\":\"tag\",\"id\":\"t\",\"flag\":true,\"number\":-7,\"text\":\"hi\"}",
+            "R",
+        ),
+        ("qom-get {\"path\":\"t\",\"property\":\"flag\"}", "true"),
+        ("qom-get {\"path\":\"t\",\"property\":\"number\"}", "-7"),
+        ("qom-get {\"path\":\"t\",\"property\":\"text\"}", "\"hi\""),
+        ("qom-get {\"path\":\"t\",\"property\":\"type\"}", "\"tag\""),
+        (
+            "qom-set {\"path\":\"t\",\"property\":\"number\",\"value\":9223372036854775807}",
+            "R",
+        ),
+        (
+            "qom-get {\"path\":\"t\",\"property\":\"number\"}",
+            "9223372036854775807",
+        ),
+        (
+            "qom-set {\"path\":\"t\",\"property\":\"number\",\"value\":9223372036854775808}",
+            "E19",
+        ),
+        (
+            "qom-set {\"path\":\"t\",\"property\":\"flag\",\"value\":1}",
+            "E19",
+        ),
+        (
+            "qom-set {\"path\":\"t\",\"property\":\"next\",\"value\":5}",
+            "E19",
+        ),
+        (
+            "qom-set {\"path\":\"t\",\"property\":\"next\",\"value\":\"/nowhere\"}",
+            "E15",
+        ),
+        (
+            "qom-set {\"path\":\"t\",\"property\":\"type\",\"value\":\"x\"}",
+            "E18",
+        ),
+        (
+            "qom-set {\"path\":\"/machine/sysclk\",\"property\":\"period\",\"value\":1}",
+            "E18",
+        ),
+        (
+            "qom-set {\"path\":\"t\",\"property\":\"hue\",\"value\":1}",
+            "E17",
+        ),
+        (
+            "qom-set {\"path\":\"/nowhere\",\"property\":\"hue\",\"value\":1}",
+            "E15",
+        ),
+        (
+            "qom-set {\"path\":\"\",\"property\":\"hue\",\"value\":1}",
+            "E16",
+        ),
+        ("qom-get {\"path\":\"t\",\"property\":\"hue\"}", "E17"),
+        ("qom-get {\"path\":\"/t\",\"property\":\"hue\"}", "E15"),
+        ("qom-get {\"path\":\"\",\"property\":\"hue\"}", "E16"),
+        (
+            "qom-get {\"path\":\"sysclk\",\"property\":\"period\"}",
+            "42949672960",
+        ),
+        (
+            "object-add {\"qom-type\":\"memory-backend-ram\",\"id\":\"m\",\"size\":8192}",
+            "R",
+        ),
+        ("qom-get {\"path\":\"m\",\"property\":\"size\"}", "8192"),
+        (
+            "qom-set {\"path\":\"m\",\"property\":\"size\",\"value\":4096}",
+            "E18",
+        ),
+    ];
+    assert!(rt; holds(rt.alloc(), rows.as_slice())?);
+    Ok(())
+}
+
+#[test]
+fn adds_are_refused_in_order(rt: HostRuntime) -> Result<(), Fail> {
+    let rows = [
+        (
+            "object-add {\"qom-type\":\"nope\",\"id\":\"9x\",\"hue\":1}",
+            "E20",
+        ),
+        (
+            "object-add {\"qom-type\":\"memory-backend\",\"id\":\"9x\"}",
+            "E21",
+        ),
+        ("object-add {\"qom-type\":\"machine\",\"id\":\"9x\"}", "E22"),
+        (
+            "object-add {\"qom-type\":\"tag\",\"id\":\"9x\",\"hue\":1}",
+            "E23",
+        ),
+        (
+            "object-add {\"qom-type\":\"tag\",\"id\":\"type\",\"hue\":1}",
+            "E24",
+        ),
+        (
+            "x-query-notes {\"from\":0}",
+            "{\"first\":0,\"notes\":[],\"total\":0}",
+        ),
+        (
+            "object-add {\"qom-type\":\"tag\",\"id\":\"a\",\"hue\":1,\"number\":\"x\"}",
+            "E17",
+        ),
+        (
+            "object-add {\"qom-type\":\"tag\",\"id\":\"a\",\"number\":\"x\",\"type\":\"y\"}",
+            "E19",
+        ),
+        (
+            "object-add {\"qom-type\":\"tag\",\"id\":\"a\",\"type\":\"y\"}",
+            "E18",
+        ),
+        (
+            "object-add {\"qom-type\":\"tag\",\"id\":\"a\",\"next\":\"/nowhere\"}",
+            "E15",
+        ),
+        (
+            "object-add {\"qom-type\":\"tag\",\"id\":\"a\",\"next\":\"\",\"seen\":\"//\"}",
+            "R",
+        ),
+        (
+            "object-add {\"qom-type\":\"memory-backend-ram\",\"id\":\"m\",\"size\":4097}",
+            "E19",
+        ),
+        (
+            "x-query-notes {\"from\":0}",
+            "{\"first\":0,\"notes\":[\"init 9 tag\",\"final 9 tag\",\"init 10 tag\",\"final 10 tag\",\"init 11 tag\",\"final 11 tag\",\"init 12 tag\",\"final 12 tag\",\"init 13 tag\",\"init 14 memory-backend\",\"init 14 memory-backend-ram\",\"final 14 memory-backend-ram\",\"final 14 memory-backend\"],\"total\":13}",
+        ),
+        ("object-add {\"qom-type\":\"tag\",\"id\":\"a\"}", "E24"),
+        ("object-del {\"id\":\"zz\"}", "E15"),
+        ("object-del {\"id\":\"type\"}", "E15"),
+        ("x-sever {\"birth\":99}", "E33"),
+        ("x-sever {\"birth\":12}", "E33"),
+        ("x-sever {\"birth\":8}", "E50"),
+        ("x-sever {\"birth\":1}", "E50"),
+        ("qom-get {\"path\":\"a\",\"property\":\"seen\"}", "\"/\""),
+        ("object-del {\"id\":\"a\"}", "R"),
+    ];
+    assert!(rt; holds(rt.alloc(), rows.as_slice())?);
+    Ok(())
+}
+
+/// Adds an entry that adds a tag, and its reply.
+fn add_tag(
+    alloc: Global,
+    record: &mut Vec<u8>,
+    want: &mut String,
+    number: u64,
+    reply: &str,
+) -> Result<(), Fail> {
+    let command = format!(in alloc;
+        "object-add {{\"qom-type\":\"tag\",\"id\":\"t{}\"}}",
+        number
+    )?;
+    add_command(alloc, record, &command)?;
+    add_reply(alloc, want, reply)?;
+    Ok(())
+}
+
+#[test]
+fn objects_are_at_most_4096(rt: HostRuntime) -> Result<(), Fail> {
+    let alloc = rt.alloc();
+    let mut record = opening(alloc)?;
+    let mut want = greeted(alloc)?;
+    for number in 0..4088u64 {
+        add_tag(alloc, &mut record, &mut want, number, "R")?;
+    }
+    add_tag(alloc, &mut record, &mut want, 5000, "E43")?;
+    add_command(alloc, &mut record, "object-del {\"id\":\"t7\"}")?;
+    add_reply(alloc, &mut want, "R")?;
+    add_tag(alloc, &mut record, &mut want, 5000, "R")?;
+    let left = call_with_room(alloc, &["replay"], record.as_slice(), &[], &[], 131_072)?;
+    assert_eq!(rt; left.status, Status::Done);
+    assert_eq!(rt; left.held.as_slice(), want.as_bytes());
+    Ok(())
+}

@@ -1,0 +1,21 @@
+-- Final notes over runs.
+use Rattle.std.proofs.Common.{true}
+use Rattle.qo_model.specs.FinalNotes.{NotesInOrder}
+use Rattle.qo_model.proofs.FinalNotesGrowthLemmas.{attempt-grows, grown-keeps}
+use Rattle.qo_model.proofs.FinalNotesRunsLemmas.{final_once_lem, once, opening_notes}
+use Rattle.qo_machine.proofs.KeepLemmas.{KeepsBoard, run_keeps}
+use Rattle.qo_machine.specs.Laws.{FinalOnceInRuns}
+use Rattle.qo_machine.specs.Machine.{opening}
+use Rattle.qo_machine.specs.Runs.{state_after}
+
+-- notes stay in order
+notes_kept : KeepsBoard NotesInOrder
+notes_kept =
+    record {
+      change = λ b change o. final_once_lem.step b change o;
+      attempt = λ b t o. grown-keeps b _ t true (attempt-grows b t o) o;
+    }
+
+pub final_once_in_runs : FinalOnceInRuns
+final_once_in_runs turns n =
+    once (state_after opening turns).board (run_keeps NotesInOrder notes_kept opening turns opening_notes) n

@@ -1,8 +1,0 @@
--- The sessions passed over are told.
-use Rattle.std.proofs.Common.{◌≡◌, ◌++◌}
-use Rattle.qo_machine.specs.Machine.{numbers_below, those_commanding, told_of}
-use Rattle.qo_machine.proofs.machines.tell.Given as goal
-
-abbrev pub invariant-loop-session : goal.invariant-loop-session
-invariant-loop-session l =
-    l.outs ≡ l.fn.outs ++ told_of l.event l.at (those_commanding l.machine.state (numbers_below l.session))

@@ -1,7 +1,0 @@
--- The events passed over are told.
-use Rattle.std.proofs.Common.{◌≡◌, ◌++◌, take}
-use Rattle.qo_machine.specs.Machine.{event_outs}
-use Rattle.qo_machine.proofs.machines.tell_all.Given as goal
-
-abbrev pub invariant-loop-event : goal.invariant-loop-event
-invariant-loop-event l = l.outs ≡ l.fn.outs ++ event_outs l.at l.machine.state (take l.event-index l.events)

@@ -1,0 +1,23 @@
+-- One item more.
+use Rattle.std.proofs.Common.{sym, ◌∙◌, subst, List, [], ◌∷◌, ◌++◌, ◌+◌, take, arith}
+use Rattle.qo_framing.specs.declared.items.Item.{Item}
+use Rattle.qo_machine.proofs.LaneLemmas.{more_lanes}
+use Rattle.qo_machine.proofs.MachineLemmas.{serves_on, take_one}
+use Rattle.qo_machine.specs.Machine.{Message}
+use Rattle.qo_machine.specs.Serving.{ServesTo}
+use Rattle.qo_machine.proofs.serving.serve_items.Goals as goal
+
+pub loop-item-preserved : goal.loop-item-preserved
+loop-item-preserved g c =
+    let one = c.in_ok-serve_item.ensures.served in
+    record {
+      served = λ s here.
+          subst (λ (outs : List Message). ServesTo c.args.at c.args.session s (take (c.loop-item.item-index + 1) c.args.items.now) outs c.serve_item.new.machine) (sym one.1)
+          (subst (λ (items : List Item). ServesTo c.args.at c.args.session s items (c.loop-item.outs ++ one.0) c.serve_item.new.machine) (sym (take_one c.args.items.now c.loop-item.item-index c.item-item.result (omega arith) c.item-item.is))
+          (serves_on c.args.at c.args.session s c.loop-item.machine c.serve_item.new.machine (take c.loop-item.item-index c.args.items.now) (c.item-item.result ∷ []) c.loop-item.outs one.0 (c.loop-item.invariant.served s here) one.3));
+      lanes = more_lanes c.loop-item.outs one.0 _ one.1 c.loop-item.invariant.lanes one.2;
+      lasts = c.in_ok-serve_item.ensures.lasts ∙ c.loop-item.invariant.lasts;
+    }
+
+pub returns-clause-lanes : goal.returns-clause-lanes
+returns-clause-lanes g c = c.loop-item.invariant.lanes

@@ -1,0 +1,14 @@
+-- The items passed over are served.
+use Rattle.std.proofs.Common.{◌≡◌, take}
+use Rattle.qo_machine.specs.Machine.{IsIn, State}
+use Rattle.qo_machine.specs.Sending.{AreToLanes}
+use Rattle.qo_machine.specs.Serving.{ServesTo}
+use Rattle.qo_machine.proofs.serving.serve_items.Given as goal
+
+abbrev pub invariant-loop-item : goal.invariant-loop-item
+invariant-loop-item g l =
+    record {
+      served : (s : State) → IsIn s l.fn.machine → ServesTo l.at l.session s (take l.item-index l.items) l.outs l.machine;
+      lanes : AreToLanes l.outs;
+      lasts : l.machine.spent ≡ l.fn.machine.spent;
+    }

@@ -1,0 +1,8 @@
+-- The sessions passed over are told.
+use Rattle.std.proofs.Common.{◌≡◌, ◌++◌}
+use Rattle.qo_machine.specs.Machine.{beside, numbers_below, those_commanding, told_of}
+use Rattle.qo_machine.proofs.serving.tell.Given as goal
+
+abbrev pub invariant-loop-session : goal.invariant-loop-session
+invariant-loop-session l =
+    l.outs ≡ l.fn.outs ++ told_of l.event l.at (those_commanding (beside l.machine) (numbers_below l.session))

@@ -1,0 +1,46 @@
+//! The texts of replies.
+
+ghost use Rattle.std.specs.Prelude.{◌≡◌, false, option_map, IfOk};
+ghost use Rattle.serde_json.specs.Written.{has_float};
+ghost use Rattle.qo_commands.specs.Views.{body_data, data_of, has_float_in};
+ghost use Rattle.qo_machine.specs.Machine.{reply};
+ghost use Rattle.qo_replies.specs.Replies.{return_reply};
+
+use qo_commands::Body;
+use qo_replies::{error_text, return_text, return_written};
+use qo_values::{Chars, Code, Text};
+use std::alloc::{AllocError, Global};
+
+/// The texts of what commands return most often.
+pub(crate) const EMPTY: &str = "{}";
+
+const RUNNING: &str = "{\"running\":true,\"status\":\"running\"}";
+
+const PAUSED: &str = "{\"running\":false,\"status\":\"paused\"}";
+
+/// The reply to a command that was done. No number of what it returns has a fraction.
+#[tactic(auto, using(qo_commands::proofs::CommandLemmas::empty_written, qo_commands::proofs::CommandLemmas::running_written, qo_commands::proofs::CommandLemmas::paused_written))]
+fn done_text(alloc: Global, id: Option<&Text>, body: &Body) -> Result<Chars, AllocError>
+    ensures { IfOk result (λ text. has_float (body_data body.now) ≡ false → text ≡ return_reply (option_map (λ id. id.now) id.entry) (body_data body.now)) }
+{
+    match body {
+        Body::Empty => return_written(alloc, id, EMPTY),
+        Body::Status(true) => return_written(alloc, id, RUNNING),
+        Body::Status(false) => return_written(alloc, id, PAUSED),
+        Body::Value(value) => return_text(alloc, id, value),
+    }
+}
+
+/// The text of a reply.
+pub(crate) fn reply_text(
+    alloc: Global,
+    id: Option<&Text>,
+    outcome: &Result<Body, Code>,
+) -> Result<Chars, AllocError>
+    ensures { IfOk result (λ text. has_float_in (data_of outcome.now) ≡ false → text ≡ reply (option_map (λ id. id.now) id.entry) (data_of outcome.now)) }
+{
+    match outcome {
+        Ok(body) => done_text(alloc, id, body),
+        Err(code) => error_text(alloc, id, *code),
+    }
+}

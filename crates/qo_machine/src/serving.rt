@@ -1,0 +1,222 @@
+//! Serving the items of a session: each makes exactly one reply, behind the events of its command.
+
+ghost use Rattle.std.specs.Prelude.{◌≡◌, ◌<◌, true, false, [], ◌∷◌, ◌++◌, List, option_map, IfOk, OnOk};
+ghost use Rattle.qo_causes.specs.declared.hubs.Lane.TheVariants as Lane;
+ghost use Rattle.qo_replies.specs.Replies.{error_reply};
+ghost use Rattle.qo_values.specs.declared.codes.Code.TheVariants.{E99};
+ghost use Rattle.qo_commands.specs.Changes.{is_change};
+ghost use Rattle.qo_machine.specs.Machine.{IsIn, Message, State, beside, commanding, event_outs, those_commanding, told_of};
+ghost use Rattle.qo_machine.specs.Sending.{AreToLanes};
+ghost use Rattle.qo_machine.specs.Serving.{CommandServed, ServesTo};
+
+use crate::machines::Machine;
+use crate::outs::Outs;
+use crate::replying::EMPTY;
+use qo_causes::Moment;
+use qo_commands::is_change;
+use qo_framing::Item;
+use qo_heap::Steps;
+use qo_replies::{Event, error_text, event_text, return_written};
+use qo_requests::Request;
+use qo_sessions::{Mode, SessionAct};
+use qo_values::{Code, SESSIONS, Text};
+use std::alloc::{AllocError, Global};
+use std::sync::ledger::Ledger;
+
+/// One session is told of an event, if it commands.
+fn tell_one(
+    machine: &Machine,
+    alloc: Global,
+    at: Moment,
+    session: u8,
+    event: &Event,
+    outs: &mut Outs,
+) -> Result<(), AllocError>
+    requires { session < 16 }
+    ensures { OnOk result (outs.new ≡ outs.old ++ told_of event.now at (those_commanding (beside machine.now) (session ∷ []))) }
+{
+    if machine.mode(session) == Mode::Commanding {
+        outs.push(session, event_text(alloc, at, event)?)?;
+    }
+    Ok(())
+}
+
+/// Each session that commands is told of an event.
+fn tell(
+    machine: &Machine,
+    alloc: Global,
+    at: Moment,
+    event: &Event,
+    outs: &mut Outs,
+) -> Result<(), AllocError>
+    ensures { OnOk result (outs.new ≡ outs.old ++ told_of event.now at (commanding (beside machine.now))) }
+{
+    for session in 0..SESSIONS {
+        tell_one(machine, alloc, at, session, event, outs)?;
+    }
+    Ok(())
+}
+
+/// Each session that commands is told of each event.
+fn tell_all(
+    machine: &Machine,
+    alloc: Global,
+    at: Moment,
+    events: &[Event],
+    outs: &mut Outs,
+) -> Result<(), AllocError>
+    ensures { OnOk result (outs.new ≡ outs.old ++ event_outs at (beside machine.now) events.now) }
+{
+    for event in events {
+        tell(machine, alloc, at, event, outs)?;
+    }
+    Ok(())
+}
+
+/// A session is told that memory ran out for its command.
+fn tell_want(
+    alloc: Global,
+    session: u8,
+    id: Option<&Text>,
+    outs: &mut Outs,
+) -> Result<(), AllocError>
+    ensures { OnOk result (outs.new ≡ outs.old ++ (Lane.Session session, error_reply (option_map (λ id. id.now) id.entry) E99) ∷ []) }
+{
+    outs.push(session, error_text(alloc, id, Code::E99)?)?;
+    Ok(())
+}
+
+/// A command that leaves the board is done, or refused for want of memory.
+fn serve_ask<L: Ledger>(
+    machine: &mut Machine,
+    alloc: Global,
+    at: Moment,
+    session: u8,
+    request: &Request,
+    id: Option<&Text>,
+    outs: &mut Outs,
+    steps: &mut Steps<L>,
+) -> Result<(), AllocError>
+    requires session { session < 16 }
+    requires asks { is_change request.now ≡ false }
+    ensures served { OnOk result ((front : List Message) × (outs.new ≡ outs.old ++ front) × AreToLanes front × ((s : State) → IsIn s machine.old → CommandServed at session s request.now (option_map (λ id. id.now) id.entry) front machine.new)) }
+    ensures lasts { machine.new.spent ≡ machine.old.spent }
+{
+    match machine.answer(alloc, request, id, steps) {
+        Ok((done, text)) => {
+            tell_all(machine, alloc, at, &done.events, outs)?;
+            outs.push(session, text)?;
+            machine.conclude(done.ends);
+            Ok(())
+        }
+        Err(AllocError) => tell_want(alloc, session, id, outs),
+    }
+}
+
+/// A command that changes the board is done, or refused for want of memory.
+fn serve_change<L: Ledger>(
+    machine: &mut Machine,
+    alloc: Global,
+    at: Moment,
+    session: u8,
+    request: &Request,
+    id: Option<&Text>,
+    outs: &mut Outs,
+    steps: &mut Steps<L>,
+) -> Result<(), AllocError>
+    requires session { session < 16 }
+    requires changes { is_change request.now ≡ true }
+    ensures served { OnOk result ((front : List Message) × (outs.new ≡ outs.old ++ front) × AreToLanes front × ((s : State) → IsIn s machine.old → CommandServed at session s request.now (option_map (λ id. id.now) id.entry) front machine.new)) }
+    ensures lasts { machine.new.spent ≡ machine.old.spent }
+{
+    match machine.change(alloc, request, id, steps) {
+        Ok(reply) => {
+            outs.push(session, reply)?;
+            Ok(())
+        }
+        Err(AllocError) => tell_want(alloc, session, id, outs),
+    }
+}
+
+/// A command is done, or refused for want of memory.
+fn serve_command<L: Ledger>(
+    machine: &mut Machine,
+    alloc: Global,
+    at: Moment,
+    session: u8,
+    request: &Request,
+    id: Option<&Text>,
+    outs: &mut Outs,
+    steps: &mut Steps<L>,
+) -> Result<(), AllocError>
+    requires { session < 16 }
+    ensures served { OnOk result ((front : List Message) × (outs.new ≡ outs.old ++ front) × AreToLanes front × ((s : State) → IsIn s machine.old → CommandServed at session s request.now (option_map (λ id. id.now) id.entry) front machine.new)) }
+    ensures lasts { machine.new.spent ≡ machine.old.spent }
+{
+    if is_change(request) {
+        serve_change(machine, alloc, at, session, request, id, outs, steps)
+    } else {
+        serve_ask(machine, alloc, at, session, request, id, outs, steps)
+    }
+}
+
+/// An item of a session is served, unless the run has ended.
+fn serve_item<L: Ledger>(
+    machine: &mut Machine,
+    alloc: Global,
+    at: Moment,
+    session: u8,
+    item: &Item,
+    outs: &mut Outs,
+    steps: &mut Steps<L>,
+) -> Result<(), AllocError>
+    requires { session < 16 }
+    ensures served { OnOk result ((front : List Message) × (outs.new ≡ outs.old ++ front) × AreToLanes front × ((s : State) → IsIn s machine.old → ServesTo at session s (item.now ∷ []) front machine.new)) }
+    ensures lasts { machine.new.spent ≡ machine.old.spent }
+{
+    if machine.ended() {
+        return Ok(());
+    }
+    match machine.heed(alloc, session, item)? {
+        SessionAct::Answer(code, id) => {
+            outs.push(session, error_text(alloc, id.as_ref(), code)?)?;
+        }
+        SessionAct::Negotiated(id) => {
+            outs.push(session, return_written(alloc, id.as_ref(), EMPTY)?)?;
+        }
+        SessionAct::Do(request, id) => {
+            serve_command(
+                machine,
+                alloc,
+                at,
+                session,
+                &request,
+                id.as_ref(),
+                outs,
+                steps,
+            )?;
+        }
+    }
+    Ok(())
+}
+
+/// Items of a session are served in turn.
+pub(crate) fn serve_items<L: Ledger>(
+    machine: &mut Machine,
+    alloc: Global,
+    at: Moment,
+    session: u8,
+    items: &[Item],
+    steps: &mut Steps<L>,
+) -> Result<Outs, AllocError>
+    requires { session < 16 }
+    ensures served { IfOk result (λ outs. (s : State) → IsIn s machine.old → ServesTo at session s items.now outs machine.new) }
+    ensures lanes { IfOk result AreToLanes }
+    ensures lasts { machine.new.spent ≡ machine.old.spent }
+{
+    let mut outs = Outs::none(alloc);
+    for item in items {
+        serve_item(machine, alloc, at, session, item, &mut outs, steps)?;
+    }
+    Ok(outs)
+}
