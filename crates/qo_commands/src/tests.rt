@@ -94,45 +94,86 @@ fn bars<L: Ledger>(
     }
 }
 
-/// The opening board with a tag, whose text is written.
-fn with_tag<L: Ledger>(alloc: Global, steps: &mut Steps<L>) -> Result<Board, Refusal> {
-    let mut board = Board::start(alloc, steps)?;
-    let added = Request::ObjectAdd {
-        driver: text(alloc, "tag")?,
-        id: text(alloc, "t")?,
-        props: PropList::from_vec(Vec::new(alloc)),
-    };
-    change(alloc, &mut board, &added, steps)?;
-    let written = Request::QomSet {
-        path: text(alloc, "/objects/t")?,
-        property: text(alloc, "text")?,
-        value: Val::Text(text(alloc, "seen")?),
-    };
-    change(alloc, &mut board, &written, steps)?;
-    Ok(board)
+/// Adds a tag `t`.
+fn adds<L: Ledger>(alloc: Global, board: &mut Board, steps: &mut Steps<L>) -> Result<(), Refusal> {
+    let driver = text(alloc, "tag")?;
+    let id = text(alloc, "t")?;
+    let props = PropList::from_vec(Vec::new(alloc));
+    change(
+        alloc,
+        board,
+        &Request::ObjectAdd { driver, id, props },
+        steps,
+    )
 }
 
-/// Whether a tag is added, written and removed, which leaves its notes.
+/// Writes the text of the tag.
+fn writes<L: Ledger>(
+    alloc: Global,
+    board: &mut Board,
+    steps: &mut Steps<L>,
+) -> Result<(), Refusal> {
+    let path = text(alloc, "/objects/t")?;
+    let property = text(alloc, "text")?;
+    let value = Val::Text(text(alloc, "seen")?);
+    let written = Request::QomSet {
+        path,
+        property,
+        value,
+    };
+    change(alloc, board, &written, steps)
+}
+
+/// Whether the text of the tag is read.
+fn reads_text<L: Ledger>(
+    alloc: Global,
+    board: &Board,
+    steps: &mut Steps<L>,
+) -> Result<bool, Memory> {
+    let path = text(alloc, "t")?;
+    let property = text(alloc, "text")?;
+    let read = Request::QomGet { path, property };
+    tells(alloc, board, &read, "\"seen\"", steps)
+}
+
+/// Removes the tag.
+fn removes<L: Ledger>(
+    alloc: Global,
+    board: &mut Board,
+    steps: &mut Steps<L>,
+) -> Result<(), Refusal> {
+    let id = text(alloc, "t")?;
+    change(alloc, board, &Request::ObjectDel { id }, steps)
+}
+
+/// Whether the last note on the tag is told.
+fn tells_end<L: Ledger>(
+    alloc: Global,
+    board: &Board,
+    steps: &mut Steps<L>,
+) -> Result<bool, Memory> {
+    tells(
+        alloc,
+        board,
+        &Request::XQueryNotes { from: 1 },
+        "{\"first\":1,\"notes\":[\"final 9 tag\"],\"total\":2}",
+        steps,
+    )
+}
+
+/// Whether a tag is added, written, read and removed, and is not there to be severed.
 fn changes<L: Ledger>(alloc: Global, blank: Blank) -> Result<bool, Refusal>
     requires name { blank.name ≡ L.name }
     requires parts { blank.parts ≡ L.parts }
     requires some { 0 < blank.parts }
 {
     let mut steps = Steps::<L>::from_blank(blank);
-    let mut board = with_tag(alloc, &mut steps)?;
-    let path = text(alloc, "t")?;
-    let property = text(alloc, "text")?;
-    let read = Request::QomGet { path, property };
-    let is_read = tells(alloc, &board, &read, "\"seen\"", &mut steps)?;
-    let id = text(alloc, "t")?;
-    change(alloc, &mut board, &Request::ObjectDel { id }, &mut steps)?;
-    let is_noted = tells(
-        alloc,
-        &board,
-        &Request::XQueryNotes { from: 1 },
-        "{\"first\":1,\"notes\":[\"final 9 tag\"],\"total\":2}",
-        &mut steps,
-    )?;
+    let mut board = Board::start(alloc, &mut steps)?;
+    adds(alloc, &mut board, &mut steps)?;
+    writes(alloc, &mut board, &mut steps)?;
+    let is_read = reads_text(alloc, &board, &mut steps)?;
+    removes(alloc, &mut board, &mut steps)?;
+    let is_noted = tells_end(alloc, &board, &mut steps)?;
     let severed = Request::XSever { birth: 9 };
     Ok(is_read && is_noted && bars(alloc, &mut board, &severed, Code::E33, &mut steps))
 }
