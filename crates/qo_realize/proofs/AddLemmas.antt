@@ -1,5 +1,5 @@
 -- The newest object of a heap.
-use Rattle.std.proofs.Common.{◌≡◌, refl, ap, sym, subst, ◌∙◌, ℕ, zero, suc, ◌+◌, ◌-◌, ◌<◌, ◌≤◌, Bool, true, false, not, cond, ◌==◌, eqb, List, [], ◌∷◌, ◌++◌, map, filter, filter_map, count_by, sum_by, length, take, Option, Some, None, is_some, option_map, IsSomeAnd, inl, inr, replicate, append-nil, arith}
+use Rattle.std.proofs.Common.{◌≡◌, refl, ap, sym, subst, ◌∙◌, ℕ, ◌+◌, ◌-◌, ◌<◌, ◌≤◌, Bool, true, false, cond, ◌==◌, eqb, List, [], ◌∷◌, ◌++◌, map, filter_map, count_by, sum_by, length, take, Option, Some, None, is_some, option_map, IsSomeAnd, inl, inr, replicate, arith}
 use Rattle.std.specs.List.{AllByRecursion, cons_option}
 use Rattle.std.specs.Option.{option_map_or}
 use Rattle.std.proofs.lemmas.Bool.{eqb-true, eq-eqb}
@@ -17,7 +17,7 @@ use Rattle.qo_model.specs.Types.{Kind, Property, slots_of}
 use Rattle.qo_realize.specs.Fresh.{first_slots, new_slots, slot_begun, with_slots}
 use Rattle.qo_model.specs.Objects.{Given, given_slots, objects_birth, with_attempt, with_object}
 use Rattle.qo_notes.proofs.Logs.{all_lem}
-use Rattle.qo_object.specs.Content.{Content, forgotten, fresh, held_count, holding, with_slot, without_pin}
+use Rattle.qo_object.specs.Content.{Content, fresh, held_count, holding, with_slot, without_pin}
 use Rattle.qo_object.specs.Slots.{Named, forgotten_in, held, holds, is_born, target_of}
 use Rattle.qo_object.specs.declared.slots.Slot.{Slot}
 use Rattle.qo_object.specs.declared.slots.Slot.TheVariants.{Plain, Child, Link, Alias}
@@ -28,10 +28,9 @@ use Rattle.qo_heap.specs.Objects as heap
 use Rattle.qo_heap.proofs.HeapLemmas.{live-edit}
 use Rattle.qo_heap.proofs.ShowsChanges.{shows-added}
 use Rattle.qo_heap.specs.Objects.{IsHeap, Objects, content_of, ended, final_notes, forgets, pins_of, refs_of, targets, with_edit}
-use Rattle.qo_heap.proofs.ShowsEdits.{there-above}
 use Rattle.qo_heap.proofs.ShowsLive.{content-edited, live-content}
 use Rattle.std.proofs.lemmas.Option.{same_Some}
-use Rattle.qo_notes.specs.Log.{IsLogOf, Log, empty_log, noted_all}
+use Rattle.qo_notes.specs.Log.{IsLogOf, empty_log, noted_all}
 use Rattle.qo_life.specs.Life.{init_notes, with_log}
 use Rattle.qo_life.proofs.TreeLemmas.{tree, tree-shows}
 use Rattle.qo_realize.specs.declared.filling.Fill.{Fill}

@@ -1,5 +1,5 @@
 -- What the calls on users' objects answer.
-use Rattle.std.proofs.Common.{◌≡◌, refl, ap, sym, subst, ◌∙◌, ℕ, Bool, true, false, not, List, [], Option, Some, None, Ok, Err, is_some, option_map, inl, inr}
+use Rattle.std.proofs.Common.{◌≡◌, refl, ap, sym, subst, ◌∙◌, ℕ, true, false, List, [], Option, Some, None, Ok, Err, is_some, option_map, inl, inr}
 use Rattle.std.specs.Option.{option_map_or}
 use Rattle.qo_values.specs.declared.codes.Code.TheVariants.{E15, E20, E33, E50}
 use Rattle.qo_values.specs.declared.codes.Code.{Code}

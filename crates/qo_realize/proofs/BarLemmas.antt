@@ -1,5 +1,5 @@
 -- The row of a type that a name gives, and what it refuses.
-use Rattle.std.proofs.Common.{◌≡◌, refl, ap, sym, subst, ◌∙◌, ap₂, ◌<◌, ◌≤◌, leb, nat_le, cond, Bool, true, false, not, ◌||◌, List, [], ◌∷◌, map, length, ℕ, codes, find, Option, Some, None, is_some, option_map, arith}
+use Rattle.std.proofs.Common.{◌≡◌, refl, ap, sym, subst, ◌∙◌, ap₂, ◌<◌, ◌≤◌, leb, nat_le, cond, Bool, true, false, ◌||◌, List, [], ◌∷◌, length, ℕ, codes, find, Option, Some, None, is_some, option_map, arith}
 use Rattle.std.specs.List.{AllByRecursion, list_all, list_any}
 use Rattle.qo_values.specs.Ids.{is_id, is_id_byte, is_letter}
 use Rattle.qo_values.specs.Names.{IsName, is_name_byte}

@@ -1,5 +1,5 @@
 -- The slots of a new object, filled with what was given.
-use Rattle.std.proofs.Common.{◌≡◌, refl, ap, sym, subst, ◌∙◌, ℕ, zero, suc, ◌+◌, Bool, true, false, eqb, List, [], ◌∷◌, ◌++◌, map, length, slice_get, Option, Some, None, IfSome, is_some, option_map, option_to_list, append_assoc, length-append, arith}
+use Rattle.std.proofs.Common.{◌≡◌, refl, ap, sym, subst, ◌∙◌, ℕ, zero, suc, Bool, true, false, eqb, List, [], ◌∷◌, ◌++◌, map, length, slice_get, Option, Some, None, IfSome, is_some, option_map, option_to_list, append_assoc, length-append, arith}
 use Rattle.std.specs.List.{AllByRecursion, AllZip}
 use Rattle.std.specs.Option.{option_map_or}
 use Rattle.qo_slots.specs.declared.keys.Key.{Key}
@@ -7,7 +7,7 @@ use Rattle.qo_table.specs.Rows.{IsLive, edit}
 use Rattle.qo_model.specs.Board as board
 use Rattle.qo_model.specs.Objects.{Given, slot_given}
 use Rattle.qo_object.specs.declared.slots.Slot.{Slot}
-use Rattle.qo_object.specs.Content.{Content, empty_link_at}
+use Rattle.qo_object.specs.Content.{Content}
 use Rattle.qo_object.specs.Shown.{shown_slots}
 use Rattle.qo_object.specs.Slots.{Named, changed_at, is_empty_link, slot_in}
 use Rattle.qo_heap.specs.Objects.{Objects, content_of, slots_of, with_edit}

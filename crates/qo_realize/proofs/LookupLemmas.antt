@@ -1,10 +1,10 @@
 -- Objects found by birth, and children found by name.
-use Rattle.std.proofs.Common.{◌≡◌, refl, ap, sym, ◌∙◌, ℕ, zero, suc, ◌+◌, ◌-◌, ◌<◌, ◌≤◌, Bool, true, false, cond, eqb, leb, List, [], ◌∷◌, map, drop, find, length, slice_get, Option, Some, None, option_map, arith}
-use Rattle.std.proofs.lemmas.Bool.{eqb-true, eq-eqb}
+use Rattle.std.proofs.Common.{◌≡◌, refl, ap, ◌∙◌, ℕ, zero, suc, ◌+◌, ◌<◌, ◌≤◌, Bool, true, false, cond, eqb, leb, List, [], ◌∷◌, drop, find, slice_get, Option, Some, None, option_map, arith}
+use Rattle.std.proofs.lemmas.Bool.{eq-eqb}
 use Rattle.std.proofs.lemmas.Bool.Decides.{nat_tests}
-use Rattle.std.proofs.lemmas.Option.{same_Some, slice_get_within}
+use Rattle.std.proofs.lemmas.Option.{same_Some}
 use Rattle.qo_slots.specs.declared.keys.Key.{Key}
-use Rattle.qo_table.specs.Rows.{IsLive, Rises, births, object_at, row_at}
+use Rattle.qo_table.specs.Rows.{IsLive, Rises, births, object_at}
 use Rattle.qo_model.specs.Board as board
 use Rattle.qo_model.specs.Objects.{place_from}
 use Rattle.qo_object.specs.Content.{Content}

@@ -14,7 +14,7 @@ use Rattle.qo_model.proofs.ReleaseLeavesLemmas.{let_go-leaves, release_leaves}
 use Rattle.qo_notes.specs.Log.{empty_log}
 use Rattle.qo_object.specs.Content.{Content}
 use Rattle.qo_heap.specs.Board.{Shows, pins_in}
-use Rattle.qo_heap.specs.Objects.{Objects, content_of, pins_of, with_edit}
+use Rattle.qo_heap.specs.Objects.{Objects, pins_of, with_edit}
 use Rattle.qo_life.specs.Life.{Goes}
 use Rattle.qo_life.proofs.TreeLemmas.{tree, tree-shows}
 use Rattle.qo_realize.specs.Changes.{severed}

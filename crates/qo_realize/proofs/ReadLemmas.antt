@@ -1,22 +1,18 @@
 -- What is read of the board, by its heap.
-use Rattle.std.proofs.Common.{◌≡◌, refl, ap, sym, ◌∙◌, ℕ, zero, suc, ◌+◌, ◌<◌, ◌≤◌, Bool, true, false, not, ◌&&◌, leb, eqb, cond, List, [], ◌∷◌, ◌++◌, map, filter, length, drop, find, slice_get, Option, Some, None, is_some, is_none, option_map, append_assoc, arith}
+use Rattle.std.proofs.Common.{◌≡◌, refl, ap, sym, ◌∙◌, ℕ, zero, suc, ◌+◌, ◌≤◌, Bool, true, false, not, ◌&&◌, eqb, List, [], ◌∷◌, map, filter, length, drop, find, slice_get, Option, Some, None, is_some, is_none, option_map, arith}
 use Rattle.std.specs.Prelude.{filter_map}
 use Rattle.std.specs.Option.{option_and_then, option_map_or}
 use Rattle.std.specs.List.{cons_option}
 use Rattle.std.specs.Str.{bytes_eq}
-use Rattle.std.proofs.lemmas.Bool.{eqb-true}
-use Rattle.std.proofs.lemmas.Bool.Decides.{nat_tests}
-use Rattle.qo_values.specs.declared.properties.Val.{Val}
 use Rattle.qo_values.specs.declared.kinds.TypeId.{TypeId}
 use Rattle.qo_slots.specs.declared.keys.Key.{Key}
-use Rattle.qo_table.specs.Rows.{IsLive, Rises, births, object_at}
 use Rattle.qo_object.specs.declared.slots.Slot.{Slot}
 use Rattle.qo_object.specs.declared.slots.Slot.TheVariants.{Plain, Child, Link, Alias}
 use Rattle.qo_object.specs.Content.{Content}
 use Rattle.qo_object.specs.Shown.{birth_of, shown_slot}
 use Rattle.qo_object.specs.Slots.{Named}
 use Rattle.qo_model.specs.Board as board
-use Rattle.qo_model.specs.Paths.{parent_of, place_of}
+use Rattle.qo_model.specs.Paths.{place_of}
 use Rattle.qo_model.specs.Properties.{own_value, slot_value, value_of}
 use Rattle.qo_model.specs.References.{refs}
 use Rattle.qo_heap.specs.Objects as heap

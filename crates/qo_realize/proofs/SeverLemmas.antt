@@ -1,8 +1,8 @@
 -- The strong links of an object let go, while it is held from outside the tree.
-use Rattle.std.proofs.Common.{◌≡◌, refl, ap, sym, subst, ◌∙◌, ℕ, zero, suc, ◌+◌, ◌-◌, ◌<◌, ◌≤◌, Bool, true, false, not, ◌&&◌, ◌||◌, cond, leb, nat_eq, eqb, ◌==◌, List, [], ◌∷◌, length, count_by, sum_by, Option, Some, None, is_some, option_map, arith}
+use Rattle.std.proofs.Common.{◌≡◌, refl, ap, sym, subst, ◌∙◌, ℕ, zero, suc, ◌+◌, ◌-◌, ◌<◌, Bool, true, false, not, ◌||◌, cond, leb, nat_eq, eqb, ◌==◌, List, [], ◌∷◌, length, count_by, Option, Some, None, option_map, arith}
 use Rattle.std.specs.List.{AllByRecursion, list_any}
 use Rattle.std.specs.Option.{option_map_or}
-use Rattle.std.proofs.lemmas.Bool.{eqb-true, eq-eqb}
+use Rattle.std.proofs.lemmas.Bool.{eqb-true}
 use Rattle.std.proofs.lemmas.List.Sums.{sum_by-cons}
 use Rattle.qo_slots.specs.declared.keys.Key.{Key}
 use Rattle.qo_table.specs.Rows.{IsLive}
@@ -10,17 +10,16 @@ use Rattle.qo_model.specs.Board.{Board, is_live, slot_at, slots_at, held, strong
 use Rattle.qo_model.specs.Board as board
 use Rattle.qo_model.specs.Objects.{severed_from}
 use Rattle.qo_model.specs.References.{refs}
-use Rattle.qo_model.specs.Release.{after, drop_slot, finalise, finish, let_go, pin, put_in_order, unpin}
+use Rattle.qo_model.specs.Release.{drop_slot, finish, let_go, pin, put_in_order, unpin}
 use Rattle.qo_model.specs.ReleaseKeeps.{KeepsRelease}
 use Rattle.qo_model.proofs.ReleaseKeepsLemmas.{after_keeps}
 use Rattle.qo_model.proofs.StepLemmas.{drop-live, finish-live}
-use Rattle.qo_notes.specs.Log.{Log, empty_log, noted_all}
+use Rattle.qo_notes.specs.Log.{empty_log, noted_all}
 use Rattle.qo_object.specs.Content.{Content, with_pin}
-use Rattle.qo_object.specs.Shown.{shown_slot, shown_slots}
+use Rattle.qo_object.specs.Shown.{shown_slot}
 use Rattle.qo_object.specs.Slots.{slot_in}
 use Rattle.qo_object.specs.declared.slots.Slot.{Slot}
 use Rattle.qo_object.specs.declared.slots.Slot.TheVariants.{Plain, Child, Link, Alias}
-use Rattle.qo_heap.specs.Board.{Shows, pins_in}
 use Rattle.qo_heap.specs.Objects.{IsHeap, Objects, content_of, pins_of, slots_of, with_edit}
 use Rattle.qo_heap.proofs.ShowsReads.{shows-live, shows-live_key, shows-pinned, shows-slot_at, shows-slots}
 use Rattle.std.proofs.Math.Bool.{or-true}

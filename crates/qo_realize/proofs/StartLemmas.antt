@@ -5,12 +5,11 @@ use Rattle.std.proofs.lemmas.Bool.{eqb-true}
 use Rattle.std.proofs.lemmas.Bool.Decides.{nat_tests}
 use Rattle.qo_values.specs.declared.kinds.TypeId.{TypeId}
 use Rattle.qo_values.specs.declared.kinds.TypeId.TheVariants.{Clock}
-use Rattle.qo_values.specs.declared.properties.Val.TheVariants.{Uint}
 use Rattle.qo_slots.specs.declared.keys.Key.{Key}
 use Rattle.qo_table.specs.Rows.{IsLive, Rises, births, row_at}
 use Rattle.qo_model.specs.Board as board
 use Rattle.qo_model.specs.Changes.{make, add, set, with_fresh_slots}
-use Rattle.qo_model.specs.Opening.{system_period, opening_board}
+use Rattle.qo_model.specs.Opening.{opening_board}
 use Rattle.qo_model.specs.Release.{without_pin}
 use Rattle.qo_model.specs.Types.{types}
 use Rattle.qo_notes.specs.Log.{empty_log}

@@ -1,5 +1,5 @@
 -- What is written to the board, by its heap.
-use Rattle.std.proofs.Common.{◌≡◌, refl, ap, sym, ◌∙◌, ℕ, zero, suc, ◌+◌, ◌<◌, Bool, true, false, cond, nat_lt, List, [], ◌∷◌, map, length, find, slice_get, Option, Some, None, is_some, IfSome, option_map, arith}
+use Rattle.std.proofs.Common.{◌≡◌, refl, ap, sym, ◌∙◌, ℕ, zero, suc, Bool, true, false, cond, nat_lt, List, [], ◌∷◌, find, Option, Some, None, is_some, IfSome, option_map}
 use Rattle.std.specs.Prelude.{position, if◌then◌else◌, Result, Ok, Err}
 use Rattle.std.specs.List.{position_or_len}
 use Rattle.std.specs.Option.{option_and_then, option_map_or}

@@ -120,9 +120,9 @@ pub(crate) fn add_filled<L: Ledger>(
     } = admitted;
     heap.facts();
     let plan = plan_of(heap, kind, props, alloc, steps)?;
-    let o = make_child(heap, objects, name, kind, alloc, steps)?;
-    settle(heap, o, plan, steps);
-    heap.unpin(o, steps);
+    let made = make_child(heap, objects, name, kind, alloc, steps)?;
+    settle(heap, made, plan, steps);
+    heap.unpin(made, steps);
     Ok(())
 }
 

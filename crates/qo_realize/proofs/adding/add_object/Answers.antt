@@ -1,5 +1,5 @@
 -- A refusal comes before the attempt, or behind it; else the object is added.
-use Rattle.std.proofs.Common.{◌≡◌, refl, ap, sym, subst, ◌∙◌, ℕ, List, inl, Err, rules}
+use Rattle.std.proofs.Common.{◌≡◌, ap, sym, subst, ℕ, List, inl, Err, rules}
 use Rattle.std.specs.Prelude.{Result}
 use Rattle.qo_model.specs.Objects.{with_object}
 use Rattle.qo_heap.specs.Board.{Shows}

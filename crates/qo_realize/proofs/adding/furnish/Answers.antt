@@ -1,5 +1,5 @@
 -- Both are there, whatever slots one has.
-use Rattle.std.proofs.Common.{◌≡◌, length, ap, ◌∙◌, List}
+use Rattle.std.proofs.Common.{length, ap, ◌∙◌, List}
 use Rattle.qo_heap.proofs.HeapLemmas.{live-edit, on-err}
 use Rattle.qo_heap.specs.Objects.{with_edit}
 use Rattle.qo_model.specs.Types.{slots_of}

@@ -1,5 +1,5 @@
 -- Behind its pin nothing refers to the object.
-use Rattle.std.proofs.Common.{◌≡◌, ◌<◌, arith}
+use Rattle.std.proofs.Common.{◌≡◌, arith}
 use Rattle.qo_object.specs.Content.{without_pin}
 use Rattle.qo_heap.proofs.HeapLemmas.{live-edit}
 use Rattle.qo_heap.specs.Objects.{pins_of}

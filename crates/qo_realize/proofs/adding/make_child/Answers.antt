@@ -1,10 +1,7 @@
 -- The object that was made has its slots, or holds nothing and ends.
-use Rattle.std.proofs.Common.{◌≡◌, ℕ, refl, inr, ◌∙◌, ◌+◌}
-use Rattle.qo_object.specs.Content.{fresh, with_slot}
-use Rattle.qo_object.specs.declared.slots.Slot.TheVariants.{Child}
-use Rattle.qo_heap.specs.Objects.{with_edit}
-use Rattle.qo_realize.specs.Adding.{with_newest}
-use Rattle.qo_realize.specs.Fresh.{first_slots, new_slots, with_slots}
+use Rattle.std.proofs.Common.{refl, inr}
+use Rattle.qo_object.specs.Content.{fresh}
+use Rattle.qo_realize.specs.Fresh.{first_slots, with_slots}
 use Rattle.qo_realize.proofs.AddLemmas.{done-furnish, failed-furnish, first-bare, newest-alone, newest-bare, newest-ends, newest-keeps, newest-live, newest-pinned}
 use Rattle.qo_realize.proofs.adding.make_child.Goals as goal
 

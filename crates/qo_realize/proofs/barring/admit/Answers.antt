@@ -1,5 +1,5 @@
 -- The refusals come in order.
-use Rattle.std.proofs.Common.{◌≡◌, Err, Some, None, ap, sym, ◌∙◌}
+use Rattle.std.proofs.Common.{◌≡◌, Err, Some, ap, sym, ◌∙◌}
 use Rattle.qo_values.specs.declared.codes.Code.{Code}
 use Rattle.qo_realize.specs.declared.refusals.Refusal.{Refusal}
 use Rattle.qo_realize.specs.declared.refusals.Refusal.TheVariants.{Refused}

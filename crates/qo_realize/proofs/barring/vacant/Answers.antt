@@ -1,5 +1,5 @@
 -- The slots of `/objects` and the number of objects tell.
-use Rattle.std.proofs.Common.{◌≡◌, ◌≤◌, ◌<◌, length, sym, ◌∙◌, arith}
+use Rattle.std.proofs.Common.{◌≤◌, ◌<◌, sym, ◌∙◌, arith}
 use Rattle.qo_realize.proofs.BarLemmas.{place-full, place-gone, place-taken, place-vacant, taken-is}
 use Rattle.qo_realize.proofs.barring.vacant.Goals as goal
 

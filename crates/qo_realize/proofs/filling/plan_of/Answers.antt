@@ -1,5 +1,5 @@
 -- The slots are planned row by row.
-use Rattle.std.proofs.Common.{◌≡◌, ap, sym, subst, ◌∙◌, ◌<◌, ◌≤◌, length, filter_map, slice_get, List, Some, None, option_map, option_to_list, arith}
+use Rattle.std.proofs.Common.{◌≡◌, sym, subst, ◌<◌, ◌≤◌, length, filter_map, slice_get, List, Some, None, option_map, arith}
 use Rattle.std.specs.List.{AllZip}
 use Rattle.std.proofs.lemmas.List.{take_all}
 use Rattle.qo_model.specs.Types.{Property, slots_of}

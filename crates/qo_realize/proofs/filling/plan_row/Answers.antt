@@ -1,6 +1,5 @@
 -- One fill more goes with one slot more.
-use Rattle.std.proofs.Common.{◌≡◌, sym, ◌∙◌, List, [], ◌∷◌, option_to_list}
-use Rattle.qo_object.specs.Slots.{Named}
+use Rattle.std.proofs.Common.{sym, ◌∙◌, [], ◌∷◌, option_to_list}
 use Rattle.qo_realize.specs.Fresh.{begun_row, slot_of_row}
 use Rattle.qo_realize.specs.Filling.{Fits, IsGiven}
 use Rattle.qo_realize.proofs.FillingLemmas.{zip-append, zip-one}

@@ -1,12 +1,5 @@
 -- The slots are filled from the last on.
-use Rattle.std.proofs.Common.{◌≡◌, refl, ap, sym, subst, ◌∙◌, ℕ, suc, ◌+◌, ◌<◌, true, List, [], ◌∷◌, ◌++◌, length, Option, Some, None, IfSome, option_map, append-nil, append_assoc, arith}
-use Rattle.std.specs.List.{AllByRecursion, AllZip}
-use Rattle.qo_table.specs.Rows.{IsLive}
-use Rattle.qo_object.specs.Content.{Content}
-use Rattle.qo_heap.specs.Objects.{Objects, content_of, slots_of, with_edit}
-use Rattle.qo_heap.proofs.HeapLemmas.{live-edit}
-use Rattle.qo_realize.specs.declared.filling.Fill.{Fill}
-use Rattle.qo_realize.specs.Filling.{Fits, filled_at, fits_at, target_in, with_filled}
+use Rattle.std.proofs.Common.{sym, ◌∙◌, [], ◌∷◌, length, append-nil}
 use Rattle.qo_realize.proofs.FillingLemmas.{begin-filled, end-filled, turn-fits, turn-live, turn-next, turn-split, turn-target}
 use Rattle.qo_realize.proofs.filling.settle.Goals as goal
 

@@ -1,10 +1,7 @@
 -- The properties are looked at one after another.
-use Rattle.std.proofs.Common.{◌≡◌, ◌+◌, ◌<◌, ◌≤◌, refl, ap, sym, ◌∙◌, ℕ, List, drop, length, Some, None, Err, arith, rules}
-use Rattle.qo_values.specs.declared.codes.Code.{Code}
-use Rattle.qo_model.specs.Board.{Board}
-use Rattle.qo_model.specs.Objects.{Given, refusal_by, refusal_of}
+use Rattle.std.proofs.Common.{◌≡◌, ◌+◌, refl, ap, sym, ◌∙◌, ℕ, List, drop, Some, rules}
+use Rattle.qo_model.specs.Objects.{refusal_by, refusal_of}
 use Rattle.qo_model.specs.Properties.{row_of_property}
-use Rattle.qo_realize.specs.Changes.{refusal_in}
 use Rattle.qo_realize.proofs.GivenLemmas.{drop-at, drop-past, passed-first, refused-first}
 use Rattle.qo_realize.proofs.given.check_given.Goals as goal
 

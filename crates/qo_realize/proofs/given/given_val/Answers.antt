@@ -1,8 +1,7 @@
 -- The properties are looked at one after another.
-use Rattle.std.proofs.Common.{◌≡◌, ◌+◌, refl, ap, sym, ◌∙◌, ℕ, Bool, true, false, List, [], drop, find, option_map, Option, Some, None}
+use Rattle.std.proofs.Common.{◌≡◌, ◌+◌, refl, ap, sym, ◌∙◌, ℕ, Bool, true, false, List, drop, find, option_map, Some, None}
 use Rattle.std.specs.Str.{bytes_eq}
 use Rattle.qo_model.specs.Objects.{Given}
-use Rattle.qo_values.specs.declared.properties.Val.{Val}
 use Rattle.qo_realize.proofs.GivenLemmas.{drop-at, drop-past, find-here, find-later}
 use Rattle.qo_realize.proofs.given.given_val.Goals as goal
 

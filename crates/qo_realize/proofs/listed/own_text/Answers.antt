@@ -1,5 +1,5 @@
 -- The text of a plain slot is by the object's type, and that of a child by the child's.
-use Rattle.std.proofs.Common.{ap, sym, ◌∙◌}
+use Rattle.std.proofs.Common.{◌∙◌}
 use Rattle.qo_realize.proofs.ListLemmas.{own-child, own-plain}
 use Rattle.qo_realize.proofs.listed.own_text.Goals as goal
 

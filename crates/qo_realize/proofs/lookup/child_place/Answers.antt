@@ -1,5 +1,5 @@
 -- The slots are looked at one after another.
-use Rattle.std.proofs.Common.{◌<◌, ◌≤◌, length, sym, ◌∙◌, arith}
+use Rattle.std.proofs.Common.{◌<◌, length, sym, ◌∙◌, arith}
 use Rattle.std.proofs.lemmas.Option.{slice_get_within}
 use Rattle.qo_model.specs.Objects.{is_object_named}
 use Rattle.qo_heap.specs.Objects.{slots_of}

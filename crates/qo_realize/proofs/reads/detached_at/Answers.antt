@@ -1,6 +1,5 @@
 -- An object is told where it is not `/` and has no parent.
-use Rattle.std.proofs.Common.{◌≡◌, Bool, true, false, not, ◌&&◌, eqb, is_none, is_some, ap, sym, ◌∙◌, Option, arith}
-use Rattle.qo_slots.specs.declared.keys.Key.{Key}
+use Rattle.std.proofs.Common.{◌≡◌, true, false, is_some, ap, sym, ◌∙◌}
 use Rattle.qo_heap.specs.Objects.{parent_of}
 use Rattle.qo_heap.proofs.PlacesLemmas.{key-live}
 use Rattle.qo_realize.proofs.ReadLemmas.{detached-is, detached-not, parent-test}

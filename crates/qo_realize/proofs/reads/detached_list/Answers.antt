@@ -1,5 +1,5 @@
 -- Each place tells of its object, if that is detached.
-use Rattle.std.proofs.Common.{◌≡◌, ◌+◌, ◌∷◌, [], ◌++◌, List, Some, None, ap, sym, ◌∙◌, append_assoc}
+use Rattle.std.proofs.Common.{◌+◌, ◌∷◌, [], ◌++◌, List, Some, None, ap, sym, ◌∙◌, append_assoc}
 use Rattle.qo_realize.specs.declared.reads.Detached.{Detached}
 use Rattle.qo_realize.proofs.ReadLemmas.{detached-all, detached_behind, given-next, in_row}
 use Rattle.qo_realize.proofs.reads.detached_list.Goals as goal

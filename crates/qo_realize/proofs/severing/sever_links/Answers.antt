@@ -1,5 +1,5 @@
 -- The links are let go one after another.
-use Rattle.std.proofs.Common.{◌≡◌, ◌≤◌, length, ap, sym, ◌∙◌, arith}
+use Rattle.std.proofs.Common.{◌≤◌, ◌∙◌, arith}
 use Rattle.qo_object.specs.Content.{with_pin}
 use Rattle.qo_heap.proofs.HeapLemmas.{live-edit}
 use Rattle.qo_realize.proofs.SeverLemmas.{pinned-slots, severing-first, severing-last, severing-next, severing-pinned}

@@ -1,6 +1,5 @@
 -- What is found by name is read, and nothing of an object that is not there.
-use Rattle.std.proofs.Common.{◌≡◌, Some, None, ap, sym, ◌∙◌, option_map, Option}
-use Rattle.qo_object.specs.Slots.{Named}
+use Rattle.std.proofs.Common.{Some, None, ap, sym, ◌∙◌, option_map}
 use Rattle.qo_model.specs.Board as board
 use Rattle.qo_model.specs.Properties.{own_value}
 use Rattle.qo_realize.proofs.ReadLemmas.{named-gone, named-is}

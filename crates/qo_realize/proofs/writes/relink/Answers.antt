@@ -1,5 +1,4 @@
-use Rattle.std.proofs.Common.{◌≡◌, refl, sym, subst, ◌∙◌}
-use Rattle.qo_slots.specs.declared.keys.Key.{Key}
+use Rattle.std.proofs.Common.{refl, subst, ◌∙◌}
 use Rattle.qo_table.specs.Rows.{IsLive}
 use Rattle.qo_object.specs.Content.{dropped_at}
 use Rattle.qo_object.specs.Shown.{birth_of}
@@ -7,7 +6,6 @@ use Rattle.qo_model.specs.Board.{Board}
 use Rattle.qo_model.specs.Properties.{pointed_at}
 use Rattle.qo_model.specs.Release.{drop_slot}
 use Rattle.qo_heap.specs.Board.{Shows}
-use Rattle.qo_heap.specs.Objects.{Objects}
 use Rattle.qo_heap.proofs.HeapLemmas.{live-edit}
 use Rattle.qo_heap.proofs.ShowsEdits.{shows-drop_slot}
 use Rattle.qo_realize.proofs.PinLemmas.{edited-pins, hold-pins}

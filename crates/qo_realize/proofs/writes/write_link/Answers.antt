@@ -1,12 +1,10 @@
 -- The slot tells whether it is a link, and to which type.
-use Rattle.std.proofs.Common.{◌≡◌, ap, sym, subst, ◌∙◌, rules}
+use Rattle.std.proofs.Common.{◌≡◌, sym, subst, ◌∙◌, rules}
 use Rattle.std.specs.Prelude.{Result, Ok}
 use Rattle.qo_heap.specs.Board.{Shows}
 use Rattle.qo_values.specs.declared.codes.Code.{Code}
-use Rattle.qo_model.specs.Board.{Board, slot_at}
-use Rattle.qo_model.specs.Properties.{link_written, linked}
-use Rattle.qo_object.specs.Shown.{birth_of}
-use Rattle.qo_realize.specs.Writes.{Writes, to_link}
+use Rattle.qo_model.specs.Board.{Board}
+use Rattle.qo_realize.specs.Writes.{Writes}
 use Rattle.qo_realize.proofs.WriteLemmas.{a-link, link-there, no-link, no-text}
 use Rattle.qo_realize.proofs.writes.write_link.Goals as goal
 

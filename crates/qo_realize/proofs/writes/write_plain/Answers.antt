@@ -1,4 +1,4 @@
-use Rattle.std.proofs.Common.{◌≡◌, refl, true, false, ap, sym, ◌∙◌}
+use Rattle.std.proofs.Common.{◌≡◌, refl, true, false, sym, ◌∙◌}
 use Rattle.qo_values.specs.Properties.{admits}
 use Rattle.qo_model.specs.Changes.{set}
 use Rattle.qo_heap.proofs.ShowsChanges.{shows-set}

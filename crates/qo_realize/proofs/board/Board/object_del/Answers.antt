@@ -1,5 +1,5 @@
 -- The slot of the id is let go, where there is one.
-use Rattle.std.proofs.Common.{sym, subst, Ok, Err, Some, None}
+use Rattle.std.proofs.Common.{sym, subst, Err}
 use Rattle.qo_values.specs.declared.codes.Code.TheVariants.{E15}
 use Rattle.qo_model.specs.Objects.{object_del}
 use Rattle.qo_heap.specs.Board.{Shows}

@@ -1,5 +1,5 @@
 -- The links are let go, where the object is there and detached.
-use Rattle.std.proofs.Common.{◌≡◌, true, sym, subst, ◌∙◌, Ok, Err, Some, None}
+use Rattle.std.proofs.Common.{sym, subst, Err}
 use Rattle.qo_values.specs.declared.codes.Code.TheVariants.{E33, E50}
 use Rattle.qo_model.specs.Objects.{sever}
 use Rattle.qo_heap.specs.Board.{Shows}
