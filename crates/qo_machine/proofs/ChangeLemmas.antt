@@ -1,12 +1,10 @@
 -- Commands that change the board, by what they answer.
-use Rattle.std.proofs.Common.{◌≡◌, ℕ, Bool, true, false, List, [], refl, sym, ap, ◌∙◌, Option, None, Some, Result, Ok, Err, ◌⊎◌, inl, inr, subst}
+use Rattle.std.proofs.Common.{◌≡◌, ℕ, Bool, true, false, List, refl, sym, ap, ◌∙◌, Option, None, Some, Result, Ok, Err, ◌⊎◌, inl, inr, subst}
 use Rattle.std.proofs.lemmas.Bool.{true≢false}
-use Rattle.std.specs.Option.{option_map_or}
-use Rattle.serde_json.specs.Data.{Data}
 use Rattle.qo_values.specs.declared.codes.Code.{Code}
 use Rattle.qo_values.specs.declared.properties.Val.{Val}
 use Rattle.qo_model.specs.Board.{Board}
-use Rattle.qo_model.specs.Objects.{Changed as Change, Given, added_as, added_by, barred, is_object_named, object_add, object_del, objects_birth, place_from, refusal_of, sever, with_attempt}
+use Rattle.qo_model.specs.Objects.{Given, added_as, added_by, barred, is_object_named, object_add, object_del, objects_birth, place_from, refusal_of, sever, with_attempt}
 use Rattle.qo_model.specs.Board.{slots_at, is_live}
 use Rattle.qo_model.specs.Paths.{attached}
 use Rattle.qo_model.specs.Types.{TypeRow, row_named}

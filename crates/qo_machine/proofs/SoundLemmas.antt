@@ -1,6 +1,5 @@
 -- The boards of all states that a machine is in are sound where one is.
-use Rattle.std.proofs.Common.{◌≡◌, refl, sym, ◌∙◌, false, List, Result, Ok, Err, IfOk, OnOk}
-use Rattle.qo_causes.specs.declared.inputs.Input.{Input}
+use Rattle.std.proofs.Common.{◌≡◌, refl, sym, ◌∙◌, false, Result, Ok, Err, IfOk}
 use Rattle.qo_model.specs.Board.{Board}
 use Rattle.qo_model.specs.Sound.{IsSound}
 use Rattle.qo_model.specs.SoundAliases.{SoundAliases}
@@ -9,7 +8,7 @@ use Rattle.qo_model.proofs.TreeLemmas.{frame_lem}
 use Rattle.qo_heap.specs.Board.{Shows}
 use Rattle.qo_heap.specs.Objects.{Objects}
 use Rattle.qo_model.proofs.OpeningLemmas.{opening_sound}
-use Rattle.qo_machine.specs.Machine.{Answers, IsIn, Message, Seen, State, opening, step}
+use Rattle.qo_machine.specs.Machine.{IsIn, Seen, State, opening}
 
 -- boards that one heap shows have the same tree
 graph_same : (b c : Board) (v : Objects) → Shows b v → Shows c v → graph_of b ≡ graph_of c

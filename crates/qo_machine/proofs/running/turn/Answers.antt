@@ -1,5 +1,5 @@
 -- What a turn did, by its answer.
-use Rattle.std.proofs.Common.{Some, sym, subst, ◌∙◌}
+use Rattle.std.proofs.Common.{Some, sym, subst}
 use Rattle.qo_machine.proofs.RunLemmas.{cut_sent, cut_taken, one_turn, taken_turn}
 use Rattle.qo_machine.specs.Sending.{AreToLanes}
 use Rattle.qo_machine.proofs.running.turn.Goals as goal

@@ -3,7 +3,7 @@ use Rattle.std.proofs.Common.{ℕ, List, [], refl, sym, ap, subst, ◌∙◌, ap
 use Rattle.qo_commands.proofs.CommandLemmas.{empty_written}
 use Rattle.qo_commands.specs.Commands.{empty}
 use Rattle.qo_machine.proofs.MachineLemmas.{serves_answer, serves_command, serves_negotiation, serves_over}
-use Rattle.qo_machine.specs.Machine.{IsIn, State, state_at}
+use Rattle.qo_machine.specs.Machine.{state_at}
 use Rattle.qo_machine.specs.Serving.{CommandServed, moved}
 use Rattle.qo_machine.proofs.serving.serve_item.Goals as goal
 

@@ -1,5 +1,5 @@
 -- What a command comes to has a text.
-use Rattle.std.proofs.Common.{ap, ◌∙◌, ℕ, List, Option, option_map}
+use Rattle.std.proofs.Common.{ap, ◌∙◌, option_map}
 use Rattle.qo_commands.proofs.CommandLemmas.{no_float}
 use Rattle.qo_commands.specs.Commands.{Done}
 use Rattle.qo_commands.specs.Views.{has_float_in}

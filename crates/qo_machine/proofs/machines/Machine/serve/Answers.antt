@@ -1,7 +1,7 @@
 -- An input does what it does by itself, while the run goes on.
 use Rattle.std.proofs.Common.{[], ◌∙◌, ap, sym, refl, List}
 use Rattle.qo_causes.specs.declared.inputs.What.TheVariants.{Bytes}
-use Rattle.qo_machine.specs.Machine.{Message, State, Stepped, state_at, unchanged}
+use Rattle.qo_machine.specs.Machine.{Message, State, state_at, unchanged}
 use Rattle.qo_machine.proofs.MachineLemmas.{answers_ended, answers_moved, answers_still, leaves, seen_ended, served_beside, served_bytes}
 use Rattle.qo_machine.proofs.machines.Machine.serve.Goals as goal
 

@@ -1,5 +1,4 @@
 -- The board at first is the opening one, which is sound.
-use Rattle.qo_model.proofs.OpeningLemmas.{opening_sound}
 use Rattle.qo_machine.proofs.SoundLemmas.{started_sound}
 use Rattle.qo_machine.proofs.machines.Machine.start.Goals as goal
 
