@@ -11,22 +11,60 @@ const GREETING: &str =
 
 const EMPTY: &str = "0 {\"return\":{}}\r\n";
 
-/// The error replies, by their codes.
-const ERRORS: [(&str, &str, &str); 14] = [
-    ("E15", "DeviceNotFound", "path not found"),
-    ("E16", "GenericError", "path ambiguous"),
-    ("E17", "GenericError", "property not found"),
-    ("E18", "GenericError", "property not writable"),
-    ("E19", "GenericError", "value does not fit"),
-    ("E20", "GenericError", "type unknown"),
-    ("E21", "GenericError", "type abstract"),
-    ("E22", "GenericError", "type not creatable here"),
-    ("E23", "GenericError", "id malformed"),
-    ("E24", "GenericError", "id taken"),
-    ("E31", "GenericError", "link target of wrong type"),
-    ("E33", "DeviceNotFound", "device not found"),
-    ("E43", "GenericError", "too many objects"),
-    ("E50", "GenericError", "object not detached"),
+/// The lines of the error replies, by their codes.
+const ERRORS: [(&str, &str); 13] = [
+    (
+        "E15",
+        "0 {\"error\":{\"class\":\"DeviceNotFound\",\"desc\":\"E15 path not found\"}}\r\n",
+    ),
+    (
+        "E16",
+        "0 {\"error\":{\"class\":\"GenericError\",\"desc\":\"E16 path ambiguous\"}}\r\n",
+    ),
+    (
+        "E17",
+        "0 {\"error\":{\"class\":\"GenericError\",\"desc\":\"E17 property not found\"}}\r\n",
+    ),
+    (
+        "E18",
+        "0 {\"error\":{\"class\":\"GenericError\",\"desc\":\"E18 property not writable\"}}\r\n",
+    ),
+    (
+        "E19",
+        "0 {\"error\":{\"class\":\"GenericError\",\"desc\":\"E19 value does not fit\"}}\r\n",
+    ),
+    (
+        "E20",
+        "0 {\"error\":{\"class\":\"GenericError\",\"desc\":\"E20 type unknown\"}}\r\n",
+    ),
+    (
+        "E21",
+        "0 {\"error\":{\"class\":\"GenericError\",\"desc\":\"E21 type abstract\"}}\r\n",
+    ),
+    (
+        "E22",
+        "0 {\"error\":{\"class\":\"GenericError\",\"desc\":\"E22 type not creatable here\"}}\r\n",
+    ),
+    (
+        "E23",
+        "0 {\"error\":{\"class\":\"GenericError\",\"desc\":\"E23 id malformed\"}}\r\n",
+    ),
+    (
+        "E24",
+        "0 {\"error\":{\"class\":\"GenericError\",\"desc\":\"E24 id taken\"}}\r\n",
+    ),
+    (
+        "E33",
+        "0 {\"error\":{\"class\":\"DeviceNotFound\",\"desc\":\"E33 device not found\"}}\r\n",
+    ),
+    (
+        "E43",
+        "0 {\"error\":{\"class\":\"GenericError\",\"desc\":\"E43 too many objects\"}}\r\n",
+    ),
+    (
+        "E50",
+        "0 {\"error\":{\"class\":\"GenericError\",\"desc\":\"E50 object not detached\"}}\r\n",
+    ),
 ];
 
 /// Adds an entry of a command to session 0: its name, and behind a space its arguments, if it has any.
@@ -50,13 +88,9 @@ fn add_reply(alloc: Global, want: &mut String, reply: &str) -> Result<(), Fail> 
         want.push_str(EMPTY)?;
         return Ok(());
     }
-    for (code, class, text) in ERRORS {
+    for (code, line) in ERRORS {
         if code == reply {
-            let line = format!(in alloc;
-                "0 {{\"error\":{{\"class\":\"{}\",\"desc\":\"{} {}\"}}}}\r\n",
-                class, code, text
-            )?;
-            want.push_str(&line)?;
+            want.push_str(line)?;
             return Ok(());
         }
     }
