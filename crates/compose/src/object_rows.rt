@@ -125,6 +125,94 @@ fn holds(alloc: Global, rows: &[(&str, &str)]) -> Result<bool, Fail> {
     Ok(left.status == Status::Done && left.held.as_slice() == want.as_bytes())
 }
 
+/// Commands that are done, and behind each what is detached, with its references, and all notes.
+const LINKED: [(&str, &str, &str); 13] = [
+    (
+        "object-add {\"qom-type\":\"tag\",\"id\":\"a\"}",
+        "[]",
+        "{\"first\":0,\"notes\":[\"init 9 tag\"],\"total\":1}",
+    ),
+    (
+        "object-add {\"qom-type\":\"tag\",\"id\":\"b\",\"next\":\"a\",\"seen\":\"a\"}",
+        "[]",
+        "{\"first\":0,\"notes\":[\"init 9 tag\",\"init 10 tag\"],\"total\":2}",
+    ),
+    (
+        "object-del {\"id\":\"a\"}",
+        "[{\"birth\":9,\"refs\":1,\"type\":\"tag\"}]",
+        "{\"first\":0,\"notes\":[\"init 9 tag\",\"init 10 tag\"],\"total\":2}",
+    ),
+    (
+        "qom-set {\"path\":\"b\",\"property\":\"seen\",\"value\":\"b/next\"}",
+        "[{\"birth\":9,\"refs\":1,\"type\":\"tag\"}]",
+        "{\"first\":0,\"notes\":[\"init 9 tag\",\"init 10 tag\"],\"total\":2}",
+    ),
+    (
+        "qom-set {\"path\":\"b/next\",\"property\":\"next\",\"value\":\"b\"}",
+        "[{\"birth\":9,\"refs\":1,\"type\":\"tag\"}]",
+        "{\"first\":0,\"notes\":[\"init 9 tag\",\"init 10 tag\"],\"total\":2}",
+    ),
+    (
+        "object-del {\"id\":\"b\"}",
+        "[{\"birth\":9,\"refs\":1,\"type\":\"tag\"},{\"birth\":10,\"refs\":1,\"type\":\"tag\"}]",
+        "{\"first\":0,\"notes\":[\"init 9 tag\",\"init 10 tag\"],\"total\":2}",
+    ),
+    (
+        "x-sever {\"birth\":10}",
+        "[]",
+        "{\"first\":0,\"notes\":[\"init 9 tag\",\"init 10 tag\",\"final 9 tag\",\"final 10 tag\"],\"total\":4}",
+    ),
+    (
+        "object-add {\"qom-type\":\"tag\",\"id\":\"c\"}",
+        "[]",
+        "{\"first\":0,\"notes\":[\"init 9 tag\",\"init 10 tag\",\"final 9 tag\",\"final 10 tag\",\"init 11 tag\"],\"total\":5}",
+    ),
+    (
+        "qom-set {\"path\":\"c\",\"property\":\"next\",\"value\":\"c\"}",
+        "[]",
+        "{\"first\":0,\"notes\":[\"init 9 tag\",\"init 10 tag\",\"final 9 tag\",\"final 10 tag\",\"init 11 tag\"],\"total\":5}",
+    ),
+    (
+        "qom-set {\"path\":\"c\",\"property\":\"next\",\"value\":\"\"}",
+        "[]",
+        "{\"first\":0,\"notes\":[\"init 9 tag\",\"init 10 tag\",\"final 9 tag\",\"final 10 tag\",\"init 11 tag\"],\"total\":5}",
+    ),
+    (
+        "qom-set {\"path\":\"c\",\"property\":\"next\",\"value\":\"c\"}",
+        "[]",
+        "{\"first\":0,\"notes\":[\"init 9 tag\",\"init 10 tag\",\"final 9 tag\",\"final 10 tag\",\"init 11 tag\"],\"total\":5}",
+    ),
+    (
+        "object-del {\"id\":\"c\"}",
+        "[{\"birth\":11,\"refs\":1,\"type\":\"tag\"}]",
+        "{\"first\":0,\"notes\":[\"init 9 tag\",\"init 10 tag\",\"final 9 tag\",\"final 10 tag\",\"init 11 tag\"],\"total\":5}",
+    ),
+    (
+        "x-sever {\"birth\":11}",
+        "[]",
+        "{\"first\":0,\"notes\":[\"init 9 tag\",\"init 10 tag\",\"final 9 tag\",\"final 10 tag\",\"init 11 tag\",\"final 11 tag\"],\"total\":6}",
+    ),
+];
+
+#[test]
+fn links_hold_and_end_step_by_step(rt: HostRuntime) -> Result<(), Fail> {
+    let alloc = rt.alloc();
+    let mut record = opening(alloc)?;
+    let mut want = greeted(alloc)?;
+    for (command, detached, notes) in LINKED {
+        add_command(alloc, &mut record, command)?;
+        add_command(alloc, &mut record, "x-query-detached")?;
+        add_command(alloc, &mut record, "x-query-notes {\"from\":0}")?;
+        add_reply(alloc, &mut want, "R")?;
+        add_reply(alloc, &mut want, detached)?;
+        add_reply(alloc, &mut want, notes)?;
+    }
+    let left = call(alloc, &["replay"], record.as_slice(), &[], &[])?;
+    assert_eq!(rt; left.status, Status::Done);
+    assert_eq!(rt; left.held.as_slice(), want.as_bytes());
+    Ok(())
+}
+
 #[test]
 fn two_that_hold_each_other_are_severed(rt: HostRuntime) -> Result<(), Fail> {
     let rows = [
