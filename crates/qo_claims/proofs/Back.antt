@@ -20,13 +20,13 @@ remove_key-last test x (y ∷ ys) same new =
     let apart = or-false (test y) (list_any test ys) new in
     rw (apart.0) (ap (λ zs. y ∷ zs) (remove_key-last test x ys same apart.1))
 
-eqb-same : (n : ℕ) → eqb n n ≡ true
+pub eqb-same : (n : ℕ) → eqb n n ≡ true
 eqb-same n = grind (arith, nat_tests)
 
-slot_eq-same : (s : BusSlot) → slot_eq s s ≡ true
+pub slot_eq-same : (s : BusSlot) → slot_eq s s ≡ true
 slot_eq-same s = rw (eqb-same s.bus, eqb-same s.slot) refl
 
-range_eq-same : (r : Range) → range_eq r r ≡ true
+pub range_eq-same : (r : Range) → range_eq r r ≡ true
 range_eq-same r = rw (eqb-same r.at, eqb-same r.size) refl
 
 -- two ranges with bytes that do not overlap are not the same

@@ -4,6 +4,7 @@ use Rattle.std.specs.List.{AllByRecursion}
 use Rattle.std.proofs.lemmas.Bool.{eqb-true, eq-eqb}
 use Rattle.std.proofs.lemmas.List.{take_more, take_all}
 use Rattle.std.proofs.lemmas.List.Sums.{sum_by-cons}
+use Rattle.qo_claims.specs.Held.{Held}
 use Rattle.qo_slots.specs.declared.keys.Key.{Key}
 use Rattle.qo_object.specs.Content.{Content, fresh, forgotten, holding}
 use Rattle.qo_object.specs.Slots.{holds, each_changed, forgotten_in}
@@ -130,8 +131,8 @@ linked-without n by (row ∷ rows) linked none = go (eqb row.0.birth n) refl (li
     go false e rest = rw e (there, rest)
 
 -- the heap without an object to which nothing referred
-pub heap-ended : (v : Objects) → IsHeap v → (n : ℕ) → refs_of v n ≡ 0 → (log : Log) → IsHeap (record v { rows = map (forgets n) (without n v.rows); log = log })
-heap-ended v good n free log =
+pub heap-ended : (v : Objects) → IsHeap v → (n : ℕ) → refs_of v n ≡ 0 → (log : Log) (claims : Held) → IsHeap (record v { rows = map (forgets n) (without n v.rows); log = log; claims = claims })
+heap-ended v good n free log claims =
     record {
       rising = rises-without n 0 v.born v.rows good.rising;
       few = let less = length-without n v.rows in let few : length v.rows ≤ 4096 = good.few in omega arith;
@@ -173,7 +174,7 @@ heap-more v good key kind is below =
     }
 
 -- the heap behind a call that adds an object or gives it back
-pub heap-made : (v : Objects) → IsHeap v → (kind : TypeId) → length v.rows < 4096 → (r : Result Key Content) (t : Rows Content) → IfOk r (λ key. (key.birth ≡ v.born + 1) × (t ≡ record { rows = v.rows ++ (key, fresh kind) ∷ []; born = v.born + 1 })) → IfErr r (λ back. (back ≡ fresh kind) × (t ≡ record { rows = v.rows; born = v.born })) → IsHeap (record { rows = t.rows; born = t.born; log = v.log })
+pub heap-made : (v : Objects) → IsHeap v → (kind : TypeId) → length v.rows < 4096 → (r : Result Key Content) (t : Rows Content) → IfOk r (λ key. (key.birth ≡ v.born + 1) × (t ≡ record { rows = v.rows ++ (key, fresh kind) ∷ []; born = v.born + 1 })) → IfErr r (λ back. (back ≡ fresh kind) × (t ≡ record { rows = v.rows; born = v.born })) → IsHeap (record { rows = t.rows; born = t.born; log = v.log; claims = v.claims; time = v.time })
 heap-made v good kind below (Ok key) t done back = rw done.1 (heap-more v good key kind done.0 below)
 heap-made v good kind below (Err c) t done back = rw back.1 good
 

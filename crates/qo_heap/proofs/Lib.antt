@@ -1,3 +1,5 @@
+pub mod ActsLemmas
+pub mod BookLemmas
 pub mod EndLemmas
 pub mod HeapLemmas
 pub mod PlacesLemmas

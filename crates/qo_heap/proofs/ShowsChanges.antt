@@ -1,10 +1,11 @@
 -- What a board shows, where an object is made and where its slots are added, pointed, set and cut.
-use Rattle.std.proofs.Common.{◌≡◌, refl, ap, sym, ◌∙◌, ℕ, zero, suc, ◌+◌, ◌<◌, ◌≤◌, true, false, leb, List, [], ◌∷◌, ◌++◌, remove, replicate, append_assoc, arith}
+use Rattle.std.proofs.Common.{◌≡◌, refl, ap, sym, ◌∙◌, ℕ, zero, suc, ◌+◌, ◌<◌, ◌≤◌, true, false, leb, List, [], ◌∷◌, ◌++◌, remove, replicate, None, append_assoc, arith}
 use Rattle.std.specs.List.{AllByRecursion}
 use Rattle.std.proofs.lemmas.Bool.Decides.{nat_tests}
 use Rattle.std.proofs.lemmas.List.{map-append}
 use Rattle.qo_values.specs.declared.kinds.TypeId.{TypeId}
 use Rattle.qo_values.specs.declared.properties.Val.{Val}
+use Rattle.qo_kinds.proofs.BodyLemmas.{fresh-registers}
 use Rattle.qo_slots.specs.declared.keys.Key.{Key}
 use Rattle.qo_table.specs.Rows.{Rises, births}
 use Rattle.qo_model.specs.Board as board
@@ -53,7 +54,7 @@ shows-made b v s good kind key birth =
     let next : b.born + 1 ≡ v.born + 1 = ap (λ (k : ℕ). k + 1) s.born in
     let its : b.born + 1 ≡ key.birth = next ∙ sym birth in
     record {
-      records = (λ j. s.records j ++ shown (its j) (fresh kind) ∷ []) ∙ sym (map-append record_of v.rows ((key, fresh kind) ∷ []));
+      records = (λ j. s.records j ++ record { birth = its j; kind = kind; slots = []; registers = sym (fresh-registers kind) j; device_id = None; kept_path = None } ∷ []) ∙ sym (map-append record_of v.rows ((key, fresh kind) ∷ []));
       born = next;
       pins =
           (λ j. put_in_order (its j) (s.pins j))

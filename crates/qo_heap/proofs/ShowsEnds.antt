@@ -51,7 +51,7 @@ pins-without n above last (row ∷ rows) rises none = go (eqb row.0.birth n) ref
     go false is later = rw is (ap (λ (ms : List ℕ). replicate row.1.pins row.0.birth ++ ms) (later (rw is at none)))
 
 -- an object without references ends
-pub shows-ended : (b : board.Board) (v : Objects) → Shows b v → IsHeap v → (n : ℕ) (c : Content) → content_of v n ≡ Some c → refs_of v n ≡ 0 → Shows (finish b n) (ended n c.kind v)
+pub shows-ended : (b : board.Board) (v : Objects) → Shows b v → IsHeap v → (n : ℕ) (c : Content) → content_of v n ≡ Some c → refs_of v n ≡ 0 → Shows (finish b n) (ended n c v)
 unfolding finish
 shows-ended b v s good n c there free =
     let unpinned : pins_of v n ≡ 0 = omega arith in

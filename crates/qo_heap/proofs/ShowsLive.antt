@@ -2,7 +2,6 @@
 use Rattle.std.proofs.Common.{◌≡◌, refl, ap, subst, ◌∙◌, ℕ, zero, suc, Bool, true, false, eqb, List, [], ◌∷◌, map, Option, Some, None, option_map, IsSomeAnd, arith}
 use Rattle.std.specs.List.{AllByRecursion, cons_option}
 use Rattle.std.proofs.lemmas.Bool.{eqb-true}
-use Rattle.qo_values.specs.declared.kinds.TypeId.{TypeId}
 use Rattle.qo_slots.specs.declared.keys.Key.{Key}
 use Rattle.qo_table.specs.Rows.{IsLive, edit, object_at, row_at, without}
 use Rattle.qo_object.specs.Slots.{Named, named_in, target_of}
@@ -84,8 +83,8 @@ object-gone n (row ∷ rows) = go (eqb row.0.birth n) refl (object-gone n rows)
     go true is rest = rw is rest
     go false is rest = rw (is, is) rest
 
-pub content-gone : (v : Objects) (n : ℕ) (kind : TypeId) → content_of (ended n kind v) n ≡ None
-content-gone v n kind = object-gone n v.rows
+pub content-gone : (v : Objects) (n : ℕ) (x : Content) → content_of (ended n x v) n ≡ None
+content-gone v n x = object-gone n v.rows
 
 -- the row of another
 row-left : (n m : ℕ) → eqb m n ≡ false → (rows : List (Key × Content)) → row_at (map (forgets n) (without n rows)) m ≡ option_map (forgets n) (row_at rows m)
@@ -98,15 +97,15 @@ row-left n m other (row ∷ rows) = go (eqb row.0.birth n) refl (eqb row.0.birth
     go false is true at rest = rw (is, at) refl
     go false is false at rest = rw (is, at) rest
 
-pub content-left : (v : Objects) (n m : ℕ) (kind : TypeId) → eqb m n ≡ false → content_of (ended n kind v) m ≡ option_map (forgotten n) (content_of v m)
-content-left v n m kind other = ap (option_map (λ (row : Key × Content). row.1)) (row-left n m other v.rows) ∙ go (row_at v.rows m)
+pub content-left : (v : Objects) (n m : ℕ) (x : Content) → eqb m n ≡ false → content_of (ended n x v) m ≡ option_map (forgotten n) (content_of v m)
+content-left v n m x other = ap (option_map (λ (row : Key × Content). row.1)) (row-left n m other v.rows) ∙ go (row_at v.rows m)
   where
     go : (o : Option (Key × Content)) → option_map (λ (row : Key × Content). row.1) (option_map (forgets n) o) ≡ option_map (forgotten n) (option_map (λ (row : Key × Content). row.1) o)
     go None = refl
     go (Some row) = refl
 
-pub live-left : (v : Objects) (n : ℕ) (kind : TypeId) (key : Key) → eqb key.birth n ≡ false → IsLive v.rows key → IsLive (ended n kind v).rows key
-live-left v n kind key other live = rw (row-left n key.birth other v.rows) (go (row_at v.rows key.birth) live)
+pub live-left : (v : Objects) (n : ℕ) (x : Content) (key : Key) → eqb key.birth n ≡ false → IsLive v.rows key → IsLive (ended n x v).rows key
+live-left v n x key other live = rw (row-left n key.birth other v.rows) (go (row_at v.rows key.birth) live)
   where
     go : (o : Option (Key × Content)) → IsSomeAnd o (λ row. row.0.index ≡ key.index) → IsSomeAnd (option_map (forgets n) o) (λ row. row.0.index ≡ key.index)
     go None none = none

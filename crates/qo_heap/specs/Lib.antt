@@ -1,4 +1,7 @@
+pub mod Acts
 pub mod Board
+pub mod Book
 pub mod Errors
+pub mod Lends
 pub mod Objects
 pub mod Places

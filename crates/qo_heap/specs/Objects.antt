@@ -1,8 +1,12 @@
 -- What contracts see of the heap: the objects in the order of births, and the log of notes.
-use Rattle.std.specs.Prelude.{ℕ, ◌+◌, ◌≤◌, List, [], map, length, filter_map, sum_by, find, Option, option_map}
+use Rattle.std.specs.Prelude.{ℕ, ◌+◌, ◌≤◌, List, [], map, length, filter_map, sum_by, find, Option, None, Some, option_map}
 use Rattle.std.specs.List.{AllByRecursion}
 use Rattle.std.specs.Option.{option_map_or}
 use Rattle.qo_values.specs.declared.kinds.TypeId.{TypeId}
+use Rattle.qo_claims.specs.Held.{Held, without_claim}
+use Rattle.qo_claims.specs.declared.claims.Claimed.{Claimed}
+use Rattle.qo_kinds.specs.Bodies.{kept_of}
+use Rattle.qo_kinds.specs.declared.kept.KeptSet.{KeptSet}
 use Rattle.qo_slots.specs.declared.keys.Key.{Key}
 use Rattle.qo_object.specs.declared.slots.Slot.{Slot}
 use Rattle.qo_object.specs.Slots.{target_of}
@@ -18,6 +22,8 @@ pub record Objects : Type 0 where
   pub rows : List (Key × Content)
   pub born : ℕ
   pub log : Log
+  pub claims : Held
+  pub time : ℕ
 
 -- the heap with one object changed
 abbrev pub with_edit : ℕ → (Content → Content) → Objects → Objects
@@ -54,8 +60,16 @@ final_notes n kind = map (λ (t : TypeId). record { birth = n; deed = Final t })
 abbrev pub forgets : ℕ → Key × Content → Key × Content
 forgets n row = (row.0, forgotten n row.1)
 
-abbrev pub ended : ℕ → TypeId → Objects → Objects
-ended n kind v = record v { rows = map (forgets n) (without n v.rows); log = noted_all (final_notes n kind) v.log }
+-- all that is held, without one claim, if there is one, and without those of a body
+abbrev pub without_one : Option Claimed → Held → Held
+without_one None h = h
+without_one (Some claim) h = without_claim claim h
+
+abbrev pub without_kept : KeptSet → Held → Held
+without_kept k h = without_one k.range (without_one k.backend (without_one k.ring (without_one k.slot h)))
+
+abbrev pub ended : ℕ → Content → Objects → Objects
+ended n c v = record v { rows = map (forgets n) (without n v.rows); log = noted_all (final_notes n c.kind) v.log; claims = without_kept (kept_of c.body) v.claims }
 
 -- what is named by the slots of an object as a child or as the target of a link
 abbrev pub targets : Content → List Key

@@ -4,9 +4,11 @@ ghost use Rattle.std.specs.Prelude.{◌≡◌, if◌then◌else◌, [], ◌∷�
 ghost use Rattle.qo_model.specs.Types.{has_finaliser};
 ghost use Rattle.qo_model.specs.declared.notes.Deed.TheVariants.{Final};
 ghost use Rattle.qo_notes.specs.Log.{noted_all};
-ghost use Rattle.qo_heap.specs.Objects.{final_notes, forgets};
+ghost use Rattle.qo_heap.specs.Objects.{final_notes, forgets, without_kept, without_one};
 ghost use Rattle.qo_heap.specs.Places.{changed_at};
 
+use qo_claims::{Claims, Kept};
+use qo_kinds::KeptSet;
 use qo_model::{Deed, Note};
 use qo_notes::NoteLog;
 use qo_object::Object;
@@ -59,4 +61,30 @@ pub fn note_end(log: &mut NoteLog, birth: u64, kind: TypeId)
     for place in 0..ancestry.len() {
         note_final(log, birth, ancestry[place]);
     }
+}
+
+/// Ends a claim, if there is one.
+fn free_one(claims: &mut Claims, kept: Option<Kept>)
+    ensures { claims.new ≡ without_one kept claims.old }
+{
+    match kept {
+        Some(kept) => claims.free(kept),
+        None => {}
+    }
+}
+
+/// Ends the claims of a body.
+pub fn free_all(claims: &mut Claims, kept: KeptSet)
+    ensures { claims.new ≡ without_kept kept claims.old }
+{
+    let KeptSet {
+        slot,
+        ring,
+        backend,
+        range,
+    } = kept;
+    free_one(claims, slot);
+    free_one(claims, ring);
+    free_one(claims, backend);
+    free_one(claims, range);
 }

@@ -1,7 +1,8 @@
 //! The heap, and the calls that make and end objects.
 
-use crate::ends::{forget_all, note_end};
+use crate::ends::{forget_all, free_all, note_end};
 use crate::errors::MakeError;
+use qo_claims::Claims;
 use qo_model::{Deed, Note};
 use qo_notes::{Memory, NoteLog};
 use qo_object::{Object, Oid};
@@ -15,6 +16,8 @@ use std::sync::ledger::Ledger;
 pub struct Heap {
     pub(crate) table: ObjectTable<Object>,
     pub(crate) log: NoteLog,
+    pub(crate) claims: Claims,
+    pub(crate) time: u64,
 }
 
 impl Model for Heap {
@@ -22,16 +25,24 @@ impl Model for Heap {
 
     ghost Value = { Objects };
 
-    ghost view = { λ h. record { rows = h.table.rows; born = h.table.born; log = h.log } };
+    ghost view = { λ h. record { rows = h.table.rows; born = h.table.born; log = h.log; claims = h.claims; time = h.time } };
 
-    ghost invariant = { λ h. IsHeap (record { rows = h.table.rows; born = h.table.born; log = h.log }) };
+    ghost invariant = { λ h. IsHeap (record { rows = h.table.rows; born = h.table.born; log = h.log; claims = h.claims; time = h.time }) };
 }
 
 impl Drop for Heap {
     fn drop(self) {
-        let Heap { table, log: _ } = self;
+        let Heap {
+            table,
+            log: _,
+            mut claims,
+            time: _,
+        } = self;
         let mut rest = table.into_rest();
-        while let Some(_object) = rest.next() {}
+        while let Some(mut object) = rest.next() {
+            let kept = object.take_claims();
+            free_all(&mut claims, kept);
+        }
         rest.end();
     }
 }
@@ -40,6 +51,7 @@ impl Heap {
     ghost use Rattle.std.specs.Prelude.{◌≡◌, ◌+◌, ◌<◌, [], ◌∷◌, ◌++◌, length, IfOk, OnErr, Err, Some, option_map};
     ghost use Rattle.qo_values.specs.declared.kinds.Act.TheVariants.{Init};
     ghost use Rattle.qo_model.specs.declared.notes.Deed.TheVariants.{Did};
+    ghost use Rattle.qo_claims.specs.Held.{nothing_held};
     ghost use Rattle.qo_notes.specs.Log.{empty_log};
     ghost use Rattle.qo_object.specs.Content.{fresh, held_count};
     ghost use Rattle.qo_table.specs.Rows.{IsLive};
@@ -48,11 +60,19 @@ impl Heap {
 
     /// A heap without objects. The error is want of memory.
     pub fn new(alloc: Global) -> Result<Heap, Memory>
-        ensures { IfOk result (λ h. h ≡ record { rows = []; born = 0; log = empty_log }) }
+        ensures { IfOk result (λ h. h ≡ record { rows = []; born = 0; log = empty_log; claims = nothing_held; time = 0 }) }
     {
         let log = NoteLog::new(alloc)?;
+        let Ok(claims) = Claims::new(alloc) else {
+            return Err(Memory);
+        };
         match ObjectTable::new(alloc) {
-            Ok(table) => Ok(Heap { table, log }),
+            Ok(table) => Ok(Heap {
+                table,
+                log,
+                claims,
+                time: 0,
+            }),
             Err(_) => Err(Memory),
         }
     }
@@ -105,9 +125,11 @@ impl Heap {
         requires live { IsLive self.old.rows o }
         requires free { refs_of self.old o.birth ≡ 0 }
         requires bare { option_map held_count (content_of self.old o.birth) ≡ Some 0 }
-        ensures { option_map (λ c. ended o.birth c.kind self.old) (content_of self.old o.birth) ≡ Some self.new }
+        ensures { option_map (λ c. ended o.birth c self.old) (content_of self.old o.birth) ≡ Some self.new }
     {
-        let object = self.table.take(o, steps);
+        let mut object = self.table.take(o, steps);
+        let kept = object.take_claims();
+        free_all(&mut self.claims, kept);
         forget_all(&mut self.table, o.birth, steps);
         note_end(&mut self.log, o.birth, object.kind());
     }

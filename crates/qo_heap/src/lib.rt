@@ -5,6 +5,7 @@
 
 #[cfg(test)]
 mod calls;
+mod bodies;
 mod ends;
 mod errors;
 mod heap;

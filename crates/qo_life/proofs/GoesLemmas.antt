@@ -271,16 +271,16 @@ going-bare v w o i going past = go (content_of w o.birth) refl
         let none = none-held (board.slots_at (tree w) n) i going.stays.bare (slot-shown (tree w) (with_log empty_log w) (tree-shows w) n i None past) in
         ap Some (sym (held_count-shown n c) ∙ ap (count_by (λ (s : List ℕ × board.Slot). is_some (board.held s.1))) (sym slots) ∙ none)
 
-pub going-last : (v u w : Objects) (o : Key) (i : ℕ) → IsHeap u → Going v u o i → slot_in (slots_of u o.birth) i ≡ None → option_map (λ (c : Content). ended o.birth c.kind u) (content_of u o.birth) ≡ Some w → Goes (λ b. finalise b o.birth) v w
+pub going-last : (v u w : Objects) (o : Key) (i : ℕ) → IsHeap u → Going v u o i → slot_in (slots_of u o.birth) i ≡ None → option_map (λ (c : Content). ended o.birth c u) (content_of u o.birth) ≡ Some w → Goes (λ b. finalise b o.birth) v w
 going-last v u w o i good going past is = go (content_of u o.birth) refl is
   where
     n : ℕ
     n = o.birth
 
-    go : (x : Option Content) → content_of u n ≡ x → option_map (λ (c : Content). ended n c.kind u) x ≡ Some w → Goes (λ b. finalise b n) v w
+    go : (x : Option Content) → content_of u n ≡ x → option_map (λ (c : Content). ended n c u) x ≡ Some w → Goes (λ b. finalise b n) v w
     go None p e = cc
     go (Some c) p e =
-        let last : Goes (λ b. finish b n) u w = subst (λ (x : Objects). Goes (λ b. finish b n) u x) (same_Some (ended n c.kind u) w e) (goes-end u good n c p (going-free v u o i good going)) in
+        let last : Goes (λ b. finish b n) u w = subst (λ (x : Objects). Goes (λ b. finish b n) u x) (same_Some (ended n c u) w e) (goes-end u good n c p (going-free v u o i good going)) in
         goes-same (λ b. finish (going.step b) n) (λ b. finalise b n) v w
         (goes-then going.step (λ b. finish b n) v u w going.goes last)
         (λ b log t. end_of-first b n ∙ sym (going.rest b log t) ∙ end_of-none (going.step b) n i (slot-shown (going.step b) (with_log (noted_all going.goes.more log) u) (going.goes.shown b log t) n i None past))

@@ -14,6 +14,7 @@ use Rattle.qo_heap.specs.Board.{Shows, record_of, pins_in}
 use Rattle.qo_heap.specs.Objects.{IsHeap, Objects, content_of, ended, final_notes, forgets, pins_of, refs_of, with_edit}
 use Rattle.qo_heap.proofs.ShowsEdits.{shows-drop_slot, shows-without_pin}
 use Rattle.qo_heap.proofs.ShowsEnds.{shows-ended}
+use Rattle.qo_heap.proofs.BookLemmas.{book-edit, book-ended}
 use Rattle.qo_life.specs.Life.{Goes, KeepsNames, with_log}
 
 -- the tree of a heap: a board with its objects, births and pins, and nothing beside them
@@ -53,7 +54,7 @@ tree-behind step v w g =
 -- no step, a step that is another on all boards of the heap, and a step behind a step
 pub goes-none : (v : Objects) → Goes (λ b. b) v v
 unfolding noted_all
-goes-none v = record { more = []; log = refl; shown = λ b log s. s; names = λ key live. live }
+goes-none v = record { more = []; log = refl; shown = λ b log s. s; names = λ key live. live; book = λ out h. h; time = refl }
 
 pub goes-same : (f g : Board → Board) (v w : Objects) → Goes f v w → ((b : Board) (log : Log) → Shows b (with_log log v) → g b ≡ f b) → Goes g v w
 goes-same f g v w go is =
@@ -62,6 +63,8 @@ goes-same f g v w go is =
       log = go.log;
       shown = λ b log s. subst (λ (c : Board). Shows c (with_log (noted_all go.more log) w)) (sym (is b log s)) (go.shown b log s);
       names = go.names;
+      book = go.book;
+      time = go.time;
     }
 
 pub goes-then : (f g : Board → Board) (v u w : Objects) → Goes f v u → Goes g u w → Goes (λ b. g (f b)) v w
@@ -71,6 +74,8 @@ goes-then f g v u w first then =
       log = then.log ∙ ap (noted_all then.more) first.log ∙ sym (parts_lem first.more then.more v.log);
       shown = λ b log s. subst (λ (l : Log). Shows (g (f b)) (with_log l w)) (sym (parts_lem first.more then.more log)) (then.shown (f b) (noted_all first.more log) (first.shown b log s));
       names = λ key live. first.names key (then.names key live);
+      book = λ out h. then.book out (first.book out h);
+      time = then.time ∙ first.time;
     }
 
 -- who is there behind an edit was there before it
@@ -117,6 +122,8 @@ goes-drop v n i =
       log = refl;
       shown = λ b log s. shows-drop_slot b (with_log log v) s n i;
       names = live-before_edit n (dropped_at i) v.rows;
+      book = λ out h. book-edit out v n (dropped_at i) (λ c. refl) h;
+      time = refl;
     }
 
 pub goes-unpin : (v : Objects) → IsHeap v → (n : ℕ) → 0 < pins_of v n → Goes (λ b. release.without_pin b n) v (with_edit n content.without_pin v)
@@ -127,15 +134,19 @@ goes-unpin v good n some =
       log = refl;
       shown = λ b log s. shows-without_pin b (with_log log v) s (heap-with_log v log good) n some;
       names = live-before_edit n content.without_pin v.rows;
+      book = λ out h. book-edit out v n content.without_pin (λ c. refl) h;
+      time = refl;
     }
 
-pub goes-end : (v : Objects) → IsHeap v → (n : ℕ) (c : Content) → content_of v n ≡ Some c → refs_of v n ≡ 0 → Goes (λ b. finish b n) v (ended n c.kind v)
+pub goes-end : (v : Objects) → IsHeap v → (n : ℕ) (c : Content) → content_of v n ≡ Some c → refs_of v n ≡ 0 → Goes (λ b. finish b n) v (ended n c v)
 goes-end v good n c there free =
     record {
       more = final_notes n c.kind;
       log = refl;
       shown = λ b log s. shows-ended b (with_log log v) s (heap-with_log v log good) n c there free;
       names = live-before_end n v.rows;
+      book = λ out h. book-ended out v good n c there h;
+      time = refl;
     }
 
 -- who was there and is still there has the same name

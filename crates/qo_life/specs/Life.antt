@@ -11,7 +11,9 @@ use Rattle.qo_model.specs.declared.notes.Note.{Note}
 use Rattle.qo_notes.specs.Log.{Log, noted_all}
 use Rattle.qo_object.specs.declared.slots.Slot.{Slot}
 use Rattle.qo_object.specs.declared.slots.Slot.TheVariants.{Child}
+use Rattle.qo_claims.specs.declared.claims.Claimed.{Claimed}
 use Rattle.qo_heap.specs.Board.{Shows}
+use Rattle.qo_heap.specs.Book.{IsBook}
 use Rattle.qo_heap.specs.Objects.{Objects, content_of}
 
 -- the note of the initialiser of a type, and those of a new object of a type, base first
@@ -37,9 +39,11 @@ next_at at _ = suc at
 abbrev pub KeepsNames : Objects → Objects → Type 0
 KeepsNames v w = (key : Key) → IsLive v.rows key → is_some (content_of w key.birth) ≡ true → IsLive w.rows key
 
--- a heap becomes another as a board does by a step, with some notes more whatever the log was, and nobody is there who was not
+-- a heap becomes another as a board does by a step, with some notes more whatever the log was, nobody is there who was not, and the book of claims stays right
 pub record Goes (step : Board → Board) (v w : Objects) : Type 0 where
   pub more : List Note
   pub log : w.log ≡ noted_all more v.log
   pub shown : (b : Board) (log : Log) → Shows b (with_log log v) → Shows (step b) (with_log (noted_all more log) w)
   pub names : (key : Key) → IsLive w.rows key → IsLive v.rows key
+  pub book : (out : List Claimed) → IsBook out v → IsBook out w
+  pub time : w.time ≡ v.time

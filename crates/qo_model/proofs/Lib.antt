@@ -1,5 +1,8 @@
+pub mod AttemptLemmas
 pub mod CycleLemmas
 pub mod DepthLemmas
+mod DeviceRows
+pub mod DraftEndsLemmas
 pub mod EditLemmas
 pub mod FinalNotesChangesLemmas
 pub mod FinalNotesGrowthLemmas
@@ -8,6 +11,7 @@ mod FinalNotesRows
 pub mod FinalNotesRunsLemmas
 pub mod GraphLemmas
 pub mod OpeningLemmas
+pub mod PassedLemmas
 pub mod ReleaseKeepsLemmas
 pub mod ReleaseLeavesLemmas
 pub mod ReleaseLemmas

@@ -1,5 +1,5 @@
 -- Worked rows of the commands on objects: tags that link to each other, removed and severed.
-use Rattle.std.proofs.Common.{◌≡◌, refl, ℕ, List, [], ◌∷◌, map, drop, ◌++◌, decimal, codes, true, Option, Some, None, Result, Ok, Err}
+use Rattle.std.proofs.Common.{◌≡◌, refl, ℕ, List, [], ◌∷◌, map, drop, ◌++◌, decimal, codes, true, Option, Some, None, Ok, Err}
 use Rattle.qo_values.specs.declared.codes.Code.{Code}
 use Rattle.qo_values.specs.declared.codes.Code.TheVariants.{E15, E17, E18, E19, E20, E21, E22, E23, E24, E33, E50}
 use Rattle.qo_values.specs.declared.kinds.TypeId.TheVariants.{Tag}

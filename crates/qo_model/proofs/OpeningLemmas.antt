@@ -15,6 +15,7 @@ opening_sound =
           record {
             rising = search rules;
             within = search rules;
+            begun = search rules;
             named = search rules;
             live = search rules;
             one_parent = search rules;

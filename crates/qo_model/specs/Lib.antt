@@ -1,6 +1,8 @@
 pub mod Board
 pub mod Changes
+pub mod Clocks
 pub mod Depth
+pub mod Devices
 pub mod FinalNotes
 pub mod FinalNotesRuns
 pub mod Holders
@@ -10,14 +12,17 @@ pub mod Notes
 pub mod Objects
 pub mod Opening
 pub mod Paths
+pub mod Plug
 pub mod Properties
 pub mod References
 pub mod Release
 pub mod ReleaseKeeps
 pub mod ReleaseNotes
 pub mod ReleaseRules
+pub mod Reset
 pub mod Sound
 pub mod SoundAliases
 pub mod SoundEvents
 pub mod SoundGraph
 pub mod Types
+pub mod Unplug

@@ -1,6 +1,5 @@
 -- Adding and removing objects by command (QEMU's QAPI, `object-add` and `object-del`; the order of refusals is the profile's), and cutting the links of a detached one.
-use Rattle.std.specs.Prelude.{◌≡◌, ℕ, zero, suc, ◌+◌, ◌==◌, ◌&&◌, Bool, true, false, not, leb, if◌then◌else◌, List, [], ◌∷◌, ◌++◌, map, filter, length, codes, find, Option, Some, None, is_some, is_none, Result, Ok, Err, option_map, option_and_then}
-use Rattle.std.specs.Option.{option_map_or}
+use Rattle.std.specs.Prelude.{ℕ, zero, suc, ◌+◌, ◌==◌, ◌&&◌, Bool, true, false, not, leb, if◌then◌else◌, List, [], ◌∷◌, ◌++◌, map, filter, length, codes, find, Option, Some, None, is_none, Result, Ok, Err}
 use Rattle.std.specs.List.{list_any}
 use Rattle.std.specs.Str.{bytes_eq}
 use Rattle.qo_values.specs.Ids.{is_id}
@@ -14,12 +13,11 @@ use Rattle.qo_values.specs.declared.properties.Val.{Val}
 use Rattle.qo_values.specs.declared.properties.Val.TheVariants as val
 use Rattle.qo_model.specs.declared.notes.Deed.TheVariants.{Did}
 use Rattle.qo_model.specs.declared.notes.Note.{Note}
-use Rattle.qo_model.specs.Board.{Board, Record, Slot, plain, child, strong, weak, alias, is_live, slot_at, slots_at}
+use Rattle.qo_model.specs.Board.{Board, Record, Slot, plain, child, strong, weak, is_live, slot_at, slots_at}
 use Rattle.qo_model.specs.Changes.{with_added}
 use Rattle.qo_model.specs.Opening.{fresh_slots}
-use Rattle.qo_model.specs.Paths.{attached, births, place_of}
+use Rattle.qo_model.specs.Paths.{attached, place_of}
 use Rattle.qo_model.specs.Properties.{link_target, row_of_property}
-use Rattle.qo_model.specs.References.{refs}
 use Rattle.qo_model.specs.Release.{edited, final_notes, let_go, pin, unpin}
 use Rattle.qo_model.specs.Types.{Kind, Mark, Property, TypeRow, both, on_add, inits, is_a, row_named}
 

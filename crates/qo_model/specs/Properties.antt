@@ -1,5 +1,5 @@
 -- Reading and writing the properties of objects (docs/devel/qom.rst, "The QEMU Object Model": properties, child and link; QEMU's QAPI, `qom-get`, `qom-set`).
-use Rattle.std.specs.Prelude.{ℕ, Bool, true, false, if◌then◌else◌, List, [], ◌∷◌, ◌++◌, codes, decimal, find, position, Option, Some, None, Result, Ok, Err, unwrap_or, option_map, option_and_then}
+use Rattle.std.specs.Prelude.{ℕ, Bool, true, false, if◌then◌else◌, List, [], ◌++◌, codes, decimal, find, position, Option, Some, None, Result, Ok, Err, unwrap_or, option_map, option_and_then}
 use Rattle.std.specs.Option.{option_map_or}
 use Rattle.std.specs.Str.{bytes_eq}
 use Rattle.qo_values.specs.Kinds.{type_name}
@@ -11,9 +11,9 @@ use Rattle.qo_values.specs.declared.properties.Val.{Val}
 use Rattle.qo_values.specs.declared.properties.Val.TheVariants as val
 use Rattle.qo_model.specs.Board.{Board, Slot, kind_of, slot_at, slot_named, slots_at, plain, child, strong, weak, alias, held}
 use Rattle.qo_model.specs.Changes.{point, set}
-use Rattle.qo_model.specs.Paths.{Place, found, missing, several, canonical, resolve}
+use Rattle.qo_model.specs.Paths.{found, missing, several, canonical, resolve}
 use Rattle.qo_model.specs.Release.{after, drop_slot, finalise}
-use Rattle.qo_model.specs.Types.{Kind, Mark, Property, never, both, slots_of}
+use Rattle.qo_model.specs.Types.{Kind, Mark, Property, both, slots_of}
 
 -- an object, as the text of a property that names it: its canonical path, or `detached:` and its birth where it has none
 abbrev pub path_text : Board → ℕ → List ℕ

@@ -1,14 +1,21 @@
 -- When the aliases of a board are sound: what they pass on to lasts as long as they do.
-use Rattle.std.specs.Prelude.{◌≡◌, ℕ, true, ◌==◌, if◌then◌else◌, List, [], ⊤}
+use Rattle.std.specs.Prelude.{◌≡◌, ℕ, true, Bool, filter, codes, if◌then◌else◌, List, [], ◌∷◌, ⊤}
+use Rattle.std.specs.Str.{bytes_eq}
 use Rattle.std.specs.List.{AllByRecursion}
 use Rattle.qo_model.specs.Board.{Board, Record, Slot, alias}
 use Rattle.qo_model.specs.Depth.{among}
-use Rattle.qo_model.specs.Objects.{objects_birth}
 use Rattle.qo_model.specs.Paths.{children_in}
 
--- the children that an object has for as long as it is there; those of `/objects` go by command
+-- the births of the objects whose children go by command: `/machine/peripheral`, `/machine/peripheral-anon` and `/objects`
+abbrev pub is_open : ℕ → Bool
+is_open n = among (3 ∷ 4 ∷ 8 ∷ []) n
+
+-- the child that an object has for as long as it is there: its clock
+abbrev pub is_clock_slot : List ℕ × Slot → Bool
+is_clock_slot s = bytes_eq s.0 (codes "clk")
+
 abbrev pub lasting : Record → List ℕ
-lasting r = if r.birth == objects_birth then [] else children_in r.slots
+lasting r = if is_open r.birth then [] else children_in (filter is_clock_slot r.slots)
 
 -- an alias passes on to one of these objects
 abbrev pub PassesTo : List ℕ → Slot → Type 0

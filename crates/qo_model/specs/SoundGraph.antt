@@ -58,9 +58,10 @@ NamesLive b (alias n name) = is_live b n ≡ true
 
 -- the facts, of a board that has nothing else
 pub record GraphFacts (g : Board) : Type 0 where
-  -- births rise and are at most the births so far
+  -- births rise and are at most the births so far, of which eight are those that every machine begins with
   pub rising : Rises (births g)
   pub within : AllByRecursion (λ n. n ≤ g.born) (births g)
+  pub begun : 8 ≤ g.born
   -- the names of an object's slots differ
   pub named : AllByRecursion (λ (r : Record). IsDistinct bytes_eq (map (λ (s : List ℕ × Slot). s.0) r.slots)) g.records
   -- each slot that names an object names one that is there, and a link one of its type

@@ -1,10 +1,13 @@
 -- An object by itself.
-use Rattle.std.specs.Prelude.{ℕ, ◌+◌, ◌-◌, ◌≤◌, ◌^◌, Bool, false, List, [], ◌∷◌, ◌++◌, length, remove, count_by, Option, is_some}
+use Rattle.std.specs.Prelude.{ℕ, ◌+◌, ◌-◌, ◌≤◌, ◌^◌, Bool, false, List, [], ◌∷◌, ◌++◌, length, remove, count_by, Option, None, is_some}
 use Rattle.std.specs.List.{list_any, IsDistinct}
 use Rattle.std.specs.Option.{option_map_or}
 use Rattle.std.specs.Str.{bytes_eq}
 use Rattle.qo_values.specs.declared.kinds.TypeId.{TypeId}
 use Rattle.qo_values.specs.declared.properties.Val.{Val}
+use Rattle.qo_kinds.specs.Bodies.{acted, body_of}
+use Rattle.qo_values.specs.declared.kinds.Act.{Act}
+use Rattle.qo_kinds.specs.declared.bodies.Body.{Body}
 use Rattle.qo_slots.specs.declared.keys.Key.{Key}
 use Rattle.qo_object.specs.declared.slots.Slot.{Slot}
 use Rattle.qo_object.specs.Slots.{names_of, named_in, slot_in, changed_at, let_go_at, each_changed, held, holds, names_child, is_empty_link, pointed, with_val, forgotten_in}
@@ -14,6 +17,9 @@ pub record Content : Type 0 where
   pub kind : TypeId
   pub slots : List (List ℕ × Slot)
   pub pins : ℕ
+  pub body : Body
+  pub device_id : Option (List ℕ)
+  pub kept_path : Option (List ℕ)
 
 -- what is so of every object: the names of its slots differ, and there are not too many slots and pins to count
 pub record IsObject (c : Content) : Type 0 where
@@ -23,7 +29,7 @@ pub record IsObject (c : Content) : Type 0 where
 
 -- a new object: no slots, held once from outside
 abbrev pub fresh : TypeId → Content
-fresh kind = record { kind = kind; slots = []; pins = 1 }
+fresh kind = record { kind = kind; slots = []; pins = 1; body = body_of kind; device_id = None; kept_path = None }
 
 -- a slot more, behind the others
 abbrev pub with_slot : List ℕ → Slot → Content → Content
@@ -71,3 +77,7 @@ is_parent birth c = list_any (λ (s : List ℕ × Slot). names_child birth s.1) 
 
 abbrev pub held_count : Content → ℕ
 held_count c = count_by (λ (s : List ℕ × Slot). is_some (held s.1)) c.slots
+
+-- its body acts
+abbrev pub acted_at : Act → ℕ → ℕ → Content → Content
+acted_at act time period c = record c { body = acted act time period c.body }

@@ -1,6 +1,6 @@
 -- An object by itself, as one of the board's.
 use Rattle.std.specs.Prelude.{ℕ, true, false, List, map, Option, None, option_map}
-use Rattle.qo_values.specs.Registers.{fresh_registers}
+use Rattle.qo_kinds.specs.Bodies.{registers_of}
 use Rattle.qo_slots.specs.declared.keys.Key.{Key}
 use Rattle.qo_model.specs.Board as board
 use Rattle.qo_object.specs.declared.slots.Slot.{Slot}
@@ -29,7 +29,7 @@ shown birth c =
       birth = birth;
       kind = c.kind;
       slots = shown_slots c.slots;
-      registers = fresh_registers c.kind;
-      device_id = None;
+      registers = registers_of c.body;
+      device_id = c.device_id;
       kept_path = None;
     }

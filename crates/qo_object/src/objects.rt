@@ -3,8 +3,9 @@
 use crate::errors::AddError;
 use crate::named::SlotMap;
 use crate::slots::{Slot, SlotView};
+use qo_kinds::{Body, KeptSet};
 use qo_slots::Key;
-use qo_values::{Name, TypeId, Val};
+use qo_values::{Act, Id, Name, Text, TypeId, Val};
 use std::alloc::Global;
 use std::marker::Model;
 
@@ -13,11 +14,13 @@ const SLOTS_MAX: usize = 0x1_0000_0000;
 
 /// An object by itself (docs/devel/qom.rst, "The QEMU Object Model"). Letting it go says nothing to
 /// the objects that it names.
-#[derive(Drop)]
 pub struct Object {
     kind: TypeId,
     slots: SlotMap,
     pins: u64,
+    body: Body,
+    id: Option<Id>,
+    path: Option<Text>,
 }
 
 impl Model for Object {
@@ -30,16 +33,39 @@ impl Model for Object {
       kind = o.kind;
       slots = o.slots;
       pins = o.pins;
+      body = o.body;
+      device_id = o.id;
+      kept_path = o.path;
     } };
 
     ghost invariant = { λ o. (length o.slots ≤ 2 ^ 32) × (o.pins ≤ 2 ^ 32) };
 }
 
+impl Drop for Object {
+    ghost use Rattle.qo_kinds.specs.Bodies.{IsBare};
+
+    fn drop(self)
+        requires { IsBare self.body }
+    {
+        let Object {
+            kind: _,
+            slots: _,
+            pins: _,
+            body: _,
+            id: _,
+            path: _,
+        } = self;
+    }
+}
+
 impl Object {
     ghost use Rattle.std.specs.Prelude.{◌≡◌, ◌<◌, ◌≤◌, ◌^◌, ◌==◌, true, false, IfSome, OnOk, OnErr, length, position, slice_get, option_map};
     ghost use Rattle.std.specs.Str.{bytes_eq};
+    ghost use Rattle.std.specs.Borrow.{sem};
+    ghost use Rattle.qo_kinds.specs.Bodies.{MayAct, kept_of, none_kept, with_kept};
+    ghost use Rattle.qo_object.specs.Lends.{lends_body};
     ghost use Rattle.qo_object.specs.Slots.{has_name};
-    ghost use Rattle.qo_object.specs.Content.{IsObject, fresh, with_slot, named_at, dropped_at, empty_link_at, pointed_at, set_at, cut_at, with_pin, without_pin, forgotten, holding, is_parent, held_count};
+    ghost use Rattle.qo_object.specs.Content.{IsObject, acted_at, fresh, with_slot, named_at, dropped_at, empty_link_at, pointed_at, set_at, cut_at, with_pin, without_pin, forgotten, holding, is_parent, held_count};
     ghost use Rattle.qo_object.specs.declared.errors.AddError.TheVariants.{Duplicate, Memory};
 
     /// An object of a type, without slots, pinned once. It takes no memory.
@@ -50,6 +76,9 @@ impl Object {
             kind,
             slots: SlotMap::new(alloc),
             pins: 1,
+            body: Body::of(kind),
+            id: None,
+            path: None,
         }
     }
 
@@ -72,6 +101,30 @@ impl Object {
         ensures { result ≡ self.now.pins }
     {
         self.pins
+    }
+
+    /// An act of its body at a moment, where `period` is that of its clock. It takes no memory.
+    pub fn act(&mut self, act: Act, time: u64, period: u64)
+        requires { MayAct act time self.old.body }
+        ensures { self.new ≡ acted_at act time period self.old }
+    {
+        self.body.act(act, time, period);
+    }
+
+    /// Its body, for writing. It takes no memory.
+    pub fn body_mut(&mut self) -> &mut Body
+        ensures* writes_back { sem 𝓛 (lends_body self.entry result) }
+        ensures body { result.now ≡ self.old.body }
+    {
+        &mut self.body
+    }
+
+    /// Takes the claims that its body holds out. It takes no memory.
+    pub fn take_claims(&mut self) -> KeptSet
+        ensures taken { result ≡ kept_of self.old.body }
+        ensures left { self.new ≡ record self.old { body = with_kept none_kept self.old.body } }
+    {
+        self.body.take_claims()
     }
 
     /// How many slots it has. It takes no memory.

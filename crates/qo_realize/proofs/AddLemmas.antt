@@ -5,6 +5,9 @@ use Rattle.std.specs.Option.{option_map_or}
 use Rattle.std.proofs.lemmas.Bool.{eqb-true, eq-eqb}
 use Rattle.std.proofs.lemmas.List.Sums.{sum_by-cons, sum_by-append}
 use Rattle.qo_values.specs.declared.kinds.TypeId.{TypeId}
+use Rattle.qo_kinds.specs.Bodies.{body_of, kept_of, none_kept}
+use Rattle.qo_kinds.proofs.BodyLemmas.{fresh-bare, fresh-registers}
+use Rattle.qo_heap.specs.Objects.{without_kept}
 use Rattle.qo_slots.specs.declared.keys.Key.{Key}
 use Rattle.qo_table.specs.Rows.{IsLive, Rises, births, edit, object_at, row_at, without}
 use Rattle.qo_values.specs.Registers.{fresh_registers}
@@ -70,10 +73,10 @@ unpinned-bare v w n is bare = ap (λ (x : Objects). option_map held_count (conte
     go None = refl
     go (Some c) = refl
 
-pub unpinned-kind : (v w u : Objects) (n : ℕ) → w ≡ with_edit n without_pin v → option_map (λ (c : Content). ended n c.kind w) (content_of w n) ≡ Some u → option_map (λ (c : Content). ended n c.kind (with_edit n without_pin v)) (content_of v n) ≡ Some u
-unpinned-kind v w u n is e = sym (ap (λ (x : Objects). option_map (λ (c : Content). ended n c.kind x) (content_of x n)) is ∙ ap (option_map (λ (c : Content). ended n c.kind (with_edit n without_pin v))) (content-edited v n without_pin) ∙ go (content_of v n)) ∙ e
+pub unpinned-kind : (v w u : Objects) (n : ℕ) → w ≡ with_edit n without_pin v → option_map (λ (c : Content). ended n c w) (content_of w n) ≡ Some u → option_map (λ (c : Content). ended n c (with_edit n without_pin v)) (content_of v n) ≡ Some u
+unpinned-kind v w u n is e = sym (ap (λ (x : Objects). option_map (λ (c : Content). ended n c x) (content_of x n)) is ∙ ap (option_map (λ (c : Content). ended n c (with_edit n without_pin v))) (content-edited v n without_pin) ∙ go (content_of v n)) ∙ e
   where
-    go : (o : Option Content) → option_map (λ (c : Content). ended n c.kind (with_edit n without_pin v)) (option_map without_pin o) ≡ option_map (λ (c : Content). ended n c.kind (with_edit n without_pin v)) o
+    go : (o : Option Content) → option_map (λ (c : Content). ended n c (with_edit n without_pin v)) (option_map without_pin o) ≡ option_map (λ (c : Content). ended n c (with_edit n without_pin v)) o
     go None = refl
     go (Some c) = refl
 
@@ -246,13 +249,13 @@ module _ (v w : Objects) (o : Key) (c : Content) (good : IsHeap v) (birth : o.bi
   pub newest-bare : held_count c ≡ 0 → option_map held_count (content_of w o.birth) ≡ Some 0
   newest-bare bare = ap (option_map held_count) newest-content ∙ ap Some bare
 
-  pub newest-ends : (u : Objects) → option_map (λ (d : Content). ended o.birth d.kind (with_edit o.birth without_pin w)) (content_of w o.birth) ≡ Some u → u ≡ given_up c.kind v
-  newest-ends u e =
-      let now : ended o.birth c.kind (with_edit o.birth without_pin w) ≡ u = same_Some (ended o.birth c.kind (with_edit o.birth without_pin w)) u (sym (ap (option_map (λ (d : Content). ended o.birth d.kind (with_edit o.birth without_pin w))) newest-content) ∙ e) in
+  pub newest-ends : kept_of c.body ≡ none_kept → (u : Objects) → option_map (λ (d : Content). ended o.birth d (with_edit o.birth without_pin w)) (content_of w o.birth) ≡ Some u → u ≡ given_up c.kind v
+  newest-ends none u e =
+      let now : ended o.birth c (with_edit o.birth without_pin w) ≡ u = same_Some (ended o.birth c (with_edit o.birth without_pin w)) u (sym (ap (option_map (λ (d : Content). ended o.birth d (with_edit o.birth without_pin w))) newest-content) ∙ e) in
       let rows : map (forgets o.birth) (without o.birth (edit o.birth without_pin (v.rows ++ (o, c) ∷ []))) ≡ v.rows = ap (λ (l : List (Key × Content)). map (forgets o.birth) (without o.birth l)) (edit-newest o c without_pin v.rows (others o.birth v.rows apart)) ∙ end-newest o (without_pin c) v.rows apart in
       sym now
-      ∙ ap (λ (x : Objects). ended o.birth c.kind (with_edit o.birth without_pin x)) is
-      ∙ (λ j. record { rows = rows j; born = v.born + 1; log = noted_all (final_notes (birth j) c.kind) (noted_all (init_notes (birth j) c.kind) v.log) })
+      ∙ ap (λ (x : Objects). ended o.birth c (with_edit o.birth without_pin x)) is
+      ∙ (λ j. record { rows = rows j; born = v.born + 1; log = noted_all (final_notes (birth j) c.kind) (noted_all (init_notes (birth j) c.kind) v.log); claims = without_kept (none j) v.claims; time = v.time })
 
 -- who was there is there beside the newest
 
@@ -274,7 +277,7 @@ newest-edited v w u o c f good birth is change same =
     let rows = edit-newest o c f v.rows (others o.birth v.rows (apart-from v o.birth (omega (arith, birth)) good)) in
     change
     ∙ ap (λ (x : Objects). with_edit o.birth f x) is
-    ∙ (λ j. record { rows = rows j; born = v.born + 1; log = noted_all (init_notes o.birth (sym same j)) v.log })
+    ∙ (λ j. record { rows = rows j; born = v.born + 1; log = noted_all (init_notes o.birth (sym same j)) v.log; claims = v.claims; time = v.time })
 
 edit-more : (m : ℕ) (f : Content → Content) (rows : List (Key × Content)) (row : Key × Content) → eqb row.0.birth m ≡ false → edit m f (rows ++ row ∷ []) ≡ edit m f rows ++ row ∷ []
 edit-more m f [] row other = rw other refl
@@ -286,7 +289,7 @@ newest-beside v w u o key c f good birth live is change =
     let low : key.birth ≤ v.born = upto key.birth 0 v.born v.rows d good.rising there in
     let other : eqb o.birth key.birth ≡ false = grind (arith, low, birth) in
     let rows = edit-more key.birth f v.rows (o, c) other in
-    change ∙ ap (λ (x : Objects). with_edit key.birth f x) is ∙ (λ j. record { rows = rows j; born = v.born + 1; log = noted_all (init_notes o.birth c.kind) v.log })
+    change ∙ ap (λ (x : Objects). with_edit key.birth f x) is ∙ (λ j. record { rows = rows j; born = v.born + 1; log = noted_all (init_notes o.birth c.kind) v.log; claims = v.claims; time = v.time })
 
 -- first slots hold nothing
 
@@ -328,7 +331,7 @@ done-furnish v w u o parent name t good birth live is change =
 
 module _ (v w : Objects) (o parent : Key) (name : List ℕ) (t : TypeId) (slots : List Named) (good : IsHeap v) (birth : o.birth ≡ v.born + 1) (is : w ≡ with_child parent.birth name o t slots v) where
   abbrev begun : Content
-  begun = record { kind = t; slots = slots; pins = 1 }
+  begun = record { kind = t; slots = slots; pins = 1; body = body_of t; device_id = None; kept_path = None }
 
   abbrev beside : Objects
   beside = with_edit parent.birth (with_slot name (Child o)) v
@@ -358,7 +361,7 @@ module _ (v w : Objects) (o parent : Key) (name : List ℕ) (t : TypeId) (slots 
       ∙ one
 
   -- it is filled, and its pin is taken away
-  pub child-settled : (u x : Objects) (plan : List Fill) → u ≡ with_edit o.birth (with_filled 0 plan) w → x ≡ with_edit o.birth without_pin u → x ≡ with_newest o (record { kind = t; slots = filled plan slots; pins = 0 }) beside
+  pub child-settled : (u x : Objects) (plan : List Fill) → u ≡ with_edit o.birth (with_filled 0 plan) w → x ≡ with_edit o.birth without_pin u → x ≡ with_newest o (record { kind = t; slots = filled plan slots; pins = 0; body = body_of t; device_id = None; kept_path = None }) beside
   child-settled u x plan fill unpin =
       let f : Content → Content = λ c. without_pin (with_filled 0 plan c) in
       let rows = edit-newest o begun f beside.rows child-others in
@@ -366,7 +369,7 @@ module _ (v w : Objects) (o parent : Key) (name : List ℕ) (t : TypeId) (slots 
       ∙ ap (λ (y : Objects). with_edit o.birth without_pin y) fill
       ∙ edit-twice o.birth without_pin (with_filled 0 plan) f (λ c. refl) w
       ∙ ap (λ (y : Objects). with_edit o.birth f y) is
-      ∙ (λ j. record { rows = rows j; born = v.born + 1; log = noted_all (init_notes o.birth t) v.log })
+      ∙ (λ j. record { rows = rows j; born = v.born + 1; log = noted_all (init_notes o.birth t) v.log; claims = v.claims; time = v.time })
 
 -- an object that nothing pins adds no pin
 pins-last : (rows : List (Key × Content)) (o : Key) (c : Content) → c.pins ≡ 0 → pins_in (rows ++ (o, c) ∷ []) ≡ pins_in rows
@@ -374,7 +377,7 @@ pins-last [] o c none = rw none refl
 pins-last (row ∷ rows) o c none = ap (λ (l : List ℕ). replicate row.1.pins row.0.birth ++ l) (pins-last rows o c none)
 
 -- the board with an object more
-pub shows-object : (b : Board) (v : Objects) → Shows b v → (o parent : Key) → parent.birth ≡ objects_birth → o.birth ≡ v.born + 1 → (name : List ℕ) (t : TypeId) (props : List Given) (slots : List Named) → shown_slots slots ≡ given_slots b t props → Shows (with_object b t name props) (with_newest o (record { kind = t; slots = slots; pins = 0 }) (with_edit parent.birth (with_slot name (Child o)) v))
+pub shows-object : (b : Board) (v : Objects) → Shows b v → (o parent : Key) → parent.birth ≡ objects_birth → o.birth ≡ v.born + 1 → (name : List ℕ) (t : TypeId) (props : List Given) (slots : List Named) → shown_slots slots ≡ given_slots b t props → Shows (with_object b t name props) (with_newest o (record { kind = t; slots = slots; pins = 0; body = body_of t; device_id = None; kept_path = None }) (with_edit parent.birth (with_slot name (Child o)) v))
 unfolding add
 shows-object b v s o parent place birth name t props slots given =
     let rows : Objects = with_edit parent.birth (with_slot name (Child o)) v in
@@ -383,22 +386,22 @@ shows-object b v s o parent place birth name t props slots given =
     record {
       records =
           (λ j. map (edited (sym place j) (with_added name (board.child (its j)))) b.records ++ record { birth = its j; kind = t; slots = sym given j; registers = fresh_registers t; device_id = None; kept_path = None } ∷ [])
-          ∙ ap (λ (l : List board.Record). l ++ record_of (o, record { kind = t; slots = slots; pins = 0 }) ∷ []) more.records
-          ∙ sym (map-append record_of rows.rows ((o, record { kind = t; slots = slots; pins = 0 }) ∷ []));
+          ∙ (λ j. more.records j ++ record { birth = o.birth; kind = t; slots = shown_slots slots; registers = sym (fresh-registers t) j; device_id = None; kept_path = None } ∷ [])
+          ∙ sym (map-append record_of rows.rows ((o, record { kind = t; slots = slots; pins = 0; body = body_of t; device_id = None; kept_path = None }) ∷ []));
       born = ap (λ (k : ℕ). k + 1) s.born;
-      pins = more.pins ∙ sym (pins-last rows.rows o (record { kind = t; slots = slots; pins = 0 }) refl);
+      pins = more.pins ∙ sym (pins-last rows.rows o (record { kind = t; slots = slots; pins = 0; body = body_of t; device_id = None; kept_path = None }) refl);
       notes = subst (λ (k : ℕ). IsLogOf (b.notes ++ init_notes k t) (noted_all (init_notes o.birth t) v.log)) (sym its) (all_lem b.notes (init_notes o.birth t) v.log s.notes);
       events = s.events;
     }
 
 -- the same pins
 
-pub object-pins : (v : Objects) (o parent : Key) (name : List ℕ) (t : TypeId) (slots : List Named) (w : Objects) → w ≡ with_newest o (record { kind = t; slots = slots; pins = 0 }) (with_edit parent.birth (with_slot name (Child o)) v) → pins_in w.rows ≡ pins_in v.rows
+pub object-pins : (v : Objects) (o parent : Key) (name : List ℕ) (t : TypeId) (slots : List Named) (w : Objects) → w ≡ with_newest o (record { kind = t; slots = slots; pins = 0; body = body_of t; device_id = None; kept_path = None }) (with_edit parent.birth (with_slot name (Child o)) v) → pins_in w.rows ≡ pins_in v.rows
 unfolding add
 object-pins v o parent name t slots w is =
     let rows : Objects = with_edit parent.birth (with_slot name (Child o)) v in
     let more = shows-added (tree v) (with_log empty_log v) (tree-shows v) parent.birth name (Child o) in
-    ap (λ (x : Objects). pins_in x.rows) is ∙ pins-last rows.rows o (record { kind = t; slots = slots; pins = 0 }) refl ∙ sym more.pins ∙ (tree-shows v).pins
+    ap (λ (x : Objects). pins_in x.rows) is ∙ pins-last rows.rows o (record { kind = t; slots = slots; pins = 0; body = body_of t; device_id = None; kept_path = None }) refl ∙ sym more.pins ∙ (tree-shows v).pins
 
 pub tried-pins : (v w : Objects) (t : TypeId) → IsTried t v w → pins_in w.rows ≡ pins_in v.rows
 tried-pins v w t (inl same) = ap (λ (x : Objects). pins_in x.rows) same

@@ -21,6 +21,7 @@ use Rattle.qo_object.specs.Slots.{slot_in}
 use Rattle.qo_object.specs.declared.slots.Slot.{Slot}
 use Rattle.qo_object.specs.declared.slots.Slot.TheVariants.{Plain, Child, Link, Alias}
 use Rattle.qo_heap.specs.Objects.{IsHeap, Objects, content_of, pins_of, slots_of, with_edit}
+use Rattle.qo_heap.proofs.BookLemmas.{book-edit}
 use Rattle.qo_heap.proofs.ShowsReads.{shows-live, shows-live_key, shows-pinned, shows-slot_at, shows-slots}
 use Rattle.std.proofs.Math.Bool.{or-true}
 use Rattle.qo_object.proofs.ShownLemmas.{length-shown}
@@ -155,6 +156,8 @@ goes-pin v good n c there =
       log = refl;
       shown = λ b log s. shows-pin b (with_log log v) s (heap-with_log v log good) n c there;
       names = live-before_edit n with_pin v.rows;
+      book = λ out h. book-edit out v n with_pin (λ c. refl) h;
+      time = refl;
     }
 
 pub among-put : (n : ℕ) (xs : List ℕ) → list_any (nat_eq n) (put_in_order n xs) ≡ true

@@ -2,6 +2,7 @@
 use Rattle.std.specs.Prelude.{◌≡◌, ℕ, ◌+◌, List, [], ◌∷◌, ◌++◌, ◌⊎◌, Some, None, Result, Ok, Err}
 use Rattle.std.specs.Option.{option_map_or}
 use Rattle.qo_values.specs.declared.kinds.TypeId.{TypeId}
+use Rattle.qo_kinds.specs.Bodies.{body_of}
 use Rattle.qo_slots.specs.declared.keys.Key.{Key}
 use Rattle.qo_notes.specs.Log.{noted_all}
 use Rattle.qo_object.specs.Content.{Content, with_slot}
@@ -18,11 +19,11 @@ use Rattle.qo_life.specs.Life.{init_notes}
 
 -- a heap with an object more, the newest
 abbrev pub with_newest : Key → Content → Objects → Objects
-with_newest o c v = record { rows = v.rows ++ (o, c) ∷ []; born = v.born + 1; log = noted_all (init_notes o.birth c.kind) v.log }
+with_newest o c v = record v { rows = v.rows ++ (o, c) ∷ []; born = v.born + 1; log = noted_all (init_notes o.birth c.kind) v.log }
 
 -- a heap with a child more under an object, the newest, which has these slots
 abbrev pub with_child : ℕ → List ℕ → Key → TypeId → List Named → Objects → Objects
-with_child n name o kind slots v = with_newest o (record { kind = kind; slots = slots; pins = 1 }) (with_edit n (with_slot name (Child o)) v)
+with_child n name o kind slots v = with_newest o (record { kind = kind; slots = slots; pins = 1; body = body_of kind; device_id = None; kept_path = None }) (with_edit n (with_slot name (Child o)) v)
 
 -- the heap behind an attempt that was given up: the object was made and ended
 abbrev pub given_up : TypeId → Objects → Objects

@@ -1,8 +1,9 @@
 -- How the opening board comes to be: object by object, in the order of births (docs/devel/qom.rst, "The QEMU Object Model"; the eight objects are the profile's).
-use Rattle.std.specs.Prelude.{◌≡◌, ℕ, ◌+◌, true, List, [], codes, Some}
+use Rattle.std.specs.Prelude.{◌≡◌, ℕ, ◌+◌, true, List, [], codes, Some, None}
 use Rattle.qo_values.specs.declared.kinds.TypeId.{TypeId}
 use Rattle.qo_values.specs.declared.kinds.TypeId.TheVariants.{Container, Machine, Clock, SlotBus, MemBus}
 use Rattle.qo_values.specs.declared.properties.Val.TheVariants.{Uint}
+use Rattle.qo_kinds.specs.Bodies.{body_of}
 use Rattle.qo_slots.specs.declared.keys.Key.{Key}
 use Rattle.qo_table.specs.Rows.{IsLive}
 use Rattle.qo_model.specs.Board.{Board, child}
@@ -65,5 +66,5 @@ pub record IsMade (old new : Objects) (kind : TypeId) (pins : ℕ) (o : Key) : T
   pub birth : o.birth ≡ old.born + 1
   pub born : new.born ≡ old.born + 1
   pub live : IsLive new.rows o
-  pub content : content_of new o.birth ≡ Some (record { kind = kind; slots = new_slots kind; pins = pins })
+  pub content : content_of new o.birth ≡ Some (record { kind = kind; slots = new_slots kind; pins = pins; body = body_of kind; device_id = None; kept_path = None })
   pub names : KeepsNames old new

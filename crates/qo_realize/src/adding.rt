@@ -30,7 +30,7 @@ fn give_up<L: Ledger>(heap: &mut Heap, o: Oid, steps: &mut Steps<L>)
     requires pinned { pins_of heap.old o.birth ≡ 1 }
     requires alone { refs_of heap.old o.birth ≡ 1 }
     requires bare { option_map held_count (content_of heap.old o.birth) ≡ Some 0 }
-    ensures { option_map (λ c. ended o.birth c.kind (with_edit o.birth without_pin heap.old)) (content_of heap.old o.birth) ≡ Some heap.new }
+    ensures { option_map (λ c. ended o.birth c (with_edit o.birth without_pin heap.old)) (content_of heap.old o.birth) ≡ Some heap.new }
 {
     heap.unpin(o, steps);
     heap.finish(o, steps);

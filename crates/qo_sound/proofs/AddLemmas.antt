@@ -16,7 +16,7 @@ use Rattle.qo_model.specs.declared.notes.Note.{Note}
 use Rattle.qo_model.specs.Board.{Board, Record, Slot, plain, child, strong, weak, alias, record_of, kind_of, is_live}
 use Rattle.qo_model.specs.Changes.{with_added}
 use Rattle.qo_model.specs.Objects.{Given, added_as, added_by, barred, given_slots, has_slot, init_notes, object_add, objects_birth, refusal_of, with_attempt, with_object}
-use Rattle.qo_model.specs.Paths.{births, children_in, is_child}
+use Rattle.qo_model.specs.Paths.{births, children_in, children_of, is_child}
 use Rattle.qo_model.specs.Release.{edit, edited}
 use Rattle.qo_model.specs.Types.{TypeRow, is_a, row_named}
 use Rattle.qo_sound.proofs.RecordLemmas.{all-imply}
@@ -26,7 +26,7 @@ use Rattle.qo_sound.proofs.WorkLemmas.{Nearly}
 use Rattle.qo_sound.proofs.ViewLemmas.{AtRest}
 use Rattle.qo_sound.proofs.FreshLemmas.{all-lone, new-names}
 use Rattle.qo_sound.proofs.MadeLemmas.{IsNew, children-none, grown, grown-near, grown-new, grown-old, grown-parents, new-absent}
-use Rattle.qo_sound.proofs.NamedLemmas.{IsNameless, named-near}
+use Rattle.qo_sound.proofs.NamedLemmas.{IsNameless, leads-first, named-near}
 
 -- an attempt takes a birth, and nothing else
 pub attempt-rest : (b : Board) (t : TypeId) → AtRest b → AtRest (with_attempt b t)
@@ -39,6 +39,7 @@ attempt-rest b t h =
                 record {
                   rising = f.rising;
                   within = all-imply (λ n. n ≤ b.born) (λ n. n ≤ b.born + 1) (λ n k. omega (arith, k)) (births b) f.within;
+                  begun = let low : 8 ≤ b.born = f.begun in omega (arith, low);
                   named = f.named;
                   linked = f.linked;
                   one_parent = f.one_parent;
@@ -68,12 +69,12 @@ absent-child kinds n gone (s ∷ slots) h =
     at_slot (weak t target) k = refl
     at_slot (alias m name) k = refl
 
-absent-parents : (kinds : ℕ → Option TypeId) (n : ℕ) → kinds n ≡ None → (rs : List Record) → AllLinked kinds rs → sum_by (parents_in n) rs ≡ 0
+pub absent-parents : (kinds : ℕ → Option TypeId) (n : ℕ) → kinds n ≡ None → (rs : List Record) → AllLinked kinds rs → sum_by (parents_in n) rs ≡ 0
 absent-parents kinds n gone [] h = refl
 absent-parents kinds n gone (r ∷ rs) h = omega (arith, absent-child kinds n gone r.slots h.0, absent-parents kinds n gone rs h.1, sum_by-cons (parents_in n) r rs)
 
 -- a name that no slot has differs from each
-name-free : (id : List ℕ) (slots : List (List ℕ × Slot)) → list_any (λ (s : List ℕ × Slot). bytes_eq s.0 id) slots ≡ false → AllByRecursion (λ name. bytes_eq name id ≡ false) (names_in slots)
+pub name-free : (id : List ℕ) (slots : List (List ℕ × Slot)) → list_any (λ (s : List ℕ × Slot). bytes_eq s.0 id) slots ≡ false → AllByRecursion (λ name. bytes_eq name id ≡ false) (names_in slots)
 name-free id [] e = tt
 name-free id (s ∷ slots) e = go (bytes_eq s.0 id) refl (name-free id slots)
   where
@@ -116,7 +117,7 @@ object-rest b t id props there free h = record { used = subst (λ (rs : List Rec
     same : map (edited objects_birth (with_added id (child (b.born + 1)))) (b.records ++ made b t props ∷ []) ≡ map (edited objects_birth (with_added id (child (b.born + 1)))) b.records ++ made b t props ∷ []
     same = map-append (edited objects_birth (with_added id (child (b.born + 1)))) b.records (made b t props ∷ []) ∙ ap (λ (x : Record). map (edited objects_birth (with_added id (child (b.born + 1)))) b.records ++ x ∷ []) (rw (edited, other) refl)
 
-    bare : (o : Record) → record_of b objects_birth ≡ Some o → IsNameless (grown b (made b t props) (noted b t)) (b.born + 1) id
+    bare : (o : Record) → record_of b objects_birth ≡ Some o → IsNameless (grown b (made b t props) (noted b t)) objects_birth (b.born + 1) id
     bare o e =
         record {
           owner = o;
@@ -124,20 +125,20 @@ object-rest b t id props there free h = record { used = subst (λ (rs : List Rec
           free_name = name-free id o.slots (sym (ap (λ (x : Option Record). list_any (λ (s : List ℕ × Slot). bytes_eq s.0 id) (option_map_or (λ (y : Record). y.slots) x [])) e) ∙ free);
           there = ap (λ (x : Option Record). is_some (option_map (λ (y : Record). y.kind) x)) (grown-new b (made b t props) (noted b t) f new);
           no_parent = grown-parents b (made b t props) (noted b t) f new (b.born + 1) ∙ absent-parents (kind_of b) (b.born + 1) (ap (option_map (λ (y : Record). y.kind)) (new-absent b (made b t props) (noted b t) f new)) b.records f.linked;
-          no_child = ap (λ (x : Option Record). children_in (option_map_or (λ (y : Record). y.slots) x [])) (grown-new b (made b t props) (noted b t) f new) ∙ children-none b (given_slots b t props) (all-lone b t props);
+          none_back = leads-first (children_of (grown b (made b t props) (noted b t))) (ap (λ (x : Option Record). children_in (option_map_or (λ (y : Record). y.slots) x [])) (grown-new b (made b t props) (noted b t) f new) ∙ children-none b (given_slots b t props) (all-lone b t props));
           apart = apart o e;
         }
 
     go : (o : Option Record) → record_of b objects_birth ≡ o → Nearly None (edit objects_birth (with_added id (child (b.born + 1))) (grown b (made b t props) (noted b t)))
     go None e = absurd (let clash : false ≡ true = sym (ap is_some e) ∙ there in cc)
-    go (Some o) e = named-near (grown b (made b t props) (noted b t)) (b.born + 1) id (bare o e) (grown-near b (made b t props) (noted b t) f new h.used)
+    go (Some o) e = named-near (grown b (made b t props) (noted b t)) objects_birth (b.born + 1) id (bare o e) (grown-near b (made b t props) (noted b t) f new h.used)
 
 -- what is known where no reason bars an object
 record IsFree (b : Board) (id : List ℕ) : Type 0 where
   there : is_live b objects_birth ≡ true
   free : has_slot b objects_birth id ≡ false
 
-unbarred : (t : Bool) (code : Code) (o : Option Code) → (if t then Some code else o) ≡ None → (t ≡ false) × (o ≡ None)
+pub unbarred : (t : Bool) (code : Code) (o : Option Code) → (if t then Some code else o) ≡ None → (t ≡ false) × (o ≡ None)
 unbarred true code o e = absurd (let clash : Some code ≡ None = e in cc)
 unbarred false code o e = (refl, e)
 

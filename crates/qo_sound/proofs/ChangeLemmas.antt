@@ -16,9 +16,10 @@ use Rattle.qo_model.specs.References.{refs, refs_in, holds_it}
 use Rattle.qo_model.specs.Release.{drop_slot, edit, edited, emptied, let_go, with_dropped, without_hold}
 use Rattle.qo_model.proofs.EditLemmas.{StandsAt, stands-at}
 use Rattle.qo_model.proofs.StepLemmas.{drop-live, drop-record, live-among}
-use Rattle.qo_model.specs.SoundAliases.{lasting, PassesTo}
+use Rattle.qo_model.specs.SoundAliases.{is_open, lasting, PassesTo}
+use Rattle.qo_sound.proofs.SlotLemmas.{clocks-changed, clocks-stay, IsNoClock, no_child}
 use Rattle.qo_sound.proofs.RecordLemmas.{all-edited, found-birth, sum-edited}
-use Rattle.qo_sound.proofs.SlotLemmas.{all-changed, all-dropped, child-pointed, children-changed, children-stay, sum-changed}
+use Rattle.qo_sound.proofs.SlotLemmas.{all-changed, all-dropped, child-pointed, sum-changed}
 use Rattle.qo_sound.proofs.FirmLemmas.{FitsKind, Linked, Firm, edited-births, edited-kinds, firm-drop, firm-changed}
 use Rattle.qo_sound.proofs.FinishLemmas.{one_of}
 use Rattle.qo_sound.proofs.WorkLemmas.{HasOwn, Nearly, after-firm, dropped-held}
@@ -35,7 +36,7 @@ own-dropped : (i : ℕ) (r : Record) → lasting (with_dropped i r) ≡ lasting 
 own-dropped i r same h = subst (λ (ns : List ℕ). AllByRecursion (λ (s : List ℕ × Slot). PassesTo ns s.1) (without_hold i r.slots)) (sym same) (all-dropped (PassesTo (lasting r)) (left-passes (lasting r)) i r.slots h)
 
 -- a slot let go that takes no lasting child
-near-drop : (b : Board) (n i : ℕ) (s : Slot) → slot_at b n i ≡ Some s → ((r : Record) → record_of b n ≡ Some r → lasting (with_dropped i r) ≡ lasting r) → Nearly None b → Nearly (held s) (drop_slot b n i)
+pub near-drop : (b : Board) (n i : ℕ) (s : Slot) → slot_at b n i ≡ Some s → ((r : Record) → record_of b n ≡ Some r → lasting (with_dropped i r) ≡ lasting r) → Nearly None b → Nearly (held s) (drop_slot b n i)
 unfolding drop_slot
 near-drop b n i s e lasts h =
     record {
@@ -51,21 +52,28 @@ near-drop b n i s e lasts h =
         go zero p = absurd (let clash : None ≡ Some m = h.used m there p in cc)
         go (suc k) p = omega (arith, p)
 
--- the child slots of `/objects` are not lasting
-objects-last : (b : Board) (i : ℕ) (r : Record) → record_of b objects_birth ≡ Some r → lasting (with_dropped i r) ≡ lasting r
-objects-last b i r e =
-    let here : (r.birth == objects_birth) ≡ true = eq-eqb r.birth objects_birth (found-birth objects_birth b.records r e) in
+-- the child slots of the open objects are not lasting
+pub open-last : (b : Board) (n i : ℕ) → is_open n ≡ true → (r : Record) → record_of b n ≡ Some r → lasting (with_dropped i r) ≡ lasting r
+open-last b n i wide r e =
+    let here : is_open r.birth ≡ true = ap is_open (found-birth n b.records r e) ∙ wide in
     rw here refl
 
--- a link takes no child
+-- a link takes no child, and a slot of another name not the clock
+pub other-lasts : (b : Board) (n i : ℕ) → ((r : Record) (s : List ℕ × Slot) → record_of b n ≡ Some r → slice_get r.slots i ≡ Some s → IsNoClock s) → (s : Slot) → slot_at b n i ≡ Some s → (r : Record) → record_of b n ≡ Some r → lasting (with_dropped i r) ≡ lasting r
+other-lasts b n i other s e r q =
+    let here : StandsAt b n i s = stands-at b n i s e in
+    let is : here.owner ≡ r = same_Some here.owner r (sym here.found ∙ q) in
+    let place : slice_get r.slots i ≡ Some here.entry = subst (λ (x : Record). slice_get x.slots i ≡ Some here.entry) is here.at in
+    ap (λ (ns : List ℕ). cond (is_open r.birth) [] ns) (clocks-stay i r.slots here.entry place (other r here.entry q place))
+
 link-lasts : (b : Board) (n i : ℕ) (s : Slot) → slot_at b n i ≡ Some s → child_of s ≡ None → (r : Record) → record_of b n ≡ Some r → lasting (with_dropped i r) ≡ lasting r
 link-lasts b n i s e none r q =
     let here : StandsAt b n i s = stands-at b n i s e in
     let is : here.owner ≡ r = same_Some here.owner r (sym here.found ∙ q) in
     let place : slice_get r.slots i ≡ Some here.entry = subst (λ (x : Record). slice_get x.slots i ≡ Some here.entry) is here.at in
-    ap (λ (ns : List ℕ). cond (r.birth == objects_birth) [] ns) (children-stay i r.slots here.entry place (ap child_of here.is ∙ none))
+    ap (λ (ns : List ℕ). cond (is_open r.birth) [] ns) (clocks-stay i r.slots here.entry place (no_child (ap child_of here.is ∙ none)))
 
-near-let_go : (b : Board) (n i : ℕ) → ((s : Slot) → slot_at b n i ≡ Some s → (r : Record) → record_of b n ≡ Some r → lasting (with_dropped i r) ≡ lasting r) → Nearly None b → Nearly None (let_go b n i)
+pub near-let_go : (b : Board) (n i : ℕ) → ((s : Slot) → slot_at b n i ≡ Some s → (r : Record) → record_of b n ≡ Some r → lasting (with_dropped i r) ≡ lasting r) → Nearly None b → Nearly None (let_go b n i)
 unfolding let_go
 near-let_go b n i lasts h = go (slot_at b n i) refl
   where
@@ -75,21 +83,21 @@ near-let_go b n i lasts h = go (slot_at b n i) refl
 
 -- a slot of `/objects` is let go, and a link of any object
 pub near-deleted : (b : Board) (i : ℕ) → Nearly None b → Nearly None (let_go b objects_birth i)
-near-deleted b i h = near-let_go b objects_birth i (λ s e. objects-last b i) h
+near-deleted b i h = near-let_go b objects_birth i (λ s e. open-last b objects_birth i refl) h
 
 pub near-unlinked : (b : Board) (n i : ℕ) (t : TypeId) (target : Option ℕ) → slot_at b n i ≡ Some (strong t target) → Nearly None b → Nearly None (let_go b n i)
 near-unlinked b n i t target e h = near-let_go b n i (λ s q. link-lasts b n i s q (ap child_of (same_Some s (strong t target) (sym q ∙ e)))) h
 
 -- a slot is changed that names the same child, passes on to the same, and holds what it held or held nothing
-record IsGentle (g : Slot → Slot) : Type 0 where
-  children : (s : Slot) → child_of (g s) ≡ child_of s
-  passes : (ns : List ℕ) (s : Slot) → PassesTo ns s → PassesTo ns (g s)
+pub record IsGentle (g : Slot → Slot) : Type 0 where
+  pub children : (s : Slot) → child_of (g s) ≡ child_of s
+  pub passes : (ns : List ℕ) (s : Slot) → PassesTo ns s → PassesTo ns (g s)
 
 own-changed : (g : Slot → Slot) → IsGentle g → (i : ℕ) (r : Record) → HasOwn r → HasOwn (with_changed g i r)
 own-changed g gentle i r h = subst (λ (ns : List ℕ). AllByRecursion (λ (s : List ℕ × Slot). PassesTo ns s.1) (changed_at g i r.slots)) (sym same) (all-changed (PassesTo (lasting r)) g i r.slots (λ s e k. gentle.passes (lasting r) s.1 k) h)
   where
     same : lasting (with_changed g i r) ≡ lasting r
-    same = ap (λ (ns : List ℕ). cond (r.birth == objects_birth) [] ns) (children-changed g gentle.children i r.slots)
+    same = ap (λ (ns : List ℕ). cond (is_open r.birth) [] ns) (clocks-changed g gentle.children i r.slots)
 
 -- no object loses a reference
 changed-refs : (g : Slot → Slot) (b : Board) → Firm b → (n i : ℕ) (s : Slot) → slot_at b n i ≡ Some s → (k : ℕ) → one_of k ([], s) ≤ one_of k ([], g s) → refs b k ≤ refs (edit n (with_changed g i) b) k
@@ -98,7 +106,7 @@ changed-refs g b h n i s e k more =
     let rises : one_of k here.entry ≤ one_of k (here.entry.0, g here.entry.1) = rw here.is more in
     omega (arith, rises, sum-changed (one_of k) g i here.owner.slots here.entry here.at, sum-edited (refs_in k) n (with_changed g i) b.records h.rising here.owner here.found)
 
-near-changed : (g : Slot → Slot) → IsGentle g → (o : Option ℕ) (b : Board) (n i : ℕ) (s : Slot) → slot_at b n i ≡ Some s → (Linked (kind_of b) s → Linked (kind_of b) (g s)) → ((k : ℕ) → one_of k ([], s) ≤ one_of k ([], g s)) → Nearly o b → Nearly o (edit n (with_changed g i) b)
+pub near-changed : (g : Slot → Slot) → IsGentle g → (o : Option ℕ) (b : Board) (n i : ℕ) (s : Slot) → slot_at b n i ≡ Some s → (Linked (kind_of b) s → Linked (kind_of b) (g s)) → ((k : ℕ) → one_of k ([], s) ≤ one_of k ([], g s)) → Nearly o b → Nearly o (edit n (with_changed g i) b)
 near-changed g gentle o b n i s e fits more h =
     record {
       firm = firm-changed g gentle.children b n i (λ x q. subst (λ (y : Slot). Linked (kind_of b) y → Linked (kind_of b) (g y)) (same_Some s x (sym e ∙ q)) fits) h.firm;
@@ -119,7 +127,7 @@ gentle-pointed m = record { children = child-pointed m; passes = passes }
     passes ns (weak t target) h = h
     passes ns (alias k name) h = h
 
-gentle-val : (v : Val) → IsGentle (with_val v)
+pub gentle-val : (v : Val) → IsGentle (with_val v)
 gentle-val v = record { children = children; passes = passes }
   where
     children : (s : Slot) → child_of (with_val v s) ≡ child_of s
@@ -142,7 +150,7 @@ unfolding set
 near-set b n i v old e h = near-changed (with_val v) (gentle-val v) None b n i (plain old) e (λ k. tt) (λ k. omega arith) h
 
 -- a link that was let go stands empty
-emptied-at : (b : Board) (n i : ℕ) (s left : Slot) → slot_at b n i ≡ Some s → emptied s ≡ Some left → slot_at (drop_slot b n i) n i ≡ Some left
+pub emptied-at : (b : Board) (n i : ℕ) (s left : Slot) → slot_at b n i ≡ Some s → emptied s ≡ Some left → slot_at (drop_slot b n i) n i ≡ Some left
 emptied-at b n i s left e leaves =
     let here : StandsAt b n i s = stands-at b n i s e in
     let own : (here.owner.birth == n) ≡ true = eq-eqb here.owner.birth n (found-birth n b.records here.owner here.found) in

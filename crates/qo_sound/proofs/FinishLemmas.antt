@@ -96,6 +96,7 @@ firm-finish b n free h =
     record {
       rising = subst Rises (sym (finish-births b n)) (rises-filter (λ (x : ℕ). not (x == n)) (births b) h.rising);
       within = subst (AllByRecursion (λ m. m ≤ b.born)) (sym (finish-births b n)) (all-filter (λ m. m ≤ b.born) (λ (x : ℕ). not (x == n)) (births b) h.within);
+      begun = h.begun;
       named =
           all-map HasNames HasNames (forgotten n) (λ r k. subst (IsDistinct bytes_eq) (sym (names-each (forgotten_in n) r.slots)) k) (filter (λ (r : Record). not (r.birth == n)) b.records) (all-filter HasNames (λ (r : Record). not (r.birth == n)) b.records h.named);
       linked =

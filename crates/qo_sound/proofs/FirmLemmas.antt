@@ -50,6 +50,7 @@ parents_of b x = sum_by (parents_in x) b.records
 pub record Firm (b : Board) : Type 0 where
   pub rising : Rises (births b)
   pub within : AllByRecursion (λ n. n ≤ b.born) (births b)
+  pub begun : 8 ≤ b.born
   pub named : AllByRecursion HasNames b.records
   pub linked : AllLinked (kind_of b) b.records
   pub one_parent : (x : ℕ) → parents_of b x ≤ 1
@@ -113,6 +114,7 @@ module _ (n : ℕ) (change : Record → Record) (same_birth : (r : Record) → (
       record {
         rising = subst Rises (sym (edited-births b.records)) h.rising;
         within = subst (AllByRecursion (λ m. m ≤ b.born)) (sym (edited-births b.records)) h.within;
+        begun = h.begun;
         named = all-edited HasNames HasNames n change b.records h.rising (λ r p k. k) names h.named;
         linked =
             subst (λ (kinds : ℕ → Option TypeId). AllLinked kinds (map (edited n change) b.records)) (sym (edited-kinds b)) (all-edited (λ (r : Record). AllByRecursion (λ (s : List ℕ × Slot). Linked (kind_of b) s.1) r.slots) (λ (r : Record). AllByRecursion (λ (s : List ℕ × Slot). Linked (kind_of b) s.1) r.slots) n change b.records h.rising (λ r p k. k) links h.linked);

@@ -15,7 +15,7 @@ use Rattle.qo_model.specs.Paths.{child_of}
 use Rattle.qo_model.specs.Properties.{link_target}
 use Rattle.qo_model.specs.Types.{Kind, Property, slots_of, types}
 use Rattle.qo_model.specs.SoundAliases.{PassesTo}
-use Rattle.qo_sound.proofs.RecordLemmas.{all-map}
+use Rattle.qo_sound.proofs.RecordLemmas.{all-imply, all-map}
 use Rattle.qo_sound.proofs.SlotLemmas.{names_in}
 use Rattle.qo_sound.proofs.FirmLemmas.{FitsKind, Linked}
 use Rattle.qo_sound.proofs.TargetLemmas.{FitsResult, target-fits}
@@ -56,7 +56,7 @@ fresh-lone b s (a_value v) = record { no_child = refl; no_alias = λ ns. tt; lin
 fresh-lone b s (holding t) = record { no_child = refl; no_alias = λ ns. tt; linked = tt }
 fresh-lone b s (seeing t) = record { no_child = refl; no_alias = λ ns. tt; linked = tt }
 
-given-fits : (b : Board) (t : TypeId) (target : Result (Option ℕ) Code) → FitsResult b t target → FitsKind (kind_of b) t (target_given target)
+pub given-fits : (b : Board) (t : TypeId) (target : Result (Option ℕ) Code) → FitsResult b t target → FitsKind (kind_of b) t (target_given target)
 given-fits b t (Ok target) h = h
 given-fits b t (Err code) h = tt
 
@@ -83,8 +83,12 @@ slot-lone b props s fresh = go (find (λ (p : Given). bytes_eq p.0 s.0) props) r
 pub all-lone : (b : Board) (t : TypeId) (props : List Given) → AllByRecursion (λ (s : List ℕ × Slot). IsLone b s.1) (given_slots b t props)
 all-lone b t props = all-map (λ (s : List ℕ × Slot). IsFresh s.1) (λ (s : List ℕ × Slot). IsLone b s.1) (slot_given b props) (slot-lone b props) (fresh_slots t) (all-fresh t (slots_of t))
 
+-- without given values
+pub new-lone : (b : Board) (t : TypeId) → AllByRecursion (λ (s : List ℕ × Slot). IsLone b s.1) (fresh_slots t)
+new-lone b t = all-imply (λ (s : List ℕ × Slot). IsFresh s.1) (λ (s : List ℕ × Slot). IsLone b s.1) (λ s k. fresh-lone b s.1 k) (fresh_slots t) (all-fresh t (slots_of t))
+
 -- the names of a type's slots differ
-fresh-names : (t : TypeId) → IsDistinct bytes_eq (names_in (fresh_slots t))
+pub fresh-names : (t : TypeId) → IsDistinct bytes_eq (names_in (fresh_slots t))
 unfolding types IsDistinct
 fresh-names Object = search rules
 fresh-names Container = search rules
@@ -103,7 +107,7 @@ fresh-names MemoryBackend = search rules
 fresh-names MemoryBackendRam = search rules
 fresh-names Tag = search rules
 
-given-names : (b : Board) (props : List Given) (slots : List (List ℕ × Slot)) → names_in (map (slot_given b props) slots) ≡ names_in slots
+pub given-names : (b : Board) (props : List Given) (slots : List (List ℕ × Slot)) → names_in (map (slot_given b props) slots) ≡ names_in slots
 given-names b props [] = refl
 given-names b props (s ∷ slots) = ap (λ (ns : List (List ℕ)). s.0 ∷ ns) (given-names b props slots)
 

@@ -6,12 +6,16 @@ use Rattle.qo_model.specs.FinalNotesRuns.{Change, added, deleted, wrote, severed
 use Rattle.qo_model.specs.Objects.{with_attempt}
 use Rattle.qo_model.specs.Opening.{opening_board}
 use Rattle.qo_model.specs.Paths.{births}
+use Rattle.qo_model.specs.Plug.{cut_attempt, plug}
 use Rattle.qo_model.specs.SoundGraph.{graph_of, SoundGraph}
+use Rattle.qo_model.specs.Unplug.{detach}
 use Rattle.qo_model.proofs.OpeningLemmas.{opening_sound}
 use Rattle.qo_sound.specs.Kept.{SoundKeptLaw, SoundTree}
 use Rattle.qo_sound.proofs.RecordLemmas.{all-imply}
 use Rattle.qo_sound.proofs.AddLemmas.{object_add-rest}
+use Rattle.qo_sound.proofs.PlugLemmas.{cut_attempt-rest, plug-rest}
 use Rattle.qo_sound.proofs.SeverLemmas.{sever-rest}
+use Rattle.qo_sound.proofs.UnplugLemmas.{detach-rest}
 use Rattle.qo_sound.proofs.ViewLemmas.{AtRest, rest-from_sound, sound-from_rest}
 use Rattle.qo_sound.proofs.WriteLemmas.{object_del-rest, write-rest}
 
@@ -30,6 +34,7 @@ attempt-sound b t h =
     record {
       rising = h.rising;
       within = all-imply (λ n. n ≤ b.born) (λ n. n ≤ b.born + 1) (λ n k. omega (arith, k)) (births (graph_of b)) h.within;
+      begun = let low : 8 ≤ b.born = h.begun in omega (arith, low);
       named = h.named;
       live = h.live;
       one_parent = h.one_parent;
@@ -51,6 +56,9 @@ sound_kept_lem =
       change = changed-sound;
       attempt = attempt-sound;
       attempt_aliases = λ b t h. h;
+      plugged = λ b a h. sound-from_rest (plug b a).board (plug-rest b a (rest-from_sound b h));
+      cut = λ b t i joined h. sound-from_rest (cut_attempt b t i joined) (cut_attempt-rest b t i joined (rest-from_sound b h));
+      detached = λ b d h. sound-from_rest (detach b d) (detach-rest b d (rest-from_sound b h));
       run = λ changes. (behind-sound opening_board changes opening-tree).0;
       run_aliases = λ changes. (behind-sound opening_board changes opening-tree).1;
     }

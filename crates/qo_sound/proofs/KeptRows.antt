@@ -27,6 +27,7 @@ round-sound = (
   record {
     rising = search rules;
     within = search rules;
+    begun = search rules;
     named = search rules;
     live = search rules;
     one_parent = search rules;

@@ -1,20 +1,30 @@
 pub mod AddLemmas
+pub mod AddedLemmas
 mod AliasRows
 pub mod ChangeLemmas
 pub mod CountLemmas
+pub mod CutLemmas
+pub mod DraftLemmas
 pub mod EmptyLemmas
 pub mod FinishLemmas
 pub mod FirmLemmas
 pub mod FreshLemmas
+pub mod FurnishLemmas
+pub mod GivenLemmas
 pub mod KeptLemmas
 mod KeptRows
+pub mod KindsLemmas
 pub mod MadeLemmas
 pub mod NamedLemmas
+pub mod PinnedLemmas
+pub mod PlugLemmas
 pub mod RecordLemmas
 pub mod SeverLemmas
 pub mod SlotLemmas
 pub mod StaysLemmas
+pub mod StepsLemmas
 pub mod TargetLemmas
 pub mod ViewLemmas
 pub mod WorkLemmas
 pub mod WriteLemmas
+pub mod UnplugLemmas

@@ -38,7 +38,7 @@ rises-push m [] h k = (tt, tt)
 rises-push m (n ∷ ns) h k = (all-append (λ x. n < x) ns (m ∷ []) h.0 (k.0, tt), rises-push m ns h.1 k.1)
 
 -- where there are more objects, what names one that is there names one that is there
-fits-more : (kinds wide : ℕ → Option TypeId) → ((x : ℕ) (k : TypeId) → kinds x ≡ Some k → wide x ≡ Some k) → (t : TypeId) (target : Option ℕ) → FitsKind kinds t target → FitsKind wide t target
+pub fits-more : (kinds wide : ℕ → Option TypeId) → ((x : ℕ) (k : TypeId) → kinds x ≡ Some k → wide x ≡ Some k) → (t : TypeId) (target : Option ℕ) → FitsKind kinds t target → FitsKind wide t target
 fits-more kinds wide more t None h = tt
 fits-more kinds wide more t (Some m) h = go (kinds m) refl h
   where
@@ -109,7 +109,7 @@ module _ (b : Board) (r : Record) (notes : List Note) (firm : Firm b) (new : IsN
       go (Some y) p q = ap (option_map (λ (z : Record). z.kind)) (grown-old x y p) ∙ q
 
   -- no object has more children
-  grown-leads : (x y : ℕ) → leads (children_of (grown b r notes)) x y ≡ true → leads (children_of b) x y ≡ true
+  pub grown-leads : (x y : ℕ) → leads (children_of (grown b r notes)) x y ≡ true → leads (children_of b) x y ≡ true
   grown-leads x y e = go (record_of b x) refl (b.born + 1 == x) refl
     where
       in_slots : Option Record → Bool
@@ -132,6 +132,7 @@ module _ (b : Board) (r : Record) (notes : List Note) (firm : Firm b) (new : IsN
       record {
         rising = subst Rises (sym births_are) (rises-push (b.born + 1) (births b) firm.rising (all-imply (λ n. n ≤ b.born) (λ n. n < b.born + 1) (λ n h. omega (arith, h)) (births b) firm.within));
         within = subst (AllByRecursion (λ n. n ≤ b.born + 1)) (sym births_are) (all-append (λ n. n ≤ b.born + 1) (births b) ((b.born + 1) ∷ []) (all-imply (λ n. n ≤ b.born) (λ n. n ≤ b.born + 1) (λ n h. omega (arith, h)) (births b) firm.within) (omega arith, tt));
+        begun = let low : 8 ≤ b.born = firm.begun in omega (arith, low);
         named = all-append HasNames b.records (r ∷ []) firm.named (new.names, tt);
         linked =
             all-append Ones b.records (r ∷ []) (all-imply (λ (x : Record). AllByRecursion (λ (s : List ℕ × Slot). Linked (kind_of b) s.1) x.slots) Ones (λ x h. all-imply (λ (s : List ℕ × Slot). Linked (kind_of b) s.1) (λ (s : List ℕ × Slot). Linked (kind_of (grown b r notes)) s.1) (λ s k. grows-linked (kind_of b) (kind_of (grown b r notes)) grown-kind s.1 k) x.slots h) b.records firm.linked) (all-imply (λ (s : List ℕ × Slot). IsLone b s.1) (λ (s : List ℕ × Slot). Linked (kind_of (grown b r notes)) s.1) (λ s k. grows-linked (kind_of b) (kind_of (grown b r notes)) grown-kind s.1 k.linked) r.slots new.lone, tt);

@@ -57,20 +57,20 @@ put-among n = go (leb 1 n) refl (eqb n 1) refl
     go true p false q = rw (put_in_order, p, q, own) refl
     go false p u q = rw (put_in_order, p, own) refl
 
-near-pin : (b : Board) (n : ℕ) → Nearly None b → Nearly None (pin b n)
+pub near-pin : (b : Board) (n : ℕ) → Nearly None b → Nearly None (pin b n)
 unfolding pin
 near-pin b n h =
     record {
-      firm = record { rising = h.firm.rising; within = h.firm.within; named = h.firm.named; linked = h.firm.linked; one_parent = h.firm.one_parent; none_round = h.firm.none_round };
+      firm = record { rising = h.firm.rising; within = h.firm.within; begun = h.firm.begun; named = h.firm.named; linked = h.firm.linked; one_parent = h.firm.one_parent; none_round = h.firm.none_round };
       aliases = h.aliases;
       used = λ m there none. h.used m there (omega (arith, none, put-times n m b.pins));
     }
 
-pin-pins : (b : Board) (n : ℕ) → (pin b n).pins ≡ put_in_order n b.pins
+pub pin-pins : (b : Board) (n : ℕ) → (pin b n).pins ≡ put_in_order n b.pins
 unfolding pin
 pin-pins b n = refl
 
-near-unpin : (b : Board) (n : ℕ) → list_any (nat_eq n) b.pins ≡ true → Nearly None b → Nearly None (unpin b n)
+pub near-unpin : (b : Board) (n : ℕ) → list_any (nat_eq n) b.pins ≡ true → Nearly None b → Nearly None (unpin b n)
 unfolding unpin
 near-unpin b n e h = rw (unpin, e) (after-firm (without_pin b n) (Some n) free)
   where
@@ -86,7 +86,7 @@ near-unpin b n e h = rw (unpin, e) (after-firm (without_pin b n) (Some n) free)
     free : Nearly (Some n) (without_pin b n)
     free =
         record {
-          firm = record { rising = h.firm.rising; within = h.firm.within; named = h.firm.named; linked = h.firm.linked; one_parent = h.firm.one_parent; none_round = h.firm.none_round };
+          firm = record { rising = h.firm.rising; within = h.firm.within; begun = h.firm.begun; named = h.firm.named; linked = h.firm.linked; one_parent = h.firm.one_parent; none_round = h.firm.none_round };
           aliases = h.aliases;
           used = used;
         }
@@ -100,7 +100,7 @@ release-pins b (Some m) = go (refs b m == 0) refl
     go true p = rw (after, p) (release_leaves b m).pins
     go false p = rw (after, p) refl
 
-unpin-pins : (b : Board) (n : ℕ) → list_any (nat_eq n) b.pins ≡ true → (unpin b n).pins ≡ without_first n b.pins
+pub unpin-pins : (b : Board) (n : ℕ) → list_any (nat_eq n) b.pins ≡ true → (unpin b n).pins ≡ without_first n b.pins
 unfolding unpin
 unpin-pins b n e = rw (unpin, e) (release-pins (without_pin b n) (Some n))
 

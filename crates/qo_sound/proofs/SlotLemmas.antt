@@ -2,6 +2,8 @@
 use Rattle.std.proofs.Common.{◌≡◌, refl, ap, ap₂, sym, subst, ◌∙◌, ℕ, zero, suc, ◌+◌, ◌≤◌, Bool, true, false, cond, ◌==◌, eqb, List, [], ◌∷◌, map, slice_get, sum_by, Option, Some, None, arith}
 use Rattle.std.specs.List.{AllByRecursion, IsDistinct, cons_option}
 use Rattle.std.specs.Str.{bytes_eq}
+use Rattle.std.specs.Prelude.{codes, filter}
+use Rattle.qo_model.specs.SoundAliases.{is_clock_slot}
 use Rattle.std.proofs.lemmas.List.Sums.{sum_by-cons}
 use Rattle.std.proofs.lemmas.Option.{same_Some}
 use Rattle.std.proofs.Math.Bool.{or-true}
@@ -160,3 +162,63 @@ is_child-of x (alias m property) = refl
 -- a change that names the same children has the same child slots
 pub one_child-same : (g : Slot → Slot) → ((s : Slot) → child_of (g s) ≡ child_of s) → (x : ℕ) (s : List ℕ × Slot) → one_child x (s.0, g s.1) ≡ one_child x s
 one_child-same g same x s = ap (λ (t : Bool). cond {A = ℕ} t 1 0) (is_child-of x (g s.1) ∙ ap (λ (o : Option ℕ). elim o as (λ _. Bool) [ None ↦ false | Some m ↦ m == x ]) (same s.1) ∙ sym (is_child-of x s.1))
+
+-- the children in slots of the clock's name stay with these changes
+
+abbrev pub clocks_in : List (List ℕ × Slot) → List ℕ
+clocks_in slots = children_in (filter is_clock_slot slots)
+
+pub clocks-cons : (s t : List ℕ × Slot) (xs ys : List (List ℕ × Slot)) → s.0 ≡ t.0 → child_of s.1 ≡ child_of t.1 → clocks_in xs ≡ clocks_in ys → clocks_in (s ∷ xs) ≡ clocks_in (t ∷ ys)
+clocks-cons s t xs ys named same rest = go (is_clock_slot t) refl
+  where
+    go : (b : Bool) → is_clock_slot t ≡ b → clocks_in (s ∷ xs) ≡ clocks_in (t ∷ ys)
+    go true p =
+        let q : is_clock_slot s ≡ true = ap (λ (name : List ℕ). bytes_eq name (codes "clk")) named ∙ p in
+        rw (p, q) (ap₂ cons_option same rest)
+    go false p =
+        let q : is_clock_slot s ≡ false = ap (λ (name : List ℕ). bytes_eq name (codes "clk")) named ∙ p in
+        rw (p, q) rest
+
+pub clocks-each : (g : Slot → Slot) → ((s : Slot) → child_of (g s) ≡ child_of s) → (slots : List (List ℕ × Slot)) → clocks_in (each_slot g slots) ≡ clocks_in slots
+clocks-each g same [] = refl
+clocks-each g same (s ∷ slots) = clocks-cons (s.0, g s.1) s (each_slot g slots) slots refl (same s.1) (clocks-each g same slots)
+
+pub clocks-changed : (g : Slot → Slot) → ((s : Slot) → child_of (g s) ≡ child_of s) → (i : ℕ) (slots : List (List ℕ × Slot)) → clocks_in (changed_at g i slots) ≡ clocks_in slots
+clocks-changed g same i [] = refl
+clocks-changed g same zero (s ∷ slots) = clocks-cons (s.0, g s.1) s slots slots refl (same s.1) refl
+clocks-changed g same (suc i) (s ∷ slots) = clocks-cons s s (changed_at g i slots) slots refl refl (clocks-changed g same i slots)
+
+-- a slot that names no child, or that has another name
+pub data IsNoClock (s : List ℕ × Slot) : Type 0 where
+  no_child : child_of s.1 ≡ None → IsNoClock s
+  other_name : is_clock_slot s ≡ false → IsNoClock s
+
+clocks-skip : (s : List ℕ × Slot) (xs : List (List ℕ × Slot)) → IsNoClock s → clocks_in (s ∷ xs) ≡ clocks_in xs
+clocks-skip s xs (no_child none) = go (is_clock_slot s) refl
+  where
+    go : (b : Bool) → is_clock_slot s ≡ b → clocks_in (s ∷ xs) ≡ clocks_in xs
+    go true p = rw p (ap (λ (o : Option ℕ). cons_option o (clocks_in xs)) none)
+    go false p = rw p refl
+clocks-skip s xs (other_name other) = rw other refl
+
+pub clocks-stay : (i : ℕ) (slots : List (List ℕ × Slot)) (s : List ℕ × Slot) → slice_get slots i ≡ Some s → IsNoClock s → clocks_in (without_hold i slots) ≡ clocks_in slots
+clocks-stay i [] s e none = refl
+clocks-stay zero (x ∷ slots) s e none = go (emptied x.1) refl
+  where
+    is : x ≡ s
+    is = same_Some x s e
+
+    skip : IsNoClock x
+    skip = subst IsNoClock (sym is) none
+
+    left-none : (y left : Slot) → emptied y ≡ Some left → child_of left ≡ None
+    left-none (plain v) left q = ap child_of (sym (same_Some (plain v) left q))
+    left-none (child m) left q = absurd (let clash : None ≡ Some left = q in cc)
+    left-none (strong t target) left q = ap child_of (sym (same_Some (strong t None) left q))
+    left-none (weak t target) left q = ap child_of (sym (same_Some (weak t None) left q))
+    left-none (alias m name) left q = ap child_of (sym (same_Some (alias m name) left q))
+
+    go : (o : Option Slot) → emptied x.1 ≡ o → clocks_in (without_hold zero (x ∷ slots)) ≡ clocks_in (x ∷ slots)
+    go None p = rw (without_hold, p) (sym (clocks-skip x slots skip))
+    go (Some left) p = rw (without_hold, p) (clocks-skip (x.0, left) slots (no_child (left-none x.1 left p)) ∙ sym (clocks-skip x slots skip))
+clocks-stay (suc i) (x ∷ slots) s e none = clocks-cons x x (without_hold i slots) slots refl refl (clocks-stay i slots s e none)

@@ -1,6 +1,6 @@
 -- A sound tree, as facts of the board itself, and back.
 use Rattle.std.proofs.Common.{◌≡◌, ◌≢◌, refl, ap, sym, subst, ◌∙◌, ℕ, zero, suc, ◌<◌, ◌≤◌, Bool, true, false, ◌==◌, eqb, List, [], ◌∷◌, map, sum_by, count_by, Option, Some, None, is_some, option_map, arith}
-use Rattle.std.specs.List.{AllByRecursion, IsDistinct}
+use Rattle.std.specs.List.{AllByRecursion, IsDistinct, cons_option}
 use Rattle.std.specs.Str.{bytes_eq}
 use Rattle.std.proofs.lemmas.Bool.{eqb-true, eq-eqb}
 use Rattle.std.proofs.lemmas.List.Sums.{sum_by-cons}
@@ -8,14 +8,14 @@ use Rattle.std.proofs.Math.Path.{fun_ext}
 use Rattle.qo_values.specs.declared.kinds.TypeId.{TypeId}
 use Rattle.qo_model.specs.Board.{Board, Record, Slot, plain, child, strong, weak, alias, record_of, kind_of, is_live, held}
 use Rattle.qo_model.specs.Depth.{among, Leads}
-use Rattle.qo_model.specs.Objects.{objects_birth}
 use Rattle.qo_model.specs.Paths.{births, child_of, children_in, children_of}
 use Rattle.qo_model.specs.References.{refs}
 use Rattle.qo_model.specs.SoundGraph.{graph_of, without_value, without_values, NamesLive, Rises, SoundGraph}
 use Rattle.qo_model.proofs.GraphLemmas.{births-graph_of, children_of-graph_of}
 use Rattle.qo_model.proofs.EditLemmas.{one_is}
 use Rattle.qo_model.proofs.StepLemmas.{found_at, live-among, is_some-map}
-use Rattle.qo_model.specs.SoundAliases.{lasting, PassesTo}
+use Rattle.qo_model.specs.SoundAliases.{is_clock_slot, is_open, lasting, PassesTo}
+use Rattle.qo_sound.proofs.SlotLemmas.{clocks_in}
 use Rattle.qo_sound.specs.Kept.{SoundTree}
 use Rattle.qo_sound.proofs.RecordLemmas.{all-both, all-map, all-unmap}
 use Rattle.qo_sound.proofs.SlotLemmas.{names-each, one_child, one_child-same, sum-each_same}
@@ -94,12 +94,36 @@ child-linked kinds n ((name, strong t target) ∷ slots) h e = child-linked kind
 child-linked kinds n ((name, weak t target) ∷ slots) h e = child-linked kinds n slots h.1 e
 child-linked kinds n ((name, alias m property) ∷ slots) h e = child-linked kinds n slots h.1 e
 
-lasting-child : (r : Record) (n : ℕ) → among (lasting r) n ≡ true → among (children_in r.slots) n ≡ true
-lasting-child r n e = go (r.birth == objects_birth) refl
+clocks-child : (slots : List (List ℕ × Slot)) (n : ℕ) → among (clocks_in slots) n ≡ true → among (children_in slots) n ≡ true
+clocks-child [] n e = e
+clocks-child (s ∷ slots) n e = go (is_clock_slot s) refl (clocks-child slots n)
   where
-    go : (t : Bool) → (r.birth == objects_birth) ≡ t → among (children_in r.slots) n ≡ true
+    wider : (o : Option ℕ) (ns ms : List ℕ) → (among ns n ≡ true → among ms n ≡ true) → among (cons_option o ns) n ≡ true → among (cons_option o ms) n ≡ true
+    wider None ns ms more k = more k
+    wider (Some m) ns ms more k = choose (eqb n m) refl
+      where
+        choose : (t : Bool) → eqb n m ≡ t → among (m ∷ ms) n ≡ true
+        choose true p = rw p refl
+        choose false p = rw p (more (rw p at k))
+
+    skip : (o : Option ℕ) (ms : List ℕ) → among ms n ≡ true → among (cons_option o ms) n ≡ true
+    skip None ms k = k
+    skip (Some m) ms k = choose (eqb n m) refl
+      where
+        choose : (t : Bool) → eqb n m ≡ t → among (m ∷ ms) n ≡ true
+        choose true p = rw p refl
+        choose false p = rw p k
+
+    go : (t : Bool) → is_clock_slot s ≡ t → (among (clocks_in slots) n ≡ true → among (children_in slots) n ≡ true) → among (children_in (s ∷ slots)) n ≡ true
+    go true p rest = wider (child_of s.1) (clocks_in slots) (children_in slots) rest (rw p at e)
+    go false p rest = skip (child_of s.1) (children_in slots) (rest (rw p at e))
+
+lasting-child : (r : Record) (n : ℕ) → among (lasting r) n ≡ true → among (children_in r.slots) n ≡ true
+lasting-child r n e = go (is_open r.birth) refl
+  where
+    go : (t : Bool) → is_open r.birth ≡ t → among (children_in r.slots) n ≡ true
     go true p = absurd (let clash : false ≡ true = rw p at e in cc)
-    go false p = rw p at e
+    go false p = clocks-child r.slots n (rw p at e)
 
 linked-names : (g : Board) (r : Record) → AllByRecursion (λ (s : List ℕ × Slot). Linked (kind_of g) s.1) r.slots → (s : Slot) → Linked (kind_of g) s → PassesTo (lasting r) s → NamesLive g (without_value s)
 linked-names g r all (plain v) h own = tt
@@ -142,6 +166,7 @@ firm-from_sound b h =
     record {
       rising = subst Rises (births-graph_of b) h.rising;
       within = subst (AllByRecursion (λ n. n ≤ b.born)) (births-graph_of b) h.within;
+      begun = h.begun;
       named = all-unmap HasNames HasNames without_values (λ r k. subst (IsDistinct bytes_eq) (names-each without_value r.slots) k) b.records h.named;
       linked =
           subst (λ (kinds : ℕ → Option TypeId). AllLinked kinds b.records) (same-kinds b) (all-unmap (λ (r : Record). AllByRecursion (λ (s : List ℕ × Slot). Linked (kind_of (graph_of b)) s.1) r.slots) (λ (r : Record). AllByRecursion (λ (s : List ℕ × Slot). NamesLive (graph_of b) s.1) r.slots) without_values (λ r k. all-unmap (λ (s : List ℕ × Slot). Linked (kind_of (graph_of b)) s.1) (λ (s : List ℕ × Slot). NamesLive (graph_of b) s.1) (λ (s : List ℕ × Slot). (s.0, without_value s.1)) (λ s l. names-linked (graph_of b) s.1 l) r.slots k) b.records h.live);
@@ -195,6 +220,7 @@ sound-from_rest b h = (graph, h.used.aliases)
         record {
           rising = subst Rises (sym (births-graph_of b)) h.used.firm.rising;
           within = subst (AllByRecursion (λ n. n ≤ b.born)) (sym (births-graph_of b)) h.used.firm.within;
+          begun = h.used.firm.begun;
           named = all-map HasNames HasNames without_values (λ r k. subst (IsDistinct bytes_eq) (sym (names-each without_value r.slots)) k) b.records h.used.firm.named;
           live =
               all-map (λ (r : Record). AllByRecursion (λ (s : List ℕ × Slot). Linked (kind_of (graph_of b)) s.1) r.slots × HasOwn r) (λ (r : Record). AllByRecursion (λ (s : List ℕ × Slot). NamesLive (graph_of b) s.1) r.slots) without_values (λ r k. slots_live r k.0 k.1) b.records (all-both (λ (r : Record). AllByRecursion (λ (s : List ℕ × Slot). Linked (kind_of (graph_of b)) s.1) r.slots) HasOwn b.records (subst (λ (kinds : ℕ → Option TypeId). AllLinked kinds b.records) (sym (same-kinds b)) h.used.firm.linked) h.used.aliases);

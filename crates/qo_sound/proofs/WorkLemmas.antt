@@ -8,7 +8,6 @@ use Rattle.std.proofs.lemmas.Option.{same_Some}
 use Rattle.std.proofs.Math.Bool.{or-true}
 use Rattle.qo_model.specs.Board.{Board, Record, Slot, plain, child, strong, weak, alias, is_live, slots_at, slot_at, held}
 use Rattle.qo_model.specs.Depth.{among}
-use Rattle.qo_model.specs.Objects.{objects_birth}
 use Rattle.qo_model.specs.Paths.{births}
 use Rattle.qo_model.specs.References.{refs, refs_in, holds_it}
 use Rattle.qo_model.specs.Release.{with_dropped, drop_slot, next_place, forgotten_in, forgotten, finish, finalise, after}
@@ -17,9 +16,10 @@ use Rattle.qo_model.specs.SoundGraph.{Rises}
 use Rattle.qo_model.proofs.EditLemmas.{sum-held, one_is, held-forgotten, sum-without_hold, StandsAt, stands-at}
 use Rattle.qo_model.proofs.ReleaseKeepsLemmas.{after_keeps}
 use Rattle.qo_model.proofs.StepLemmas.{drop-live, drop-refs, finish-live, finish-refs, found_at}
-use Rattle.qo_model.specs.SoundAliases.{lasting, PassesTo}
+use Rattle.qo_model.specs.SoundAliases.{is_open, lasting, PassesTo}
+use Rattle.qo_sound.proofs.SlotLemmas.{clocks-each}
 use Rattle.qo_sound.proofs.RecordLemmas.{all-imply, all-map, all-passing, all-edited, found-birth, sum-edited, sum-filtered}
-use Rattle.qo_sound.proofs.SlotLemmas.{each_slot, children-each, child-forgotten}
+use Rattle.qo_sound.proofs.SlotLemmas.{each_slot, child-forgotten}
 use Rattle.qo_sound.proofs.FirmLemmas.{Firm, firm-drop}
 use Rattle.qo_sound.proofs.FinishLemmas.{one_of, firm-finish}
 use Rattle.qo_sound.proofs.EmptyLemmas.{EmptyBefore, empty-drop, empty-drop_next, empty-all, empty-finish}
@@ -151,7 +151,7 @@ own-forgotten n r h = subst (λ (ns : List ℕ). AllByRecursion (λ (s : List �
     passes (alias m name) k = k
 
     stays : lasting (forgotten n r) ≡ lasting r
-    stays = ap (λ (ns : List ℕ). cond (r.birth == objects_birth) [] ns) (children-each (forgotten_in n) (child-forgotten n) r.slots)
+    stays = ap (λ (ns : List ℕ). cond (is_open r.birth) [] ns) (clocks-each (forgotten_in n) (child-forgotten n) r.slots)
 
 -- the end of the first object of the work
 ended-midst : (b : Board) (n i : ℕ) (work : List (ℕ × ℕ)) → Midst ((n, i) ∷ work) b → slot_at b n i ≡ None → Midst work (finish b n)

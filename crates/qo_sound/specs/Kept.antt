@@ -1,12 +1,14 @@
 -- What keeps the tree of a board sound.
-use Rattle.std.specs.Prelude.{List}
+use Rattle.std.specs.Prelude.{ℕ, Bool, List}
 use Rattle.qo_values.specs.declared.kinds.TypeId.{TypeId}
 use Rattle.qo_model.specs.Board.{Board}
 use Rattle.qo_model.specs.FinalNotesRuns.{Change, behind, changed}
 use Rattle.qo_model.specs.Objects.{with_attempt}
 use Rattle.qo_model.specs.Opening.{opening_board}
+use Rattle.qo_model.specs.Plug.{Wanted, cut_attempt, plug}
 use Rattle.qo_model.specs.SoundAliases.{SoundAliases}
 use Rattle.qo_model.specs.SoundGraph.{SoundGraph}
+use Rattle.qo_model.specs.Unplug.{detach}
 
 -- the tree is sound, and no alias outlasts what it passes on to
 abbrev pub SoundTree : Board → Type 0
@@ -19,6 +21,10 @@ pub record SoundKeptLaw : Type 0 where
   -- an attempt to make an object that was given up
   pub attempt : (b : Board) (t : TypeId) → SoundGraph b → SoundGraph (with_attempt b t)
   pub attempt_aliases : (b : Board) (t : TypeId) → SoundAliases b → SoundAliases (with_attempt b t)
+  -- adding a device, taken or refused at any stage, and an attempt at it that was cut; and a device that is detached with all that is below it
+  pub plugged : (b : Board) (a : Wanted) → SoundTree b → SoundTree (plug b a).board
+  pub cut : (b : Board) (t : TypeId) (i : ℕ) (joined : Bool) → SoundTree b → SoundTree (cut_attempt b t i joined)
+  pub detached : (b : Board) (d : ℕ) → SoundTree b → SoundTree (detach b d)
   -- so the tree is sound behind any changes of the opening board
   pub run : (changes : List Change) → SoundGraph (behind opening_board changes)
   pub run_aliases : (changes : List Change) → SoundAliases (behind opening_board changes)

@@ -6,8 +6,9 @@ ghost use Rattle.qo_sound.specs.Kept.{SoundKeptLaw};
 ghost use Rattle.qo_sound.specs.Stays.{StaysLaw};
 
 /// Where the tree is sound, and no alias outlasts the child that it passes on to, so it is behind
-/// each command on objects, taken or refused. So the tree is sound behind any such commands of the
-/// opening board.
+/// each command on objects, taken or refused, behind a device that is added, refused at any stage
+/// or cut, and behind a device that is detached. So the tree is sound behind any commands on
+/// objects of the opening board.
 #[tactic(auto, using(crate::proofs::KeptLemmas::sound_kept_lem))]
 pub fn law_sound_kept()
     ensures { SoundKeptLaw }

@@ -1,5 +1,6 @@
 -- The object that was made holds nothing, and ends.
 use Rattle.std.proofs.Common.{refl}
+use Rattle.qo_kinds.proofs.BodyLemmas.{fresh-bare}
 use Rattle.qo_object.specs.Content.{fresh}
 use Rattle.qo_realize.proofs.AddLemmas.{newest-alone, newest-bare, newest-ends, newest-live, newest-pinned}
 use Rattle.qo_realize.proofs.adding.attempt.Goals as goal
@@ -22,4 +23,4 @@ give_up-requires-clause-bare g c =
 
 pub returns-clause-ok : goal.returns-clause-ok
 returns-clause-ok g c =
-    newest-ends c.args.heap.now c.create.new.heap c.in_ok-o.o (fresh c.args.kind) c.facts.ensures c.in_ok-o.ensures.made.0 c.in_ok-o.ensures.made.1 c.give_up.new.heap c.give_up.ensures
+    newest-ends c.args.heap.now c.create.new.heap c.in_ok-o.o (fresh c.args.kind) c.facts.ensures c.in_ok-o.ensures.made.0 c.in_ok-o.ensures.made.1 (fresh-bare c.args.kind) c.give_up.new.heap c.give_up.ensures

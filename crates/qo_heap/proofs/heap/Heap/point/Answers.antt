@@ -5,10 +5,10 @@ use Rattle.qo_heap.proofs.heap.Heap.point.Goals as goal
 
 pub invariant_of-self : goal.invariant_of-self
 invariant_of-self g c =
-    let v : Objects = record { rows = c.self.inside.table.rows; born = c.self.inside.table.born; log = c.self.inside.log } in
+    let v : Objects = record { rows = c.self.inside.table.rows; born = c.self.inside.table.born; log = c.self.inside.log; claims = c.self.inside.claims; time = c.self.inside.time } in
     (edited-heap v c.self.invariant c.args.o.birth (pointed_at c.args.target c.args.at) c.change.result.now c.point.new.self c.change.ensures.object c.point.ensures (λ x. pointed-there v c.args.target c.args.at x (rw (← c.self.view_is) at c.requires.target))).good
 
 pub returns : goal.returns
 returns g c =
-    let v : Objects = record { rows = c.self.inside.table.rows; born = c.self.inside.table.born; log = c.self.inside.log } in
+    let v : Objects = record { rows = c.self.inside.table.rows; born = c.self.inside.table.born; log = c.self.inside.log; claims = c.self.inside.claims; time = c.self.inside.time } in
     rw (← c.self.view_is) (edited-heap v c.self.invariant c.args.o.birth (pointed_at c.args.target c.args.at) c.change.result.now c.point.new.self c.change.ensures.object c.point.ensures (λ x. pointed-there v c.args.target c.args.at x (rw (← c.self.view_is) at c.requires.target))).now

@@ -4,7 +4,7 @@ use Rattle.qo_object.proofs.SlotLemmas.{first_changed, first-none, first-more, f
 use Rattle.qo_object.proofs.objects.Object.forget.Goals as goal
 
 pub loop-at-init : goal.loop-at-init
-loop-at-init c = record { kind = refl; slots = sym (first-none (forgotten_in c.args.birth) c.self.inside.slots); pins = refl }
+loop-at-init c = record { kind = refl; slots = sym (first-none (forgotten_in c.args.birth) c.self.inside.slots); pins = refl; body = refl; device_id = refl; kept_path = refl }
 
 pub invariant_of-self : goal.invariant_of-self
 invariant_of-self c =
@@ -15,6 +15,9 @@ loop-at-preserved c = record {
   kind = c.loop-at.invariant.kind;
   slots = c.forget.ensures ∙ ap (changed_at (forgotten_in c.args.birth) c.loop-at.at) c.loop-at.invariant.slots ∙ first-more (forgotten_in c.args.birth) c.loop-at.at c.self.inside.slots;
   pins = c.loop-at.invariant.pins;
+  body = c.loop-at.invariant.body;
+  device_id = c.loop-at.invariant.device_id;
+  kept_path = c.loop-at.invariant.kept_path;
 }
 
 pub returns : goal.returns
@@ -22,4 +25,4 @@ returns c =
     let change = forgotten_in c.args.birth in
     let end : c.loop-at.at ≡ length c.self.inside.slots = omega (arith, c.loop-at-test.false, c.loop-at.auto.at-end, c.len-at-end.ensures) in
     let slots : c.loop-at.self-inside.slots ≡ each_changed change c.self.inside.slots = c.loop-at.invariant.slots ∙ ap (λ n. first_changed change n c.self.inside.slots) end ∙ first-all change c.self.inside.slots in
-    rw (← c.self.view_is) (λ j. record { kind = c.loop-at.invariant.kind j; slots = slots j; pins = c.loop-at.invariant.pins j })
+    rw (← c.self.view_is) (λ j. record { kind = c.loop-at.invariant.kind j; slots = slots j; pins = c.loop-at.invariant.pins j; body = c.loop-at.invariant.body j; device_id = c.loop-at.invariant.device_id j; kept_path = c.loop-at.invariant.kept_path j })

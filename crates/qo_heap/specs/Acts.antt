@@ -1,0 +1,19 @@
+-- Bodies act and are noted, and nothing else changes.
+use Rattle.std.specs.Prelude.{◌≡◌, ℕ, List, map}
+use Rattle.qo_claims.specs.Held.{Held}
+use Rattle.qo_kinds.specs.Bodies.{kept_of}
+use Rattle.qo_kinds.specs.declared.bodies.Body.TheVariants.{Plain}
+use Rattle.qo_kinds.specs.declared.kept.KeptSet.{KeptSet}
+use Rattle.qo_slots.specs.declared.keys.Key.{Key}
+use Rattle.qo_object.specs.Content.{Content}
+use Rattle.qo_heap.specs.Objects.{Objects}
+
+-- an object but for the registers of its body
+abbrev pub stilled : Key × Content → Key × (Content × KeptSet)
+stilled row = (row.0, (record row.1 { body = Plain }, kept_of row.1.body))
+
+pub record Acts (v w : Objects) : Type 0 where
+  pub rows : map stilled w.rows ≡ map stilled v.rows
+  pub born : w.born ≡ v.born
+  pub claims : w.claims ≡ v.claims
+  pub time : w.time ≡ v.time

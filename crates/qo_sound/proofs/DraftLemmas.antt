@@ -1,0 +1,417 @@
+-- A new device is made, property by property, while it is held from outside: the tree stays sound, and what was there before stays as it was.
+use Rattle.std.proofs.Common.{◌≡◌, refl, rules, ap, sym, subst, ◌∙◌, ℕ, ◌+◌, ◌<◌, ◌≤◌, Bool, true, false, cond, ◌==◌, eqb, List, [], ◌∷◌, ◌++◌, map, find, codes, Option, Some, None, is_some, option_map, arith}
+use Rattle.std.specs.Bool.{⊤}
+use Rattle.std.specs.Prelude.{option_and_then}
+use Rattle.std.specs.List.{AllByRecursion, IsDistinct, cons_option}
+use Rattle.std.specs.Option.{option_map_or}
+use Rattle.std.specs.Str.{bytes_eq}
+use Rattle.std.proofs.lemmas.Bool.{eqb-true, eq-eqb}
+use Rattle.std.proofs.lemmas.List.{map-append}
+use Rattle.std.proofs.lemmas.List.Sums.{sum_by-cons}
+use Rattle.std.proofs.lemmas.Option.{same_Some}
+use Rattle.std.proofs.lemmas.Slice.Eq.{bytes_eq-Decides}
+use Rattle.qo_values.specs.declared.kinds.TypeId.{TypeId}
+use Rattle.qo_values.specs.declared.kinds.TypeId.TheVariants.{Object, Container, Machine, Device, SlotDevice, SlotUart, SlotTimer, SlotBridge, MemDimm, Bus, SlotBus, MemBus, Clock, MemoryBackend, MemoryBackendRam, Tag}
+use Rattle.qo_model.specs.declared.notes.Note.{Note}
+use Rattle.qo_model.specs.Board.{Board, Record, Slot, plain, child, strong, weak, alias, record_of, kind_of, is_live}
+use Rattle.qo_model.specs.Changes.{add, fresh, with_added}
+use Rattle.qo_model.specs.Depth.{among, leads}
+use Rattle.qo_model.specs.Devices.{child_named}
+use Rattle.qo_model.specs.Objects.{init_notes}
+use Rattle.qo_model.specs.Opening.{first_value, fresh_record}
+use Rattle.qo_model.specs.Paths.{child_of, children_in, children_of}
+use Rattle.qo_model.specs.Plug.{aliased, drafted, owned, row_made, rows_made, with_kid, with_new}
+use Rattle.qo_model.specs.References.{refs}
+use Rattle.qo_model.specs.Release.{edited}
+use Rattle.qo_model.specs.SoundAliases.{is_clock_slot, is_open, lasting, PassesTo}
+use Rattle.qo_model.specs.Types.{Kind, Property, slots_of, types}
+use Rattle.qo_model.proofs.StepLemmas.{found_at, found-edited}
+use Rattle.qo_sound.proofs.RecordLemmas.{births_at, all-append, found-birth}
+use Rattle.qo_sound.proofs.SlotLemmas.{clocks_in, names_in, one_child}
+use Rattle.qo_sound.proofs.FirmLemmas.{Linked, parents_of, edited-leads}
+use Rattle.qo_sound.proofs.FreshLemmas.{fresh-names, new-lone}
+use Rattle.qo_sound.proofs.MadeLemmas.{IsNew, children-none, grown, grown-leads, grown-near, grown-new, grown-old, grown-parents, new-absent}
+use Rattle.qo_sound.proofs.NamedLemmas.{IsNameless, Step, stayed, new_one, leads-first, named-near, named-parents, named-step}
+use Rattle.qo_sound.proofs.WorkLemmas.{Nearly}
+use Rattle.qo_sound.proofs.AddLemmas.{absent-parents}
+use Rattle.qo_sound.proofs.AddedLemmas.{children-added, near-added, none-child, sum-added}
+
+-- a board with n held from outside once more
+abbrev pub held_up : ℕ → Board → Board
+held_up n b = record b { pins = n ∷ b.pins }
+
+pub near-held_up : (n : ℕ) (b : Board) → Nearly (Some n) b → Nearly None (held_up n b)
+near-held_up n b h =
+    record {
+      firm = record { rising = h.firm.rising; within = h.firm.within; begun = h.firm.begun; named = h.firm.named; linked = h.firm.linked; one_parent = h.firm.one_parent; none_round = h.firm.none_round };
+      aliases = h.aliases;
+      used = used;
+    }
+  where
+    used : (m : ℕ) → is_live b m ≡ true → refs (held_up n b) m ≡ 0 → None ≡ Some m
+    used m there none = go (n == m) refl
+      where
+        go : (t : Bool) → (n == m) ≡ t → None ≡ Some m
+        go true p =
+            let one : cond {A = ℕ} (n == m) 1 0 ≡ 1 = rw p refl in
+            absurd (let clash : 0 < 0 = omega (arith, none, one, sum_by-cons (λ (k : ℕ). cond {A = ℕ} (k == m) 1 0) n b.pins) in omega arith)
+        go false p =
+            let is : n ≡ m = same_Some n m (h.used m there (omega (arith, none, sum_by-cons (λ (k : ℕ). cond {A = ℕ} (k == m) 1 0) n b.pins))) in
+            absurd (let clash : true ≡ false = sym (eq-eqb n m is) ∙ p in cc)
+
+-- and without the pin n alone may have none
+pub near-let_down : (n : ℕ) (b : Board) → Nearly None (held_up n b) → Nearly (Some n) b
+near-let_down n b h =
+    record {
+      firm = record { rising = h.firm.rising; within = h.firm.within; begun = h.firm.begun; named = h.firm.named; linked = h.firm.linked; one_parent = h.firm.one_parent; none_round = h.firm.none_round };
+      aliases = h.aliases;
+      used = used;
+    }
+  where
+    used : (m : ℕ) → is_live b m ≡ true → refs b m ≡ 0 → Some n ≡ Some m
+    used m there none = go (n == m) refl
+      where
+        go : (t : Bool) → (n == m) ≡ t → Some n ≡ Some m
+        go true p = ap Some (eqb-true n m p)
+        go false p =
+            let zero_here : cond {A = ℕ} (n == m) 1 0 ≡ 0 = rw p refl in
+            absurd (let clash : None ≡ Some m = h.used m there (omega (arith, none, zero_here, sum_by-cons (λ (k : ℕ). cond {A = ℕ} (k == m) 1 0) n b.pins)) in cc)
+
+-- a strong link that is empty, or another slot
+abbrev pub HoldsNone : Slot → Type 0
+HoldsNone (strong t (Some m)) = ⊥
+HoldsNone s = ⊤
+
+-- an alias passes on to the clock
+abbrev pub OfClock : Property → Type 0
+OfClock p = elim p.kind as (λ _. Type 0) [ Kind.alias owner property ↦ bytes_eq owner (codes "clk") ≡ true | _ ↦ ⊤ ]
+
+abbrev pub row_names : List Property → List (List ℕ)
+row_names ps = map (λ (p : Property). p.name) ps
+
+-- what is known of a board on which a device n is being made, with these properties still to come, from a board b
+pub record Drafts (b : Board) (n : ℕ) (t : TypeId) (ps : List Property) (c : Board) : Type 0 where
+  pub near : Nearly None c
+  pub owner : Record
+  pub found : record_of c n ≡ Some owner
+  pub kind : owner.kind ≡ t
+  pub low : n ≤ c.born
+  pub free : AllByRecursion (λ (p : Property). AllByRecursion (λ name. bytes_eq name p.name ≡ false) (names_in owner.slots)) ps
+  pub apart : IsDistinct bytes_eq (row_names ps)
+  pub clocked : AllByRecursion OfClock ps
+  pub empty : AllByRecursion (λ (s : List ℕ × Slot). HoldsNone s.1) owner.slots
+  pub old : (x : ℕ) (r : Record) → record_of b x ≡ Some r → record_of c x ≡ Some r
+  pub alone : parents_of c n ≡ 0
+  pub upward : (x y : ℕ) → n ≤ x → leads (children_of c) x y ≡ true → n < y
+
+-- names that stay free where one more is taken
+free-more : (name : List ℕ) (s : Slot) (slots : List (List ℕ × Slot)) (ps : List Property) → AllByRecursion (λ (p : Property). AllByRecursion (λ x. bytes_eq x p.name ≡ false) (names_in slots)) ps → AllByRecursion (λ x. bytes_eq name x ≡ false) (row_names ps) → AllByRecursion (λ (p : Property). AllByRecursion (λ x. bytes_eq x p.name ≡ false) (names_in (slots ++ (name, s) ∷ []))) ps
+free-more name s slots [] h k = tt
+free-more name s slots (p ∷ ps) h k =
+    (subst (AllByRecursion (λ x. bytes_eq x p.name ≡ false)) (sym (map-append (λ (x : List ℕ × Slot). x.0) slots ((name, s) ∷ []))) (all-append (λ x. bytes_eq x p.name ≡ false) (names_in slots) (name ∷ []) h.0 (k.0, tt)), free-more name s slots ps h.1 k.1)
+
+-- the object that was changed, and the others
+own-record : (n : ℕ) (change : Record → Record) → ((r : Record) → (change r).birth ≡ r.birth) → (rs : List Record) (owner : Record) → found_at n rs ≡ Some owner → found_at n (map (edited n change) rs) ≡ Some (change owner)
+own-record n change same rs owner e =
+    let own : (owner.birth == n) ≡ true = eq-eqb owner.birth n (found-birth n rs owner e) in
+    found-edited n change same n rs ∙ ap (option_map (edited n change)) e ∙ rw (edited, own) refl
+
+pub other-record : (n : ℕ) (change : Record → Record) → ((r : Record) → (change r).birth ≡ r.birth) → (rs : List Record) (x : ℕ) (r : Record) → (x == n) ≡ false → found_at x rs ≡ Some r → found_at x (map (edited n change) rs) ≡ Some r
+other-record n change same rs x r apart e =
+    let own : (r.birth == n) ≡ false = ap (λ (k : ℕ). k == n) (found-birth x rs r e) ∙ apart in
+    found-edited n change same x rs ∙ ap (option_map (edited n change)) e ∙ rw (edited, own) refl
+
+-- what is there has a birth that is not above the births so far
+pub found-low : (k x : ℕ) (rs : List Record) (r : Record) → AllByRecursion (λ n. n ≤ k) (births_at rs) → found_at x rs ≡ Some r → x ≤ k
+found-low k x [] r h e = cc
+found-low k x (y ∷ rs) r h e = go (y.birth == x) refl (found-low k x rs r h.1)
+  where
+    go : (t : Bool) → (y.birth == x) ≡ t → (found_at x rs ≡ Some r → x ≤ k) → x ≤ k
+    go true p rest = subst (λ (z : ℕ). z ≤ k) (eqb-true y.birth x p) h.0
+    go false p rest = rest (rw p at e)
+
+-- the child of the clock's name is among the clocks
+clock-found : (slots : List (List ℕ × Slot)) (m : ℕ) → option_and_then child_named (option_map (λ (s : List ℕ × Slot). s.1) (find is_clock_slot slots)) ≡ Some m → among (clocks_in slots) m ≡ true
+clock-found [] m e = absurd (let clash : None ≡ Some m = e in cc)
+clock-found (s ∷ slots) m e = go (is_clock_slot s) refl (clock-found slots m)
+  where
+    first : (x : Slot) → child_named x ≡ Some m → among (cons_option (child_of x) (clocks_in slots)) m ≡ true
+    first (plain v) k = absurd (let clash : None ≡ Some m = k in cc)
+    first (child j) k = let same : eqb m j ≡ true = eq-eqb m j (sym (same_Some j m k)) in rw same refl
+    first (strong t target) k = absurd (let clash : None ≡ Some m = k in cc)
+    first (weak t target) k = absurd (let clash : None ≡ Some m = k in cc)
+    first (alias j name) k = absurd (let clash : None ≡ Some m = k in cc)
+
+    go : (t : Bool) → is_clock_slot s ≡ t → (option_and_then child_named (option_map (λ (x : List ℕ × Slot). x.1) (find is_clock_slot slots)) ≡ Some m → among (clocks_in slots) m ≡ true) → among (clocks_in (s ∷ slots)) m ≡ true
+    go true p rest = rw p (first s.1 (rw p at e))
+    go false p rest = rw p (rest (rw p at e))
+
+module _ (b : Board) (n : ℕ) (t : TypeId) (absent : record_of b n ≡ None) (not_open : is_open n ≡ false) where
+  differs : (x : ℕ) (r : Record) → record_of b x ≡ Some r → (x == n) ≡ false
+  differs x r e = go (x == n) refl
+    where
+      go : (t : Bool) → (x == n) ≡ t → (x == n) ≡ false
+      go false p = p
+      go true p = absurd (let clash : Some r ≡ None = sym e ∙ ap (record_of b) (eqb-true x n p) ∙ absent in cc)
+
+  -- a slot more that names no child
+  drafts-slot : (p : Property) (ps : List Property) (c : Board) (s : Slot) → child_of s ≡ None → HoldsNone s → Linked (kind_of c) s → (h : Drafts b n t (p ∷ ps) c) → PassesTo (lasting h.owner) s → Drafts b n t ps (add n p.name s c)
+  unfolding add IsDistinct
+  drafts-slot p ps c s none holds links h passes =
+      record {
+        near = near-added None c n p.name s h.owner h.found h.free.0 none links passes h.near;
+        owner = with_added p.name s h.owner;
+        found = own-record n (with_added p.name s) (λ r. refl) c.records h.owner h.found;
+        kind = h.kind;
+        low = h.low;
+        free = free-more p.name s h.owner.slots ps h.free.1 h.apart.0;
+        apart = h.apart.1;
+        clocked = h.clocked.1;
+        empty = all-append (λ (x : List ℕ × Slot). HoldsNone x.1) h.owner.slots ((p.name, s) ∷ []) h.empty (holds, tt);
+        old = λ x r e. other-record n (with_added p.name s) (λ y. refl) c.records x r (differs x r e) (h.old x r e);
+        alone =
+            let nothing : one_child n (p.name, s) ≡ 0 = none-child n s none in
+            omega (arith, h.alone, nothing, sum-added (one_child n) n p.name s c.records h.near.firm.rising h.owner h.found);
+        upward = λ x y le e. h.upward x y le (edited-leads n (with_added p.name s) (λ r. refl) (λ r. refl) c (λ r z q k. rw (children-added p.name s r.slots none) at k) x y e);
+      }
+
+  -- a further object is made and joined
+  drafts-kid : (p : Property) (ps : List Property) (c : Board) (of : TypeId) → Drafts b n t (p ∷ ps) c → Drafts b n t ps (with_kid n p.name of c)
+  unfolding add IsDistinct
+  drafts-kid p ps c of h =
+      record {
+        near = named-near g n (c.born + 1) p.name bare near_g;
+        owner = with_added p.name (child (c.born + 1)) h.owner;
+        found = own-record n (with_added p.name (child (c.born + 1))) (λ r. refl) g.records h.owner (grown-old c k notes h.near.firm new n h.owner h.found);
+        kind = h.kind;
+        low = omega (arith, low);
+        free = free-more p.name (child (c.born + 1)) h.owner.slots ps h.free.1 h.apart.0;
+        apart = h.apart.1;
+        clocked = h.clocked.1;
+        empty = all-append (λ (x : List ℕ × Slot). HoldsNone x.1) h.owner.slots ((p.name, child (c.born + 1)) ∷ []) h.empty (tt, tt);
+        old = λ x r e. other-record n (with_added p.name (child (c.born + 1))) (λ y. refl) g.records x r (differs x r e) (grown-old c k notes h.near.firm new x r (h.old x r e));
+        alone =
+            let other : (c.born + 1 == n) ≡ false = grind (arith, low) in
+            let nothing : one_child n (p.name, child (c.born + 1)) ≡ 0 = rw other refl in
+            omega (arith, h.alone, nothing, named-parents g n (c.born + 1) p.name bare near_g n, grown-parents c k notes h.near.firm new n);
+        upward = λ x y le e. up x y le (named-step g n (c.born + 1) p.name bare near_g x y e);
+      }
+    where
+      k : Record
+      k = fresh_record (c.born + 1) of
+
+      notes : List Note
+      notes = c.notes ++ init_notes (c.born + 1) of
+
+      g : Board
+      g = grown c k notes
+
+      low : n ≤ c.born
+      low = h.low
+
+      new : IsNew c k
+      new = record { birth = refl; names = fresh-names of; lone = new-lone c of }
+
+      near_g : Nearly (Some (c.born + 1)) g
+      near_g = grown-near c k notes h.near.firm new h.near
+
+      bare : IsNameless g n (c.born + 1) p.name
+      bare =
+          record {
+            owner = h.owner;
+            found = grown-old c k notes h.near.firm new n h.owner h.found;
+            free_name = h.free.0;
+            there = ap (λ (x : Option Record). is_some (option_map (λ (y : Record). y.kind) x)) (grown-new c k notes h.near.firm new);
+            no_parent = grown-parents c k notes h.near.firm new (c.born + 1) ∙ absent-parents (kind_of c) (c.born + 1) (ap (option_map (λ (y : Record). y.kind)) (new-absent c k notes h.near.firm new)) c.records h.near.firm.linked;
+            none_back = leads-first (children_of g) (ap (λ (x : Option Record). children_in (option_map_or (λ (y : Record). y.slots) x [])) (grown-new c k notes h.near.firm new) ∙ children-none c k.slots (new-lone c of));
+            apart = grind (arith, low);
+          }
+
+      up : (x y : ℕ) → n ≤ x → Step (children_of g) n (c.born + 1) x y → n < y
+      up x y le (stayed e) = h.upward x y le (grown-leads c k notes h.near.firm new x y e)
+      up x y le (new_one is_n is_m) = omega (arith, low, is_m)
+
+  -- what stays to come where nothing is to be done for a property
+  drafts-skip : (p : Property) (ps : List Property) (c : Board) → Drafts b n t (p ∷ ps) c → Drafts b n t ps c
+  unfolding IsDistinct
+  drafts-skip p ps c h =
+      record {
+        near = h.near;
+        owner = h.owner;
+        found = h.found;
+        kind = h.kind;
+        low = h.low;
+        free = h.free.1;
+        apart = h.apart.1;
+        clocked = h.clocked.1;
+        empty = h.empty;
+        old = h.old;
+        alone = h.alone;
+        upward = h.upward;
+      }
+
+  drafts-alias : (p : Property) (ps : List Property) (c : Board) (owner property : List ℕ) → bytes_eq owner (codes "clk") ≡ true → Drafts b n t (p ∷ ps) c → (o : Option ℕ) → owned c n owner ≡ o → Drafts b n t ps (aliased n p.name property o c)
+  drafts-alias p ps c owner property clock h None e = drafts-skip p ps c h
+  drafts-alias p ps c owner property clock h (Some m) e = drafts-slot p ps c (alias m property) refl tt tt h passes
+    where
+      named : owned c n (codes "clk") ≡ Some m
+      named = ap (owned c n) (sym ((bytes_eq-Decides owner (codes "clk")).0 clock)) ∙ e
+
+      in_slots : option_and_then child_named (option_map (λ (s : List ℕ × Slot). s.1) (find is_clock_slot h.owner.slots)) ≡ Some m
+      in_slots = sym (ap (λ (o : Option Record). option_and_then child_named (option_map (λ (s : List ℕ × Slot). s.1) (find is_clock_slot (option_map_or (λ (r : Record). r.slots) o [])))) h.found) ∙ named
+
+      passes : among (lasting h.owner) m ≡ true
+      passes =
+          let shut : is_open h.owner.birth ≡ false = ap is_open (found-birth n c.records h.owner h.found) ∙ not_open in
+          rw shut (clock-found h.owner.slots m in_slots)
+
+  drafts-row : (p : Property) (ps : List Property) (c : Board) → Drafts b n t (p ∷ ps) c → Drafts b n t ps (row_made n t p.name p.kind c)
+  drafts-row p ps c h = go p.kind refl
+    where
+      go : (kind : Kind) → p.kind ≡ kind → Drafts b n t ps (row_made n t p.name p.kind c)
+      go (Kind.plain type first) e = rw e (drafts-slot p ps c (plain (first_value t first)) refl tt tt h tt)
+      go (Kind.link target true) e = rw e (drafts-slot p ps c (strong target None) refl tt tt h tt)
+      go (Kind.link target false) e = rw e (drafts-slot p ps c (weak target None) refl tt tt h tt)
+      go (Kind.child type) e = rw e (drafts-kid p ps c type h)
+      go (Kind.alias owner property) e = rw e (drafts-alias p ps c owner property (rw e at h.clocked.0) h (owned c n owner) refl)
+
+  pub drafts-rows : (ps : List Property) (c : Board) → Drafts b n t ps c → Drafts b n t [] (rows_made n t ps c)
+  drafts-rows [] c h = h
+  drafts-rows (p ∷ ps) c h = drafts-rows ps (row_made n t p.name p.kind c) (drafts-row p ps c h)
+
+-- the rows of types: their names differ, and an alias passes on to the clock
+row-names : (t : TypeId) → IsDistinct bytes_eq (row_names (slots_of t))
+unfolding types IsDistinct
+row-names Object = search rules
+row-names Container = search rules
+row-names Machine = search rules
+row-names Device = search rules
+row-names SlotDevice = search rules
+row-names SlotUart = search rules
+row-names SlotTimer = search rules
+row-names SlotBridge = search rules
+row-names MemDimm = search rules
+row-names Bus = search rules
+row-names SlotBus = search rules
+row-names MemBus = search rules
+row-names Clock = search rules
+row-names MemoryBackend = search rules
+row-names MemoryBackendRam = search rules
+row-names Tag = search rules
+
+row-clocks : (t : TypeId) → AllByRecursion OfClock (slots_of t)
+unfolding types
+row-clocks Object = search rules
+row-clocks Container = search rules
+row-clocks Machine = search rules
+row-clocks Device = search rules
+row-clocks SlotDevice = search rules
+row-clocks SlotUart = search rules
+row-clocks SlotTimer = search rules
+row-clocks SlotBridge = search rules
+row-clocks MemDimm = search rules
+row-clocks Bus = search rules
+row-clocks SlotBus = search rules
+row-clocks MemBus = search rules
+row-clocks Clock = search rules
+row-clocks MemoryBackend = search rules
+row-clocks MemoryBackendRam = search rules
+row-clocks Tag = search rules
+
+all-free : (ps : List Property) → AllByRecursion (λ (p : Property). AllByRecursion (λ x. bytes_eq x p.name ≡ false) []) ps
+all-free [] = tt
+all-free (p ∷ ps) = (tt, all-free ps)
+
+-- the device as it begins, held from outside
+pub drafts-begun : (b : Board) (t : TypeId) → Nearly None b → Drafts b (b.born + 1) t (slots_of t) (held_up (b.born + 1) (with_new (fresh (b.born + 1) t) b))
+unfolding IsDistinct
+drafts-begun b t h =
+    record {
+      near = near-held_up (b.born + 1) g (grown-near b k notes h.firm new h);
+      owner = k;
+      found = grown-new b k notes h.firm new;
+      kind = refl;
+      low = omega arith;
+      free = all-free (slots_of t);
+      apart = row-names t;
+      clocked = row-clocks t;
+      empty = tt;
+      old = grown-old b k notes h.firm new;
+      alone = grown-parents b k notes h.firm new (b.born + 1) ∙ absent-parents (kind_of b) (b.born + 1) (ap (option_map (λ (y : Record). y.kind)) (new-absent b k notes h.firm new)) b.records h.firm.linked;
+      upward = up;
+    }
+  where
+    k : Record
+    k = fresh (b.born + 1) t
+
+    notes : List Note
+    notes = b.notes ++ init_notes (b.born + 1) t
+
+    g : Board
+    g = grown b k notes
+
+    new : IsNew b k
+    new = record { birth = refl; names = tt; lone = tt }
+
+    up : (x y : ℕ) → b.born + 1 ≤ x → leads (children_of g) x y ≡ true → b.born + 1 < y
+    up x y le e = go (record_of b x) refl
+      where
+        before : leads (children_of b) x y ≡ true
+        before = grown-leads b k notes h.firm new x y e
+
+        go : (o : Option Record) → record_of b x ≡ o → b.born + 1 < y
+        go None q = absurd (let clash : false ≡ true = sym (ap (λ (o : Option Record). among (children_in (option_map_or (λ (z : Record). z.slots) o [])) y) q) ∙ before in cc)
+        go (Some r) q = absurd (let high : x ≤ b.born = found-low b.born x b.records r h.firm.within q in let clash : 0 < 0 = omega (arith, high, le) in omega arith)
+
+-- a board with other pins
+abbrev pub with_pins : List ℕ → Board → Board
+with_pins q c = record c { pins = q }
+
+-- no row sees the pins
+pub rows-blind : (q : List ℕ) (n : ℕ) (t : TypeId) (ps : List Property) (c : Board) → rows_made n t ps (with_pins q c) ≡ with_pins q (rows_made n t ps c)
+unfolding add
+rows-blind q n t [] c = refl
+rows-blind q n t (p ∷ ps) c = ap (rows_made n t ps) (row p.kind) ∙ rows-blind q n t ps (row_made n t p.name p.kind c)
+  where
+    joined : (o : Option ℕ) (property : List ℕ) → aliased n p.name property o (with_pins q c) ≡ with_pins q (aliased n p.name property o c)
+    joined None property = refl
+    joined (Some m) property = refl
+
+    row : (kind : Kind) → row_made n t p.name kind (with_pins q c) ≡ with_pins q (row_made n t p.name kind c)
+    row (Kind.plain type first) = refl
+    row (Kind.link target true) = refl
+    row (Kind.link target false) = refl
+    row (Kind.child type) = refl
+    row (Kind.alias owner property) = joined (owned c n owner) property
+
+-- no row changes the pins
+pub rows-pins : (n : ℕ) (t : TypeId) (ps : List Property) (c : Board) → (rows_made n t ps c).pins ≡ c.pins
+unfolding add
+rows-pins n t [] c = refl
+rows-pins n t (p ∷ ps) c = rows-pins n t ps (row_made n t p.name p.kind c) ∙ row p.kind
+  where
+    joined : (o : Option ℕ) (property : List ℕ) → (aliased n p.name property o c).pins ≡ c.pins
+    joined None property = refl
+    joined (Some m) property = refl
+
+    row : (kind : Kind) → (row_made n t p.name kind c).pins ≡ c.pins
+    row (Kind.plain type first) = refl
+    row (Kind.link target true) = refl
+    row (Kind.link target false) = refl
+    row (Kind.child type) = refl
+    row (Kind.alias owner property) = joined (owned c n owner) property
+
+rows-held_up : (n : ℕ) (t : TypeId) (ps : List Property) (c : Board) → rows_made n t ps (held_up n c) ≡ held_up n (rows_made n t ps c)
+rows-held_up n t ps c = rows-blind (n ∷ c.pins) n t ps c ∙ ap (λ (q : List ℕ). with_pins (n ∷ q) (rows_made n t ps c)) (sym (rows-pins n t ps c))
+
+-- the device as it is made, still held
+pub drafted-drafts : (b : Board) (t : TypeId) → is_open (b.born + 1) ≡ false → Nearly None b → Drafts b (b.born + 1) t [] (held_up (b.born + 1) (drafted b t))
+drafted-drafts b t not_open h =
+    subst (Drafts b (b.born + 1) t []) (rows-held_up (b.born + 1) t (slots_of t) (with_new (fresh (b.born + 1) t) b)) (drafts-rows b (b.born + 1) t absent not_open (slots_of t) (held_up (b.born + 1) (with_new (fresh (b.born + 1) t) b)) (drafts-begun b t h))
+  where
+    absent : record_of b (b.born + 1) ≡ None
+    absent = go (record_of b (b.born + 1)) refl
+      where
+        go : (o : Option Record) → record_of b (b.born + 1) ≡ o → record_of b (b.born + 1) ≡ None
+        go None e = e
+        go (Some r) e = absurd (let high : b.born + 1 ≤ b.born = found-low b.born (b.born + 1) b.records r h.firm.within e in let clash : 0 < 0 = omega (arith, high) in omega arith)

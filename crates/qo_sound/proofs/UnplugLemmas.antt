@@ -1,0 +1,355 @@
+-- A device that is detached, with all that is below it: each step keeps the tree of the board sound.
+use Rattle.std.proofs.Common.{nat_eq, ◌≡◌, refl, ap, sym, subst, ◌∙◌, ℕ, zero, suc, ◌+◌, ◌≤◌, leb, Bool, true, false, not, ◌&&◌, ◌==◌, eqb, List, [], ◌∷◌, filter, length, slice_get, codes, Option, Some, None, option_map, arith}
+use Rattle.std.specs.Bool.{⊤}
+use Rattle.std.specs.List.{AllByRecursion, list_any}
+use Rattle.std.specs.Option.{option_map_or}
+use Rattle.std.specs.Str.{bytes_eq}
+use Rattle.std.proofs.lemmas.Bool.{eqb-true, eq-eqb}
+use Rattle.std.proofs.lemmas.Option.{same_Some}
+use Rattle.std.proofs.lemmas.Slice.Eq.{bytes_eq-Decides}
+use Rattle.qo_values.specs.declared.kinds.TypeId.{TypeId}
+use Rattle.qo_values.specs.declared.kinds.Act.{Act}
+use Rattle.qo_values.specs.declared.kinds.Act.TheVariants.{Unrealize}
+use Rattle.qo_values.specs.declared.properties.Val.{Val}
+use Rattle.qo_values.specs.declared.properties.Val.TheVariants as val
+use Rattle.qo_model.specs.Board.{Board, Notice, Record, Slot, plain, child, strong, weak, alias, record_of, kind_of, slots_at, slot_at}
+use Rattle.qo_model.specs.Changes.{cut, set, with_val}
+use Rattle.qo_model.specs.Clocks.{acted, device_period, with_act_on}
+use Rattle.qo_model.specs.Depth.{by_depth}
+use Rattle.qo_model.specs.Devices.{anonymous_birth, bus_of, buses_of, clock_of, peripheral_birth, kids_of}
+use Rattle.qo_model.specs.Objects.{place_from}
+use Rattle.qo_model.specs.Paths.{births, child_of, is_child}
+use Rattle.qo_model.specs.Release.{drop_slot, let_go, pin, put_in_order, unpin, without_first}
+use Rattle.qo_model.specs.SoundAliases.{is_clock_slot, is_open, PassesTo}
+use Rattle.qo_model.specs.Unplug.{apart_within, detach, disconnected, drained, each, first_of, is_bus_slot, is_child_slot, is_named, left_bus, let_go_where, lost_bus, lost_buses, unseen, unseen_named, names_kid, set_named, take_slot, take_where, taken_by, unheld, unnoticed, unrealize, unrealize_turn, unrealized_device, without_all}
+use Rattle.qo_model.proofs.ReleaseLeavesLemmas.{let_go-leaves}
+use Rattle.qo_sound.proofs.FirmLemmas.{Linked}
+use Rattle.qo_sound.proofs.FinishLemmas.{one_of}
+use Rattle.qo_sound.proofs.SlotLemmas.{IsNoClock, no_child, other_name}
+use Rattle.qo_sound.proofs.WorkLemmas.{Nearly, after-firm}
+use Rattle.qo_sound.proofs.ViewLemmas.{AtRest}
+use Rattle.qo_sound.proofs.ChangeLemmas.{IsGentle, emptied-at, gentle-val, near-changed, near-drop, near-let_go, open-last, other-lasts}
+use Rattle.qo_sound.proofs.SeverLemmas.{near-pin, near-unpin, pin-pins, release-pins, unpin-pins}
+use Rattle.qo_sound.proofs.CutLemmas.{near-beside, near-cut, near-same_slots}
+
+-- where a search finds a slot
+
+pub record Found (p : List ℕ × Slot → Bool) (slots : List (List ℕ × Slot)) (j : ℕ) : Type 0 where
+  pub entry : List ℕ × Slot
+  pub at : slice_get slots j ≡ Some entry
+  pub passes : p entry ≡ true
+
+found-from : (p : List ℕ × Slot → Bool) (i j : ℕ) (slots : List (List ℕ × Slot)) → place_from p i slots ≡ Some j → (k : ℕ) × ((j ≡ k + i) × Found p slots k)
+found-from p i j [] e = cc
+found-from p i j (s ∷ slots) e = go (p s) refl (found-from p (suc i) j slots)
+  where
+    go : (t : Bool) → p s ≡ t → (place_from p (suc i) slots ≡ Some j → (k : ℕ) × ((j ≡ k + suc i) × Found p slots k)) → (k : ℕ) × ((j ≡ k + i) × Found p (s ∷ slots) k)
+    go true q rest = let is : i ≡ j = same_Some i j (rw q at e) in (0, (omega (arith, is), record { entry = s; at = refl; passes = q }))
+    go false q rest =
+        let (k, (is, found)) = rest (rw q at e) in
+        (suc k, (omega (arith, is), record { entry = found.entry; at = found.at; passes = found.passes }))
+
+pub found-at : (p : List ℕ × Slot → Bool) (j : ℕ) (slots : List (List ℕ × Slot)) → place_from p 0 slots ≡ Some j → Found p slots j
+found-at p j slots e =
+    let (k, (is, found)) = found-from p 0 j slots e in
+    let same : j ≡ k = omega (arith, is) in
+    subst (λ (m : ℕ). Found p slots m) (sym same) found
+
+pub slot-of : (b : Board) (n i : ℕ) (s : List ℕ × Slot) → slice_get (slots_at b n) i ≡ Some s → slot_at b n i ≡ Some s.1
+slot-of b n i s e = ap (option_map (λ (x : List ℕ × Slot). x.1)) e
+
+-- a slot found on the record is the one found on the board
+on-record : (b : Board) (n i : ℕ) (s x : List ℕ × Slot) (r : Record) → slice_get (slots_at b n) i ≡ Some s → record_of b n ≡ Some r → slice_get r.slots i ≡ Some x → s ≡ x
+on-record b n i s x r e q k =
+    let own : slots_at b n ≡ r.slots = ap (λ (o : Option Record). option_map_or (λ (y : Record). y.slots) o []) q in
+    same_Some s x (sym e ∙ ap (λ (slots : List (List ℕ × Slot)). slice_get slots i) own ∙ k)
+
+-- a board on which each object has references, and with these pins
+pub record Sits (ps : List ℕ) (c : Board) : Type 0 where
+  pub near : Nearly None c
+  pub pins : c.pins ≡ ps
+
+-- a slot is let go that passes a test: one of an open object, or none that is the clock's
+held-let_go : (ps : List ℕ) (c : Board) (n i : ℕ) → Nearly None (let_go c n i) → Sits ps c → Sits ps (let_go c n i)
+held-let_go ps c n i near h = record { near = near; pins = (let_go-leaves c n i).pins ∙ h.pins }
+
+held-where_open : (ps : List ℕ) (p : List ℕ × Slot → Bool) (n : ℕ) (c : Board) → is_open n ≡ true → Sits ps c → Sits ps (let_go_where p n c)
+held-where_open ps p n c wide h = go (place_from p 0 (slots_at c n)) refl
+  where
+    go : (o : Option ℕ) → place_from p 0 (slots_at c n) ≡ o → Sits ps (let_go_where p n c)
+    go None e = rw (let_go_where, e) h
+    go (Some i) e = rw (let_go_where, e) (held-let_go ps c n i (near-let_go c n i (λ s q. open-last c n i wide) h.near) h)
+
+held-where_other : (ps : List ℕ) (p : List ℕ × Slot → Bool) → ((s : List ℕ × Slot) → p s ≡ true → is_clock_slot s ≡ false) → (n : ℕ) (c : Board) → Sits ps c → Sits ps (let_go_where p n c)
+held-where_other ps p apart n c h = go (place_from p 0 (slots_at c n)) refl
+  where
+    go : (o : Option ℕ) → place_from p 0 (slots_at c n) ≡ o → Sits ps (let_go_where p n c)
+    go None e = rw (let_go_where, e) h
+    go (Some i) e =
+        let f : Found p (slots_at c n) i = found-at p i (slots_at c n) e in
+        let other : (r : Record) (s : List ℕ × Slot) → record_of c n ≡ Some r → slice_get r.slots i ≡ Some s → IsNoClock s = λ r s q k. subst IsNoClock (on-record c n i f.entry s r f.at q k) (other_name (apart f.entry f.passes)) in
+        rw (let_go_where, e) (held-let_go ps c n i (near-let_go c n i (other-lasts c n i other) h.near) h)
+
+-- names that are not the clock's
+named-apart : (name : List ℕ) → bytes_eq name (codes "clk") ≡ false → (s : List ℕ × Slot) → is_named name s ≡ true → is_clock_slot s ≡ false
+named-apart name apart s e = subst (λ (x : List ℕ). bytes_eq x (codes "clk") ≡ false) (sym ((bytes_eq-Decides s.0 name).0 e)) apart
+
+bus-apart : (m : ℕ) (s : List ℕ × Slot) → is_bus_slot m s ≡ true → is_clock_slot s ≡ false
+bus-apart m s e = go (is_clock_slot s) refl
+  where
+    go : (t : Bool) → is_clock_slot s ≡ t → is_clock_slot s ≡ false
+    go false p = p
+    go true p = absurd (let clash : is_child m s.1 && false ≡ true = rw p at e in no (is_child m s.1) clash)
+      where
+        no : (u : Bool) → u && false ≡ true → ⊥
+        no true k = cc
+        no false k = cc
+
+-- pins in order
+
+abbrev pub IsUp : List ℕ → Type 0
+IsUp [] = ⊤
+IsUp (m ∷ ms) = AllByRecursion (λ k. m ≤ k) ms × IsUp ms
+
+put-first : (n : ℕ) (ms : List ℕ) → AllByRecursion (λ k. n ≤ k) ms → put_in_order n ms ≡ n ∷ ms
+put-first n [] h = refl
+put-first n (m ∷ ms) h = go (leb m n) refl (put-first n ms h.1)
+  where
+    low : n ≤ m
+    low = h.0
+
+    go : (t : Bool) → leb m n ≡ t → put_in_order n ms ≡ n ∷ ms → put_in_order n (m ∷ ms) ≡ n ∷ m ∷ ms
+    go true p rest =
+        let same : m ≡ n = grind (arith, p, low) in
+        rw (put_in_order, p, rest) (ap (λ (k : ℕ). k ∷ n ∷ ms) same ∙ ap (λ (k : ℕ). n ∷ k ∷ ms) (sym same))
+    go false p rest = rw (put_in_order, p) refl
+
+all-low : (n m : ℕ) (ms : List ℕ) → n ≤ m → AllByRecursion (λ k. m ≤ k) ms → AllByRecursion (λ k. n ≤ k) ms
+all-low n m [] low h = tt
+all-low n m (k ∷ ms) low h = let here : m ≤ k = h.0 in (omega arith, all-low n m ms low h.1)
+
+pub put-back : (n : ℕ) (ms : List ℕ) → IsUp ms → without_first n (put_in_order n ms) ≡ ms
+put-back n [] up = let own : (n == n) ≡ true = eq-eqb n n refl in rw (put_in_order, without_first, own) refl
+put-back n (m ∷ ms) up = go (leb m n) refl (m == n) refl (put-back n ms up.1)
+  where
+    go : (t : Bool) → leb m n ≡ t → (u : Bool) → (m == n) ≡ u → without_first n (put_in_order n ms) ≡ ms → without_first n (put_in_order n (m ∷ ms)) ≡ m ∷ ms
+    go true p true q rest =
+        let same : m ≡ n = eqb-true m n q in
+        rw (put_in_order, p, without_first, q) (put-first n ms (subst (λ (x : ℕ). AllByRecursion (λ k. x ≤ k) ms) same up.0) ∙ ap (λ (x : ℕ). x ∷ ms) (sym same))
+    go true p false q rest = rw (put_in_order, p, without_first, q) (ap (λ (xs : List ℕ). m ∷ xs) rest)
+    go false p u q rest = let own : (n == n) ≡ true = eq-eqb n n refl in rw (put_in_order, p, without_first, own) refl
+
+put-all : (n x : ℕ) (ms : List ℕ) → x ≤ n → AllByRecursion (λ k. x ≤ k) ms → AllByRecursion (λ k. x ≤ k) (put_in_order n ms)
+put-all n x [] low h = (low, tt)
+put-all n x (m ∷ ms) low h = go (leb m n) refl (put-all n x ms low h.1)
+  where
+    go : (t : Bool) → leb m n ≡ t → AllByRecursion (λ k. x ≤ k) (put_in_order n ms) → AllByRecursion (λ k. x ≤ k) (put_in_order n (m ∷ ms))
+    go true p rest = rw (put_in_order, p) (h.0, rest)
+    go false p rest = rw (put_in_order, p) (low, h)
+
+put-up : (n : ℕ) (ms : List ℕ) → IsUp ms → IsUp (put_in_order n ms)
+put-up n [] up = (tt, tt)
+put-up n (m ∷ ms) up = go (leb m n) refl (put-up n ms up.1)
+  where
+    go : (t : Bool) → leb m n ≡ t → IsUp (put_in_order n ms) → IsUp (put_in_order n (m ∷ ms))
+    go true p rest = let low : m ≤ n = grind (arith, p) in rw (put_in_order, p) (put-all n m ms low up.0, rest)
+    go false p rest = let low : n ≤ m = grind (arith, p) in rw (put_in_order, p) ((low, all-low n m ms low up.0), up)
+
+pub put-among : (n : ℕ) (ms : List ℕ) → list_any (nat_eq n) (put_in_order n ms) ≡ true
+put-among n [] = let own : eqb n n ≡ true = eq-eqb n n refl in rw (put_in_order, own) refl
+put-among n (m ∷ ms) = go (leb m n) refl (eqb n m) refl (put-among n ms)
+  where
+    go : (t : Bool) → leb m n ≡ t → (u : Bool) → eqb n m ≡ u → list_any (nat_eq n) (put_in_order n ms) ≡ true → list_any (nat_eq n) (put_in_order n (m ∷ ms)) ≡ true
+    go true p true q rest = rw (put_in_order, p, q) refl
+    go true p false q rest = rw (put_in_order, p, q) rest
+    go false p u q rest = let own : eqb n n ≡ true = eq-eqb n n refl in rw (put_in_order, p, own) refl
+
+-- a device is held while something is done that keeps the board so
+held-pinned : (ps : List ℕ) → IsUp ps → (d : ℕ) (f : Board → Board) → ((qs : List ℕ) → IsUp qs → (c : Board) → Sits qs c → Sits qs (f c)) → (c : Board) → Sits ps c → Sits ps (unpin (f (pin c d)) d)
+held-pinned ps up d f keeps c h =
+    record {
+      near = near-unpin (f (pin c d)) d there inner.near;
+      pins = unpin-pins (f (pin c d)) d there ∙ ap (without_first d) inner.pins ∙ put-back d ps up;
+    }
+  where
+    inner : Sits (put_in_order d ps) (f (pin c d))
+    inner = keeps (put_in_order d ps) (put-up d ps up) (pin c d) (record { near = near-pin c d h.near; pins = pin-pins c d ∙ ap (put_in_order d) h.pins })
+
+    there : list_any (nat_eq d) (f (pin c d)).pins ≡ true
+    there = ap (list_any (nat_eq d)) inner.pins ∙ put-among d ps
+
+-- small steps
+
+set-gentle : (kinds : ℕ → Option TypeId) (v : Val) (s : Slot) → Linked kinds s → Linked kinds (with_val v s)
+set-gentle kinds v (plain old) h = tt
+set-gentle kinds v (child m) h = h
+set-gentle kinds v (strong t target) h = h
+set-gentle kinds v (weak t target) h = h
+set-gentle kinds v (alias m name) h = h
+
+set-count : (k : ℕ) (v : Val) (s : Slot) → one_of k ([], s) ≤ one_of k ([], with_val v s)
+set-count k v (plain old) = omega arith
+set-count k v (child m) = omega arith
+set-count k v (strong t target) = omega arith
+set-count k v (weak t target) = omega arith
+set-count k v (alias m name) = omega arith
+
+pub held-set : (ps : List ℕ) (n : ℕ) (name : List ℕ) (v : Val) (c : Board) → Sits ps c → Sits ps (set_named n name v c)
+unfolding set
+held-set ps n name v c h = go (place_from (is_named name) 0 (slots_at c n)) refl
+  where
+    go : (o : Option ℕ) → place_from (is_named name) 0 (slots_at c n) ≡ o → Sits ps (set_named n name v c)
+    go None e = rw (set_named, e) h
+    go (Some i) e =
+        let f : Found (is_named name) (slots_at c n) i = found-at (is_named name) i (slots_at c n) e in
+        rw (set_named, e) (record { near = near-changed (with_val v) (gentle-val v) None c n i f.entry.1 (slot-of c n i f.entry f.at) (set-gentle (kind_of c) v f.entry.1) (λ k. set-count k v f.entry.1) h.near; pins = h.pins })
+
+pub held-acted : (ps : List ℕ) (act : Act) (n period : ℕ) (c : Board) → Sits ps c → Sits ps (acted act n period c)
+unfolding acted
+held-acted ps act n period c h =
+    record {
+      near = near-beside None _ c.holds c.pending c.notices _ (near-same_slots n (with_act_on act c.now period) (λ r. refl) (λ r. refl) (λ r. refl) None c h.near);
+      pins = h.pins;
+    }
+
+held-unheld : (ps : List ℕ) (n : ℕ) (c : Board) → Sits ps c → Sits ps (unheld n c)
+held-unheld ps n c h = record { near = near-beside None c (without_all n c.holds) c.pending c.notices c.notes h.near; pins = h.pins }
+
+held-unnoticed : (ps : List ℕ) (n : ℕ) (c : Board) → Sits ps c → Sits ps (unnoticed n c)
+held-unnoticed ps n c h = record { near = near-beside None c c.holds (without_all n c.pending) (filter (λ (x : Notice). not (x.birth == n)) c.notices) c.notes h.near; pins = h.pins }
+
+unseen-gentle : IsGentle unseen
+unseen-gentle = record { children = children; passes = passes }
+  where
+    children : (s : Slot) → child_of (unseen s) ≡ child_of s
+    children (plain v) = refl
+    children (child m) = refl
+    children (strong t target) = refl
+    children (weak t target) = refl
+    children (alias m name) = refl
+
+    passes : (ns : List ℕ) (s : Slot) → PassesTo ns s → PassesTo ns (unseen s)
+    passes ns (plain v) h = h
+    passes ns (child m) h = h
+    passes ns (strong t target) h = h
+    passes ns (weak t target) h = h
+    passes ns (alias m name) h = h
+
+unseen-fits : (kinds : ℕ → Option TypeId) (s : Slot) → Linked kinds s → Linked kinds (unseen s)
+unseen-fits kinds (plain v) h = tt
+unseen-fits kinds (child m) h = h
+unseen-fits kinds (strong t target) h = h
+unseen-fits kinds (weak t target) h = tt
+unseen-fits kinds (alias m name) h = h
+
+unseen-count : (k : ℕ) (s : Slot) → one_of k ([], s) ≤ one_of k ([], unseen s)
+unseen-count k (plain v) = omega arith
+unseen-count k (child m) = omega arith
+unseen-count k (strong t target) = omega arith
+unseen-count k (weak t target) = omega arith
+unseen-count k (alias m name) = omega arith
+
+held-unseen : (ps : List ℕ) (n : ℕ) (name : List ℕ) (c : Board) → Sits ps c → Sits ps (unseen_named n name c)
+held-unseen ps n name c h = go (place_from (is_named name) 0 (slots_at c n)) refl
+  where
+    go : (o : Option ℕ) → place_from (is_named name) 0 (slots_at c n) ≡ o → Sits ps (unseen_named n name c)
+    go None e = rw (unseen_named, e) h
+    go (Some i) e =
+        let f : Found (is_named name) (slots_at c n) i = found-at (is_named name) i (slots_at c n) e in
+        rw (unseen_named, e) (record { near = near-changed unseen unseen-gentle None c n i f.entry.1 (slot-of c n i f.entry f.at) (unseen-fits (kind_of c) f.entry.1) (λ k. unseen-count k f.entry.1) h.near; pins = h.pins })
+
+held-disconnected : (ps : List ℕ) (o : Option ℕ) (c : Board) → Sits ps c → Sits ps (disconnected o c)
+held-disconnected ps None c h = h
+held-disconnected ps (Some n) c h = held-set ps n (codes "period") (val.Uint 0) _ (held-unseen ps n (codes "source") c h)
+
+held-each : (P : Board → Type 0) (f : ℕ → Board → Board) → ((n : ℕ) (c : Board) → P c → P (f n c)) → (ns : List ℕ) (c : Board) → P c → P (each f ns c)
+held-each P f keeps [] c h = h
+held-each P f keeps (n ∷ ns) c h = held-each P f keeps ns (f n c) (keeps n c h)
+
+-- unrealizing
+
+held-device : (ps : List ℕ) (d : ℕ) (c : Board) → Sits ps c → Sits ps (unrealized_device d c)
+held-device ps d c h = held-unnoticed ps d _ (held-unheld ps d _ (held-set ps d (codes "realized") (val.Bool false) _ (held-disconnected ps (clock_of c d) _ (held-acted ps Unrealize d (device_period c d) c h))))
+
+held-turns : (ps : List ℕ) (b : Board) (depth d : ℕ) (c : Board) → Sits ps c → Sits ps (by_depth (unrealize_turn b) (λ d c. c) depth d c)
+held-turns ps b zero d c h = h
+held-turns ps b (suc depth) d c h = turn (held-turns ps b depth)
+  where
+    turn : ((k : ℕ) (e : Board) → Sits ps e → Sits ps (by_depth (unrealize_turn b) (λ d c. c) depth k e)) → Sits ps (by_depth (unrealize_turn b) (λ d c. c) (suc depth) d c)
+    turn keeps = held-device ps d _ (held-each (Sits ps) _ (λ m e k. held-unheld ps m _ (held-acted ps Unrealize m 0 _ (held-each (Sits ps) _ keeps (kids_of b m) e k))) (buses_of b d) c h)
+
+held-unrealize : (ps : List ℕ) (d : ℕ) (c : Board) → Sits ps c → Sits ps (unrealize c d)
+unfolding unrealize
+held-unrealize ps d c h = held-turns ps c (suc (length (births c))) d c h
+
+-- taking out
+
+held-drained : (P : Board → Type 0) (f : ℕ → Board → Board) → ((n : ℕ) (c : Board) → P c → P (f n c)) → (times m : ℕ) (c : Board) → P c → P (drained f times m c)
+held-drained P f keeps zero m c h = h
+held-drained P f keeps (suc times) m c h = go (first_of (kids_of c m)) refl (held-drained P f keeps times m)
+  where
+    go : (o : Option ℕ) → first_of (kids_of c m) ≡ o → ((e : Board) → P e → P (drained f times m e)) → P (drained f (suc times) m c)
+    go None e rest = rw (drained, e) h
+    go (Some k) e rest = rw (drained, e) (rest (f k c) (keeps k c h))
+
+held-buses : (P : Board → Type 0) (f : ℕ → Board → Board) (d : ℕ) → ((m : ℕ) (c : Board) → P c → P (lost_bus f d m c)) → (times : ℕ) (c : Board) → P c → P (lost_buses f times d c)
+held-buses P f d keeps zero c h = h
+held-buses P f d keeps (suc times) c h = go (first_of (buses_of c d)) refl (held-buses P f d keeps times)
+  where
+    go : (o : Option ℕ) → first_of (buses_of c d) ≡ o → ((e : Board) → P e → P (lost_buses f times d e)) → P (lost_buses f (suc times) d c)
+    go None e rest = rw (lost_buses, e) h
+    go (Some m) e rest = rw (lost_buses, e) (rest (lost_bus f d m c) (keeps m c h))
+
+-- a link of a bus is let go and removed
+kid-held : (d : ℕ) (s : List ℕ × Slot) → names_kid d s ≡ true → (t : TypeId) × (s.1 ≡ strong t (Some d))
+kid-held d (name, plain v) e = cc
+kid-held d (name, child m) e = cc
+kid-held d (name, strong t None) e = cc
+kid-held d (name, strong t (Some m)) e = (t, ap (λ (k : ℕ). strong t (Some k)) (eqb-true m d e))
+kid-held d (name, weak t target) e = cc
+kid-held d (name, alias m property) e = cc
+
+held-taken : (ps : List ℕ) (d m : ℕ) (c : Board) → Sits ps c → Sits ps (take_where (names_kid d) m c)
+unfolding cut drop_slot
+held-taken ps d m c h = go (place_from (names_kid d) 0 (slots_at c m)) refl
+  where
+    go : (o : Option ℕ) → place_from (names_kid d) 0 (slots_at c m) ≡ o → Sits ps (take_where (names_kid d) m c)
+    go None e = rw (take_where, e) h
+    go (Some i) e =
+        let f : Found (names_kid d) (slots_at c m) i = found-at (names_kid d) i (slots_at c m) e in
+        let (t, is) = kid-held d f.entry f.passes in
+        let at : slot_at c m i ≡ Some (strong t (Some d)) = slot-of c m i f.entry f.at ∙ ap Some is in
+        let other : (r : Record) (s : List ℕ × Slot) → record_of c m ≡ Some r → slice_get r.slots i ≡ Some s → IsNoClock s = λ r s q k. subst IsNoClock (on-record c m i f.entry s r f.at q k) (no_child (ap child_of is)) in
+        let dropped : Nearly (Some d) (drop_slot c m i) = near-drop c m i (strong t (Some d)) at (other-lasts c m i other (strong t (Some d)) at) h.near in
+        let gone : Nearly (Some d) (cut m i (drop_slot c m i)) = near-cut (Some d) (drop_slot c m i) m i (strong t None) (emptied-at c m i (strong t (Some d)) (strong t None) at refl) refl refl dropped in
+        rw (take_where, e, take_slot, at) (record { near = after-firm (cut m i (drop_slot c m i)) (Some d) gone; pins = release-pins (cut m i (drop_slot c m i)) (Some d) ∙ h.pins })
+
+held-left_bus : (ps : List ℕ) (d : ℕ) (c : Board) → Sits ps c → Sits ps (left_bus d c)
+held-left_bus ps d c h = go (bus_of c d) refl
+  where
+    go : (o : Option ℕ) → bus_of c d ≡ o → Sits ps (left_bus d c)
+    go None e = rw (left_bus, e) h
+    go (Some m) e = rw (left_bus, e) (held-where_other ps (is_named (codes "parent_bus")) (named-apart (codes "parent_bus") refl) d _ (held-taken ps d m c h))
+
+held-out : (ps : List ℕ) (f : ℕ → Board → Board) → ((n : ℕ) (c : Board) → Sits ps c → Sits ps (f n c)) → (d : ℕ) (c : Board) → Sits ps c → Sits ps (taken_by f d c)
+held-out ps f keeps d c h =
+    held-where_open ps (is_child_slot d) anonymous_birth _ refl
+    (held-where_open ps (is_child_slot d) peripheral_birth _ refl
+    (held-left_bus ps d _
+    (held-buses (Sits ps) f d (λ m e k. held-where_other ps (is_bus_slot m) (bus-apart m) d _ (held-drained (Sits ps) f keeps (length (slots_at e m)) m e k)) (length (slots_at c d)) c h)))
+
+held-apart : (depth : ℕ) (ps : List ℕ) → IsUp ps → (d : ℕ) (c : Board) → Sits ps c → Sits ps (apart_within depth d c)
+unfolding apart_within
+held-apart zero ps up d c h = h
+held-apart (suc depth) ps up d c h = held-pinned ps up d (taken_by (apart_within depth) d) (λ qs high e k. held-out qs (apart_within depth) (held-apart depth qs high) d e k) c h
+
+-- a device that is detached
+pub detach-rest : (b : Board) (d : ℕ) → AtRest b → AtRest (detach b d)
+unfolding detach
+detach-rest b d h = let k : Sits (1 ∷ []) (detach b d) = held in record { used = k.near; pinned = k.pins }
+  where
+    held : Sits (1 ∷ []) (unpin (taken_by (apart_within (length (births b))) d (unrealize (pin b d) d)) d)
+    held =
+        held-pinned (1 ∷ []) (tt, tt) d (λ c. taken_by (apart_within (length (births b))) d (unrealize c d))
+        (λ qs high c k. held-out qs (apart_within (length (births b))) (held-apart (length (births b)) qs high) d (unrealize c d) (held-unrealize qs d c k))
+        b (record { near = h.used; pins = h.pinned })
