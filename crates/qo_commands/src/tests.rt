@@ -98,7 +98,7 @@ fn bars<L: Ledger>(
 fn adds<L: Ledger>(alloc: Global, board: &mut Board, steps: &mut Steps<L>) -> Result<(), Refusal> {
     let driver = text(alloc, "tag")?;
     let id = text(alloc, "t")?;
-    let props = PropList::from_vec(Vec::new(alloc));
+    let props = PropList::new(alloc);
     change(
         alloc,
         board,

@@ -16,13 +16,13 @@ use std::test::Fail;
 
 /// No properties.
 fn none(alloc: Global) -> PropList {
-    PropList::from_vec(Vec::new(alloc))
+    PropList::new(alloc)
 }
 
-/// A property more.
-fn give(pairs: &mut Vec<(Text, Val)>, name: &str, val: Val, alloc: Global) -> Result<(), Memory> {
+/// A property more, behind the others.
+fn give(props: &mut PropList, name: &str, val: Val, alloc: Global) -> Result<(), Memory> {
     let name = Text::from_string(String::from_str(alloc, name)?);
-    if pairs.push((name, val)).is_err() {
+    if props.push(name, val).is_err() {
         return Err(Memory);
     }
     Ok(())
@@ -30,21 +30,20 @@ fn give(pairs: &mut Vec<(Text, Val)>, name: &str, val: Val, alloc: Global) -> Re
 
 /// One property with a text.
 fn one(name: &str, of: &str, alloc: Global) -> Result<PropList, Memory> {
-    let mut pairs = Vec::new(alloc);
-    give(&mut pairs, name, text(of, alloc)?, alloc)?;
-    Ok(PropList::from_vec(pairs))
+    let mut props = PropList::new(alloc);
+    give(&mut props, name, text(of, alloc)?, alloc)?;
+    Ok(props)
 }
 
-/// The properties of a tag with each value once, and its text twice.
+/// The properties of a tag with each value.
 fn many(alloc: Global) -> Result<PropList, Memory> {
-    let mut pairs = Vec::new(alloc);
-    give(&mut pairs, "seen", text("/machine/sysclk", alloc)?, alloc)?;
-    give(&mut pairs, "text", text("first", alloc)?, alloc)?;
-    give(&mut pairs, "number", Val::Int(-5), alloc)?;
-    give(&mut pairs, "flag", Val::Bool(true), alloc)?;
-    give(&mut pairs, "text", text("second", alloc)?, alloc)?;
-    give(&mut pairs, "next", text("/machine", alloc)?, alloc)?;
-    Ok(PropList::from_vec(pairs))
+    let mut props = PropList::new(alloc);
+    give(&mut props, "flag", Val::Bool(true), alloc)?;
+    give(&mut props, "next", text("/machine", alloc)?, alloc)?;
+    give(&mut props, "number", Val::Int(-5), alloc)?;
+    give(&mut props, "seen", text("/machine/sysclk", alloc)?, alloc)?;
+    give(&mut props, "text", text("given", alloc)?, alloc)?;
+    Ok(props)
 }
 
 /// Whether a tag is added.
@@ -104,7 +103,7 @@ fn add_all<L: Ledger>(alloc: Global, blank: Blank) -> Result<bool, Memory>
     let mut board = Board::start(alloc, &mut steps)?;
     let first = adds(&mut board, "a", &many(alloc)?, alloc, &mut steps);
     let numbered = is_numbered(&board, "a", alloc, &mut steps);
-    let text = reads(&board, "a", "text", "first", alloc, &mut steps);
+    let text = reads(&board, "a", "text", "given", alloc, &mut steps);
     let next = reads(&board, "a", "next", "/machine", alloc, &mut steps);
     let seen = reads(&board, "a", "seen", "/machine/sysclk", alloc, &mut steps);
     let linked = adds(

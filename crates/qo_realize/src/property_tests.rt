@@ -45,7 +45,7 @@ fn add<L: Ledger>(
         name,
         kind,
     };
-    let none = PropList::from_vec(Vec::new(alloc));
+    let none = PropList::new(alloc);
     add_filled(heap, admitted, &none, alloc, steps)
 }
 

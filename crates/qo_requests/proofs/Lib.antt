@@ -1,3 +1,4 @@
 pub mod Joining
 pub mod Members
 pub mod Readings
+pub mod Rising

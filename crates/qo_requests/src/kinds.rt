@@ -1,14 +1,16 @@
 //! Arguments by their kinds.
 
-ghost use Rattle.std.specs.Prelude.{◌≡◌};
+ghost use Rattle.std.specs.Prelude.{◌≡◌, [], ◌∷◌, ◌++◌, true, OnOk, OnErr};
 ghost use Rattle.serde_json.specs.Find.{as_str, as_bool};
 ghost use Rattle.serde_json.specs.View.{view, items_view, members_view};
 ghost use Rattle.qo_values.specs.Plain.{plain_of};
+ghost use Rattle.qo_values.specs.PropLists.{names_of, is_above};
 ghost use Rattle.qo_requests.specs.Kinds.{named_property, number_of, form_named, form_of, texts_in, texts_of, text_at, number_at, value_at, number_within, optional_text_at, optional_number_at, optional_bool_at, optional_form_at, optional_texts_at, properties_in, properties_beside};
 ghost use Rattle.qo_requests.specs.Reading.{Gives};
+ghost use Rattle.qo_requests.specs.declared.kinds.KindError.TheVariants.{Memory};
 
 use crate::fields::{Field, argument, is_named};
-use qo_values::{Form, FromJson, PropList, Text, TextList, Val, from_json};
+use qo_values::{Form, FromJson, PropList, PushError, Text, TextList, Val, from_json};
 use serde_json::{Map, Value};
 use std::alloc::{AllocError, AllocFailed, Global};
 
@@ -236,7 +238,20 @@ fn property_of(alloc: Global, name: &str, value: &Value) -> Result<(Text, Val), 
     Ok((Text::from_string(String::from_str(alloc, name)?), val))
 }
 
-/// The members that are none of these, as properties.
+/// Puts a property behind others, whose names come before its own.
+fn put(props: &mut PropList, name: Text, val: Val) -> Result<(), KindError>
+    requires { is_above (names_of props.old) name ≡ true }
+    ensures put { OnOk result (props.new ≡ props.old ++ (name, val) ∷ []) }
+    ensures memory { OnErr result (result ≡ Err Memory) }
+{
+    match props.push(name, val) {
+        Ok(()) => Ok(()),
+        Err(PushError::Memory) => Err(KindError::Memory),
+        Err(PushError::OutOfOrder) => unreachable!(),
+    }
+}
+
+/// The members that are none of these, as properties. The map has them in byte order of the names.
 fn properties_in(
     alloc: Global,
     fields: &[Field],
@@ -244,13 +259,14 @@ fn properties_in(
 ) -> Result<PropList, KindError>
     ensures { Gives result (properties_in fields.now (members_view members.now.entries)) }
 {
-    let mut pairs = Vec::new(alloc);
+    let mut props = PropList::new(alloc);
     for (name, value) in members.iter() {
         if !is_named(fields, name.as_str()) {
-            pairs.push(property_of(alloc, name.as_str(), value)?)?;
+            let (name, val) = property_of(alloc, name.as_str(), value)?;
+            put(&mut props, name, val)?;
         }
     }
-    Ok(PropList::from_vec(pairs))
+    Ok(props)
 }
 
 /// The arguments that are none of these, as properties.

@@ -7,6 +7,7 @@ pub mod Kinds
 pub mod Names
 pub mod Placing
 pub mod Plain
+pub mod PropLists
 pub mod Properties
 pub mod Registers
 pub mod Rings

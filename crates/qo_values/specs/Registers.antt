@@ -2,6 +2,7 @@
 use Rattle.std.specs.Prelude.{ℕ, Bool, false}
 use Rattle.qo_values.specs.declared.kinds.TypeId.{TypeId}
 use Rattle.qo_values.specs.declared.kinds.TypeId.TheVariants.{SlotUart, SlotTimer, SlotBridge, MemDimm}
+use Rattle.qo_values.specs.declared.limits.TheConstants.{COUNT_MAX}
 
 -- a UART; holds counts the hold phases since the birth
 pub record UartRegisters : Type 0 where
@@ -45,7 +46,7 @@ fresh_uart = record { ready = false; divisor = 1; scratch = 0; sent = 0; holds =
 
 -- a timer at birth: disabled, no segments
 abbrev pub fresh_timer : TimerRegisters
-fresh_timer = record { enabled = false; reload = 4294967295; done = 0; start = 0; last = 0; holds = 0 }
+fresh_timer = record { enabled = false; reload = COUNT_MAX; done = 0; start = 0; last = 0; holds = 0 }
 
 -- what an object of a type has at birth
 abbrev pub fresh_registers : TypeId → Registers

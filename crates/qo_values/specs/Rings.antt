@@ -1,15 +1,16 @@
 -- Rings of bytes: a ring holds the last bytes added, as many as its size, less those taken (docs/PROFILE.md, rings).
 use Rattle.std.specs.Prelude.{ℕ, ◌-◌, Bool, ◌&&◌, nat_le, List, [], ◌∷◌, ◌++◌, length, take, drop}
 use Rattle.std.specs.Int.{is_power_of_two}
+use Rattle.qo_values.specs.declared.limits.TheConstants.{RING_SIZE_MAX}
 
 -- the size of a ring and its bytes, oldest first
 pub record RingBytes : Type 0 where
   pub size : ℕ
   pub bytes : List ℕ
 
--- a power of two from 1 to 1,048,576
+-- a power of two from 1 to RING_SIZE_MAX
 abbrev pub is_ring_size : ℕ → Bool
-is_ring_size size = is_power_of_two size && nat_le size 1048576
+is_ring_size size = is_power_of_two size && nat_le size RING_SIZE_MAX
 
 -- the last n of a list
 abbrev pub keep_last : ℕ → List ℕ → List ℕ

@@ -1,13 +1,14 @@
 -- A timer's registers as a guest reads and writes them, its reset phases and its clock's callbacks (a device of the
 -- profile; phases: docs/devel/reset.rst, "Multi-phase mechanism"; callbacks: docs/devel/clocks.rst, "Clock callbacks").
--- Moments are in ns and periods in units of 2^-32 ns, 0 for a clock that stands still.
-use Rattle.std.specs.Prelude.{ℕ, ◌+◌, ◌-◌, ◌*◌, ◌/◌, ◌%◌, ◌^◌, Bool, true, false, ◌&&◌, ◌||◌, ◌==◌, if◌then◌else◌, Option, Some, None}
+-- Moments are in ns and periods in units of which UNITS_PER_NS make one, 0 for a clock that stands still.
+use Rattle.std.specs.Prelude.{ℕ, ◌+◌, ◌-◌, ◌*◌, ◌/◌, ◌%◌, Bool, true, false, ◌&&◌, ◌||◌, ◌==◌, if◌then◌else◌, Option, Some, None}
 use Rattle.qo_values.specs.Counts.{count_up}
 use Rattle.qo_values.specs.Registers.{TimerRegisters, fresh_timer}
+use Rattle.qo_values.specs.declared.limits.TheConstants.{UNITS_PER_NS}
 
 -- the ticks of a span of time under a period, rounded down; none where the clock stands still
 abbrev pub span_ticks : ℕ → ℕ → ℕ
-span_ticks span period = if period == 0 then 0 else span * 2 ^ 32 / period
+span_ticks span period = if period == 0 then 0 else span * UNITS_PER_NS / period
 
 -- whether a segment is open: enabled, and a segment began at the last moment at which one began or ended
 abbrev pub is_open : TimerRegisters → Bool

@@ -4,14 +4,12 @@ ghost use Rattle.qo_values.specs.Ids.{is_letter, is_id_byte, is_id};
 ghost use Rattle.std.specs.List.{list_all};
 ghost use Rattle.std.specs.Prelude.{◌≡◌};
 
+use crate::limits::ID_MAX;
 use std::alloc::{AllocError, Global};
 use std::marker::Model;
 use thiserror::Error;
 
-/// Bytes of the longest id.
-const ID_MAX: usize = 128;
-
-/// An id: an ASCII letter, and then letters, digits, `-`, `.` and `_`, at most 128 bytes in all.
+/// An id: an ASCII letter, and then letters, digits, `-`, `.` and `_`, at most `ID_MAX` bytes in all.
 #[derive(Debug, Drop)]
 pub struct Id {
     text: String,

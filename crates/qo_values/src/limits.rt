@@ -41,3 +41,24 @@ pub const RING_SIZE_MAX: u64 = 1_048_576;
 
 /// Inputs of one run; a run that takes so many without an end ends as its input limit.
 pub const INPUTS_MAX: u64 = 1_000_000_000;
+
+/// Bytes of the longest id.
+pub const ID_MAX: usize = 128;
+
+/// Bytes of the longest name of a slot.
+pub const NAME_MAX: usize = 140;
+
+/// The last value of a register that counts; a count stays there.
+pub const COUNT_MAX: u32 = u32::MAX;
+
+/// Units of a clock's period in a nanosecond.
+pub const UNITS_PER_NS: u64 = 4_294_967_296;
+
+/// The period of the system clock at the beginning: 10 ns, in units of 2^-32 ns.
+pub const SYSTEM_PERIOD: u64 = 42_949_672_960;
+
+/// What the address and the size of a memory device are multiples of, in bytes.
+pub const DIMM_ALIGN: u64 = 4_096;
+
+/// The greatest size of a memory backend, in bytes.
+pub const BACKEND_SIZE_MAX: u64 = 1_099_511_627_776;

@@ -2,7 +2,7 @@
 
 use std::marker::Model;
 
-/// The name of a slot: 1 to 140 printable ASCII bytes (32 to 126) without `/`.
+/// The name of a slot: 1 to `NAME_MAX` printable ASCII bytes (32 to 126) without `/`.
 #[derive(Debug, Drop)]
 pub struct Name {
     text: String,

@@ -3,8 +3,10 @@
 
 ghost use Rattle.std.specs.Prelude.{◌≡◌, is_ok};
 ghost use Rattle.qo_values.specs.Properties.{admits, is_multiple};
+ghost use Rattle.qo_values.specs.PropLists.{names_of, NamesRise, is_above};
 
 use crate::names::Text;
+use std::alloc::{AllocFailed, Global};
 use std::marker::Model;
 use thiserror::Error;
 
@@ -23,7 +25,8 @@ pub enum Val {
     Nothing,
 }
 
-/// A list of properties, each a name and a value.
+/// A list of properties, each a name and a value. The names rise in byte order, so no two of them
+/// are equal.
 #[derive(Debug, Drop)]
 pub struct PropList {
     pairs: Vec<(Text, Val)>,
@@ -31,26 +34,82 @@ pub struct PropList {
 
 impl Model for PropList {
     ghost use Rattle.std.specs.Prelude.{List, ℕ};
+    ghost use Rattle.qo_values.specs.PropLists.{names_of, NamesRise};
     ghost use Rattle.qo_values.specs.declared.properties.Val.{Val};
 
     ghost Value = { List (List ℕ × Val) };
 
     ghost view = { λ p. p.pairs.items };
+
+    ghost invariant = { λ p. NamesRise (names_of p.pairs.items) };
+}
+
+/// Why a property was not put behind the others.
+#[derive(Clone, Copy, Debug, PartialEq, Eq, Error)]
+pub enum PushError {
+    /// Its name does not come after all names of the list: one is equal, or comes behind it.
+    #[error("name out of order")]
+    OutOfOrder,
+    /// Want of memory.
+    #[error("out of memory")]
+    Memory,
+}
+
+impl<T: Drop> From<AllocFailed<T>> for PushError {
+    ghost use Rattle.std.specs.Prelude.{◌≡◌};
+    ghost use Rattle.qo_values.specs.declared.properties.PushError.TheVariants.{Memory};
+
+    ghost from_gives = { λ _ e. e ≡ Memory };
+
+    fn from(_refused: AllocFailed<T>) -> PushError {
+        PushError::Memory
+    }
+}
+
+/// Whether a name comes after all names of some properties, which rise.
+fn is_above(pairs: &[(Text, Val)], name: &str) -> bool
+    requires { NamesRise (names_of pairs.now) }
+    ensures { result ≡ is_above (names_of pairs.now) name.now }
+{
+    match pairs.split_last() {
+        Some((last, _)) => last.0.as_str() < name,
+        None => true,
+    }
 }
 
 impl PropList {
-    ghost use Rattle.std.specs.Prelude.{◌≡◌};
+    ghost use Rattle.std.specs.Prelude.{◌≡◌, [], ◌∷◌, ◌++◌, true, false, OnOk, OnErr};
+    ghost use Rattle.qo_values.specs.declared.properties.PushError.TheVariants.{OutOfOrder};
 
-    /// The pairs of a vector. It takes no memory.
-    pub fn from_vec(pairs: Vec<(Text, Val)>) -> PropList
-        ensures { result ≡ pairs.items }
+    /// No properties. It takes no memory.
+    pub fn new(alloc: Global) -> PropList
+        ensures { result ≡ [] }
     {
-        PropList { pairs }
+        PropList {
+            pairs: Vec::new(alloc),
+        }
+    }
+
+    /// Puts a property behind the others; `OutOfOrder` exactly where its name does not come after
+    /// all of theirs. An error leaves the list as it was.
+    pub fn push(&mut self, name: Text, val: Val) -> Result<(), PushError>
+        ensures pushed { OnOk result (self.new ≡ self.old ++ (name, val) ∷ []) }
+        ensures left { OnErr result (self.new ≡ self.old) }
+        ensures above { OnOk result (is_above (names_of self.old) name ≡ true) }
+        ensures out_of_order { is_above (names_of self.old) name ≡ false → result ≡ Err OutOfOrder }
+        ensures only_out_of_order { result ≡ Err OutOfOrder → is_above (names_of self.old) name ≡ false }
+    {
+        if !is_above(self.pairs.as_slice(), name.as_str()) {
+            return Err(PushError::OutOfOrder);
+        }
+        self.pairs.push((name, val))?;
+        Ok(())
     }
 
     /// The pairs as a slice. It takes no memory.
     pub fn as_slice(&self) -> &[(Text, Val)]
-        ensures { result.now ≡ self.now }
+        ensures value { result.now ≡ self.now }
+        ensures rise { NamesRise (names_of self.now) }
     {
         self.pairs.as_slice()
     }
