@@ -6,12 +6,12 @@ use Rattle.qo_model.specs.Board.{Board}
 use Rattle.qo_model.specs.Objects.{Changed, Given, object_add, object_del, sever}
 use Rattle.qo_heap.specs.Board.{Shows}
 use Rattle.qo_heap.specs.Objects.{Objects}
-use Rattle.qo_realize.specs.Adding.{Adds}
-use Rattle.qo_realize.specs.At.{write_at}
-use Rattle.qo_realize.specs.Changes.{IsAnswered}
-use Rattle.qo_realize.specs.Writes.{Writes}
-use Rattle.qo_realize.specs.declared.refusals.Refusal.{Refusal}
-use Rattle.qo_realize.specs.declared.refusals.Refusal.TheVariants.{Refused, Memory}
+use Rattle.qo_properties.specs.Adding.{Adds}
+use Rattle.qo_properties.specs.At.{write_at}
+use Rattle.qo_properties.specs.Changes.{IsAnswered}
+use Rattle.qo_properties.specs.Writes.{Writes}
+use Rattle.qo_properties.specs.declared.refusals.Refusal.{Refusal}
+use Rattle.qo_properties.specs.declared.refusals.Refusal.TheVariants.{Refused, Memory}
 use Rattle.qo_requests.specs.declared.requests.Request.{Request}
 use Rattle.qo_requests.specs.declared.requests.Request.TheVariants.{QmpCapabilities, QueryVersion, QueryCommands, QueryStatus, Stop, Cont, SystemReset, Quit, QomList, QomGet, QomSet, QomListTypes, DeviceListProperties, ObjectAdd, ObjectDel, DeviceAdd, DeviceDel, ChardevAdd, ChardevRemove, RingbufRead, RingbufWrite, XResetHold, XResetRelease, XSever, XQueryNotes, XQueryDetached, XGuest, XStep}
 use Rattle.qo_commands.specs.Changes.{Changes, is_change}

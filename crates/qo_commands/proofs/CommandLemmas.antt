@@ -14,9 +14,9 @@ use Rattle.qo_values.specs.declared.codes.Code.TheVariants.{E10, E22}
 use Rattle.qo_model.specs.Objects.{Changed, object_add, object_del, sever}
 use Rattle.qo_model.specs.Types.{TypeRow, is_a, row_named}
 use Rattle.qo_notes.specs.Log.{given_from}
-use Rattle.qo_realize.specs.At.{listing_at, read, write_at}
-use Rattle.qo_realize.specs.Reads.{detached_told}
-use Rattle.qo_realize.specs.declared.reads.Detached.{Detached}
+use Rattle.qo_properties.specs.At.{listing_at, read, write_at}
+use Rattle.qo_properties.specs.Reads.{detached_told}
+use Rattle.qo_properties.specs.declared.reading.detached.Detached.{Detached}
 use Rattle.qo_requests.specs.declared.requests.Request.{Request}
 use Rattle.qo_requests.specs.declared.requests.Request.TheVariants.{QmpCapabilities, QueryVersion, QueryCommands, QueryStatus, Stop, Cont, SystemReset, Quit, QomList, QomGet, QomSet, QomListTypes, DeviceListProperties, ObjectAdd, ObjectDel, DeviceAdd, DeviceDel, ChardevAdd, ChardevRemove, RingbufRead, RingbufWrite, XResetHold, XResetRelease, XSever, XQueryNotes, XQueryDetached, XGuest, XStep}
 use Rattle.std.specs.Str.{chars}

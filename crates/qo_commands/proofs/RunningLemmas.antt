@@ -10,7 +10,7 @@ use Rattle.qo_model.specs.Objects.{Changed, object_add, object_del, sever}
 use Rattle.qo_model.specs.Properties.{object_at, write}
 use Rattle.qo_model.specs.Types.{TypeRow, is_a, row_named}
 use Rattle.qo_sound.proofs.StaysLemmas.{stays_lem}
-use Rattle.qo_realize.specs.At.{listing_at, read, write_at}
+use Rattle.qo_properties.specs.At.{listing_at, read, write_at}
 use Rattle.qo_requests.specs.declared.requests.Request.{Request}
 use Rattle.qo_requests.specs.declared.requests.Request.TheVariants.{QmpCapabilities, QueryVersion, QueryCommands, QueryStatus, Stop, Cont, SystemReset, Quit, QomList, QomGet, QomSet, QomListTypes, DeviceListProperties, ObjectAdd, ObjectDel, DeviceAdd, DeviceDel, ChardevAdd, ChardevRemove, RingbufRead, RingbufWrite, XResetHold, XResetRelease, XSever, XQueryNotes, XQueryDetached, XGuest, XStep}
 use Rattle.qo_commands.specs.Changes.{attempted}

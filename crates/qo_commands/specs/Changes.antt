@@ -5,8 +5,8 @@ use Rattle.qo_model.specs.Board.{Board}
 use Rattle.qo_model.specs.Objects.{with_attempt}
 use Rattle.qo_model.specs.Types.{TypeRow, row_named}
 use Rattle.qo_heap.specs.Objects.{Objects}
-use Rattle.qo_realize.specs.declared.refusals.Refusal.{Refusal}
-use Rattle.qo_realize.specs.declared.refusals.Refusal.TheVariants.{Refused, Memory}
+use Rattle.qo_properties.specs.declared.refusals.Refusal.{Refusal}
+use Rattle.qo_properties.specs.declared.refusals.Refusal.TheVariants.{Refused, Memory}
 use Rattle.qo_requests.specs.declared.requests.Request.{Request}
 use Rattle.qo_requests.specs.declared.requests.Request.TheVariants.{ObjectAdd, ObjectDel, QomSet, XSever}
 use Rattle.qo_commands.specs.Commands.{empty, perform, refused_with, returned}

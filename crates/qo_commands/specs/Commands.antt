@@ -13,9 +13,9 @@ use Rattle.qo_model.specs.Notes.{kept_of, note_text, total_of}
 use Rattle.qo_model.specs.Objects.{Changed, may_add, object_add, object_del, sever}
 use Rattle.qo_model.specs.declared.notes.Note.{Note}
 use Rattle.qo_notes.specs.Log.{Log, first_from, given_from}
-use Rattle.qo_realize.specs.At.{listing_at, read, write_at}
-use Rattle.qo_realize.specs.Reads.{detached_told}
-use Rattle.qo_realize.specs.declared.reads.Detached.{Detached}
+use Rattle.qo_properties.specs.At.{listing_at, read, write_at}
+use Rattle.qo_properties.specs.Reads.{detached_told}
+use Rattle.qo_properties.specs.declared.reading.detached.Detached.{Detached}
 use Rattle.qo_model.specs.Types.{Kind, Property, TypeRow, is_a, row_named, row_of, slots_of}
 use Rattle.qo_types.specs.Rows.{listed as listed_types}
 use Rattle.qo_replies.specs.Replies.{version_data}

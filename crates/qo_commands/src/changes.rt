@@ -7,7 +7,8 @@ ghost use Rattle.qo_commands.specs.Changes.{Changes, is_change};
 ghost use Rattle.qo_commands.specs.Stands.{Stands};
 
 use qo_heap::Steps;
-use qo_realize::{Board, Refusal};
+use qo_properties::Refusal;
+use qo_realize::Board;
 use qo_requests::Request;
 use qo_values::{PropList, Val};
 use std::alloc::Global;

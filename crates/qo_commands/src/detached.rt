@@ -5,13 +5,14 @@ ghost use Rattle.serde_json.specs.Data.{array};
 ghost use Rattle.serde_json.specs.View.{items_of, view};
 ghost use Rattle.qo_model.specs.Board.{Board as Tree};
 ghost use Rattle.qo_heap.specs.Board.{Shows};
-ghost use Rattle.qo_realize.specs.Reads.{detached_told};
+ghost use Rattle.qo_properties.specs.Reads.{detached_told};
 ghost use Rattle.qo_commands.specs.Commands.{detached_data, returned};
 ghost use Rattle.qo_commands.specs.Views.{done_of};
 
 use crate::commands::{Body, Done, returned};
 use qo_heap::Steps;
-use qo_realize::{Board, Detached};
+use qo_properties::Detached;
+use qo_realize::Board;
 use serde_json::{Value, json};
 use std::alloc::{AllocError, Global};
 use std::sync::ledger::Ledger;

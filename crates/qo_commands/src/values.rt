@@ -4,13 +4,14 @@ ghost use Rattle.std.specs.Prelude.{◌≡◌, IfOk};
 ghost use Rattle.qo_values.specs.Plain.{data_of};
 ghost use Rattle.qo_model.specs.Board.{Board as Tree};
 ghost use Rattle.qo_heap.specs.Board.{Shows};
-ghost use Rattle.qo_realize.specs.At.{read};
+ghost use Rattle.qo_properties.specs.At.{read};
 ghost use Rattle.qo_commands.specs.Commands.{answered};
 ghost use Rattle.qo_commands.specs.Views.{done_of};
 
 use crate::commands::{Body, Done, refused, returned};
 use qo_heap::Steps;
-use qo_realize::{Board, Refusal};
+use qo_properties::Refusal;
+use qo_realize::Board;
 use qo_values::to_json;
 use std::alloc::{AllocError, Global};
 use std::sync::ledger::Ledger;

@@ -9,7 +9,7 @@ use Rattle.qo_model.specs.Board.{slots_at, is_live}
 use Rattle.qo_model.specs.Paths.{attached}
 use Rattle.qo_model.specs.Types.{TypeRow, row_named}
 use Rattle.qo_heap.specs.Objects.{Objects}
-use Rattle.qo_realize.specs.At.{write_at}
+use Rattle.qo_properties.specs.At.{write_at}
 use Rattle.qo_replies.specs.Replies.{error_reply, return_reply}
 use Rattle.qo_requests.specs.declared.requests.Request.{Request}
 use Rattle.qo_requests.specs.declared.requests.Request.TheVariants.{QmpCapabilities, QueryVersion, QueryCommands, QueryStatus, Stop, Cont, SystemReset, Quit, QomList, QomGet, QomSet, QomListTypes, DeviceListProperties, ObjectAdd, ObjectDel, DeviceAdd, DeviceDel, ChardevAdd, ChardevRemove, RingbufRead, RingbufWrite, XResetHold, XResetRelease, XSever, XQueryNotes, XQueryDetached, XGuest, XStep}

@@ -3,7 +3,7 @@ use Rattle.std.proofs.Common.{Err, subst}
 use Rattle.qo_commands.proofs.CommandLemmas.{empty_written}
 use Rattle.qo_commands.specs.Changes.{Changes}
 use Rattle.qo_commands.specs.Commands.{empty}
-use Rattle.qo_realize.specs.declared.refusals.Refusal.{Refusal}
+use Rattle.qo_properties.specs.declared.refusals.Refusal.{Refusal}
 use Rattle.qo_machine.proofs.ChangeLemmas.{changed_done, stands_still}
 use Rattle.qo_machine.proofs.MachineLemmas.{on_err, seen_objects, stands_in}
 use Rattle.qo_machine.proofs.machines.Machine.change.Goals as goal

@@ -2,9 +2,9 @@ use Rattle.std.proofs.Common.{subst, sym}
 use Rattle.qo_model.specs.Board as board
 use Rattle.qo_heap.specs.Board.{Shows}
 use Rattle.qo_heap.specs.Objects.{Objects}
-use Rattle.qo_realize.specs.Start.{no_objects}
-use Rattle.qo_realize.proofs.StartLemmas.{shows-none, all-is_opening}
-use Rattle.qo_realize.proofs.PinLemmas.{opening-pinned}
+use Rattle.qo_properties.specs.Start.{no_objects}
+use Rattle.qo_properties.proofs.StartLemmas.{shows-none, all-is_opening}
+use Rattle.qo_properties.proofs.PinLemmas.{opening-pinned}
 use Rattle.qo_realize.proofs.board.Board.start.Goals as goal
 
 pub returns : goal.returns
