@@ -1,5 +1,6 @@
 //! An object.
 
+use crate::devices::{DeviceId, no_id};
 use crate::errors::AddError;
 use crate::named::SlotMap;
 use crate::slots::{Slot, SlotView};
@@ -19,7 +20,7 @@ pub struct Object {
     slots: SlotMap,
     pins: u64,
     body: Body,
-    id: Option<Id>,
+    id: Option<DeviceId>,
     path: Option<Text>,
 }
 
@@ -42,30 +43,31 @@ impl Model for Object {
 }
 
 impl Drop for Object {
-    ghost use Rattle.qo_kinds.specs.Bodies.{IsBare};
+    ghost use Rattle.qo_object.specs.Content.{HasNoClaim};
 
     fn drop(self)
-        requires { IsBare self.body }
+        requires { HasNoClaim self }
     {
         let Object {
             kind: _,
             slots: _,
             pins: _,
             body: _,
-            id: _,
+            id,
             path: _,
         } = self;
+        no_id(id);
     }
 }
 
 impl Object {
-    ghost use Rattle.std.specs.Prelude.{◌≡◌, ◌<◌, ◌≤◌, ◌^◌, ◌==◌, true, false, IfSome, OnOk, OnErr, length, position, slice_get, option_map};
+    ghost use Rattle.std.specs.Prelude.{◌≡◌, ◌<◌, ◌≤◌, ◌^◌, ◌==◌, true, false, None, IfSome, OnOk, OnErr, length, position, slice_get, option_map};
     ghost use Rattle.std.specs.Str.{bytes_eq};
     ghost use Rattle.std.specs.Borrow.{sem};
     ghost use Rattle.qo_kinds.specs.Bodies.{MayAct, kept_of, none_kept, with_kept};
     ghost use Rattle.qo_object.specs.Lends.{lends_body};
     ghost use Rattle.qo_object.specs.Slots.{has_name};
-    ghost use Rattle.qo_object.specs.Content.{IsObject, acted_at, fresh, with_slot, named_at, dropped_at, empty_link_at, pointed_at, set_at, cut_at, with_pin, without_pin, forgotten, holding, is_parent, held_count};
+    ghost use Rattle.qo_object.specs.Content.{IsObject, acted_at, fresh, with_id, with_path, with_slot, named_at, dropped_at, empty_link_at, pointed_at, set_at, cut_at, with_pin, without_pin, forgotten, holding, is_parent, held_count};
     ghost use Rattle.qo_object.specs.declared.errors.AddError.TheVariants.{Duplicate, Memory};
 
     /// An object of a type, without slots, pinned once. It takes no memory.
@@ -125,6 +127,54 @@ impl Object {
         ensures left { self.new ≡ record self.old { body = with_kept none_kept self.old.body } }
     {
         self.body.take_claims()
+    }
+
+    /// The id of its device, if it has one. It takes no memory.
+    pub fn id(&self) -> Option<&Id>
+        ensures { option_map (λ i. i.now) result ≡ self.now.device_id }
+    {
+        match &self.id {
+            Some(device) => Some(device.id()),
+            None => None,
+        }
+    }
+
+    /// The path that is kept for its end, if there is one. It takes no memory.
+    pub fn path(&self) -> Option<&Text>
+        ensures { option_map (λ p. p.now) result ≡ self.now.kept_path }
+    {
+        self.path.as_ref()
+    }
+
+    /// Gives it the id of its device; it must have none. It takes no memory.
+    pub fn name_device(&mut self, id: DeviceId)
+        requires { self.old.device_id ≡ None }
+        ensures { self.new ≡ with_id id self.old }
+    {
+        no_id(self.id.replace(id));
+    }
+
+    /// Keeps a path for its end. It takes no memory.
+    pub fn keep_path(&mut self, path: Text)
+        ensures { self.new ≡ with_path path self.old }
+    {
+        self.path = Some(path);
+    }
+
+    /// Takes the id of its device out. It takes no memory.
+    pub fn take_id(&mut self) -> Option<DeviceId>
+        ensures taken { result ≡ self.old.device_id }
+        ensures left { self.new ≡ record self.old { device_id = None } }
+    {
+        self.id.take()
+    }
+
+    /// Takes the path that is kept for its end out. It takes no memory.
+    pub fn take_path(&mut self) -> Option<Text>
+        ensures taken { result ≡ self.old.kept_path }
+        ensures left { self.new ≡ record self.old { kept_path = None } }
+    {
+        self.path.take()
     }
 
     /// How many slots it has. It takes no memory.
