@@ -13,6 +13,6 @@ mod tests;
 
 pub use devices::DeviceId;
 pub use errors::AddError;
-pub use objects::Object;
+pub use objects::{Object, Remains};
 pub use qo_slots::Key as Oid;
 pub use slots::{Slot, SlotView};

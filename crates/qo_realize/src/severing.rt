@@ -10,7 +10,7 @@ ghost use Rattle.qo_heap.specs.Objects.{pins_of, slots_of};
 ghost use Rattle.qo_life.specs.Life.{Goes};
 ghost use Rattle.qo_realize.specs.Changes.{is_strong_in, severed, severed_at};
 
-use qo_heap::{Heap, Oid, Slot, Steps};
+use qo_heap::{Heap, Oid, Steps};
 use qo_life::{drop_pin, let_go};
 use std::sync::ledger::Ledger;
 
@@ -32,7 +32,7 @@ fn is_strong_at<L: Ledger>(heap: &Heap, o: Oid, at: usize, steps: &mut Steps<L>)
     ensures { result ≡ is_strong_in (slots_of heap.now o.birth) at }
 {
     match heap.slot_at(o, at, steps) {
-        Some(view) => matches!(view.what, Slot::Link { strong: true, .. }),
+        Some(view) => view.what.is_strong(),
         None => false,
     }
 }
