@@ -1,12 +1,7 @@
-//! The errors of this crate's calls.
+//! The error of this crate's calls.
 
 use std::alloc::AllocError;
 use thiserror::Error;
-
-/// There was not enough memory.
-#[derive(Clone, Copy, Debug, PartialEq, Eq, Error)]
-#[error("not enough memory")]
-pub struct Memory;
 
 /// Why nothing was claimed.
 #[derive(Clone, Copy, Debug, PartialEq, Eq, Error)]

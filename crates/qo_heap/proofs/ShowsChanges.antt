@@ -62,6 +62,7 @@ shows-made b v s good kind key birth =
           ∙ sym (pins-added v.rows key kind);
       notes = s.notes;
       events = s.events;
+      now = s.now;
     }
 
 -- a slot changed

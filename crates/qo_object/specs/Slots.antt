@@ -27,6 +27,11 @@ held (Child key) = Some key
 held (Link ty true target) = target
 held _ = None
 
+-- whether it is a strong link
+abbrev pub is_strong : Slot → Bool
+is_strong (Link ty true target) = true
+is_strong _ = false
+
 -- whether the object named is that of a birth
 abbrev pub is_born : ℕ → Option Key → Bool
 is_born birth None = false

@@ -38,7 +38,7 @@ pub struct SlotView<'a> {
 
 impl Slot {
     ghost use Rattle.std.specs.Prelude.{◌≡◌, is_some};
-    ghost use Rattle.qo_object.specs.Slots.{target_of, child_of, holds, names_child, held, unlinked, pointed, with_val, forgotten_in};
+    ghost use Rattle.qo_object.specs.Slots.{target_of, is_strong, child_of, holds, names_child, held, unlinked, pointed, with_val, forgotten_in};
 
     /// The child that stands in it.
     pub(crate) fn child(&self) -> Option<Key>
@@ -50,8 +50,26 @@ impl Slot {
         }
     }
 
-    /// The object that it holds, as a child or by a strong link.
-    fn held(&self) -> Option<Key>
+    /// The object that it names: a child, or the target of a link. It takes no memory.
+    pub fn target(&self) -> Option<Key>
+        ensures { result ≡ target_of self.now }
+    {
+        match self {
+            Slot::Child(child) => Some(*child),
+            Slot::Link { target, .. } => *target,
+            _ => None,
+        }
+    }
+
+    /// Whether it is a strong link. It takes no memory.
+    pub fn is_strong(&self) -> bool
+        ensures { result ≡ is_strong self.now }
+    {
+        matches!(self, Slot::Link { strong: true, .. })
+    }
+
+    /// The object that it holds, as a child or by a strong link. It takes no memory.
+    pub fn held(&self) -> Option<Key>
         ensures { result ≡ held self.now }
     {
         match self {

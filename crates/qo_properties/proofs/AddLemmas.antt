@@ -5,9 +5,9 @@ use Rattle.std.specs.Option.{option_map_or}
 use Rattle.std.proofs.lemmas.Bool.{eqb-true, eq-eqb}
 use Rattle.std.proofs.lemmas.List.Sums.{sum_by-cons, sum_by-append}
 use Rattle.qo_values.specs.declared.kinds.TypeId.{TypeId}
-use Rattle.qo_kinds.specs.Bodies.{body_of, kept_of, none_kept}
+use Rattle.qo_kinds.specs.Bodies.{kept_of, none_kept}
 use Rattle.qo_kinds.proofs.BodyLemmas.{fresh-bare, fresh-registers}
-use Rattle.qo_heap.specs.Objects.{without_kept}
+use Rattle.qo_heap.specs.Objects.{without_kept, with_kept_event, without_device}
 use Rattle.qo_slots.specs.declared.keys.Key.{Key}
 use Rattle.qo_table.specs.Rows.{IsLive, Rises, births, edit, object_at, row_at, without}
 use Rattle.qo_values.specs.Registers.{fresh_registers}
@@ -20,7 +20,7 @@ use Rattle.qo_model.specs.Types.{Kind, Property, slots_of}
 use Rattle.qo_properties.specs.Fresh.{first_slots, new_slots, slot_begun, with_slots}
 use Rattle.qo_model.specs.Objects.{Given, given_slots, objects_birth, with_attempt, with_object}
 use Rattle.qo_notes.proofs.Logs.{all_lem}
-use Rattle.qo_object.specs.Content.{Content, fresh, held_count, holding, with_slot, without_pin}
+use Rattle.qo_object.specs.Content.{Content, fresh, held_count, holding, with_slot, without_pin, as_made}
 use Rattle.qo_object.specs.Slots.{Named, forgotten_in, held, holds, is_born, target_of}
 use Rattle.qo_object.specs.declared.slots.Slot.{Slot}
 use Rattle.qo_object.specs.declared.slots.Slot.TheVariants.{Plain, Child, Link, Alias}
@@ -249,13 +249,13 @@ module _ (v w : Objects) (o : Key) (c : Content) (good : IsHeap v) (birth : o.bi
   pub newest-bare : held_count c ≡ 0 → option_map held_count (content_of w o.birth) ≡ Some 0
   newest-bare bare = ap (option_map held_count) newest-content ∙ ap Some bare
 
-  pub newest-ends : kept_of c.body ≡ none_kept → (u : Objects) → option_map (λ (d : Content). ended o.birth d (with_edit o.birth without_pin w)) (content_of w o.birth) ≡ Some u → u ≡ given_up c.kind v
-  newest-ends none u e =
+  pub newest-ends : kept_of c.body ≡ none_kept → c.device_id ≡ None → c.kept_path ≡ None → (u : Objects) → option_map (λ (d : Content). ended o.birth d (with_edit o.birth without_pin w)) (content_of w o.birth) ≡ Some u → u ≡ given_up c.kind v
+  newest-ends none unnamed pathless u e =
       let now : ended o.birth c (with_edit o.birth without_pin w) ≡ u = same_Some (ended o.birth c (with_edit o.birth without_pin w)) u (sym (ap (option_map (λ (d : Content). ended o.birth d (with_edit o.birth without_pin w))) newest-content) ∙ e) in
       let rows : map (forgets o.birth) (without o.birth (edit o.birth without_pin (v.rows ++ (o, c) ∷ []))) ≡ v.rows = ap (λ (l : List (Key × Content)). map (forgets o.birth) (without o.birth l)) (edit-newest o c without_pin v.rows (others o.birth v.rows apart)) ∙ end-newest o (without_pin c) v.rows apart in
       sym now
       ∙ ap (λ (x : Objects). ended o.birth c (with_edit o.birth without_pin x)) is
-      ∙ (λ j. record { rows = rows j; born = v.born + 1; log = noted_all (final_notes (birth j) c.kind) (noted_all (init_notes (birth j) c.kind) v.log); claims = without_kept (none j) v.claims; time = v.time })
+      ∙ (λ j. record v { rows = rows j; born = v.born + 1; log = noted_all (final_notes (birth j) c.kind) (noted_all (init_notes (birth j) c.kind) v.log); claims = without_device (unnamed j) (without_kept (none j) v.claims); events = with_kept_event (option_map (λ (path : List ℕ). record { deleted = true; id = c.device_id; path = path }) (pathless j)) v.events })
 
 -- who was there is there beside the newest
 
@@ -277,7 +277,7 @@ newest-edited v w u o c f good birth is change same =
     let rows = edit-newest o c f v.rows (others o.birth v.rows (apart-from v o.birth (omega (arith, birth)) good)) in
     change
     ∙ ap (λ (x : Objects). with_edit o.birth f x) is
-    ∙ (λ j. record { rows = rows j; born = v.born + 1; log = noted_all (init_notes o.birth (sym same j)) v.log; claims = v.claims; time = v.time })
+    ∙ (λ j. record v { rows = rows j; born = v.born + 1; log = noted_all (init_notes o.birth (sym same j)) v.log })
 
 edit-more : (m : ℕ) (f : Content → Content) (rows : List (Key × Content)) (row : Key × Content) → eqb row.0.birth m ≡ false → edit m f (rows ++ row ∷ []) ≡ edit m f rows ++ row ∷ []
 edit-more m f [] row other = rw other refl
@@ -289,7 +289,7 @@ newest-beside v w u o key c f good birth live is change =
     let low : key.birth ≤ v.born = upto key.birth 0 v.born v.rows d good.rising there in
     let other : eqb o.birth key.birth ≡ false = grind (arith, low, birth) in
     let rows = edit-more key.birth f v.rows (o, c) other in
-    change ∙ ap (λ (x : Objects). with_edit key.birth f x) is ∙ (λ j. record { rows = rows j; born = v.born + 1; log = noted_all (init_notes o.birth c.kind) v.log; claims = v.claims; time = v.time })
+    change ∙ ap (λ (x : Objects). with_edit key.birth f x) is ∙ (λ j. record v { rows = rows j; born = v.born + 1; log = noted_all (init_notes o.birth c.kind) v.log })
 
 -- first slots hold nothing
 
@@ -331,7 +331,7 @@ done-furnish v w u o parent name t good birth live is change =
 
 module _ (v w : Objects) (o parent : Key) (name : List ℕ) (t : TypeId) (slots : List Named) (good : IsHeap v) (birth : o.birth ≡ v.born + 1) (is : w ≡ with_child parent.birth name o t slots v) where
   abbrev begun : Content
-  begun = record { kind = t; slots = slots; pins = 1; body = body_of t; device_id = None; kept_path = None }
+  begun = as_made t slots 1
 
   abbrev beside : Objects
   beside = with_edit parent.birth (with_slot name (Child o)) v
@@ -361,7 +361,7 @@ module _ (v w : Objects) (o parent : Key) (name : List ℕ) (t : TypeId) (slots 
       ∙ one
 
   -- it is filled, and its pin is taken away
-  pub child-settled : (u x : Objects) (plan : List Fill) → u ≡ with_edit o.birth (with_filled 0 plan) w → x ≡ with_edit o.birth without_pin u → x ≡ with_newest o (record { kind = t; slots = filled plan slots; pins = 0; body = body_of t; device_id = None; kept_path = None }) beside
+  pub child-settled : (u x : Objects) (plan : List Fill) → u ≡ with_edit o.birth (with_filled 0 plan) w → x ≡ with_edit o.birth without_pin u → x ≡ with_newest o (as_made t (filled plan slots) 0) beside
   child-settled u x plan fill unpin =
       let f : Content → Content = λ c. without_pin (with_filled 0 plan c) in
       let rows = edit-newest o begun f beside.rows child-others in
@@ -369,7 +369,7 @@ module _ (v w : Objects) (o parent : Key) (name : List ℕ) (t : TypeId) (slots 
       ∙ ap (λ (y : Objects). with_edit o.birth without_pin y) fill
       ∙ edit-twice o.birth without_pin (with_filled 0 plan) f (λ c. refl) w
       ∙ ap (λ (y : Objects). with_edit o.birth f y) is
-      ∙ (λ j. record { rows = rows j; born = v.born + 1; log = noted_all (init_notes o.birth t) v.log; claims = v.claims; time = v.time })
+      ∙ (λ j. record v { rows = rows j; born = v.born + 1; log = noted_all (init_notes o.birth t) v.log })
 
 -- an object that nothing pins adds no pin
 pins-last : (rows : List (Key × Content)) (o : Key) (c : Content) → c.pins ≡ 0 → pins_in (rows ++ (o, c) ∷ []) ≡ pins_in rows
@@ -377,7 +377,7 @@ pins-last [] o c none = rw none refl
 pins-last (row ∷ rows) o c none = ap (λ (l : List ℕ). replicate row.1.pins row.0.birth ++ l) (pins-last rows o c none)
 
 -- the board with an object more
-pub shows-object : (b : Board) (v : Objects) → Shows b v → (o parent : Key) → parent.birth ≡ objects_birth → o.birth ≡ v.born + 1 → (name : List ℕ) (t : TypeId) (props : List Given) (slots : List Named) → shown_slots slots ≡ given_slots b t props → Shows (with_object b t name props) (with_newest o (record { kind = t; slots = slots; pins = 0; body = body_of t; device_id = None; kept_path = None }) (with_edit parent.birth (with_slot name (Child o)) v))
+pub shows-object : (b : Board) (v : Objects) → Shows b v → (o parent : Key) → parent.birth ≡ objects_birth → o.birth ≡ v.born + 1 → (name : List ℕ) (t : TypeId) (props : List Given) (slots : List Named) → shown_slots slots ≡ given_slots b t props → Shows (with_object b t name props) (with_newest o (as_made t slots 0) (with_edit parent.birth (with_slot name (Child o)) v))
 unfolding add
 shows-object b v s o parent place birth name t props slots given =
     let rows : Objects = with_edit parent.birth (with_slot name (Child o)) v in
@@ -387,21 +387,22 @@ shows-object b v s o parent place birth name t props slots given =
       records =
           (λ j. map (edited (sym place j) (with_added name (board.child (its j)))) b.records ++ record { birth = its j; kind = t; slots = sym given j; registers = fresh_registers t; device_id = None; kept_path = None } ∷ [])
           ∙ (λ j. more.records j ++ record { birth = o.birth; kind = t; slots = shown_slots slots; registers = sym (fresh-registers t) j; device_id = None; kept_path = None } ∷ [])
-          ∙ sym (map-append record_of rows.rows ((o, record { kind = t; slots = slots; pins = 0; body = body_of t; device_id = None; kept_path = None }) ∷ []));
+          ∙ sym (map-append record_of rows.rows ((o, as_made t slots 0) ∷ []));
       born = ap (λ (k : ℕ). k + 1) s.born;
-      pins = more.pins ∙ sym (pins-last rows.rows o (record { kind = t; slots = slots; pins = 0; body = body_of t; device_id = None; kept_path = None }) refl);
+      pins = more.pins ∙ sym (pins-last rows.rows o (as_made t slots 0) refl);
       notes = subst (λ (k : ℕ). IsLogOf (b.notes ++ init_notes k t) (noted_all (init_notes o.birth t) v.log)) (sym its) (all_lem b.notes (init_notes o.birth t) v.log s.notes);
       events = s.events;
+      now = s.now;
     }
 
 -- the same pins
 
-pub object-pins : (v : Objects) (o parent : Key) (name : List ℕ) (t : TypeId) (slots : List Named) (w : Objects) → w ≡ with_newest o (record { kind = t; slots = slots; pins = 0; body = body_of t; device_id = None; kept_path = None }) (with_edit parent.birth (with_slot name (Child o)) v) → pins_in w.rows ≡ pins_in v.rows
+pub object-pins : (v : Objects) (o parent : Key) (name : List ℕ) (t : TypeId) (slots : List Named) (w : Objects) → w ≡ with_newest o (as_made t slots 0) (with_edit parent.birth (with_slot name (Child o)) v) → pins_in w.rows ≡ pins_in v.rows
 unfolding add
 object-pins v o parent name t slots w is =
     let rows : Objects = with_edit parent.birth (with_slot name (Child o)) v in
     let more = shows-added (tree v) (with_log empty_log v) (tree-shows v) parent.birth name (Child o) in
-    ap (λ (x : Objects). pins_in x.rows) is ∙ pins-last rows.rows o (record { kind = t; slots = slots; pins = 0; body = body_of t; device_id = None; kept_path = None }) refl ∙ sym more.pins ∙ (tree-shows v).pins
+    ap (λ (x : Objects). pins_in x.rows) is ∙ pins-last rows.rows o (as_made t slots 0) refl ∙ sym more.pins ∙ (tree-shows v).pins
 
 pub tried-pins : (v w : Objects) (t : TypeId) → IsTried t v w → pins_in w.rows ≡ pins_in v.rows
 tried-pins v w t (inl same) = ap (λ (x : Objects). pins_in x.rows) same
@@ -418,4 +419,5 @@ shows-tried b v s t =
           subst (λ (k : ℕ). IsLogOf ((b.notes ++ init_notes (k + 1) t) ++ final_notes (k + 1) t) (noted_all (final_notes (v.born + 1) t) (noted_all (init_notes (v.born + 1) t) v.log))) (sym s.born)
           (all_lem (b.notes ++ init_notes (v.born + 1) t) (final_notes (v.born + 1) t) (noted_all (init_notes (v.born + 1) t) v.log) (all_lem b.notes (init_notes (v.born + 1) t) v.log s.notes));
       events = s.events;
+      now = s.now;
     }

@@ -17,7 +17,7 @@ use Rattle.qo_model.proofs.StepLemmas.{drop-live, finish-live}
 use Rattle.qo_notes.specs.Log.{empty_log, noted_all}
 use Rattle.qo_object.specs.Content.{Content, with_pin}
 use Rattle.qo_object.specs.Shown.{shown_slot}
-use Rattle.qo_object.specs.Slots.{slot_in}
+use Rattle.qo_object.specs.Slots.{is_strong, slot_in}
 use Rattle.qo_object.specs.declared.slots.Slot.{Slot}
 use Rattle.qo_object.specs.declared.slots.Slot.TheVariants.{Plain, Child, Link, Alias}
 use Rattle.qo_heap.specs.Objects.{IsHeap, Objects, content_of, pins_of, slots_of, with_edit}
@@ -29,7 +29,7 @@ use Rattle.qo_heap.proofs.ShowsEdits.{shows-pin}
 use Rattle.qo_heap.proofs.ShowsLive.{content-edited, live-content}
 use Rattle.qo_life.specs.Life.{Goes, with_log}
 use Rattle.qo_life.proofs.TreeLemmas.{tree, tree-shows, tree-behind, heap-with_log, goes-none, goes-same, goes-then, goes-names, live-before_edit}
-use Rattle.qo_properties.specs.Changes.{is_strong, is_strong_in, severed, severed_at}
+use Rattle.qo_properties.specs.Changes.{is_strong_in, severed, severed_at}
 
 -- one slot
 
@@ -158,6 +158,7 @@ goes-pin v good n c there =
       names = live-before_edit n with_pin v.rows;
       book = λ out h. book-edit out v n with_pin (λ c. refl) h;
       time = refl;
+      spare = refl;
     }
 
 pub among-put : (n : ℕ) (xs : List ℕ) → list_any (nat_eq n) (put_in_order n xs) ≡ true

@@ -5,8 +5,6 @@ use Rattle.std.proofs.lemmas.Bool.{eqb-true}
 use Rattle.std.proofs.lemmas.Bool.Decides.{nat_tests}
 use Rattle.qo_values.specs.declared.kinds.TypeId.{TypeId}
 use Rattle.qo_values.specs.declared.kinds.TypeId.TheVariants.{Clock}
-use Rattle.qo_kinds.specs.Bodies.{body_of}
-use Rattle.qo_claims.specs.Held.{nothing_held}
 use Rattle.qo_slots.specs.declared.keys.Key.{Key}
 use Rattle.qo_table.specs.Rows.{IsLive, Rises, births, row_at}
 use Rattle.qo_model.specs.Board as board
@@ -14,14 +12,13 @@ use Rattle.qo_model.specs.Changes.{make, add, set, with_fresh_slots}
 use Rattle.qo_model.specs.Opening.{opening_board}
 use Rattle.qo_model.specs.Release.{without_pin}
 use Rattle.qo_model.specs.Types.{types}
-use Rattle.qo_notes.specs.Log.{empty_log}
 use Rattle.qo_notes.proofs.Logs.{none_lem}
 use Rattle.qo_object.specs.declared.slots.Slot.TheVariants.{Child}
 use Rattle.qo_object.specs.Slots.{Named}
-use Rattle.qo_object.specs.Content.{Content, fresh, with_slot}
+use Rattle.qo_object.specs.Content.{Content, fresh, with_slot, as_made}
 use Rattle.qo_object.specs.Content as content
 use Rattle.qo_heap.specs.Board.{Shows}
-use Rattle.qo_heap.specs.Objects.{IsHeap, Objects, content_of, pins_of, slots_of, with_edit}
+use Rattle.qo_heap.specs.Objects.{IsHeap, Objects, content_of, pins_of, slots_of, with_edit, no_objects_made}
 use Rattle.qo_heap.proofs.HeapLemmas.{live-edit}
 use Rattle.qo_heap.proofs.ShowsChanges.{shows-made, shows-added}
 use Rattle.qo_heap.proofs.ShowsEdits.{shows-without_pin}
@@ -130,7 +127,7 @@ module _ (v w : Objects) (good : IsHeap v) (parent key : Key) (kind : TypeId) (n
   abbrev child_in : Objects
   child_in = with_edit parent.birth (with_slot name (Child key)) w
 
-  content-child : content_of child_in key.birth ≡ Some (record { kind = kind; slots = new_slots kind; pins = 1; body = body_of kind; device_id = None; kept_path = None })
+  content-child : content_of child_in key.birth ≡ Some (as_made kind (new_slots kind) 1)
   content-child = content-other w parent.birth key.birth (with_slot name (Child key)) apart ∙ made.content
 
   pub live-child : IsLive child_in.rows key
@@ -157,7 +154,7 @@ module _ (v w : Objects) (good : IsHeap v) (parent key : Key) (kind : TypeId) (n
 
 -- a new clock, whose period is its second slot
 abbrev pub new_clock : Content
-new_clock = record { kind = Clock; slots = new_slots Clock; pins = 0; body = body_of Clock; device_id = None; kept_path = None }
+new_clock = as_made Clock (new_slots Clock) 0
 
 pub clock-period : (v : Objects) (n : ℕ) → content_of v n ≡ Some new_clock → position (λ (s : Named). bytes_eq (codes "period") s.0) (slots_of v n) ≡ Some 1
 unfolding types
@@ -174,8 +171,8 @@ period-there v n there at = absent 1 (at ∙ clock-period v n there)
 
 -- the beginning and the end
 
-pub shows-none : Shows no_objects (record { rows = []; born = 0; log = empty_log; claims = nothing_held; time = 0 })
-shows-none = record { records = refl; born = refl; pins = refl; notes = none_lem; events = refl }
+pub shows-none : Shows no_objects no_objects_made
+shows-none = record { records = refl; born = refl; pins = refl; notes = none_lem; events = refl; now = refl }
 
 pub all-is_opening : with_all no_objects ≡ opening_board
 unfolding types opening_board make add set with_fresh_slots

@@ -2,10 +2,9 @@
 use Rattle.std.specs.Prelude.{◌≡◌, ℕ, ◌+◌, List, [], ◌∷◌, ◌++◌, ◌⊎◌, Some, None, Result, Ok, Err}
 use Rattle.std.specs.Option.{option_map_or}
 use Rattle.qo_values.specs.declared.kinds.TypeId.{TypeId}
-use Rattle.qo_kinds.specs.Bodies.{body_of}
 use Rattle.qo_slots.specs.declared.keys.Key.{Key}
 use Rattle.qo_notes.specs.Log.{noted_all}
-use Rattle.qo_object.specs.Content.{Content, with_slot}
+use Rattle.qo_object.specs.Content.{Content, with_slot, as_made}
 use Rattle.qo_object.specs.Slots.{Named}
 use Rattle.qo_object.specs.declared.slots.Slot.TheVariants.{Child}
 use Rattle.qo_model.specs.Board.{Board}
@@ -23,7 +22,7 @@ with_newest o c v = record v { rows = v.rows ++ (o, c) ∷ []; born = v.born + 1
 
 -- a heap with a child more under an object, the newest, which has these slots
 abbrev pub with_child : ℕ → List ℕ → Key → TypeId → List Named → Objects → Objects
-with_child n name o kind slots v = with_newest o (record { kind = kind; slots = slots; pins = 1; body = body_of kind; device_id = None; kept_path = None }) (with_edit n (with_slot name (Child o)) v)
+with_child n name o kind slots v = with_newest o (as_made kind slots 1) (with_edit n (with_slot name (Child o)) v)
 
 -- the heap behind an attempt that was given up: the object was made and ended
 abbrev pub given_up : TypeId → Objects → Objects

@@ -1,10 +1,8 @@
 -- What the calls that change the board answer, and the severing of an object's links.
-use Rattle.std.specs.Prelude.{◌≡◌, ℕ, Bool, true, false, leb, not, if◌then◌else◌, List, length, codes, Option, Some, None, Result, Ok, Err}
+use Rattle.std.specs.Prelude.{◌≡◌, ℕ, Bool, false, leb, not, if◌then◌else◌, List, length, codes, Option, Some, None, Result, Ok, Err}
 use Rattle.std.specs.Option.{option_map_or}
 use Rattle.qo_values.specs.declared.codes.Code.{Code}
-use Rattle.qo_object.specs.declared.slots.Slot.{Slot}
-use Rattle.qo_object.specs.declared.slots.Slot.TheVariants.{Link}
-use Rattle.qo_object.specs.Slots.{Named, slot_in}
+use Rattle.qo_object.specs.Slots.{Named, is_strong, slot_in}
 use Rattle.qo_model.specs.Board.{Board, is_live, slot_at, slots_at, strong}
 use Rattle.qo_values.specs.declared.codes.Code.TheVariants.{E15, E20, E21, E22, E24, E43}
 use Rattle.qo_model.specs.Objects.{Changed, barred, has_slot, objects_birth, severed_from}
@@ -23,11 +21,7 @@ pub record IsAnswered {T : Type 0} (change : Changed) (result : Result T Code) (
   pub refusal : change.refusal ≡ refusal_in result
   pub board : Shows change.board w
 
--- whether a slot is a strong link, and whether one stands at a place
-abbrev pub is_strong : Slot → Bool
-is_strong (Link t true target) = true
-is_strong s = false
-
+-- whether a strong link stands at a place
 abbrev pub is_strong_in : List Named → ℕ → Bool
 is_strong_in slots i = option_map_or is_strong (slot_in slots i) false
 

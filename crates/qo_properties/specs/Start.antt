@@ -3,9 +3,9 @@ use Rattle.std.specs.Prelude.{◌≡◌, ℕ, ◌+◌, true, List, [], codes, So
 use Rattle.qo_values.specs.declared.kinds.TypeId.{TypeId}
 use Rattle.qo_values.specs.declared.kinds.TypeId.TheVariants.{Container, Machine, Clock, SlotBus, MemBus}
 use Rattle.qo_values.specs.declared.properties.Val.TheVariants.{Uint}
-use Rattle.qo_kinds.specs.Bodies.{body_of}
 use Rattle.qo_slots.specs.declared.keys.Key.{Key}
 use Rattle.qo_table.specs.Rows.{IsLive}
+use Rattle.qo_object.specs.Content.{as_made}
 use Rattle.qo_model.specs.Board.{Board, child}
 use Rattle.qo_model.specs.Changes.{make, set, add, with_fresh_slots}
 use Rattle.qo_model.specs.Opening.{system_period}
@@ -66,5 +66,5 @@ pub record IsMade (old new : Objects) (kind : TypeId) (pins : ℕ) (o : Key) : T
   pub birth : o.birth ≡ old.born + 1
   pub born : new.born ≡ old.born + 1
   pub live : IsLive new.rows o
-  pub content : content_of new o.birth ≡ Some (record { kind = kind; slots = new_slots kind; pins = pins; body = body_of kind; device_id = None; kept_path = None })
+  pub content : content_of new o.birth ≡ Some (as_made kind (new_slots kind) pins)
   pub names : KeepsNames old new

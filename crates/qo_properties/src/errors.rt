@@ -15,12 +15,6 @@ impl From<AllocError> for Memory {
     }
 }
 
-impl From<qo_heap::Memory> for Memory {
-    fn from(_error: qo_heap::Memory) -> Memory {
-        Memory
-    }
-}
-
 impl From<MakeError> for Memory {
     fn from(_error: MakeError) -> Memory {
         Memory

@@ -1,14 +1,13 @@
 //! Making the objects of the opening board, in the order of births.
 
 ghost use Rattle.std.specs.Prelude.{◌≡◌, Some, None, IfOk, OnOk};
-ghost use Rattle.qo_kinds.specs.Bodies.{body_of};
 ghost use Rattle.qo_values.specs.Names.{IsName};
 ghost use Rattle.qo_values.specs.declared.kinds.TypeId.TheVariants.{Clock};
 ghost use Rattle.qo_values.specs.declared.properties.Val.TheVariants.{Uint};
 ghost use Rattle.qo_model.specs.Board.{Board};
 ghost use Rattle.qo_model.specs.Opening.{system_period};
 ghost use Rattle.qo_table.specs.Rows.{IsLive};
-ghost use Rattle.qo_object.specs.Content.{set_at};
+ghost use Rattle.qo_object.specs.Content.{set_at, as_made};
 ghost use Rattle.qo_heap.specs.Board.{Shows};
 ghost use Rattle.qo_heap.specs.Objects.{content_of, with_edit};
 ghost use Rattle.qo_properties.specs.Fresh.{new_slots};
@@ -68,7 +67,7 @@ fn make_child<L: Ledger>(
 /// Sets the period of a new clock to the system's.
 fn set_period<L: Ledger>(heap: &mut Heap, clock: Oid, steps: &mut Steps<L>)
     requires live { IsLive heap.old.rows clock }
-    requires content { content_of heap.old clock.birth ≡ Some (record { kind = Clock; slots = new_slots Clock; pins = 0; body = body_of Clock; device_id = None; kept_path = None }) }
+    requires content { content_of heap.old clock.birth ≡ Some (as_made Clock (new_slots Clock) 0) }
     ensures { heap.new ≡ with_edit clock.birth (set_at (Uint system_period) 1) heap.old }
 {
     if let Some(at) = place_named(heap, clock, "period", steps) {

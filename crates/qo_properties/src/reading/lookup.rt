@@ -20,12 +20,7 @@ pub fn object_of(heap: &Heap, birth: u64) -> Option<Oid>
     ensures live { IfSome result (IsLive heap.now.rows) }
     ensures none { IfNone result (content_of heap.now birth ≡ None) }
 {
-    heap.facts();
-    let o = heap.from_birth(birth)?;
-    if o.birth == birth {
-        return Some(o);
-    }
-    None
+    heap.by_birth(birth)
 }
 
 /// The place of the slot of a name of an object; `None` where it has none.

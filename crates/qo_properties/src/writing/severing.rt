@@ -12,7 +12,7 @@ ghost use Rattle.qo_properties.specs.Changes.{IsAnswered, is_strong_in, severed,
 ghost use Rattle.qo_properties.specs.Pinned.{OnlyRootPinned};
 
 use crate::reading::lookup::object_of;
-use qo_heap::{Heap, Oid, Slot, Steps};
+use qo_heap::{Heap, Oid, Steps};
 use qo_life::{drop_pin, let_go};
 use qo_paths::is_attached;
 use qo_values::Code;
@@ -36,7 +36,7 @@ fn is_strong_at<L: Ledger>(heap: &Heap, o: Oid, at: usize, steps: &mut Steps<L>)
     ensures { result ≡ is_strong_in (slots_of heap.now o.birth) at }
 {
     match heap.slot_at(o, at, steps) {
-        Some(view) => matches!(view.what, Slot::Link { strong: true, .. }),
+        Some(view) => view.what.is_strong(),
         None => false,
     }
 }

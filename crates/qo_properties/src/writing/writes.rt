@@ -62,15 +62,7 @@ fn held_at<L: Ledger>(heap: &Heap, o: Oid, at: usize, steps: &mut Steps<L>) -> O
     ensures { result ≡ option_and_then held (slot_in (slots_of heap.now o.birth) at) }
 {
     let slot = heap.slot_at(o, at, steps)?;
-    match slot.what {
-        Slot::Child(child) => Some(*child),
-        Slot::Link {
-            strong: true,
-            target,
-            ..
-        } => *target,
-        _ => None,
-    }
+    slot.what.held()
 }
 
 /// The type to whose objects the slot of an object at a place is a link; `None` where it is no link.

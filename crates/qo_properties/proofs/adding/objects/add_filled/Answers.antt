@@ -41,7 +41,7 @@ returns-in_err-made-clause-pins g c = tried-pins c.args.heap.now c.make_child.ne
 pub returns-clause-ok : goal.returns-clause-ok
 returns-clause-ok g c = λ b s.
     subst (λ (x : Objects). Shows (with_object b c.args.admitted.kind c.args.admitted.name c.args.props.now) x)
-    (sym (child-settled c.args.heap.now c.make_child.new.heap c.in_ok-made.made c.args.admitted.objects c.args.admitted.name c.args.admitted.kind (new_slots c.args.admitted.kind) c.facts.ensures c.in_ok-made.ensures.made.0 c.in_ok-made.ensures.made.1 c.settle.new.heap c.unpin.new.self c.in_ok-plan.plan.items c.settle.ensures c.unpin.ensures))
+    (sym (child-settled c.args.heap.now c.make_child.new.heap c.in_ok-made.made c.args.admitted.objects c.args.admitted.name c.args.admitted.kind (new_slots c.args.admitted.kind) c.facts.ensures c.in_ok-made.ensures.made.0 c.in_ok-made.ensures.made.1 c.settle.new.heap c.unpin.new.self c.in_ok-plan.plan.items c.settle.ensures c.unpin.ensures.now))
     (
     shows-object b c.args.heap.now s c.in_ok-made.made c.args.admitted.objects c.requires.objects c.in_ok-made.ensures.made.0 c.args.admitted.name c.args.admitted.kind c.args.props.now (filled c.in_ok-plan.plan.items (new_slots c.args.admitted.kind))
     (filled-given b c.args.props.now c.in_ok-plan.plan.items (new_slots c.args.admitted.kind) (c.in_ok-plan.ensures.told b s) ∙ ap (map (slot_given b c.args.props.now)) (new-shown c.args.admitted.kind (slots_of c.args.admitted.kind)))
@@ -50,4 +50,4 @@ returns-clause-ok g c = λ b s.
 pub returns-clause-pins : goal.returns-clause-pins
 returns-clause-pins g c =
     object-pins c.args.heap.now c.in_ok-made.made c.args.admitted.objects c.args.admitted.name c.args.admitted.kind (filled c.in_ok-plan.plan.items (new_slots c.args.admitted.kind)) c.unpin.new.self
-    (child-settled c.args.heap.now c.make_child.new.heap c.in_ok-made.made c.args.admitted.objects c.args.admitted.name c.args.admitted.kind (new_slots c.args.admitted.kind) c.facts.ensures c.in_ok-made.ensures.made.0 c.in_ok-made.ensures.made.1 c.settle.new.heap c.unpin.new.self c.in_ok-plan.plan.items c.settle.ensures c.unpin.ensures)
+    (child-settled c.args.heap.now c.make_child.new.heap c.in_ok-made.made c.args.admitted.objects c.args.admitted.name c.args.admitted.kind (new_slots c.args.admitted.kind) c.facts.ensures c.in_ok-made.ensures.made.0 c.in_ok-made.ensures.made.1 c.settle.new.heap c.unpin.new.self c.in_ok-plan.plan.items c.settle.ensures c.unpin.ensures.now)

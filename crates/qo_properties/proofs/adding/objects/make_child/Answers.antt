@@ -26,7 +26,7 @@ pub give_up-requires-clause-bare : goal.give_up-requires-clause-bare
 give_up-requires-clause-bare g c = newest-bare c.args.heap.now c.furnish.new.heap c.in_ok-o.o (with_slots (first_slots c.in-Err.ensures.err.0 c.args.kind) (fresh c.args.kind)) c.facts.ensures c.in_ok-o.ensures.made.0 (failed-furnish c.args.heap.now c.create.new.heap c.furnish.new.heap c.in_ok-o.o c.args.kind c.facts.ensures c.in_ok-o.ensures.made.0 c.in_ok-o.ensures.made.1 c.in-Err.ensures.err.0 c.in-Err.ensures.err.1) (first-bare c.in-Err.ensures.err.0 c.args.kind)
 
 pub returns-in-Err-clause-err : goal.returns-in-Err-clause-err
-returns-in-Err-clause-err g c = inr (newest-ends c.args.heap.now c.furnish.new.heap c.in_ok-o.o (with_slots (first_slots c.in-Err.ensures.err.0 c.args.kind) (fresh c.args.kind)) c.facts.ensures c.in_ok-o.ensures.made.0 (failed-furnish c.args.heap.now c.create.new.heap c.furnish.new.heap c.in_ok-o.o c.args.kind c.facts.ensures c.in_ok-o.ensures.made.0 c.in_ok-o.ensures.made.1 c.in-Err.ensures.err.0 c.in-Err.ensures.err.1) (fresh-bare c.args.kind) c.give_up.new.heap c.give_up.ensures)
+returns-in-Err-clause-err g c = inr (newest-ends c.args.heap.now c.furnish.new.heap c.in_ok-o.o (with_slots (first_slots c.in-Err.ensures.err.0 c.args.kind) (fresh c.args.kind)) c.facts.ensures c.in_ok-o.ensures.made.0 (failed-furnish c.args.heap.now c.create.new.heap c.furnish.new.heap c.in_ok-o.o c.args.kind c.facts.ensures c.in_ok-o.ensures.made.0 c.in_ok-o.ensures.made.1 c.in-Err.ensures.err.0 c.in-Err.ensures.err.1) (fresh-bare c.args.kind) refl refl c.give_up.new.heap c.give_up.ensures)
 
 pub returns-in-Ok-clause-made : goal.returns-in-Ok-clause-made
 returns-in-Ok-clause-made g c =

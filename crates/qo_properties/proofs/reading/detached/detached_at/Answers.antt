@@ -20,4 +20,4 @@ pub returns : goal.returns
 returns g c = λ b s.
     let free : is_some (parent_of c.args.heap.now c.in_ok-o.o.birth) ≡ false = ap is_some (sym c.parent.ensures) ∙ sym c.is_some.ensures ∙ c.if-is_some.false in
     detached-is b c.args.heap.now s c.facts.ensures c.args.place c.in_ok-o.o c.refs.result c.kind.result c.in_ok-o.ensures
-    (parent-test (parent_of c.args.heap.now c.in_ok-o.o.birth) c.in_ok-o.o.birth false free c.if-o-eq1.false) c.refs.ensures c.kind.ensures
+    (parent-test (parent_of c.args.heap.now c.in_ok-o.o.birth) c.in_ok-o.o.birth false free c.if-o-eq1.false) c.refs.ensures c.kind.ensures.kind
