@@ -8,6 +8,7 @@ use Rattle.std.proofs.lemmas.Nat.{zero_from_ones, ones_le_self}
 use Rattle.std.proofs.lemmas.Bool.{cases_lt}
 use Rattle.std.proofs.lemmas.Bool.Decides.{nat_tests}
 use Rattle.qo_values.specs.Rings.{is_ring_size}
+use Rattle.qo_values.specs.declared.limits.TheConstants.{RING_SIZE_MAX}
 use Rattle.qo_chardev.specs.Laws.{SizesArePowers}
 
 power_of_ones : (d n : ℕ) → n ≤ d → count_ones n ≡ 1 → (k : ℕ) × (n ≡ 2 ^ k)
@@ -44,15 +45,14 @@ ones_of_power (suc k) =
 pub sizes_are_powers : SizesArePowers
 sizes_are_powers size = (λ e. forth e, λ p. back p.0 p.1 p.2)
   where
-    forth : is_ring_size size ≡ true → (k : ℕ) × (k ≤ 20) × (size ≡ 2 ^ k)
+    forth : is_ring_size size ≡ true → (k : ℕ) × (size ≡ 2 ^ k) × (size ≤ RING_SIZE_MAX)
     forth e =
         let one : count_ones size ≡ 1 = grind (arith, nat_tests) in
-        let few : size ≤ 1048576 = grind (arith, nat_tests) in
+        let few : size ≤ RING_SIZE_MAX = grind (arith, nat_tests) in
         let power = power_of_ones size size (omega arith) one in
-        (power.0, ⊎_elim (λ big. let past : 2 ^ 21 ≤ 2 ^ power.0 = pow_mono big in absurd (omega (arith, power.1))) (λ small. small) (cases_lt 20 power.0), power.1)
+        (power.0, power.1, few)
 
-    back : (k : ℕ) → k ≤ 20 → size ≡ 2 ^ k → is_ring_size size ≡ true
-    back k few e =
-        let within : 2 ^ k ≤ 2 ^ 20 = pow_mono few in
-        let one = ones_of_power k in
-        rw e (grind (arith, nat_tests))
+    back : (k : ℕ) → size ≡ 2 ^ k → size ≤ RING_SIZE_MAX → is_ring_size size ≡ true
+    back k e few =
+        let one : count_ones size ≡ 1 = rw e (ones_of_power k) in
+        grind (arith, nat_tests)

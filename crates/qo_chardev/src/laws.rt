@@ -2,7 +2,7 @@
 
 ghost use Rattle.qo_chardev.specs.Laws.{SizesArePowers, TextsAreEncodings};
 
-/// A number is the size of a ring exactly where it is a power of two up to 1,048,576.
+/// A number is the size of a ring exactly where it is a power of two up to `RING_SIZE_MAX`.
 pub fn law_sizes()
     ensures { SizesArePowers }
 {}

@@ -26,7 +26,7 @@ impl Model for Ring {
 /// Why no ring was made.
 #[derive(Debug, Drop, Error)]
 pub enum RingError {
-    /// The size is no power of two from 1 to 1,048,576.
+    /// The size is no power of two from 1 to `RING_SIZE_MAX`.
     #[error("ring size not a power of two")]
     BadSize,
     /// Memory ran out.
@@ -73,7 +73,7 @@ impl Ring {
     ghost use Rattle.qo_chardev.specs.Texts.{told, untold, Adds};
 
     /// A ring of a size, without bytes; `BadSize` exactly where the size is no power of two from 1
-    /// to 1,048,576.
+    /// to `RING_SIZE_MAX`.
     pub fn new(alloc: Global, size: u64) -> Result<Ring, RingError>
         ensures ring { IfOk result (λ ring. (ring ≡ empty_ring size) × (is_ring_size size ≡ true)) }
         ensures bad_size { is_ring_size size ≡ false → result ≡ Err RingError.BadSize }

@@ -11,7 +11,7 @@ use Rattle.std.proofs.lemmas.Bool.{ne_eqb, eqb-true, leb-true}
 use Rattle.std.proofs.lemmas.Bool.Decides.{nat_tests}
 use Rattle.qo_guest.specs.declared.addresses.Addr.{Addr}
 use Rattle.qo_guest.specs.declared.addresses.Addr.TheVariants.{Slots, Mem}
-use Rattle.qo_guest.specs.Addresses.{pieces, number_of, numbers_of, at_most_nine, steps_of, address_of}
+use Rattle.qo_guest.specs.Addresses.{pieces, number_of, numbers_of, not_too_deep, steps_of, address_of}
 use Rattle.qo_guest.specs.Answers.{steps_text, address_text}
 use Rattle.qo_guest.specs.Spellings.{IsSteps, IsAddress, AddressesAreSpelled}
 use Rattle.qo_guest.proofs.Numbers.{guard_some, then_some, number_taken, number_given}
@@ -86,7 +86,7 @@ numbers_given (n ∷ ns) all = let here = number_given n all.0 in let rest = num
 -- a word that is slots is their text
 steps_taken : (word steps : List ℕ) → steps_of word ≡ Some steps → IsSteps steps × (word ≡ steps_text steps)
 steps_taken word steps e =
-    let read = then_some (numbers_of (pieces 46 word)) at_most_nine steps e in
+    let read = then_some (numbers_of (pieces 46 word)) not_too_deep steps e in
     let few = guard_some (nat_le (length read.0) 9) read.0 steps read.2 in
     let numbers = numbers_taken (pieces 46 word) read.0 read.1 in
     let first = pieces_some 46 word in

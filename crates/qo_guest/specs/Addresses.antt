@@ -1,8 +1,10 @@
 -- The words of a guest line: numbers, addresses and values (docs/PROFILE.md, guest lines).
 use Rattle.std.specs.Prelude.{ℕ, ◌+◌, ◌-◌, ◌*◌, ◌&&◌, ◌==◌, nat_le, List, [], ◌∷◌, length, Option, Some, None, option_and_then, if◌then◌else◌}
 use Rattle.std.specs.List.{slice_split}
+use Rattle.qo_guest.specs.declared.addresses.TheConstants.{STEPS_MAX}
 use Rattle.qo_guest.specs.declared.addresses.Addr.{Addr}
 use Rattle.qo_guest.specs.declared.addresses.Addr.TheVariants.{Slots, Mem}
+use Rattle.qo_guest.specs.declared.words.TheConstants.{VALUE_DIGITS_MAX}
 
 -- the parts of a line or a word between its separators
 abbrev pub pieces : ℕ → List ℕ → List (List ℕ)
@@ -30,13 +32,13 @@ abbrev pub numbers_of : List (List ℕ) → Option (List ℕ)
 numbers_of [] = Some []
 numbers_of (word ∷ words) = option_and_then (λ n. option_and_then (λ ns. Some (n ∷ ns)) (numbers_of words)) (number_of word)
 
--- at most nine slots
-abbrev pub at_most_nine : List ℕ → Option (List ℕ)
-at_most_nine steps = if nat_le (length steps) 9 then Some steps else None
+-- at most STEPS_MAX slots
+abbrev pub not_too_deep : List ℕ → Option (List ℕ)
+not_too_deep steps = if nat_le (length steps) STEPS_MAX then Some steps else None
 
--- one to nine slots joined by dots
+-- one to STEPS_MAX slots joined by dots
 abbrev pub steps_of : List ℕ → Option (List ℕ)
-steps_of word = option_and_then at_most_nine (numbers_of (pieces 46 word))
+steps_of word = option_and_then not_too_deep (numbers_of (pieces 46 word))
 
 -- a word that is an address: `m` and a number, or slots
 abbrev pub address_of : List ℕ → Option Addr
@@ -57,9 +59,9 @@ abbrev pub with_hex : ℕ → List ℕ → Option ℕ
 with_hex n [] = Some n
 with_hex n (byte ∷ bytes) = option_and_then (λ digit. with_hex (n * 16 + digit) bytes) (hex_digit byte)
 
--- a word that is a value: `0x` and one to eight hexadecimal digits
+-- a word that is a value: `0x` and one to VALUE_DIGITS_MAX hexadecimal digits
 abbrev pub value_of : List ℕ → Option ℕ
 value_of (first ∷ second ∷ digits) =
-    if first == 48 && second == 120 && nat_le 1 (length digits) && nat_le (length digits) 8
+    if first == 48 && second == 120 && nat_le 1 (length digits) && nat_le (length digits) VALUE_DIGITS_MAX
     then with_hex 0 digits else None
 value_of _ = None

@@ -1,6 +1,7 @@
 -- How a guest line is read into an act (docs/PROFILE.md, guest lines).
 use Rattle.std.specs.Prelude.{ℕ, nat_le, codes, List, [], ◌∷◌, length, Option, Some, None, option_and_then, if◌then◌else◌}
 use Rattle.std.specs.Str.{bytes_eq}
+use Rattle.qo_values.specs.declared.limits.TheConstants.{GUEST_LINE_MAX}
 use Rattle.qo_guest.specs.Addresses.{pieces, number_of, address_of, value_of}
 use Rattle.qo_guest.specs.declared.addresses.Addr.{Addr}
 use Rattle.qo_guest.specs.declared.lines.GuestAct.{GuestAct}
@@ -38,6 +39,6 @@ act_of [] = None
 act_of (verb ∷ []) = lone_act verb
 act_of (verb ∷ word ∷ words) = option_and_then (λ at. aimed_act verb at words) (address_of word)
 
--- the act of a line of at most 256 bytes, whose words are separated by one space
+-- the act of a line of at most GUEST_LINE_MAX bytes, whose words are separated by one space
 abbrev pub guest_line : List ℕ → Option GuestAct
-guest_line line = if nat_le (length line) 256 then act_of (pieces 32 line) else None
+guest_line line = if nat_le (length line) GUEST_LINE_MAX then act_of (pieces 32 line) else None

@@ -2,18 +2,21 @@
 use Rattle.std.specs.Prelude.{◌≡◌, ℕ, ◌≤◌, ◌<◌, ◌^◌, ◌↔◌, codes, List, ◌∷◌, ◌++◌, length, Some, All}
 use Rattle.std.specs.Fmt.{decimal}
 use Rattle.std.specs.Str.Parse.{AllDigits, digits_value}
+use Rattle.qo_values.specs.declared.limits.TheConstants.{GUEST_LINE_MAX}
 use Rattle.qo_guest.specs.declared.addresses.Addr.{Addr}
 use Rattle.qo_guest.specs.declared.addresses.Addr.TheVariants.{Slots, Mem}
 use Rattle.qo_guest.specs.declared.lines.GuestAct.{GuestAct}
 use Rattle.qo_guest.specs.declared.lines.GuestAct.TheVariants.{Ack, Nack, Poll, Read, Write, Reset, Shutdown}
+use Rattle.qo_guest.specs.declared.addresses.TheConstants.{STEPS_MAX}
+use Rattle.qo_guest.specs.declared.words.TheConstants.{VALUE_DIGITS_MAX}
 use Rattle.qo_guest.specs.Addresses.{number_of, address_of, value_of}
 use Rattle.qo_guest.specs.Answers.{address_text, hex_text}
 use Rattle.qo_guest.specs.Lines.{guest_line}
 
--- 1 to 9 slots, each 0 to 255
+-- 1 to STEPS_MAX slots, each 0 to 255
 pub record IsSteps (steps : List ℕ) : Type 0 where
   pub some : 1 ≤ length steps
-  pub few : length steps ≤ 9
+  pub few : length steps ≤ STEPS_MAX
   pub slots : All (λ slot. slot ≤ 255) steps
 
 -- an address whose numbers are 0 to 255
@@ -21,10 +24,10 @@ abbrev pub IsAddress : Addr → Type 0
 IsAddress (Slots steps) = IsSteps steps
 IsAddress (Mem n) = n ≤ 255
 
--- one to eight hexadecimal digits of either case that stand for a value
+-- one to VALUE_DIGITS_MAX hexadecimal digits of either case that stand for a value
 pub record IsHex (digits : List ℕ) (value : ℕ) : Type 0 where
   pub some : 1 ≤ length digits
-  pub few : length digits ≤ 8
+  pub few : length digits ≤ VALUE_DIGITS_MAX
   pub all : AllDigits 16 digits
   pub same : digits_value 16 digits ≡ value
 
@@ -49,9 +52,9 @@ NumbersAreSpelled = (word : List ℕ) (n : ℕ) → (number_of word ≡ Some n) 
 abbrev pub AddressesAreSpelled : Type 0
 AddressesAreSpelled = (word : List ℕ) (at : Addr) → (address_of word ≡ Some at) ↔ (IsAddress at × (word ≡ address_text at))
 
--- a line of at most 256 bytes is read as the act that it spells, and no other line is an act
+-- a line of at most GUEST_LINE_MAX bytes is read as the act that it spells, and no other line is an act
 abbrev pub LinesAreSpelled : Type 0
-LinesAreSpelled = (line : List ℕ) (act : GuestAct) → (guest_line line ≡ Some act) ↔ ((length line ≤ 256) × Spells line act)
+LinesAreSpelled = (line : List ℕ) (act : GuestAct) → (guest_line line ≡ Some act) ↔ ((length line ≤ GUEST_LINE_MAX) × Spells line act)
 
 -- the digits of an answered value are read back
 abbrev pub ValuesAreReadBack : Type 0

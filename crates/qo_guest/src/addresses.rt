@@ -6,10 +6,11 @@ ghost use Rattle.qo_guest.specs.Answers.{steps_text, address_text};
 use std::fmt;
 use std::marker::Model;
 
-/// The most slots on the way to a device: one of the root bus, and one for each bridge below it.
+/// The most slots on the way to a device: one of the root bus, and one for each bridge below it, of
+/// which there are at most `BUS_DEPTH_MAX`.
 pub const STEPS_MAX: usize = 9;
 
-/// The slots on the way from the root bus to a device, 1 to 9 of them, outermost first.
+/// The slots on the way from the root bus to a device, 1 to `STEPS_MAX` of them, outermost first.
 #[derive(Clone, Copy, Debug, PartialEq, Eq)]
 pub struct Steps9 {
     slots: [u8; STEPS_MAX],
@@ -43,7 +44,7 @@ impl Steps9 {
 
     /// Goes one slot further. It takes no memory.
     pub fn push(&mut self, slot: u8)
-        requires { length self.old < 9 }
+        requires { length self.old < STEPS_MAX }
         ensures { self.new ≡ self.old ++ slot ∷ [] }
     {
         self.slots[self.count] = slot;
@@ -53,7 +54,7 @@ impl Steps9 {
     /// The slots as a slice. It takes no memory.
     pub fn as_slice(&self) -> &[u8]
         ensures value { result.now ≡ self.now }
-        ensures within { (1 ≤ length self.now) × (length self.now ≤ 9) }
+        ensures within { (1 ≤ length self.now) × (length self.now ≤ STEPS_MAX) }
     {
         &self.slots[..self.count]
     }

@@ -12,7 +12,7 @@ pub fn law_addresses()
     ensures { AddressesAreSpelled }
 {}
 
-/// A line is read as an act exactly where it has at most 256 bytes and spells it.
+/// A line is read as an act exactly where it has at most `GUEST_LINE_MAX` bytes and spells it.
 pub fn law_lines()
     ensures { LinesAreSpelled }
 {}

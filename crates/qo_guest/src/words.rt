@@ -58,7 +58,7 @@ pub fn read_number(word: &[u8]) -> Option<u8>
     }
 }
 
-/// The slots that a word is: 1 to 9 of them, joined by dots.
+/// The slots that a word is: 1 to `STEPS_MAX` of them, joined by dots.
 fn read_steps(word: &[u8]) -> Option<Steps9>
     ensures { result ≡ steps_of word.now }
 {
@@ -102,7 +102,7 @@ fn hex_digit(byte: u8) -> Option<u32>
 /// The number that at most eight hexadecimal digits stand for.
 #[tactic(auto, using(crate::proofs::Hex::room_for_digit))]
 fn read_hex(digits: &[u8]) -> Option<u32>
-    requires { length digits.now ≤ 8 }
+    requires { length digits.now ≤ VALUE_DIGITS_MAX }
     ensures { result ≡ with_hex 0 digits.now }
 {
     let mut number = 0;

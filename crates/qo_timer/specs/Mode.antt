@@ -1,5 +1,5 @@
 -- A timer's registers in terms of what the code keeps of its segments.
-use Rattle.std.specs.Prelude.{ℕ, ◌+◌, Bool, true, false}
+use Rattle.std.specs.Prelude.{ℕ, Bool, true, false, Option, Some, None}
 use Rattle.qo_timer.specs.declared.timer.Mode.{Mode}
 use Rattle.qo_timer.specs.declared.timer.Mode.TheVariants.{Disabled, Between, Open}
 
@@ -8,8 +8,7 @@ abbrev pub is_enabled : Mode → Bool
 is_enabled Disabled = false
 is_enabled _ = true
 
--- the start that goes with the last moment: an open segment began there
-abbrev pub start_of : Mode → ℕ → ℕ
-start_of Disabled last = 0
-start_of Between last = last + 1
-start_of Open last = last
+-- where the open segment began, if there is one: at the last moment
+abbrev pub began_of : Mode → ℕ → Option ℕ
+began_of Open last = Some last
+began_of _ last = None

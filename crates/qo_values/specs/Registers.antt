@@ -1,8 +1,8 @@
 -- What the bodies of devices keep (registers of the profile; the tables are in docs/PROFILE.md).
-use Rattle.std.specs.Prelude.{ℕ, Bool, false}
+use Rattle.std.specs.Prelude.{ℕ, Bool, false, Option, None}
 use Rattle.qo_values.specs.declared.kinds.TypeId.{TypeId}
 use Rattle.qo_values.specs.declared.kinds.TypeId.TheVariants.{SlotUart, SlotTimer, SlotBridge, MemDimm}
-use Rattle.qo_values.specs.declared.limits.TheConstants.{COUNT_MAX}
+use Rattle.qo_values.specs.declared.limits.TheConstants.{RELOAD_AT_FIRST}
 
 -- a UART; holds counts the hold phases since the birth
 pub record UartRegisters : Type 0 where
@@ -12,13 +12,13 @@ pub record UartRegisters : Type 0 where
   pub sent : ℕ
   pub holds : ℕ
 
--- a timer: done is the sum over the ended segments, each rounded down; start is where the open segment began;
--- last is the last moment at which a segment began or ended, 0 at birth (moments in ns)
+-- a timer: done is the sum over the ended segments, each rounded down; began is where the open segment began, if there
+-- is one; last is the last moment at which a segment began or ended, 0 at birth (moments in ns)
 pub record TimerRegisters : Type 0 where
   pub enabled : Bool
   pub reload : ℕ
   pub done : ℕ
-  pub start : ℕ
+  pub began : Option ℕ
   pub last : ℕ
   pub holds : ℕ
 
@@ -46,7 +46,7 @@ fresh_uart = record { ready = false; divisor = 1; scratch = 0; sent = 0; holds =
 
 -- a timer at birth: disabled, no segments
 abbrev pub fresh_timer : TimerRegisters
-fresh_timer = record { enabled = false; reload = COUNT_MAX; done = 0; start = 0; last = 0; holds = 0 }
+fresh_timer = record { enabled = false; reload = RELOAD_AT_FIRST; done = 0; began = None; last = 0; holds = 0 }
 
 -- what an object of a type has at birth
 abbrev pub fresh_registers : TypeId → Registers

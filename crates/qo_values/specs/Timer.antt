@@ -1,7 +1,8 @@
 -- A timer's registers as a guest reads and writes them, its reset phases and its clock's callbacks (a device of the
 -- profile; phases: docs/devel/reset.rst, "Multi-phase mechanism"; callbacks: docs/devel/clocks.rst, "Clock callbacks").
 -- Moments are in ns and periods in units of which UNITS_PER_NS make one, 0 for a clock that stands still.
-use Rattle.std.specs.Prelude.{ℕ, ◌+◌, ◌-◌, ◌*◌, ◌/◌, ◌%◌, Bool, true, false, ◌&&◌, ◌||◌, ◌==◌, if◌then◌else◌, Option, Some, None}
+use Rattle.std.specs.Prelude.{ℕ, ◌+◌, ◌-◌, ◌*◌, ◌/◌, ◌%◌, Bool, true, false, ◌||◌, ◌==◌, if◌then◌else◌, Option, Some, None, is_some}
+use Rattle.std.specs.Option.{option_map_or}
 use Rattle.qo_values.specs.Counts.{count_up}
 use Rattle.qo_values.specs.Registers.{TimerRegisters, fresh_timer}
 use Rattle.qo_values.specs.declared.limits.TheConstants.{UNITS_PER_NS}
@@ -10,22 +11,22 @@ use Rattle.qo_values.specs.declared.limits.TheConstants.{UNITS_PER_NS}
 abbrev pub span_ticks : ℕ → ℕ → ℕ
 span_ticks span period = if period == 0 then 0 else span * UNITS_PER_NS / period
 
--- whether a segment is open: enabled, and a segment began at the last moment at which one began or ended
+-- whether a segment is open
 abbrev pub is_open : TimerRegisters → Bool
-is_open t = t.enabled && t.start == t.last
+is_open t = is_some t.began
 
 -- the ticks counted: those of the ended segments and, where a segment is open, its own up to now
 abbrev pub timer_ticks : TimerRegisters → ℕ → ℕ → ℕ
-timer_ticks t now period = if is_open t then t.done + span_ticks (now - t.start) period else t.done
+timer_ticks t now period = option_map_or (λ from. t.done + span_ticks (now - from) period) t.began t.done
 
--- the open segment ends; a start past last says that the timer is enabled and no segment is open
+-- the open segment ends
 abbrev pub after_end : TimerRegisters → ℕ → ℕ → TimerRegisters
 after_end t now period =
-    if is_open t then record t { done = timer_ticks t now period; start = now + 1; last = now } else t
+    if is_open t then record t { done = timer_ticks t now period; began = None; last = now } else t
 
 -- a segment begins
 abbrev pub after_begin : TimerRegisters → ℕ → TimerRegisters
-after_begin t now = record t { start = now; last = now }
+after_begin t now = record t { began = Some now; last = now }
 
 -- Enter: as at birth, but for the last moment and HOLDS
 abbrev pub timer_enter : TimerRegisters → TimerRegisters
@@ -43,9 +44,9 @@ timer_pre t now old = after_end t now old
 abbrev pub timer_update : TimerRegisters → ℕ → TimerRegisters
 timer_update t now = if t.enabled then after_begin t now else t
 
--- the open segment ends, and the timer is disabled, its start as at birth: at Unrealize, and where CTRL falls
+-- the open segment ends, and the timer is disabled: at Unrealize, and where CTRL falls
 abbrev pub timer_halt : TimerRegisters → ℕ → ℕ → TimerRegisters
-timer_halt t now period = record (after_end t now period) { enabled = false; start = 0 }
+timer_halt t now period = record (after_end t now period) { enabled = false }
 
 -- COUNT: it falls with each tick from RELOAD to 0, and then begins again
 abbrev pub timer_count : TimerRegisters → ℕ → ℕ → ℕ

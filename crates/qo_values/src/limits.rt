@@ -51,6 +51,9 @@ pub const NAME_MAX: usize = 140;
 /// The last value of a register that counts; a count stays there.
 pub const COUNT_MAX: u32 = u32::MAX;
 
+/// RELOAD of a timer at birth and after Enter.
+pub const RELOAD_AT_FIRST: u32 = u32::MAX;
+
 /// Units of a clock's period in a nanosecond.
 pub const UNITS_PER_NS: u64 = 4_294_967_296;
 
