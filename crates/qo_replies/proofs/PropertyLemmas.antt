@@ -1,15 +1,24 @@
 -- Lists of properties, property by property.
 use Rattle.std.proofs.Common.{◌≡◌, ◌≤◌, ℕ, Bool, true, false, List, [], ◌∷◌, ◌++◌, map, refl, sym, ◌∙◌, ap, append_assoc, append-nil, IsUtf8, arith, suc, zero}
-use Rattle.std.specs.Prelude.{◌&&◌, not, ◌==◌, nat_le}
+use Rattle.std.specs.Prelude.{codes, ◌&&◌, not, ◌==◌, nat_le}
 use Rattle.std.specs.List.{list_all}
 use Rattle.std.specs.Str.{IsAscii, chars}
 use Rattle.std.proofs.lemmas.Grind.{flat_map-append}
 use Rattle.std.proofs.lemmas.Bool.{and_parts, le-ltb, leb-true, ne_eqb, not-true}
+use Rattle.std.proofs.lemmas.List.Folds.{list_all-append}
 use Rattle.std.proofs.lemmas.Str.{chars-append, IsUtf8-append, IsUtf8-from_ascii, IsAscii-append}
 use Rattle.json.specs.Print.{escape, escape_byte, quoted}
 use Rattle.serde_json.proofs.OnLiterals.{serde_json_on_literals}
 use Rattle.serde_json.specs.View.{items_of}
 use Rattle.serde_json.specs.Written.{comma_if, compact_text, items_text}
+use Rattle.qo_values.specs.Kinds.{type_name}
+use Rattle.qo_values.specs.TypeTexts.{around, text_of, value_word}
+use Rattle.qo_values.specs.declared.kinds.TypeId.{TypeId}
+use Rattle.qo_values.specs.declared.kinds.TypeId.TheVariants as kind
+use Rattle.qo_values.specs.declared.properties.PropType.{PropType}
+use Rattle.qo_values.specs.declared.properties.PropType.TheVariants as ty
+use Rattle.qo_values.specs.declared.type_texts.TypeText.{TypeText}
+use Rattle.qo_values.specs.declared.type_texts.TypeText.TheVariants as text
 use Rattle.qo_replies.specs.Json.{ascii, character_text, json}
 use Rattle.qo_replies.specs.Plain.{is_plain_byte}
 use Rattle.qo_replies.specs.Properties.{Begun, HasWritten, are_any, before_name, before_type, behind_type, opened, properties_data, property_data, rows_text}
@@ -77,6 +86,44 @@ quoted-plain bs h = rw (escape-plain bs h) (ascii-plain (quote ++ (bs ++ quote))
 
 pub quoted-spelled : (bs : List ℕ) → list_all is_plain_byte bs ≡ true → IsUtf8 (quoted bs)
 quoted-spelled bs h = rw (escape-plain bs h) (IsUtf8-from_ascii (quote ++ (bs ++ quote)) (quoted-ascii bs h))
+
+-- what is told of types stands for itself
+plain-name : (t : TypeId) → list_all is_plain_byte (type_name t) ≡ true
+plain-name kind.Object = refl
+plain-name kind.Container = refl
+plain-name kind.Machine = refl
+plain-name kind.Device = refl
+plain-name kind.SlotDevice = refl
+plain-name kind.SlotUart = refl
+plain-name kind.SlotTimer = refl
+plain-name kind.SlotBridge = refl
+plain-name kind.MemDimm = refl
+plain-name kind.Bus = refl
+plain-name kind.SlotBus = refl
+plain-name kind.MemBus = refl
+plain-name kind.Clock = refl
+plain-name kind.MemoryBackend = refl
+plain-name kind.MemoryBackendRam = refl
+plain-name kind.Tag = refl
+
+both-plain : (a b : List ℕ) → list_all is_plain_byte a ≡ true → list_all is_plain_byte b ≡ true → list_all is_plain_byte (a ++ b) ≡ true
+both-plain a b ea eb = list_all-append is_plain_byte a b ∙ rw (ea, eb) refl
+
+pub plain-around : (word : List ℕ) (t : TypeId) → list_all is_plain_byte word ≡ true → list_all is_plain_byte (around word t) ≡ true
+plain-around word t e =
+    both-plain ((word ++ codes "<") ++ type_name t) (codes ">") (both-plain (word ++ codes "<") (type_name t) (both-plain word (codes "<") e refl) (plain-name t)) refl
+
+plain-value : (t : PropType) → list_all is_plain_byte (value_word t) ≡ true
+plain-value ty.Bool = refl
+plain-value (ty.Int lo hi) = refl
+plain-value (ty.Uint lo hi step) = refl
+plain-value ty.Text = refl
+
+pub plain-type : (t : TypeText) → list_all is_plain_byte (text_of t) ≡ true
+plain-type (text.Value t) = plain-value t
+plain-type (text.Child t) = plain-around (codes "child") t refl
+plain-type (text.Link t) = plain-around (codes "link") t refl
+plain-type text.Nothing = refl
 
 -- one property more in a list
 rows_more : (rows : List (List ℕ × List ℕ)) (row : List ℕ × List ℕ) → rows_text true (rows ++ row ∷ []) ≡ rows_text true rows ++ (44 ∷ compact_text (property_data row))
@@ -184,3 +231,9 @@ three_more a b c d = append_assoc (a ++ b) c d ∙ append_assoc a b (c ++ d)
 
 pub five_more : (a b c d e f : List ℕ) → ((((a ++ b) ++ c) ++ d) ++ e) ++ f ≡ a ++ (b ++ (c ++ (d ++ (e ++ f))))
 five_more a b c d e f = three_more ((a ++ b) ++ c) d e f ∙ three_more a b c (d ++ (e ++ f))
+
+-- a word around a type's name, piece by piece
+pub around-pieces : (a word name : List ℕ) → ((((a ++ 34 ∷ []) ++ word) ++ codes "<") ++ name) ++ (codes ">" ++ 34 ∷ []) ≡ a ++ (34 ∷ ((((word ++ codes "<") ++ name) ++ codes ">") ++ 34 ∷ []))
+around-pieces a word name =
+    five_more a (34 ∷ []) word (codes "<") name (codes ">" ++ 34 ∷ [])
+    ∙ ap (λ t. a ++ 34 ∷ t) (sym (append_assoc ((word ++ codes "<") ++ name) (codes ">") (34 ∷ []) ∙ three_more word (codes "<") name (codes ">" ++ 34 ∷ [])))

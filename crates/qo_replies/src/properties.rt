@@ -4,13 +4,14 @@ ghost use Rattle.std.specs.Prelude.{◌≡◌, ◌++◌, [], ◌∷◌, List, �
 ghost use Rattle.std.specs.List.{list_all};
 ghost use Rattle.std.specs.Str.{IsUtf8};
 ghost use Rattle.json.specs.Print.{quoted};
+ghost use Rattle.qo_values.specs.TypeTexts.{around, text_of};
 ghost use Rattle.qo_replies.specs.Json.{ascii, json};
 ghost use Rattle.qo_replies.specs.Plain.{is_plain_byte};
 ghost use Rattle.qo_replies.specs.Properties.{before_name, property_data};
 ghost use Rattle.serde_json.specs.Written.{comma_if, compact_text};
 
 use crate::ascii::push_ascii;
-use qo_values::Text;
+use qo_values::{Text, TypeId, TypeText};
 use serde_json::Value;
 use std::alloc::{AllocError, Global};
 use std::marker::Model;
@@ -63,6 +64,31 @@ fn push_quoted(alloc: Global, text: &mut String, plain: &str) -> Result<(), Allo
     }
 }
 
+/// A word around the name of a type, in quotes.
+fn push_around(text: &mut String, word: &str, kind: TypeId) -> Result<(), AllocError>
+    requires { list_all is_plain_byte word.now ≡ true }
+    ensures { OnOk result (string_bytes text.new ≡ string_bytes text.old ++ ascii (quoted (around word.now kind))) }
+{
+    text.push_str("\"")?;
+    text.push_str(word)?;
+    text.push_str("<")?;
+    text.push_str(kind.name())?;
+    text.push_str(">\"")?;
+    Ok(())
+}
+
+/// What is told of the type of a property, as a JSON string.
+fn push_type(text: &mut String, ty: TypeText) -> Result<(), AllocError>
+    ensures { OnOk result (string_bytes text.new ≡ string_bytes text.old ++ ascii (quoted (text_of ty))) }
+{
+    match ty {
+        TypeText::Value(of) => push_plain(text, of.word()),
+        TypeText::Child(kind) => push_around(text, "child", kind),
+        TypeText::Link(kind) => push_around(text, "link", kind),
+        TypeText::Nothing => push_plain(text, ""),
+    }
+}
+
 /// What stands before the name of a property.
 fn before_name(some: bool) -> &'static str
     ensures { result.now ≡ before_name some }
@@ -76,15 +102,15 @@ fn push_property(
     text: &mut String,
     some: bool,
     name: &str,
-    ty: &str,
+    ty: TypeText,
 ) -> Result<(), AllocError>
-    ensures bytes { OnOk result (string_bytes text.new ≡ string_bytes text.old ++ ascii (comma_if some ++ compact_text (property_data (name.now, ty.now)))) }
-    ensures spelled { OnOk result (IsUtf8 (comma_if some ++ compact_text (property_data (name.now, ty.now)))) }
+    ensures bytes { OnOk result (string_bytes text.new ≡ string_bytes text.old ++ ascii (comma_if some ++ compact_text (property_data (name.now, text_of ty)))) }
+    ensures spelled { OnOk result (IsUtf8 (comma_if some ++ compact_text (property_data (name.now, text_of ty)))) }
 {
     text.push_str(before_name(some))?;
     push_quoted(alloc, text, name)?;
     text.push_str(",\"type\":")?;
-    push_quoted(alloc, text, ty)?;
+    push_type(text, ty)?;
     text.push_str("}")?;
     Ok(())
 }
@@ -119,8 +145,8 @@ impl PropertyList {
     }
 
     /// A property more, behind the others. The error is want of memory.
-    pub fn push(&mut self, alloc: Global, name: &str, ty: &str) -> Result<(), AllocError>
-        ensures { OnOk result ((rows : List (List ℕ × List ℕ)) → HasWritten rows self.old → HasWritten (rows ++ (name.now, ty.now) ∷ []) self.new) }
+    pub fn push(&mut self, alloc: Global, name: &str, ty: TypeText) -> Result<(), AllocError>
+        ensures { OnOk result ((rows : List (List ℕ × List ℕ)) → HasWritten rows self.old → HasWritten (rows ++ (name.now, text_of ty) ∷ []) self.new) }
     {
         push_property(alloc, &mut self.text, self.some, name, ty)?;
         self.some = true;
