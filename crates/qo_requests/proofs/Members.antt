@@ -5,9 +5,9 @@ use Rattle.std.specs.List.{list_all}
 use Rattle.std.specs.Map.{keys_of}
 use Rattle.serde_json.proofs.Views.{Entry}
 use Rattle.serde_json.specs.View.{members_view}
-use Rattle.qo_requests.specs.Fields.{is_named, all_named}
-use Rattle.qo_requests.specs.declared.fields.Field.{Field}
+use Rattle.qo_requests.specs.Arguments.{is_named, all_named}
+use Rattle.qo_requests.specs.declared.arguments.Argument.{Argument}
 
-pub all_named_keys : (fields : List Field) (es : List Entry) → all_named fields (members_view es) ≡ list_all (λ name. is_named fields (string_bytes name)) (keys_of es)
-all_named_keys fields [] = refl
-all_named_keys fields (e ∷ es) = ap (λ rest. is_named fields (string_bytes e.0) && rest) (all_named_keys fields es)
+pub all_named_keys : (rows : List Argument) (es : List Entry) → all_named rows (members_view es) ≡ list_all (λ name. is_named rows (string_bytes name)) (keys_of es)
+all_named_keys rows [] = refl
+all_named_keys rows (e ∷ es) = ap (λ rest. is_named rows (string_bytes e.0) && rest) (all_named_keys rows es)

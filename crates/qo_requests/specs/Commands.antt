@@ -3,7 +3,9 @@ use Rattle.std.specs.Prelude.{ℕ, Bool, true, false, List, [], ◌∷◌, codes
 use Rattle.std.specs.Str.{bytes_eq}
 use Rattle.qo_requests.specs.declared.commands.Command.{Command}
 use Rattle.qo_requests.specs.declared.commands.Command.TheVariants.{ChardevAdd, ChardevRemove, Cont, DeviceListProperties, DeviceAdd, DeviceDel, ObjectAdd, ObjectDel, QmpCapabilities, QomGet, QomList, QomListTypes, QomSet, QueryCommands, QueryStatus, QueryVersion, Quit, RingbufRead, RingbufWrite, Stop, SystemReset, XGuest, XQueryDetached, XQueryNotes, XResetHold, XResetRelease, XSever, XStep}
-use Rattle.qo_requests.specs.declared.fields.Field.{Field}
+use Rattle.qo_requests.specs.declared.arguments.Argument.{Argument}
+use Rattle.qo_requests.specs.declared.arguments.Argument.TheVariants.{Needed, Optional}
+use Rattle.qo_requests.specs.declared.arguments.ArgumentKind.TheVariants.{Object, Text, Texts, Truth, Number, RingBytes, Form, Plain}
 use Rattle.qo_requests.specs.declared.fields.Field.TheVariants as field
 
 -- a command's name, as messages spell it
@@ -45,36 +47,29 @@ commands = ChardevAdd ∷ ChardevRemove ∷ Cont ∷ DeviceListProperties ∷ De
 abbrev pub command_of : List ℕ → Option Command
 command_of name = find (λ command. bytes_eq (command_name command) name) commands
 
--- the arguments that must stand there
-abbrev pub required : Command → List Field
-required ChardevAdd = field.Id ∷ field.Backend ∷ []
-required ChardevRemove = field.Id ∷ []
-required DeviceListProperties = field.Typename ∷ []
-required DeviceAdd = field.Driver ∷ []
-required DeviceDel = field.Id ∷ []
-required ObjectAdd = field.QomType ∷ field.Id ∷ []
-required ObjectDel = field.Id ∷ []
-required QomGet = field.Path ∷ field.Property ∷ []
-required QomList = field.Path ∷ []
-required QomSet = field.Path ∷ field.Property ∷ field.Value ∷ []
-required RingbufRead = field.Device ∷ field.Size ∷ []
-required RingbufWrite = field.Device ∷ field.Payload ∷ []
-required XGuest = field.Line ∷ []
-required XQueryNotes = field.From ∷ []
-required XResetHold = field.Path ∷ []
-required XResetRelease = field.Path ∷ []
-required XSever = field.Birth ∷ []
-required XStep = field.Ns ∷ []
-required _ = []
-
--- the arguments that may stand there
-abbrev pub optional : Command → List Field
-optional DeviceAdd = field.Id ∷ field.Bus ∷ []
-optional QmpCapabilities = field.Enable ∷ []
-optional QomListTypes = field.Implements ∷ field.Abstract ∷ []
-optional RingbufRead = field.Format ∷ []
-optional RingbufWrite = field.Format ∷ []
-optional _ = []
+-- the arguments that a command takes
+abbrev pub arguments : Command → List Argument
+arguments ChardevAdd = Needed field.Id Text ∷ Needed field.Backend Object ∷ []
+arguments ChardevRemove = Needed field.Id Text ∷ []
+arguments DeviceListProperties = Needed field.Typename Text ∷ []
+arguments DeviceAdd = Needed field.Driver Text ∷ Optional field.Id Text ∷ Optional field.Bus Text ∷ []
+arguments DeviceDel = Needed field.Id Text ∷ []
+arguments ObjectAdd = Needed field.QomType Text ∷ Needed field.Id Text ∷ []
+arguments ObjectDel = Needed field.Id Text ∷ []
+arguments QmpCapabilities = Optional field.Enable Texts ∷ []
+arguments QomGet = Needed field.Path Text ∷ Needed field.Property Text ∷ []
+arguments QomList = Needed field.Path Text ∷ []
+arguments QomListTypes = Optional field.Implements Text ∷ Optional field.Abstract Truth ∷ []
+arguments QomSet = Needed field.Path Text ∷ Needed field.Property Text ∷ Needed field.Value Plain ∷ []
+arguments RingbufRead = Needed field.Device Text ∷ Needed field.Size RingBytes ∷ Optional field.Format Form ∷ []
+arguments RingbufWrite = Needed field.Device Text ∷ Needed field.Payload Text ∷ Optional field.Format Form ∷ []
+arguments XGuest = Needed field.Line Text ∷ []
+arguments XQueryNotes = Needed field.From Number ∷ []
+arguments XResetHold = Needed field.Path Text ∷ []
+arguments XResetRelease = Needed field.Path Text ∷ []
+arguments XSever = Needed field.Birth Number ∷ []
+arguments XStep = Needed field.Ns Number ∷ []
+arguments _ = []
 
 -- each further argument is a property
 abbrev pub is_open : Command → Bool

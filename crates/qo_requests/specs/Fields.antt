@@ -1,9 +1,7 @@
--- The members of messages, and which of them stand in an object.
-use Rattle.std.specs.Prelude.{ℕ, Bool, true, ◌&&◌, List, codes, Option, is_some, unwrap_or}
-use Rattle.std.specs.List.{list_all, list_any}
-use Rattle.std.specs.Str.{bytes_eq}
-use Rattle.serde_json.specs.Data.{Data, Members, no_members, member}
-use Rattle.serde_json.specs.Find.{get, as_object}
+-- The members of messages by name.
+use Rattle.std.specs.Prelude.{ℕ, List, codes, Option, unwrap_or}
+use Rattle.serde_json.specs.Data.{Data, null}
+use Rattle.serde_json.specs.Find.{get}
 use Rattle.qo_requests.specs.declared.fields.Field.{Field}
 use Rattle.qo_requests.specs.declared.fields.Field.TheVariants.{Abstract, Arguments, Backend, Birth, Bus, Device, Driver, Enable, Execute, Format, From, Id, Implements, Kind, Line, Ns, Path, Payload, Property, QomType, Size, Typename, Value}
 
@@ -37,19 +35,6 @@ field_name Value = codes "value"
 abbrev pub argument : Field → Data → Option Data
 argument field d = get (field_name field) d
 
--- the name is that of one of these
-abbrev pub is_named : List Field → List ℕ → Bool
-is_named fields name = list_any (λ field. bytes_eq (field_name field) name) fields
-
--- all of these stand in the object
-abbrev pub has_all : List Field → Data → Bool
-has_all fields d = list_all (λ field. is_some (argument field d)) fields
-
--- each of these members is named
-abbrev pub all_named : List Field → Members → Bool
-all_named fields no_members = true
-all_named fields (member name d ms) = is_named fields name && all_named fields ms
-
--- no other member than these stands in the object
-abbrev pub has_only : List Field → Data → Bool
-has_only fields d = all_named fields (unwrap_or (as_object d) no_members)
+-- the member of a name in an object, or else null, which has no members
+abbrev pub part_of : Field → Data → Data
+part_of field d = unwrap_or (argument field d) null

@@ -1,6 +1,6 @@
+pub mod Arguments
 pub mod Building
 pub mod Commands
 pub mod Fields
-pub mod Kinds
 pub mod Messages
-pub mod Reading
+pub mod Values

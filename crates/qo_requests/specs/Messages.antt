@@ -1,18 +1,23 @@
 -- What a message is read into, or the first code that stands (QMP specification, 2.3 "Issuing Commands" and 2.5 "Server responses";
 -- docs/PROFILE.md, commands).
-use Rattle.std.specs.Prelude.{◌≡◌, ℕ, Bool, true, false, not, ◌&&◌, ◌||◌, List, [], ◌∷◌, ◌++◌, codes, Option, Some, None, is_some, option_and_then, option_map, unwrap_or, Result, Ok, Err, if◌then◌else◌, ⊤}
+use Rattle.std.specs.Prelude.{◌≡◌, ℕ, Bool, true, false, not, ◌&&◌, ◌||◌, List, [], ◌∷◌, codes, Option, Some, None, is_some, option_and_then, option_map, unwrap_or, Result, Ok, Err, if◌then◌else◌, ⊤}
+use Rattle.std.specs.Option.{option_map_or}
 use Rattle.std.specs.Str.{bytes_eq, is_utf8}
-use Rattle.serde_json.specs.Data.{Data, null}
+use Rattle.serde_json.specs.Data.{Data}
 use Rattle.serde_json.specs.Find.{as_object}
 use Rattle.serde_json.specs.Read.{read}
 use Rattle.serde_json.specs.Written.{has_float}
 use Rattle.qo_values.specs.declared.codes.Code.{Code}
 use Rattle.qo_values.specs.declared.codes.Code.TheVariants.{E1, E6, E7, E10, E12, E13, E14}
+use Rattle.qo_requests.specs.Arguments.{all_stand, has_only, all_fit, plain_beside}
 use Rattle.qo_requests.specs.Building.{request_of}
-use Rattle.qo_requests.specs.Commands.{command_of, required, optional, is_open}
-use Rattle.qo_requests.specs.Fields.{argument, has_all, has_only}
-use Rattle.qo_requests.specs.Kinds.{text_at}
+use Rattle.qo_requests.specs.Commands.{command_of, arguments, is_open}
+use Rattle.qo_requests.specs.Fields.{argument, part_of}
+use Rattle.qo_requests.specs.Values.{text_at}
 use Rattle.qo_replies.specs.Json.{json}
+use Rattle.qo_requests.specs.declared.arguments.Argument.{Argument}
+use Rattle.qo_requests.specs.declared.arguments.Argument.TheVariants.{Needed, Optional}
+use Rattle.qo_requests.specs.declared.arguments.ArgumentKind.TheVariants.{Any, Object, Text, Number}
 use Rattle.qo_requests.specs.declared.commands.Command.{Command}
 use Rattle.qo_requests.specs.declared.commands.Command.TheVariants.{ChardevAdd}
 use Rattle.qo_requests.specs.declared.fields.Field.TheVariants.{Arguments, Backend, Execute, Id, Kind, Payload, Size}
@@ -27,59 +32,63 @@ use Rattle.qo_requests.specs.declared.requests.Request.{Request}
 abbrev pub value_of : List ℕ → Option Data
 value_of bytes = if is_utf8 bytes then read bytes else None
 
--- the arguments of a message; where there are none, none of them is there
-abbrev pub arguments_of : Data → Data
-arguments_of d = unwrap_or (argument Arguments d) null
-
--- `arguments` is an object where it stands
-abbrev pub arguments_fit : Option Data → Bool
-arguments_fit None = true
-arguments_fit (Some d) = is_some (as_object d)
+-- the members of a message
+abbrev pub message_members : List Argument
+message_members = Needed Execute Text ∷ Optional Arguments Object ∷ Optional Id Any ∷ []
 
 -- a message has the members `execute`, a text, and maybe `arguments`, an object, and `id`, and no other
 abbrev pub is_message : Data → Bool
-is_message d = has_only (Execute ∷ Arguments ∷ Id ∷ []) d && is_some (text_at Execute d) && arguments_fit (argument Arguments d)
+is_message d = has_only message_members d && all_stand message_members d && all_fit message_members d
 
--- `backend`, where it is an object, has `type` and `data`
-abbrev pub backend_complete : Option Data → Bool
-backend_complete None = true
-backend_complete (Some d) = not (is_some (as_object d)) || has_all (Kind ∷ Payload ∷ []) d
+-- the members of `backend` of `chardev-add`, and of its `data`
+abbrev pub backend_members : List Argument
+backend_members = Needed Kind Text ∷ Needed Payload Object ∷ []
+
+abbrev pub payload_members : List Argument
+payload_members = Optional Size Number ∷ []
+
+-- `backend`, where it is an object, has all its members
+abbrev pub backend_complete : Data → Bool
+backend_complete d = not (is_some (as_object d)) || all_stand backend_members d
+
+-- `backend` and its `data` have no other members
+abbrev pub backend_closed : Data → Bool
+backend_closed d = has_only backend_members d && has_only payload_members (part_of Payload d)
+
+-- the members of `backend` and of its `data` are of their kinds
+abbrev pub backend_fits : Data → Bool
+backend_fits d = all_fit backend_members d && all_fit payload_members (part_of Payload d)
+
+-- the `backend` of `chardev-add`, where it stands
+abbrev pub backend_of : Command → Data → Option Data
+backend_of ChardevAdd args = argument Backend args
+backend_of command args = None
 
 -- each argument that must stand there does
 abbrev pub is_complete : Command → Data → Bool
-is_complete ChardevAdd args = has_all (required ChardevAdd) args && backend_complete (argument Backend args)
-is_complete command args = has_all (required command) args
-
--- `data` has at most `size`
-abbrev pub payload_closed : Option Data → Bool
-payload_closed None = true
-payload_closed (Some d) = has_only (Size ∷ []) d
-
--- `backend` has at most `type` and `data`, and that at most `size`
-abbrev pub backend_closed : Option Data → Bool
-backend_closed None = true
-backend_closed (Some d) = has_only (Kind ∷ Payload ∷ []) d && payload_closed (argument Payload d)
+is_complete command args = all_stand (arguments command) args && option_map_or backend_complete (backend_of command args) true
 
 -- no argument stands there that the command does not take
 abbrev pub is_closed : Command → Data → Bool
-is_closed ChardevAdd args = has_only (required ChardevAdd ++ optional ChardevAdd) args && backend_closed (argument Backend args)
-is_closed command args = is_open command || has_only (required command ++ optional command) args
+is_closed command args = (is_open command || has_only (arguments command) args) && option_map_or backend_closed (backend_of command args) true
 
--- what was read, or that an argument is of another kind
-abbrev pub of_right_kinds : Option Request → Result Request Code
-of_right_kinds None = Err E14
-of_right_kinds (Some request) = Ok request
+-- each argument is of its kind, and each further one a plain value
+abbrev pub is_fitting : Command → Data → Bool
+is_fitting command args =
+    all_fit (arguments command) args && (not (is_open command) || plain_beside (arguments command) args)
+    && option_map_or backend_fits (backend_of command args) true
 
 -- a command with its arguments: all are there, then none is beside them, then each is of its kind
 abbrev pub call_of : Option Command → Data → Result Request Code
 call_of None args = Err E10
 call_of (Some command) args =
     if not (is_complete command args) then Err E12
-    else (if not (is_closed command args) then Err E13 else of_right_kinds (request_of command args))
+    else (if not (is_closed command args) then Err E13
+    else (if not (is_fitting command args) then Err E14 else Ok (request_of command args)))
 
 -- the call that a message makes
 abbrev pub call_in : Data → Result Request Code
-call_in d = call_of (option_and_then command_of (text_at Execute d)) (arguments_of d)
+call_in d = call_of (option_and_then command_of (text_at Execute d)) (part_of Arguments d)
 
 -- the request that a value is, or the first code that stands
 abbrev pub request_in : Data → Result Request Code

@@ -1,9 +1,11 @@
 //! The commands by name, and what they take.
 
-ghost use Rattle.std.specs.Prelude.{◌≡◌, ◌++◌, find};
+ghost use Rattle.std.specs.Prelude.{◌≡◌, find};
 ghost use Rattle.std.specs.Str.{bytes_eq};
-ghost use Rattle.qo_requests.specs.Commands.{command_name, commands, command_of, required, optional, is_open};
+ghost use Rattle.qo_requests.specs.Commands.{command_name, commands, command_of, arguments, is_open};
 
+use crate::arguments::Argument::{self, Needed, Optional};
+use crate::arguments::ArgumentKind::{Form, Number, Object, Plain, RingBytes, Text, Texts, Truth};
 use crate::fields::Field;
 
 /// A command, in byte order of the names.
@@ -161,50 +163,52 @@ impl Command {
         }
     }
 
-    /// The arguments that must stand there.
-    pub(crate) fn required(self) -> &'static [Field]
-        ensures { result.now ≡ required self }
+    /// The arguments that the command takes.
+    pub(crate) fn arguments(self) -> &'static [Argument]
+        ensures { result.now ≡ arguments self }
     {
         match self {
-            Command::ChardevAdd => &[Field::Id, Field::Backend],
-            Command::ChardevRemove | Command::DeviceDel | Command::ObjectDel => &[Field::Id],
-            Command::DeviceListProperties => &[Field::Typename],
-            Command::DeviceAdd => &[Field::Driver],
-            Command::ObjectAdd => &[Field::QomType, Field::Id],
-            Command::QomGet => &[Field::Path, Field::Property],
-            Command::QomList | Command::XResetHold | Command::XResetRelease => &[Field::Path],
-            Command::QomSet => &[Field::Path, Field::Property, Field::Value],
-            Command::RingbufRead => &[Field::Device, Field::Size],
-            Command::RingbufWrite => &[Field::Device, Field::Payload],
-            Command::XGuest => &[Field::Line],
-            Command::XQueryNotes => &[Field::From],
-            Command::XSever => &[Field::Birth],
-            Command::XStep => &[Field::Ns],
-            _ => &[],
-        }
-    }
-
-    /// The arguments that the command takes; those that must stand there come first.
-    pub(crate) fn fields(self) -> &'static [Field]
-        ensures { result.now ≡ required self ++ optional self }
-    {
-        match self {
-            Command::ChardevAdd => &[Field::Id, Field::Backend],
-            Command::ChardevRemove | Command::DeviceDel | Command::ObjectDel => &[Field::Id],
-            Command::DeviceListProperties => &[Field::Typename],
-            Command::DeviceAdd => &[Field::Driver, Field::Id, Field::Bus],
-            Command::ObjectAdd => &[Field::QomType, Field::Id],
-            Command::QmpCapabilities => &[Field::Enable],
-            Command::QomGet => &[Field::Path, Field::Property],
-            Command::QomList | Command::XResetHold | Command::XResetRelease => &[Field::Path],
-            Command::QomListTypes => &[Field::Implements, Field::Abstract],
-            Command::QomSet => &[Field::Path, Field::Property, Field::Value],
-            Command::RingbufRead => &[Field::Device, Field::Size, Field::Format],
-            Command::RingbufWrite => &[Field::Device, Field::Payload, Field::Format],
-            Command::XGuest => &[Field::Line],
-            Command::XQueryNotes => &[Field::From],
-            Command::XSever => &[Field::Birth],
-            Command::XStep => &[Field::Ns],
+            Command::ChardevAdd => &[Needed(Field::Id, Text), Needed(Field::Backend, Object)],
+            Command::ChardevRemove | Command::DeviceDel | Command::ObjectDel => &[Needed(
+                Field::Id,
+                Text,
+            )],
+            Command::DeviceListProperties => &[Needed(Field::Typename, Text)],
+            Command::DeviceAdd => &[
+                Needed(Field::Driver, Text),
+                Optional(Field::Id, Text),
+                Optional(Field::Bus, Text),
+            ],
+            Command::ObjectAdd => &[Needed(Field::QomType, Text), Needed(Field::Id, Text)],
+            Command::QmpCapabilities => &[Optional(Field::Enable, Texts)],
+            Command::QomGet => &[Needed(Field::Path, Text), Needed(Field::Property, Text)],
+            Command::QomList | Command::XResetHold | Command::XResetRelease => &[Needed(
+                Field::Path,
+                Text,
+            )],
+            Command::QomListTypes => &[
+                Optional(Field::Implements, Text),
+                Optional(Field::Abstract, Truth),
+            ],
+            Command::QomSet => &[
+                Needed(Field::Path, Text),
+                Needed(Field::Property, Text),
+                Needed(Field::Value, Plain),
+            ],
+            Command::RingbufRead => &[
+                Needed(Field::Device, Text),
+                Needed(Field::Size, RingBytes),
+                Optional(Field::Format, Form),
+            ],
+            Command::RingbufWrite => &[
+                Needed(Field::Device, Text),
+                Needed(Field::Payload, Text),
+                Optional(Field::Format, Form),
+            ],
+            Command::XGuest => &[Needed(Field::Line, Text)],
+            Command::XQueryNotes => &[Needed(Field::From, Number)],
+            Command::XSever => &[Needed(Field::Birth, Number)],
+            Command::XStep => &[Needed(Field::Ns, Number)],
             _ => &[],
         }
     }

@@ -2,12 +2,13 @@
 //! commands there are and what they take is the profile's).
 #![tactic(auto)]
 
+mod arguments;
 mod building;
 mod commands;
 mod fields;
-mod kinds;
 mod messages;
 mod requests;
+mod values;
 
 pub use commands::Command;
 pub use fields::Field;

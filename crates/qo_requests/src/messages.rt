@@ -1,22 +1,22 @@
 //! Messages, read into requests.
 
-ghost use Rattle.std.specs.Prelude.{◌≡◌, ◌&&◌, [], ◌∷◌, is_some, option_and_then, option_map, unwrap_or, IfOk};
+ghost use Rattle.std.specs.Prelude.{◌≡◌, option_map, unwrap_or, IfOk};
 ghost use Rattle.serde_json.specs.Data.{null};
 ghost use Rattle.serde_json.specs.View.{view, items_view, members_view};
 ghost use Rattle.serde_json.specs.Written.{has_float, items_have_float, members_have_float};
-ghost use Rattle.qo_requests.specs.Kinds.{text_at};
-ghost use Rattle.qo_requests.specs.declared.fields.Field.TheVariants.{Arguments, Execute, Id};
-ghost use Rattle.qo_requests.specs.Commands.{command_of};
-ghost use Rattle.qo_requests.specs.Fields.{has_only};
-ghost use Rattle.qo_requests.specs.Messages.{arguments_fit, backend_complete, is_complete, payload_closed, backend_closed, is_closed, call_of, request_in, id_text, negotiates, with_id, command, Reads, GivesCode};
+ghost use Rattle.qo_requests.specs.declared.fields.Field.TheVariants.{Execute};
+ghost use Rattle.qo_requests.specs.Messages.{message_members, backend_members, payload_members, is_message, backend_complete, backend_closed, backend_fits, backend_of, is_complete, is_closed, is_fitting, call_of, request_in, id_text, negotiates, with_id, command, Reads, GivesCode};
+ghost use Rattle.qo_requests.specs.Values.{text_at};
 
+use crate::arguments::Argument::{self, Needed, Optional};
+use crate::arguments::ArgumentKind::{Any, Number, Object, Text};
+use crate::arguments::{all_fit, all_stand, has_only, plain_beside};
 use crate::building::request_of;
 use crate::commands::Command;
-use crate::fields::{Field, argument, has_all, has_only};
-use crate::kinds::KindError;
+use crate::fields::{Field, argument};
 use crate::requests::{Parsed, ReadError, Request};
 use qo_replies::json_text;
-use qo_values::{Code, Text};
+use qo_values::Code;
 use serde_json::{Map, Value};
 use std::alloc::{AllocError, Global};
 
@@ -66,16 +66,6 @@ fn members_have_float(members: &Map<String, Value>) -> bool
     false
 }
 
-/// Whether `arguments` is an object, where it stands.
-fn arguments_fit(arguments: Option<&Value>) -> bool
-    ensures { result ≡ arguments_fit (option_map (λ v. view v.now) arguments.entry) }
-{
-    match arguments {
-        Some(value) => value.is_object(),
-        None => true,
-    }
-}
-
 /// The text of `execute`, where it is one.
 fn name_of(value: &Value) -> Option<&str>
     ensures { option_map (λ s. s.now) result ≡ text_at Execute (view value.now) }
@@ -83,22 +73,75 @@ fn name_of(value: &Value) -> Option<&str>
     argument(value, Field::Execute).and_then(Value::as_str)
 }
 
-/// Whether a value has the members of a message, where these are its name and its arguments.
-fn is_message(value: &Value, name: Option<&str>, arguments: Option<&Value>) -> bool
-    ensures { result ≡ (has_only (Execute ∷ Arguments ∷ Id ∷ []) (view value.now) && is_some name.entry && arguments_fit (option_map (λ v. view v.now) arguments.entry)) }
+/// The members of a message.
+fn message_members() -> &'static [Argument]
+    ensures { result.now ≡ message_members }
 {
-    has_only(&[Field::Execute, Field::Arguments, Field::Id], value)
-        && name.is_some()
-        && arguments_fit(arguments)
+    &[
+        Needed(Field::Execute, Text),
+        Optional(Field::Arguments, Object),
+        Optional(Field::Id, Any),
+    ]
 }
 
-/// Whether `backend`, where it is an object, has `type` and `data`.
-fn backend_complete(backend: Option<&Value>) -> bool
-    ensures { result ≡ backend_complete (option_map (λ v. view v.now) backend.entry) }
+/// Whether a value has the members of a message.
+fn is_message(value: &Value) -> bool
+    ensures { result ≡ is_message (view value.now) }
 {
-    match backend {
-        Some(value) => !value.is_object() || has_all(&[Field::Kind, Field::Payload], value),
-        None => true,
+    let members = message_members();
+    has_only(members, value) && all_stand(members, value) && all_fit(members, value)
+}
+
+/// The members of `backend` of `chardev-add`.
+fn backend_members() -> &'static [Argument]
+    ensures { result.now ≡ backend_members }
+{
+    &[Needed(Field::Kind, Text), Needed(Field::Payload, Object)]
+}
+
+/// The members of the `data` of `backend`.
+fn payload_members() -> &'static [Argument]
+    ensures { result.now ≡ payload_members }
+{
+    &[Optional(Field::Size, Number)]
+}
+
+/// Whether `backend`, where it is an object, has all its members.
+fn backend_complete(backend: &Value) -> bool
+    ensures { result ≡ backend_complete (view backend.now) }
+{
+    !backend.is_object() || all_stand(backend_members(), backend)
+}
+
+/// Whether `backend` and its `data` have no other members.
+fn backend_closed(backend: &Value) -> bool
+    ensures { result ≡ backend_closed (view backend.now) }
+{
+    let closed = has_only(backend_members(), backend);
+    match argument(backend, Field::Payload) {
+        Some(payload) => closed && has_only(payload_members(), payload),
+        None => closed,
+    }
+}
+
+/// Whether the members of `backend` and of its `data` are of their kinds.
+fn backend_fits(backend: &Value) -> bool
+    ensures { result ≡ backend_fits (view backend.now) }
+{
+    let fits = all_fit(backend_members(), backend);
+    match argument(backend, Field::Payload) {
+        Some(payload) => fits && all_fit(payload_members(), payload),
+        None => fits,
+    }
+}
+
+/// The `backend` of `chardev-add`, where it stands.
+fn backend_of(command: Command, args: &Value) -> Option<&Value>
+    ensures { option_map (λ v. view v.now) result ≡ backend_of command (view args.now) }
+{
+    match command {
+        Command::ChardevAdd => argument(args, Field::Backend),
+        _ => None,
     }
 }
 
@@ -106,33 +149,10 @@ fn backend_complete(backend: Option<&Value>) -> bool
 fn is_complete(command: Command, args: &Value) -> bool
     ensures { result ≡ is_complete command (view args.now) }
 {
-    let complete = has_all(command.required(), args);
-    match command {
-        Command::ChardevAdd => complete && backend_complete(argument(args, Field::Backend)),
-        _ => complete,
-    }
-}
-
-/// Whether `data` has at most `size`.
-fn payload_closed(payload: Option<&Value>) -> bool
-    ensures { result ≡ payload_closed (option_map (λ v. view v.now) payload.entry) }
-{
-    match payload {
-        Some(value) => has_only(&[Field::Size], value),
-        None => true,
-    }
-}
-
-/// Whether `backend` has at most `type` and `data`, and that at most `size`.
-fn backend_closed(backend: Option<&Value>) -> bool
-    ensures { result ≡ backend_closed (option_map (λ v. view v.now) backend.entry) }
-{
-    match backend {
-        Some(value) => {
-            has_only(&[Field::Kind, Field::Payload], value)
-                && payload_closed(argument(value, Field::Payload))
-        }
-        None => true,
+    let complete = all_stand(command.arguments(), args);
+    match backend_of(command, args) {
+        Some(backend) => complete && backend_complete(backend),
+        None => complete,
     }
 }
 
@@ -140,10 +160,22 @@ fn backend_closed(backend: Option<&Value>) -> bool
 fn is_closed(command: Command, args: &Value) -> bool
     ensures { result ≡ is_closed command (view args.now) }
 {
-    let closed = command.is_open() || has_only(command.fields(), args);
-    match command {
-        Command::ChardevAdd => closed && backend_closed(argument(args, Field::Backend)),
-        _ => closed,
+    let closed = command.is_open() || has_only(command.arguments(), args);
+    match backend_of(command, args) {
+        Some(backend) => closed && backend_closed(backend),
+        None => closed,
+    }
+}
+
+/// Whether each argument is of its kind, and each further one a plain value.
+fn is_fitting(command: Command, args: &Value) -> bool
+    ensures { result ≡ is_fitting command (view args.now) }
+{
+    let rows = command.arguments();
+    let fits = all_fit(rows, args) && (!command.is_open() || plain_beside(rows, args));
+    match backend_of(command, args) {
+        Some(backend) => fits && backend_fits(backend),
+        None => fits,
     }
 }
 
@@ -160,18 +192,23 @@ fn call_of(alloc: Global, command: Option<Command>, args: &Value) -> Result<Requ
     if !is_closed(command, args) {
         return Err(Refusal::Code(Code::E13));
     }
+    if !is_fitting(command, args) {
+        return Err(Refusal::Code(Code::E14));
+    }
     match request_of(alloc, command, args) {
         Ok(request) => Ok(request),
-        Err(KindError::WrongKind) => Err(Refusal::Code(Code::E14)),
-        Err(KindError::Memory) => Err(Refusal::Memory),
+        Err(AllocError) => Err(Refusal::Memory),
     }
 }
 
-/// The call that a message with this name and these arguments makes.
-fn call_in(alloc: Global, name: Option<&str>, arguments: Option<&Value>) -> Result<Request, Refusal>
-    ensures { GivesCode result (call_of (option_and_then command_of (option_map (λ s. s.now) name.entry)) (unwrap_or (option_map (λ v. view v.now) arguments.entry) null)) }
+/// The call that a message with this command and these arguments makes.
+fn call_in(
+    alloc: Global,
+    command: Option<Command>,
+    arguments: Option<&Value>,
+) -> Result<Request, Refusal>
+    ensures { GivesCode result (call_of command (unwrap_or (option_map (λ v. view v.now) arguments.entry) null)) }
 {
-    let command = name.and_then(Command::named);
     match arguments {
         Some(args) => call_of(alloc, command, args),
         None => call_of(alloc, command, &Value::Null),
@@ -182,19 +219,18 @@ fn call_in(alloc: Global, name: Option<&str>, arguments: Option<&Value>) -> Resu
 fn request_in(alloc: Global, value: &Value) -> Result<Request, Refusal>
     ensures { GivesCode result (request_in (view value.now)) }
 {
-    let name = name_of(value);
-    let arguments = argument(value, Field::Arguments);
     if has_float(value) {
         return Err(Refusal::Code(Code::E7));
     }
-    if !is_message(value, name, arguments) {
+    if !is_message(value) {
         return Err(Refusal::Code(Code::E6));
     }
-    call_in(alloc, name, arguments)
+    let command = name_of(value).and_then(Command::named);
+    call_in(alloc, command, argument(value, Field::Arguments))
 }
 
 /// An id as its text in a reply, where no number of it is refused.
-fn id_text(alloc: Global, id: Option<&Value>) -> Result<Option<Text>, AllocError>
+fn id_text(alloc: Global, id: Option<&Value>) -> Result<Option<qo_values::Text>, AllocError>
     ensures { IfOk result (λ text. text ≡ id_text (option_map (λ v. view v.now) id.entry)) }
 {
     match id {

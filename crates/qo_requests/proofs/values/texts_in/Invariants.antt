@@ -1,9 +1,8 @@
-use Rattle.std.proofs.Common.{◌≡◌, drop}
+use Rattle.std.proofs.Common.{◌≡◌, ◌++◌, drop}
 use Rattle.serde_json.specs.View.{items_view}
-use Rattle.qo_requests.specs.Kinds.{texts_in}
-use Rattle.qo_requests.proofs.Joining.{joined}
-use Rattle.qo_requests.proofs.kinds.texts_in.Given as goal
+use Rattle.qo_requests.specs.Values.{texts_in}
+use Rattle.qo_requests.proofs.values.texts_in.Given as goal
 
 -- all texts are those read so far, and behind them what is left
 abbrev pub invariant-loop-item : goal.invariant-loop-item
-invariant-loop-item l = texts_in (items_view l.items) ≡ joined l.texts.items (texts_in (items_view (drop l.item-index l.items)))
+invariant-loop-item l = texts_in (items_view l.items) ≡ l.texts.items ++ texts_in (items_view (drop l.item-index l.items))

@@ -1,0 +1,176 @@
+//! The values of arguments that are of their kinds.
+
+ghost use Rattle.std.specs.Prelude.{◌≡◌, [], ◌∷◌, ◌++◌, true, IfOk, OnOk};
+ghost use Rattle.serde_json.specs.View.{view, items_view, members_view};
+ghost use Rattle.qo_values.specs.PropLists.{names_of, is_above};
+ghost use Rattle.qo_requests.specs.Values.{text_of, texts_in, plain_in, form_named, text_at, number_at, truth_at, form_at, texts_at, text_in, number_in, value_in, properties_in, properties_beside};
+
+use crate::arguments::{Argument, is_named};
+use crate::fields::{Field, argument};
+use qo_values::{Form, FromJson, PropList, PushError, Text, TextList, Val, from_json};
+use serde_json::{Map, Value};
+use std::alloc::{AllocError, Global};
+
+/// The text that a value is; empty where it is none.
+fn text_of(alloc: Global, value: &Value) -> Result<Text, AllocError>
+    ensures { IfOk result (λ text. text ≡ text_of (view value.now)) }
+{
+    match value.as_str() {
+        Some(text) => Ok(Text::from_string(String::from_str(alloc, text)?)),
+        None => Ok(Text::from_string(String::new(alloc))),
+    }
+}
+
+/// The plain value that a value is; nothing where it is none.
+fn plain_in(alloc: Global, value: &Value) -> Result<Val, AllocError>
+    ensures { IfOk result (λ val. val ≡ plain_in (view value.now)) }
+{
+    match from_json(alloc, value) {
+        Ok(val) => Ok(val),
+        Err(FromJson::NotPlain) => Ok(Val::Nothing),
+        Err(FromJson::Memory) => Err(AllocError),
+    }
+}
+
+/// The texts of a list.
+fn texts_in(alloc: Global, items: &[Value]) -> Result<TextList, AllocError>
+    ensures { IfOk result (λ texts. texts ≡ texts_in (items_view items.now)) }
+{
+    let mut texts = Vec::new(alloc);
+    for item in items {
+        texts.push(text_of(alloc, item)?)?;
+    }
+    Ok(TextList::from_vec(texts))
+}
+
+/// A form by its name.
+fn form_named(name: &str) -> Option<Form>
+    ensures { result ≡ form_named name.now }
+{
+    if name == "utf8" {
+        Some(Form::Utf8)
+    } else if name == "base64" {
+        Some(Form::Base64)
+    } else {
+        None
+    }
+}
+
+/// An argument that is a text, where it stands.
+pub(crate) fn text_at(alloc: Global, args: &Value, field: Field) -> Result<Option<Text>, AllocError>
+    ensures { IfOk result (λ text. text ≡ text_at field (view args.now)) }
+{
+    match argument(args, field).and_then(Value::as_str) {
+        Some(text) => Ok(Some(Text::from_string(String::from_str(alloc, text)?))),
+        None => Ok(None),
+    }
+}
+
+/// An argument that is a number, where it stands.
+pub(crate) fn number_at(args: &Value, field: Field) -> Option<u64>
+    ensures { result ≡ number_at field (view args.now) }
+{
+    argument(args, field).and_then(Value::as_u64)
+}
+
+/// An argument that is a truth value, where it stands.
+pub(crate) fn truth_at(args: &Value, field: Field) -> Option<bool>
+    ensures { result ≡ truth_at field (view args.now) }
+{
+    argument(args, field).and_then(Value::as_bool)
+}
+
+/// An argument that is a form, where it stands.
+pub(crate) fn form_at(args: &Value, field: Field) -> Option<Form>
+    ensures { result ≡ form_at field (view args.now) }
+{
+    argument(args, field)
+        .and_then(Value::as_str)
+        .and_then(form_named)
+}
+
+/// An argument that is a list of texts, where it stands.
+pub(crate) fn texts_at(
+    alloc: Global,
+    args: &Value,
+    field: Field,
+) -> Result<Option<TextList>, AllocError>
+    ensures { IfOk result (λ texts. texts ≡ texts_at field (view args.now)) }
+{
+    match argument(args, field).and_then(Value::as_array) {
+        Some(items) => Ok(Some(texts_in(alloc, items.as_slice())?)),
+        None => Ok(None),
+    }
+}
+
+/// An argument that is a text; empty where it does not stand there.
+pub(crate) fn text_in(alloc: Global, args: &Value, field: Field) -> Result<Text, AllocError>
+    ensures { IfOk result (λ text. text ≡ text_in field (view args.now)) }
+{
+    match argument(args, field) {
+        Some(value) => text_of(alloc, value),
+        None => Ok(Text::from_string(String::new(alloc))),
+    }
+}
+
+/// An argument that is a number; 0 where it does not stand there.
+pub(crate) fn number_in(args: &Value, field: Field) -> u64
+    ensures { result ≡ number_in field (view args.now) }
+{
+    number_at(args, field).unwrap_or(0)
+}
+
+/// An argument that is a plain value; nothing where it does not stand there.
+pub(crate) fn value_in(alloc: Global, args: &Value, field: Field) -> Result<Val, AllocError>
+    ensures { IfOk result (λ val. val ≡ value_in field (view args.now)) }
+{
+    match argument(args, field) {
+        Some(value) => plain_in(alloc, value),
+        None => Ok(Val::Nothing),
+    }
+}
+
+/// Puts a property behind others, whose names come before its own.
+fn put(props: &mut PropList, name: Text, val: Val) -> Result<(), AllocError>
+    requires { is_above (names_of props.old) name ≡ true }
+    ensures { OnOk result (props.new ≡ props.old ++ (name, val) ∷ []) }
+{
+    match props.push(name, val) {
+        Ok(()) => Ok(()),
+        Err(PushError::Memory) => Err(AllocError),
+        Err(PushError::OutOfOrder) => unreachable!(),
+    }
+}
+
+/// The members that are none of these, as properties. The map has them in byte order of the names.
+fn properties_in(
+    alloc: Global,
+    rows: &[Argument],
+    members: &Map<String, Value>,
+) -> Result<PropList, AllocError>
+    ensures { IfOk result (λ props. props ≡ properties_in rows.now (members_view members.now.entries)) }
+{
+    let mut props = PropList::new(alloc);
+    for (name, value) in members.iter() {
+        if !is_named(rows, name.as_str()) {
+            let text = Text::from_string(String::from_str(alloc, name.as_str())?);
+            let val = plain_in(alloc, value)?;
+            put(&mut props, text, val)?;
+        }
+    }
+    Ok(props)
+}
+
+/// The arguments that are none of these, as properties.
+pub(crate) fn properties_beside(
+    alloc: Global,
+    rows: &[Argument],
+    args: &Value,
+) -> Result<PropList, AllocError>
+    ensures { IfOk result (λ props. props ≡ properties_beside rows.now (view args.now)) }
+{
+    match args.as_object() {
+        Some(members) => properties_in(alloc, rows, members),
+        None => Ok(PropList::new(alloc)),
+    }
+}
