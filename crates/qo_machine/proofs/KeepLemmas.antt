@@ -15,10 +15,10 @@ use Rattle.qo_values.specs.declared.kinds.TypeId.{TypeId}
 use Rattle.qo_values.specs.declared.properties.Val.{Val}
 use Rattle.qo_model.specs.Board.{Board}
 use Rattle.qo_model.specs.FinalNotesRuns.{Change, added, deleted, wrote, severed, changed}
-use Rattle.qo_model.specs.Objects.{Changed, object_add, object_del, sever, with_attempt}
+use Rattle.qo_model.specs.Objects.{Changed, barred_by, object_add, object_del, sever, with_attempt}
 use Rattle.qo_model.specs.Properties.{object_at, write}
 use Rattle.qo_model.specs.Types.{TypeRow, is_a, row_named}
-use Rattle.qo_properties.specs.At.{listing_at, read, write_at}
+use Rattle.qo_model.specs.Access.{listing_at, read, write_at}
 use Rattle.qo_requests.specs.declared.requests.Request.{Request}
 use Rattle.qo_requests.specs.declared.requests.Request.TheVariants.{QmpCapabilities, QueryVersion, QueryCommands, QueryStatus, Stop, Cont, SystemReset, Quit, QomList, QomGet, QomSet, QomListTypes, DeviceListProperties, ObjectAdd, ObjectDel, DeviceAdd, DeviceDel, ChardevAdd, ChardevRemove, RingbufRead, RingbufWrite, XResetHold, XResetRelease, XSever, XQueryNotes, XQueryDetached, XGuest, XStep}
 use Rattle.qo_sessions.specs.Acts.{act}
@@ -105,11 +105,12 @@ perform_keeps P k b (XGuest line) p = p
 perform_keeps P k b (XStep ns) p = p
 
 pub attempted_keeps : (P : Board → Type 0) → KeepsBoard P → (b : Board) (r : Request) → P b → P (attempted b r)
-attempted_keeps P k b (ObjectAdd driver id props) p = by (row_named driver)
+attempted_keeps P k b (ObjectAdd driver id props) p = by (barred_by b driver id) (row_named driver)
   where
-    by : (row : Option TypeRow) → P (option_map_or (λ (row : TypeRow). with_attempt b row.id) row b)
-    by None = p
-    by (Some row) = k.attempt b row.id p
+    by : (bar : Option Code) (row : Option TypeRow) → P (elim bar as (λ o. Board) [ Some code ↦ b | None ↦ option_map_or (λ (row : TypeRow). with_attempt b row.id) row b ])
+    by (Some code) row = p
+    by None None = p
+    by None (Some row) = k.attempt b row.id p
 attempted_keeps P k b (QmpCapabilities enable) p = p
 attempted_keeps P k b QueryVersion p = p
 attempted_keeps P k b QueryCommands p = p

@@ -23,10 +23,10 @@ use Rattle.qo_sessions.specs.declared.acts.SessionAct.{SessionAct}
 use Rattle.qo_sessions.specs.declared.acts.SessionAct.TheVariants.{Answer, Negotiated, Do}
 use Rattle.qo_sessions.specs.declared.modes.Mode.{Mode}
 use Rattle.qo_sessions.specs.declared.modes.Mode.TheVariants.{Commanding, Closed}
-use Rattle.qo_heap.specs.Objects.{Objects}
+use Rattle.qo_realize.specs.Parts.{Parts}
+use Rattle.qo_realize.specs.Stands.{Stands}
 use Rattle.qo_commands.specs.Changes.{attempted}
 use Rattle.qo_commands.specs.Commands.{Done, empty, perform}
-use Rattle.qo_commands.specs.Stands.{Stands}
 
 -- a message: where it goes, and its bytes with their line end
 abbrev pub Message : Type 0
@@ -197,24 +197,25 @@ input_step s at what choices = unchanged s choices
 unfoldable pub step : State → Input → List Choice → Stepped
 step s input choices = serve_unless s.ended (unchanged s choices) (input_step s input.at input.what choices)
 
--- what is seen of a machine: its objects, its sessions, whether its run has ended, and whether it ran out of memory
+-- what is seen of a machine: its board, its sessions, the front of the unfinished guest line, whether its run has ended, and whether it ran out of memory
 pub record Seen : Type 0 where
-  pub objects : Objects
+  pub board : Parts
   pub sessions : List sessions.State
+  pub guest_line : List ℕ
   pub ended : Bool
   pub spent : Bool
 
--- the state of a machine that stands at a board; it keeps no guest line yet
+-- the state of a machine that stands at a board
 abbrev pub state_at : Board → Seen → State
-state_at b m = record { board = b; sessions = m.sessions; guest_line = []; ended = m.ended }
+state_at b m = record { board = b; sessions = m.sessions; guest_line = m.guest_line; ended = m.ended }
 
 -- the same but for the board, for which the opening one stands: what is read of sessions alone is the same on every board
 abbrev pub beside : Seen → State
 beside m = state_at opening_board m
 
--- a machine is in a state: its objects stand for the state's board, and the rest is its own
+-- a machine is in a state: it stands at the state's board, and the rest is its own
 pub record IsIn (s : State) (m : Seen) : Type 0 where
-  pub stands : Stands s.board m.objects
+  pub stands : Stands s.board m.board
   pub rest : s ≡ state_at s.board m
 
 -- by some choices, a step from a state sends this, and a machine is then in the state that it leads to

@@ -8,9 +8,9 @@ use Rattle.qo_sessions.specs.declared.acts.SessionAct.{SessionAct}
 use Rattle.qo_sessions.specs.declared.acts.SessionAct.TheVariants.{Answer, Negotiated, Do}
 use Rattle.qo_sessions.specs.declared.modes.Mode.TheVariants.{Commanding}
 use Rattle.qo_model.specs.Board.{Board}
-use Rattle.qo_heap.specs.Objects.{Objects}
 use Rattle.qo_commands.specs.Commands.{perform}
-use Rattle.qo_commands.specs.Stands.{Stands}
+use Rattle.qo_realize.specs.Parts.{Parts}
+use Rattle.qo_realize.specs.Stands.{Stands}
 use Rattle.qo_machine.specs.Machine.{Choice, IsIn, Message, Seen, State, behind, made_by, reply, serve, session_of, with_session}
 
 -- the state when it is known what an item comes to
@@ -34,7 +34,7 @@ abbrev pub ServesTo : Moment → ℕ → State → List Item → List Message �
 ServesTo at n s items outs m = (t : State) × IsIn t m × Serves at n s items outs t
 
 -- a command that changes the board was done as it is defined: without events, and the run goes on; this is its reply, and its board stands
-pub record Changed (b : Board) (request : Request) (id : Option (List ℕ)) (text : List ℕ) (v : Objects) : Type 0 where
+pub record Changed (b : Board) (request : Request) (id : Option (List ℕ)) (text : List ℕ) (v : Parts) : Type 0 where
   pub stands : Stands (perform b request).board v
   pub quiet : (perform b request).events ≡ []
   pub going : (perform b request).ends ≡ false

@@ -59,6 +59,7 @@ fn close_where(sessions: &mut Vec<Session>, lost: &[bool; 16])
 pub struct Machine {
     board: Board,
     sessions: Vec<Session>,
+    guest_line: Vec<u8>,
     ended: bool,
     spent: bool,
 }
@@ -69,7 +70,7 @@ impl Model for Machine {
 
     ghost Value = { Seen };
 
-    ghost view = { λ m. record { objects = m.board; sessions = m.sessions.items; ended = m.ended; spent = m.spent } };
+    ghost view = { λ m. record { board = m.board; sessions = m.sessions.items; guest_line = m.guest_line.items; ended = m.ended; spent = m.spent } };
 
     ghost invariant = { λ m. length m.sessions.items ≡ 16 };
 }
@@ -82,7 +83,7 @@ impl Machine {
     ghost use Rattle.qo_sessions.specs.Sessions.{fed};
     ghost use Rattle.qo_commands.specs.Changes.{attempted, is_change};
     ghost use Rattle.qo_commands.specs.Commands.{perform};
-    ghost use Rattle.qo_commands.specs.Stands.{Stands};
+    ghost use Rattle.qo_realize.specs.Stands.{Stands};
     ghost use Rattle.qo_commands.specs.Views.{done_of};
     ghost use Rattle.qo_machine.specs.Machine.{Answers, IsIn, State, behind_command, beside, finished, input_step, mode_of, opening, session_of, state_at, with_session};
     ghost use Rattle.qo_machine.specs.Runs.{close_lost};
@@ -112,6 +113,7 @@ impl Machine {
             Ok(sessions) => Ok(Machine {
                 board,
                 sessions,
+                guest_line: Vec::new(alloc),
                 ended: false,
                 spent: false,
             }),
@@ -213,7 +215,7 @@ impl Machine {
     fn open(&mut self, alloc: Global, session: u8) -> Result<Outs, AllocError>
         ensures answered { (b : Tree) (at : Moment) → IfOk result (λ outs. input_step (state_at b self.old) at (What.Open session) [] ≡ record { outs = outs; state = state_at b self.new; rest = [] }) }
         ensures lanes { IfOk result AreToLanes }
-        ensures objects { self.new.objects ≡ self.old.objects }
+        ensures board { self.new.board ≡ self.old.board }
         ensures lasts { self.new.spent ≡ self.old.spent }
     {
         let mut outs = Outs::none(alloc);
@@ -231,7 +233,7 @@ impl Machine {
     /// A session is shut: what is unfinished of it is dropped. It takes no memory.
     fn shut(&mut self, session: u8)
         ensures answered { (b : Tree) (at : Moment) → input_step (state_at b self.old) at (What.Shut session) [] ≡ record { outs = []; state = state_at b self.new; rest = [] } }
-        ensures objects { self.new.objects ≡ self.old.objects }
+        ensures board { self.new.board ≡ self.old.board }
         ensures lasts { self.new.spent ≡ self.old.spent }
     {
         if session < SESSIONS {
@@ -264,7 +266,7 @@ impl Machine {
         requires { session < 16 }
         ensures items { (b : Tree) → IfOk result (λ items. items.items ≡ (fed (session_of (state_at b self.old) session) bytes.now).items) }
         ensures state { (b : Tree) → IfOk result (λ items. state_at b self.new ≡ with_session (state_at b self.old) session (fed (session_of (state_at b self.old) session) bytes.now).session) }
-        ensures objects { self.new.objects ≡ self.old.objects }
+        ensures board { self.new.board ≡ self.old.board }
         ensures lasts { self.new.spent ≡ self.old.spent }
     {
         match self.sessions[usize::from(session)].feed(alloc, bytes) {
@@ -291,7 +293,7 @@ impl Machine {
         requires { session < 16 }
         ensures act { (b : Tree) → IfOk result (λ what. what ≡ act (mode_of (state_at b self.old) session) item.now) }
         ensures state { (b : Tree) → IfOk result (λ what. state_at b self.new ≡ moved (state_at b self.old) session what) }
-        ensures objects { self.new.objects ≡ self.old.objects }
+        ensures board { self.new.board ≡ self.old.board }
         ensures lasts { self.new.spent ≡ self.old.spent }
     {
         match self.sessions[usize::from(session)].act(alloc, item) {
@@ -309,8 +311,8 @@ impl Machine {
         steps: &mut Steps<L>,
     ) -> Result<(Done, Chars), AllocError>
         requires { is_change request.now ≡ false }
-        ensures done { (b : Tree) → Stands b self.now.objects → IfOk result (λ a. done_of b a.0 ≡ perform b request.now) }
-        ensures text { (b : Tree) → Stands b self.now.objects → IfOk result (λ a. a.1 ≡ reply (option_map (λ id. id.now) id.entry) (perform b request.now).result) }
+        ensures done { (b : Tree) → Stands b self.now.board → IfOk result (λ a. done_of b a.0 ≡ perform b request.now) }
+        ensures text { (b : Tree) → Stands b self.now.board → IfOk result (λ a. a.1 ≡ reply (option_map (λ id. id.now) id.entry) (perform b request.now).result) }
     {
         let done = ask(alloc, &self.board, request, steps)?;
         let text = reply_text(alloc, id, &done.result)?;
@@ -328,8 +330,8 @@ impl Machine {
         steps: &mut Steps<L>,
     ) -> Result<Chars, AllocError>
         requires { is_change request.now ≡ true }
-        ensures changed { (b : Tree) → Stands b self.old.objects → IfOk result (λ text. Changed b request.now (option_map (λ id. id.now) id.entry) text self.new.objects) }
-        ensures kept { (b : Tree) → Stands b self.old.objects → OnErr result (Stands b self.new.objects ⊎ Stands (attempted b request.now) self.new.objects) }
+        ensures changed { (b : Tree) → Stands b self.old.board → IfOk result (λ text. Changed b request.now (option_map (λ id. id.now) id.entry) text self.new.board) }
+        ensures kept { (b : Tree) → Stands b self.old.board → OnErr result (Stands b self.new.board ⊎ Stands (attempted b request.now) self.new.board) }
         ensures rest { (b : Tree) → state_at b self.new ≡ state_at b self.old }
         ensures lasts { self.new.spent ≡ self.old.spent }
     {
@@ -344,7 +346,7 @@ impl Machine {
     /// The run ends where a command ends it. It takes no memory.
     pub(crate) fn conclude(&mut self, ends: bool)
         ensures state { (b : Tree) → state_at b self.new ≡ behind_command ends (state_at b self.old) }
-        ensures objects { self.new.objects ≡ self.old.objects }
+        ensures board { self.new.board ≡ self.old.board }
         ensures lasts { self.new.spent ≡ self.old.spent }
     {
         if ends {
@@ -355,10 +357,11 @@ impl Machine {
     /// The run ends: all sessions are closed. It takes no memory.
     fn finish(&mut self)
         ensures done { (b : Tree) → state_at b self.new ≡ finished (state_at b self.old) }
-        ensures objects { self.new.objects ≡ self.old.objects }
+        ensures board { self.new.board ≡ self.old.board }
         ensures lasts { self.new.spent ≡ self.old.spent }
     {
         close_where(&mut self.sessions, &[true; 16]);
+        self.guest_line.clear();
         self.ended = true;
     }
 }

@@ -39,7 +39,7 @@ use Rattle.qo_life.proofs.TreeLemmas.{tree, tree-shows}
 use Rattle.qo_properties.specs.declared.adding.filling.Fill.{Fill}
 use Rattle.qo_properties.specs.Filling.{filled, with_filled}
 use Rattle.qo_properties.proofs.FillingLemmas.{edit-twice}
-use Rattle.qo_properties.specs.Adding.{IsTried, given_up, with_child, with_newest}
+use Rattle.qo_properties.specs.Adding.{IsChild, IsTried, given_up, with_child, with_newest}
 
 -- a pin taken from an object that nothing else holds
 
@@ -329,18 +329,18 @@ done-furnish v w u o parent name t good birth live is change =
 
 -- the newest object as a child
 
-module _ (v w : Objects) (o parent : Key) (name : List ℕ) (t : TypeId) (slots : List Named) (good : IsHeap v) (birth : o.birth ≡ v.born + 1) (is : w ≡ with_child parent.birth name o t slots v) where
+module _ {v w : Objects} {o parent : Key} {name : List ℕ} {t : TypeId} (good : IsHeap v) (made : IsChild v w o parent name t) where
   abbrev begun : Content
-  begun = as_made t slots 1
+  begun = as_made t (new_slots t) 1
 
   abbrev beside : Objects
   beside = with_edit parent.birth (with_slot name (Child o)) v
 
   child-others : Others o.birth beside.rows
-  child-others = others-edited o.birth parent.birth (with_slot name (Child o)) v.rows (others o.birth v.rows (apart-from v o.birth (omega (arith, birth)) good))
+  child-others = others-edited o.birth parent.birth (with_slot name (Child o)) v.rows (others o.birth v.rows (apart-from v o.birth (omega (arith, made.birth)) good))
 
   child-row : row_at w.rows o.birth ≡ Some (o, begun)
-  child-row = ap (λ (x : Objects). row_at x.rows o.birth) is ∙ row-newest o begun beside.rows child-others
+  child-row = ap (λ (x : Objects). row_at x.rows o.birth) made.is ∙ row-newest o begun beside.rows child-others
 
   child-content : content_of w o.birth ≡ Some begun
   child-content = ap (option_map (λ (row : Key × Content). row.1)) child-row
@@ -348,11 +348,11 @@ module _ (v w : Objects) (o parent : Key) (name : List ℕ) (t : TypeId) (slots 
   pub child-live : IsLive w.rows o
   child-live = subst (λ (x : Option (Key × Content)). IsSomeAnd x (λ r. r.0.index ≡ o.index)) (sym child-row) refl
 
-  pub child-slots : heap.slots_of w o.birth ≡ slots
+  pub child-slots : heap.slots_of w o.birth ≡ new_slots t
   child-slots = ap (λ (x : Option Content). option_map_or (λ (d : Content). d.slots) x []) child-content
 
   pub child-keeps : (key : Key) → IsLive v.rows key → IsLive w.rows key
-  child-keeps key live = subst (λ (x : Objects). IsLive x.rows key) (sym is) (row-more beside.rows (o, begun) key (live-edit parent.birth (with_slot name (Child o)) v.rows key live))
+  child-keeps key live = subst (λ (x : Objects). IsLive x.rows key) (sym made.is) (row-more beside.rows (o, begun) key (live-edit parent.birth (with_slot name (Child o)) v.rows key live))
 
   pub child-pins : (u : Objects) (f : Content → Content) → (f begun).pins ≡ 1 → u ≡ with_edit o.birth f w → pins_of u o.birth ≡ 1
   child-pins u f one change =
@@ -361,14 +361,14 @@ module _ (v w : Objects) (o parent : Key) (name : List ℕ) (t : TypeId) (slots 
       ∙ one
 
   -- it is filled, and its pin is taken away
-  pub child-settled : (u x : Objects) (plan : List Fill) → u ≡ with_edit o.birth (with_filled 0 plan) w → x ≡ with_edit o.birth without_pin u → x ≡ with_newest o (as_made t (filled plan slots) 0) beside
+  pub child-settled : (u x : Objects) (plan : List Fill) → u ≡ with_edit o.birth (with_filled 0 plan) w → x ≡ with_edit o.birth without_pin u → x ≡ with_newest o (as_made t (filled plan (new_slots t)) 0) beside
   child-settled u x plan fill unpin =
       let f : Content → Content = λ c. without_pin (with_filled 0 plan c) in
       let rows = edit-newest o begun f beside.rows child-others in
       unpin
       ∙ ap (λ (y : Objects). with_edit o.birth without_pin y) fill
       ∙ edit-twice o.birth without_pin (with_filled 0 plan) f (λ c. refl) w
-      ∙ ap (λ (y : Objects). with_edit o.birth f y) is
+      ∙ ap (λ (y : Objects). with_edit o.birth f y) made.is
       ∙ (λ j. record v { rows = rows j; born = v.born + 1; log = noted_all (init_notes o.birth t) v.log })
 
 -- an object that nothing pins adds no pin

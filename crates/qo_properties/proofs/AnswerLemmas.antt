@@ -6,7 +6,7 @@ use Rattle.qo_values.specs.declared.codes.Code.{Code}
 use Rattle.qo_values.specs.declared.kinds.TypeId.{TypeId}
 use Rattle.qo_model.specs.Types.{TypeRow, row_named}
 use Rattle.qo_model.specs.Board.{Board, is_live, slots_at}
-use Rattle.qo_model.specs.Objects.{Changed, Given, added_as, added_by, barred, is_object_named, object_add, object_del, objects_birth, place_from, refusal_of, sever, with_attempt, with_object}
+use Rattle.qo_model.specs.Objects.{Changed, Given, added_as, added_by, attempted_as, barred, barred_by, is_object_named, object_add, object_del, objects_birth, place_from, refusal_of, sever, with_attempt, with_object}
 use Rattle.qo_model.specs.Paths.{attached}
 use Rattle.qo_model.specs.Release.{let_go}
 use Rattle.qo_object.specs.Content.{Content}
@@ -14,8 +14,8 @@ use Rattle.qo_object.specs.Shown.{shown_slots}
 use Rattle.qo_heap.specs.Board.{Shows}
 use Rattle.qo_heap.specs.Objects.{Objects, content_of, slots_of}
 use Rattle.qo_heap.proofs.ShowsReads.{shows-live, shows-slots}
-use Rattle.qo_properties.specs.Adding.{Adds, IsTried, attempted_as, given_up}
-use Rattle.qo_properties.specs.Changes.{IsAnswered, barred_by, severed}
+use Rattle.qo_properties.specs.Adding.{Adds, IsTried, given_up}
+use Rattle.qo_properties.specs.Changes.{IsAnswered, severed}
 use Rattle.qo_properties.specs.declared.refusals.Refusal.{Refusal}
 use Rattle.qo_properties.specs.declared.refusals.Refusal.TheVariants.{Refused, Memory}
 use Rattle.qo_properties.proofs.AddLemmas.{shows-tried}
@@ -67,8 +67,8 @@ module _ (b : Board) (driver id : List ℕ) (props : List Given) where
           let same : row.id ≡ t = cc its in
           ap (added_by b row id props) none ∙ ap (λ (k : TypeId). added_as b k id props (refusal_of b k props)) same
 
-  pub attempted-is : (t : TypeId) → option_map (λ (r : TypeRow). r.id) (row_named driver) ≡ Some t → attempted_as b driver ≡ with_attempt b t
-  attempted-is t is = go (row_named driver) is
+  pub attempted-is : (t : TypeId) → barred_by b driver id ≡ None → option_map (λ (r : TypeRow). r.id) (row_named driver) ≡ Some t → attempted_as b driver id ≡ with_attempt b t
+  attempted-is t open_so is = rw (attempted_as, open_so) (go (row_named driver) is)
     where
       go : (o : Option TypeRow) → option_map (λ (r : TypeRow). r.id) o ≡ Some t → option_map_or (λ (row : TypeRow). with_attempt b row.id) o b ≡ with_attempt b t
       go None its = cc
@@ -88,9 +88,10 @@ module _ (b : Board) (driver id : List ℕ) (props : List Given) where
       let its = add-open t open_so is ∙ ap (added_as b t id props) (sym e) in
       (ap (λ (c : Changed). c.refusal) its, subst (λ (c : Changed). Shows c.board w) (sym its) s)
 
-  pub adds-tried : (v w : Objects) → Shows b v → (t : TypeId) → option_map (λ (r : TypeRow). r.id) (row_named driver) ≡ Some t → IsTried t v w → Adds b driver id props (Err Memory) w
-  adds-tried v w s t is (inl same) = inl (subst (λ (x : Objects). Shows b x) (sym same) s)
-  adds-tried v w s t is (inr same) = inr (subst (λ (x : Objects). Shows (attempted_as b driver) x) (sym same) (subst (λ (d : Board). Shows d (given_up t v)) (sym (attempted-is t is)) (shows-tried b v s t)))
+  pub adds-tried : (v w : Objects) → Shows b v → (t : TypeId) → barred_by b driver id ≡ None → option_map (λ (r : TypeRow). r.id) (row_named driver) ≡ Some t → IsTried t v w → Adds b driver id props (Err Memory) w
+  adds-tried v w s t open_so is (inl same) = inl (subst (λ (x : Objects). Shows b x) (sym same) s)
+  adds-tried v w s t open_so is (inr same) =
+      inr (subst (λ (x : Objects). Shows (attempted_as b driver id) x) (sym same) (subst (λ (d : Board). Shows d (given_up t v)) (sym (attempted-is t open_so is)) (shows-tried b v s t)))
 
   pub adds-not : (v : Objects) → Shows b v → (r : Refusal) → ((code : Code) → r ≡ Refused code → barred_by b driver id ≡ Some code) → Adds b driver id props (Err r) v
   adds-not v s (Refused code) is = adds-barred v s code (is code refl)

@@ -13,12 +13,13 @@ use Rattle.qo_values.specs.Kinds.{type_name}
 use Rattle.qo_values.specs.declared.codes.Code.TheVariants.{E15, E20, E21, E22, E23, E24, E43}
 use Rattle.qo_values.specs.declared.codes.Code.{Code}
 use Rattle.qo_values.specs.declared.kinds.TypeId.{TypeId}
+use Rattle.qo_values.specs.declared.limits.TheConstants.{LIVE_OBJECTS_MAX}
 use Rattle.qo_model.specs.Types.{TypeRow, is_a, row_named, row_of, types}
 use Rattle.qo_types.specs.Rows.{Told, type_told, type_told_of}
 use Rattle.qo_types.specs.declared.rows.TypeRow as code
 use Rattle.qo_model.specs.Board.{Board, is_live}
 use Rattle.qo_model.specs.Board as board
-use Rattle.qo_model.specs.Objects.{barred, has_slot, objects_birth}
+use Rattle.qo_model.specs.Objects.{barred, barred_by, has_slot, objects_birth}
 use Rattle.qo_slots.specs.declared.keys.Key.{Key}
 use Rattle.qo_table.specs.Rows.{IsLive}
 use Rattle.qo_object.specs.Content.{Content}
@@ -28,7 +29,7 @@ use Rattle.qo_heap.specs.Board.{Shows, record_of}
 use Rattle.qo_heap.specs.Objects.{Objects, content_of, slots_of}
 use Rattle.qo_heap.proofs.HeapLemmas.{is_some-find}
 use Rattle.qo_heap.proofs.ShowsReads.{shows-live, shows-live_key, shows-slots}
-use Rattle.qo_properties.specs.Changes.{barred_by, place_refusal, row_refusal, type_refusal}
+use Rattle.qo_properties.specs.Changes.{place_refusal, row_refusal, type_refusal}
 
 -- each row is that of its own type
 rows-own : AllByRecursion (λ (r : TypeRow). row_of r.id ≡ Some r) types
@@ -101,14 +102,14 @@ module _ (b : Board) (v : Objects) (s : Shows b v) (key : Key) (live : IsLive v.
   pub place-taken : has_slot b objects_birth id ≡ true → Some E24 ≡ place_refusal b id
   place-taken taken = rw (place_refusal, lives, taken) refl
 
-  pub place-full : has_slot b objects_birth id ≡ false → 4096 ≤ length v.rows → Some E43 ≡ place_refusal b id
+  pub place-full : has_slot b objects_birth id ≡ false → LIVE_OBJECTS_MAX ≤ length v.rows → Some E43 ≡ place_refusal b id
   place-full none many =
-      let so : leb 4096 (length b.records) ≡ true = grind (arith, nat_tests, many-shown b v s, many) in
+      let so : leb LIVE_OBJECTS_MAX (length b.records) ≡ true = grind (arith, nat_tests, many-shown b v s, many) in
       rw (place_refusal, lives, none, so) refl
 
-  pub place-vacant : has_slot b objects_birth id ≡ false → length v.rows < 4096 → None ≡ place_refusal b id
+  pub place-vacant : has_slot b objects_birth id ≡ false → length v.rows < LIVE_OBJECTS_MAX → None ≡ place_refusal b id
   place-vacant none few =
-      let so : leb 4096 (length b.records) ≡ false = grind (arith, nat_tests, many-shown b v s, few) in
+      let so : leb LIVE_OBJECTS_MAX (length b.records) ≡ false = grind (arith, nat_tests, many-shown b v s, few) in
       rw (place_refusal, lives, none, so) refl
 
 -- an id is a name

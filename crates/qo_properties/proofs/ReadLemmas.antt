@@ -12,16 +12,17 @@ use Rattle.qo_object.specs.Content.{Content}
 use Rattle.qo_object.specs.Shown.{birth_of, shown_slot}
 use Rattle.qo_object.specs.Slots.{Named}
 use Rattle.qo_model.specs.Board as board
+use Rattle.qo_model.specs.Detachment.{detached_told, told}
 use Rattle.qo_model.specs.Paths.{place_of}
 use Rattle.qo_model.specs.Properties.{own_value, slot_value, value_of}
 use Rattle.qo_model.specs.References.{refs}
+use Rattle.qo_model.specs.declared.detached.Detached.{Detached}
 use Rattle.qo_heap.specs.Objects as heap
 use Rattle.qo_heap.specs.Objects.{IsHeap, Objects, content_of, refs_of, slots_of}
 use Rattle.qo_heap.specs.Board.{Shows, record_of}
 use Rattle.qo_heap.proofs.PlacesLemmas.{at-key, object-at-place}
 use Rattle.qo_heap.proofs.ShowsReads.{shows-parent, shows-refs, shows-slot_named}
-use Rattle.qo_properties.specs.declared.reading.detached.Detached.{Detached}
-use Rattle.qo_properties.specs.Reads.{detached_in, detached_told, told}
+use Rattle.qo_properties.specs.Reads.{detached_in}
 
 -- objects without a parent
 
@@ -99,12 +100,12 @@ named-gone b v s n name gone =
     named-is b v s n name None (rw none refl)
 
 -- a slot that is no alias reads as its own
-pub read-own : (b : board.Board) (s : Slot) → ((key : Key) (of : List ℕ) → s ≡ Alias key of → ⊥) → slot_value b (shown_slot s) ≡ Some (own_value b (shown_slot s))
-read-own b (Plain ty val) other = refl
-read-own b (Child key) other = refl
-read-own b (Link ty true target) other = refl
-read-own b (Link ty false target) other = refl
-read-own b (Alias key of) other = absurd (other key of refl)
+pub read-own : (b : board.Board) (n : ℕ) (name : List ℕ) (s : Slot) → ((key : Key) (of : List ℕ) → s ≡ Alias key of → ⊥) → slot_value b n name (shown_slot s) ≡ Some (own_value b n name (shown_slot s))
+read-own b n name (Plain ty val) other = refl
+read-own b n name (Child key) other = refl
+read-own b n name (Link ty true target) other = refl
+read-own b n name (Link ty false target) other = refl
+read-own b n name (Alias key of) other = absurd (other key of refl)
 
 -- the test of an object that is not `/`
 pub parent-test : (o : Option Key) (n : ℕ) (t : Bool) → is_some o ≡ t → (n ≡ 1 → ⊥) → not (eqb n 1) && is_none o ≡ not t
@@ -112,7 +113,7 @@ parent-test None n t is other = let no : eqb n 1 ≡ false = grind arith in rw (
 parent-test (Some key) n t is other = let no : eqb n 1 ≡ false = grind arith in rw (no, ← is) refl
 
 -- an alias reads as what it passes on to
-pub read-alias : (b : board.Board) (v : Objects) → Shows b v → (n : ℕ) (name : List ℕ) (t : Named) → Some t ≡ find (λ (t : Named). bytes_eq name t.0) (slots_of v n) → (key : Key) (of : List ℕ) → t.1 ≡ Alias key of → option_map (own_value b) (board.slot_named b key.birth of) ≡ value_of b n name
+pub read-alias : (b : board.Board) (v : Objects) → Shows b v → (n : ℕ) (name : List ℕ) (t : Named) → Some t ≡ find (λ (t : Named). bytes_eq name t.0) (slots_of v n) → (key : Key) (of : List ℕ) → t.1 ≡ Alias key of → option_map (own_value b key.birth of) (board.slot_named b key.birth of) ≡ value_of b n name
 read-alias b v s n name t e key of is =
     let there : board.slot_named b n name ≡ Some (board.alias key.birth of) = named-is b v s n name (Some t) e ∙ ap (λ (x : Slot). Some (shown_slot x)) is in
-    sym (ap (option_and_then (slot_value b)) there)
+    sym (ap (option_and_then (slot_value b n name)) there)

@@ -5,6 +5,7 @@ use Rattle.std.proofs.lemmas.Bool.{eqb-true}
 use Rattle.std.proofs.lemmas.Bool.Decides.{nat_tests}
 use Rattle.qo_values.specs.declared.kinds.TypeId.{TypeId}
 use Rattle.qo_values.specs.declared.kinds.TypeId.TheVariants.{Clock}
+use Rattle.qo_kinds.proofs.BodyLemmas.{fresh-bare}
 use Rattle.qo_slots.specs.declared.keys.Key.{Key}
 use Rattle.qo_table.specs.Rows.{IsLive, Rises, births, row_at}
 use Rattle.qo_model.specs.Board as board
@@ -19,11 +20,13 @@ use Rattle.qo_object.specs.Content.{Content, fresh, with_slot, as_made}
 use Rattle.qo_object.specs.Content as content
 use Rattle.qo_heap.specs.Board.{Shows}
 use Rattle.qo_heap.specs.Objects.{IsHeap, Objects, content_of, pins_of, slots_of, with_edit, no_objects_made}
+use Rattle.qo_heap.proofs.BookLemmas.{book-edit}
 use Rattle.qo_heap.proofs.HeapLemmas.{live-edit}
 use Rattle.qo_heap.proofs.ShowsChanges.{shows-made, shows-added}
 use Rattle.qo_heap.proofs.ShowsEdits.{shows-without_pin}
 use Rattle.qo_heap.proofs.ShowsLive.{content-edited, content-other}
 use Rattle.qo_properties.specs.Fresh.{new_slots, with_slots}
+use Rattle.qo_properties.proofs.ClaimLemmas.{more-keeps}
 use Rattle.qo_properties.specs.Start.{IsMade, no_objects, with_new, with_new_child, with_all}
 
 -- rows with one more, of a later birth
@@ -108,6 +111,7 @@ module _ (v : Objects) (good : IsHeap v) (key : Key) (kind : TypeId) (birth : ke
         live = live-edit key.birth (with_slots (new_slots kind)) (made_in v key kind).rows key live-made;
         content = content-edited (made_in v key kind) key.birth (with_slots (new_slots kind)) ∙ ap (option_map (with_slots (new_slots kind))) (ap (option_map (λ (row : Row). row.1)) row-made);
         names = λ k live. live-edit key.birth (with_slots (new_slots kind)) (made_in v key kind).rows k (live-more v.rows ((key, fresh kind) ∷ []) k live);
+        book = λ out h. book-edit out (made_in v key kind) key.birth (with_slots (new_slots kind)) (λ c. refl) (more-keeps v key (fresh kind) (v.born + 1) v.log (fresh-bare kind) out h);
       }
 
   pub shows-new : (b : board.Board) → Shows b v → (w : Objects) → (Shows (make kind b) (made_in v key kind) → Shows (with_fresh_slots key.birth kind (make kind b)) w) → Shows (with_new kind b) w
@@ -144,6 +148,7 @@ module _ (v w : Objects) (good : IsHeap v) (parent key : Key) (kind : TypeId) (n
         live = live-edit key.birth content.without_pin child_in.rows key live-child;
         content = content-edited child_in key.birth content.without_pin ∙ ap (option_map content.without_pin) content-child;
         names = λ k l. live-edit key.birth content.without_pin child_in.rows k (live-edit parent.birth (with_slot name (Child key)) w.rows k (made.names k l));
+        book = λ out h. book-edit out child_in key.birth content.without_pin (λ c. refl) (book-edit out w parent.birth (with_slot name (Child key)) (λ c. refl) (made.book out h));
       }
 
   pub shows-child : (b : board.Board) → Shows b v → Shows (with_new kind b) w → IsHeap child_in → Shows (with_new_child parent.birth name kind b) (with_edit key.birth content.without_pin child_in)

@@ -1,6 +1,6 @@
 pub mod Adding
-pub mod At
 pub mod Changes
+pub mod Claims
 pub mod Filling
 pub mod Fresh
 pub mod Given

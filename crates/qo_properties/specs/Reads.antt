@@ -1,25 +1,17 @@
 -- What is read of the board.
-use Rattle.std.specs.Prelude.{◌≡◌, ℕ, ◌==◌, ◌&&◌, not, if◌then◌else◌, List, map, Option, Some, None, is_none, Result, Ok, Err, ⊤}
+use Rattle.std.specs.Prelude.{◌≡◌, ℕ, ◌==◌, ◌&&◌, not, if◌then◌else◌, Option, Some, None, is_none, Result, Ok, Err, ⊤}
 use Rattle.qo_values.specs.declared.codes.Code.{Code}
 use Rattle.qo_slots.specs.declared.keys.Key.{Key}
 use Rattle.qo_model.specs.Board.{Board, Record}
-use Rattle.qo_model.specs.Objects.{detached}
-use Rattle.qo_model.specs.Paths.{place_of}
-use Rattle.qo_model.specs.References.{refs}
-use Rattle.qo_properties.specs.declared.reading.detached.Detached.{Detached}
+use Rattle.qo_model.specs.Detachment.{told}
+use Rattle.qo_model.specs.Paths.{place_of, root_birth}
+use Rattle.qo_model.specs.declared.detached.Detached.{Detached}
 use Rattle.qo_properties.specs.declared.refusals.Refusal.{Refusal}
 use Rattle.qo_properties.specs.declared.refusals.Refusal.TheVariants.{Refused, Memory}
 
--- an object without a parent, as it is told: its birth, its references and its type
-abbrev pub told : Board → Record → Detached
-told b r = record { birth = r.birth; refs = refs b r.birth; kind = r.kind }
-
-abbrev pub detached_told : Board → List Detached
-detached_told b = map (told b) (detached b)
-
 -- an object as it is told, if it is one without a parent
 abbrev pub detached_in : Board → Record → Option Detached
-detached_in b r = if not (r.birth == 1) && is_none (place_of b r.birth) then Some (told b r) else None
+detached_in b r = if not (r.birth == root_birth) && is_none (place_of b r.birth) then Some (told b r) else None
 
 -- an answer, as f shows it, is what a definition gives, or there was not enough memory
 abbrev pub Answers : {T U : Type 0} → (T → U) → Result T Refusal → Result U Code → Type 0

@@ -11,6 +11,7 @@ use Rattle.qo_model.specs.Changes.{make, set, add, with_fresh_slots}
 use Rattle.qo_model.specs.Opening.{system_period}
 use Rattle.qo_model.specs.Release.{without_pin}
 use Rattle.qo_heap.specs.Objects.{Objects, content_of}
+use Rattle.qo_properties.specs.Claims.{KeepsBook}
 use Rattle.qo_properties.specs.Fresh.{new_slots}
 
 -- an object of a type more, with its plain properties and its links
@@ -68,3 +69,4 @@ pub record IsMade (old new : Objects) (kind : TypeId) (pins : ℕ) (o : Key) : T
   pub live : IsLive new.rows o
   pub content : content_of new o.birth ≡ Some (as_made kind (new_slots kind) pins)
   pub names : KeepsNames old new
+  pub book : KeepsBook old new

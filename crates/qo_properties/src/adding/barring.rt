@@ -7,11 +7,11 @@ ghost use Rattle.qo_values.specs.declared.codes.Code.{Code};
 ghost use Rattle.qo_values.specs.declared.codes.Code.TheVariants.{E23};
 ghost use Rattle.qo_properties.specs.declared.refusals.Refusal.TheVariants.{Refused};
 ghost use Rattle.qo_model.specs.Board.{Board};
-ghost use Rattle.qo_model.specs.Objects.{objects_birth};
+ghost use Rattle.qo_model.specs.Objects.{barred_by, objects_birth};
 ghost use Rattle.qo_model.specs.Types.{row_named};
 ghost use Rattle.qo_table.specs.Rows.{IsLive};
 ghost use Rattle.qo_heap.specs.Board.{Shows};
-ghost use Rattle.qo_properties.specs.Changes.{barred_by, place_refusal, refusal_in, type_refusal};
+ghost use Rattle.qo_properties.specs.Changes.{place_refusal, refusal_in, type_refusal};
 
 use crate::adding::fresh::name_of;
 use crate::reading::lookup::{OBJECTS_BIRTH, object_of};

@@ -13,8 +13,8 @@ ghost use Rattle.qo_heap.specs.Objects.{content_of, slots_of, with_edit};
 ghost use Rattle.qo_properties.specs.Fresh.{begun_row, new_slots, slot_of_row};
 ghost use Rattle.qo_properties.specs.Filling.{Fits, HasValue, IsGiven, filled_at, fits, fits_at, target_in, with_filled};
 
-use crate::errors::Memory;
 use crate::adding::given::{given_val, linked_to};
+use crate::errors::Memory;
 use crate::reading::values::copy_of;
 use qo_heap::{Heap, Oid, Steps};
 use qo_types::{RowKind, SlotRow, TypeTable};

@@ -126,12 +126,7 @@ pub fn given_val<'a>(props: &'a PropList, name: &str) -> Option<&'a Val>
 }
 
 /// The target that a value gives to a link to objects of a type; none where it is refused.
-pub fn linked_to<L: Ledger>(
-    heap: &Heap,
-    ty: TypeId,
-    val: &Val,
-    steps: &mut Steps<L>,
-) -> Option<Oid>
+pub fn linked_to<L: Ledger>(heap: &Heap, ty: TypeId, val: &Val, steps: &mut Steps<L>) -> Option<Oid>
     ensures target { (b : Board) → Shows b heap.now → birth_of result ≡ linked_to b ty val.now }
     ensures live { IfSome result (IsLive heap.now.rows) }
 {

@@ -9,14 +9,15 @@ ghost use Rattle.qo_object.specs.Slots.{Named};
 ghost use Rattle.qo_object.specs.declared.slots.Slot.TheVariants.{Child};
 ghost use Rattle.qo_heap.specs.Board.{Shows, pins_in};
 ghost use Rattle.qo_heap.specs.Objects.{content_of, ended, pins_of, refs_of, with_edit};
-ghost use Rattle.qo_properties.specs.Adding.{Adds, IsTried, given_up, with_child};
+ghost use Rattle.qo_properties.specs.Adding.{Adds, IsChild, IsTried, given_up};
+ghost use Rattle.qo_properties.specs.Claims.{KeepsBook};
 ghost use Rattle.qo_properties.specs.Fresh.{first_slots, new_slots, with_slots};
 
 use crate::adding::barring::{Admitted, admit};
-use crate::errors::Memory;
 use crate::adding::filling::{plan_of, settle};
 use crate::adding::fresh::add_fresh_slots;
 use crate::adding::given::check_given;
+use crate::errors::Memory;
 use crate::refusals::Refusal;
 use qo_heap::{Heap, Oid, Steps};
 use qo_life::create;
@@ -84,7 +85,7 @@ pub fn make_child<L: Ledger>(
     steps: &mut Steps<L>,
 ) -> Result<Oid, Memory>
     requires { IsLive heap.old.rows parent }
-    ensures made { IfOk result (λ o. (o.birth ≡ heap.old.born + 1) × (heap.new ≡ with_child parent.birth name o kind (new_slots kind) heap.old)) }
+    ensures made { IfOk result (λ o. IsChild heap.old heap.new o parent name kind) }
     ensures err { OnErr result (IsTried kind heap.old heap.new) }
 {
     heap.facts();
@@ -112,6 +113,7 @@ pub fn add_filled<L: Ledger>(
     ensures ok { OnOk result ((b : Board) → Shows b heap.old → Shows (with_object b admitted.kind admitted.name props.now) heap.new) }
     ensures err { OnErr result (IsTried admitted.kind heap.old heap.new) }
     ensures pins { pins_in heap.new.rows ≡ pins_in heap.old.rows }
+    ensures book { KeepsBook heap.old heap.new }
 {
     let Admitted {
         objects,
@@ -130,7 +132,7 @@ pub fn add_filled<L: Ledger>(
 /// `/objects` that nothing else holds (QEMU's QAPI, `object-add`). Of two values for one property the
 /// first counts. Refused, in this order, with `E20` where no type has the name, `E21` where it is
 /// abstract, `E22` where users may not make it, `E23` where the id is malformed, `E15` where
-/// `/objects` is not there, `E24` where it has such a slot, and `E43` at 4,096 objects; the heap is
+/// `/objects` is not there, `E24` where it has such a slot, and `E43` at `LIVE_OBJECTS_MAX` objects; the heap is
 /// then as it was. A property that is refused, the first in the order given, is so with `E17`, `E18`,
 /// `E19`, `E15`, `E16` or `E31` behind an attempt that is given up: the object was made and ended.
 /// Where memory wants, the heap is as it was, or an attempt was given up.
@@ -144,6 +146,7 @@ pub fn add_object<L: Ledger>(
 ) -> Result<(), Refusal>
     ensures change { (b : Board) → Shows b heap.old → Adds b driver.now id.now props.now result heap.new }
     ensures pins { pins_in heap.new.rows ≡ pins_in heap.old.rows }
+    ensures book { KeepsBook heap.old heap.new }
 {
     let admitted = admit(heap, driver, id, alloc, steps)?;
     if let Err(code) = check_given(heap, admitted.kind, props, steps) {

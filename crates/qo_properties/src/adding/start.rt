@@ -10,11 +10,12 @@ ghost use Rattle.qo_table.specs.Rows.{IsLive};
 ghost use Rattle.qo_object.specs.Content.{set_at, as_made};
 ghost use Rattle.qo_heap.specs.Board.{Shows};
 ghost use Rattle.qo_heap.specs.Objects.{content_of, with_edit};
+ghost use Rattle.qo_properties.specs.Claims.{KeepsBook};
 ghost use Rattle.qo_properties.specs.Fresh.{new_slots};
 ghost use Rattle.qo_properties.specs.Start.{IsMade, KeepsNames, with_new, with_new_child, with_clock, with_containers, with_buses, with_machine, with_all};
 
-use crate::errors::Memory;
 use crate::adding::fresh::{add_fresh_slots, name_of};
+use crate::errors::Memory;
 use crate::reading::lookup::place_named;
 use qo_heap::{Heap, Oid, Steps};
 use qo_values::{TypeId, Val};
@@ -84,6 +85,7 @@ fn make_clock<L: Ledger>(
 ) -> Result<(), Memory>
     requires live { IsLive heap.old.rows machine }
     ensures names { OnOk result (KeepsNames heap.old heap.new) }
+    ensures book { OnOk result (KeepsBook heap.old heap.new) }
     ensures shown { OnOk result ((b : Board) → Shows b heap.old → Shows (with_clock machine.birth b) heap.new) }
 {
     let clock = make_child(heap, machine, "sysclk", TypeId::Clock, alloc, steps)?;
@@ -100,6 +102,7 @@ fn make_containers<L: Ledger>(
 ) -> Result<(), Memory>
     requires live { IsLive heap.old.rows machine }
     ensures names { OnOk result (KeepsNames heap.old heap.new) }
+    ensures book { OnOk result (KeepsBook heap.old heap.new) }
     ensures shown { OnOk result ((b : Board) → Shows b heap.old → Shows (with_containers machine.birth b) heap.new) }
 {
     make_child(heap, machine, "peripheral", TypeId::Container, alloc, steps)?;
@@ -123,6 +126,7 @@ fn make_buses<L: Ledger>(
 ) -> Result<(), Memory>
     requires live { IsLive heap.old.rows machine }
     ensures names { OnOk result (KeepsNames heap.old heap.new) }
+    ensures book { OnOk result (KeepsBook heap.old heap.new) }
     ensures shown { OnOk result ((b : Board) → Shows b heap.old → Shows (with_buses machine.birth b) heap.new) }
 {
     make_child(heap, machine, "root.0", TypeId::SlotBus, alloc, steps)?;
@@ -139,6 +143,7 @@ fn make_machine<L: Ledger>(
 ) -> Result<(), Memory>
     requires live { IsLive heap.old.rows root }
     ensures names { OnOk result (KeepsNames heap.old heap.new) }
+    ensures book { OnOk result (KeepsBook heap.old heap.new) }
     ensures shown { OnOk result ((b : Board) → Shows b heap.old → Shows (with_machine root.birth b) heap.new) }
 {
     let machine = make_child(heap, root, "machine", TypeId::Machine, alloc, steps)?;
@@ -154,7 +159,8 @@ pub fn make_all<L: Ledger>(
     alloc: Global,
     steps: &mut Steps<L>,
 ) -> Result<(), Memory>
-    ensures { OnOk result ((b : Board) → Shows b heap.old → Shows (with_all b) heap.new) }
+    ensures shown { OnOk result ((b : Board) → Shows b heap.old → Shows (with_all b) heap.new) }
+    ensures book { OnOk result (KeepsBook heap.old heap.new) }
 {
     let root = make_new(heap, TypeId::Container, alloc, steps)?;
     make_machine(heap, root, alloc, steps)?;

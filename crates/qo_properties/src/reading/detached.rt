@@ -3,24 +3,15 @@
 ghost use Rattle.std.specs.Prelude.{◌≡◌, IfOk, slice_get};
 ghost use Rattle.std.specs.Option.{option_and_then};
 ghost use Rattle.qo_model.specs.Board.{Board as Tree};
+ghost use Rattle.qo_model.specs.Detachment.{detached_told};
 ghost use Rattle.qo_heap.specs.Board.{Shows, record_of};
-ghost use Rattle.qo_properties.specs.Reads.{detached_in, detached_told};
+ghost use Rattle.qo_properties.specs.Reads.{detached_in};
 
+use crate::reading::lookup::ROOT_BIRTH;
 use qo_heap::{Heap, Steps};
-use qo_values::TypeId;
+use qo_model::Detached;
 use std::alloc::{AllocError, Global};
 use std::sync::ledger::Ledger;
-
-/// An object without a parent, other than `/`.
-#[derive(Clone, Copy, Debug, PartialEq, Eq)]
-pub struct Detached {
-    /// Its birth.
-    pub birth: u64,
-    /// How many child slots, strong links and pins name it.
-    pub refs: u64,
-    /// Its type.
-    pub kind: TypeId,
-}
 
 /// The object at a place in the order of births, if it is detached; `None` past the last.
 fn detached_at<L: Ledger>(heap: &Heap, place: usize, steps: &mut Steps<L>) -> Option<Detached>
@@ -28,7 +19,7 @@ fn detached_at<L: Ledger>(heap: &Heap, place: usize, steps: &mut Steps<L>) -> Op
 {
     heap.facts();
     let o = heap.oid_at(place)?;
-    if o.birth == 1 {
+    if o.birth == ROOT_BIRTH {
         return None;
     }
     if heap.parent(o, steps).is_some() {

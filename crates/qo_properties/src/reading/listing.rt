@@ -4,7 +4,7 @@ ghost use Rattle.std.specs.Prelude.{◌≡◌, [], ◌∷◌, ◌++◌, string_b
 ghost use Rattle.std.specs.Option.{option_map_or};
 ghost use Rattle.qo_model.specs.Board.{Board as Tree, slot_named};
 ghost use Rattle.qo_model.specs.Listing.{around, listing, own_text, plain_word, type_text, value_word};
-ghost use Rattle.qo_properties.specs.At.{listing_at};
+ghost use Rattle.qo_model.specs.Access.{listing_at};
 ghost use Rattle.qo_object.specs.Shown.{shown_slot};
 ghost use Rattle.qo_object.specs.Slots.{target_of};
 ghost use Rattle.qo_table.specs.Rows.{IsLive};
@@ -33,7 +33,7 @@ pub struct Prop {
 }
 
 /// The word for the values of a type.
-fn value_word(ty: PropType) -> &'static str
+pub fn value_word(ty: PropType) -> &'static str
     ensures { result.now ≡ value_word ty }
 {
     match ty {
@@ -65,7 +65,7 @@ fn plain_word(kind: TypeId, name: &str) -> &'static str
 }
 
 /// A word around a type's name, as `child<clock>`.
-fn around(word: &str, kind: TypeId, alloc: Global) -> Result<String, AllocError>
+pub fn around(word: &str, kind: TypeId, alloc: Global) -> Result<String, AllocError>
     ensures { IfOk result (λ text. string_bytes text ≡ around word.now kind) }
 {
     let mut text = String::from_str(alloc, word)?;

@@ -11,6 +11,9 @@ use qo_heap::{Heap, Oid, Slot, Steps};
 use qo_values::Name;
 use std::sync::ledger::Ledger;
 
+/// The birth of `/`.
+pub const ROOT_BIRTH: u64 = 1;
+
 /// The birth of `/objects`, under which users' objects stand.
 pub const OBJECTS_BIRTH: u64 = 8;
 
@@ -48,12 +51,7 @@ fn is_child_named(name: &Name, what: &Slot, id: &str) -> bool
 }
 
 /// The first place at which an object has a child under a name; `None` where it has none.
-pub fn child_place<L: Ledger>(
-    heap: &Heap,
-    o: Oid,
-    id: &str,
-    steps: &mut Steps<L>,
-) -> Option<usize>
+pub fn child_place<L: Ledger>(heap: &Heap, o: Oid, id: &str, steps: &mut Steps<L>) -> Option<usize>
     requires { IsLive heap.now.rows o }
     ensures { result ≡ place_from (is_object_named id.now) 0 (shown_slots (slots_of heap.now o.birth)) }
 {

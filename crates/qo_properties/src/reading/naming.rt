@@ -17,11 +17,7 @@ use std::alloc::{AllocError, Global};
 use std::sync::ledger::Ledger;
 
 /// The object at a path; refused where there is none, or several.
-pub fn object_at<L: Ledger>(
-    heap: &Heap,
-    path: &str,
-    steps: &mut Steps<L>,
-) -> Result<Oid, Code>
+pub fn object_at<L: Ledger>(heap: &Heap, path: &str, steps: &mut Steps<L>) -> Result<Oid, Code>
     ensures object { (b : Board) → Shows b heap.now → birth_told result ≡ object_at b path.now }
     ensures live { IfOk result (IsLive heap.now.rows) }
 {

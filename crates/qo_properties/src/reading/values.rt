@@ -1,11 +1,11 @@
 //! Reading the properties of objects (docs/devel/qom.rst, "The QEMU Object Model": properties, child
 //! and link; QEMU's QAPI, `qom-get`).
 
-ghost use Rattle.std.specs.Prelude.{◌≡◌, string_bytes, IfOk, option_map};
+ghost use Rattle.std.specs.Prelude.{◌≡◌, ℕ, List, string_bytes, IfOk, option_map};
 ghost use Rattle.qo_values.specs.declared.properties.Val.TheVariants.{Text as OfText};
 ghost use Rattle.qo_model.specs.Board.{Board as Tree, slot_named};
 ghost use Rattle.qo_model.specs.Properties.{own_value, value_of};
-ghost use Rattle.qo_properties.specs.At.{read};
+ghost use Rattle.qo_model.specs.Access.{read};
 ghost use Rattle.qo_object.specs.Shown.{shown_slot};
 ghost use Rattle.qo_table.specs.Rows.{IsLive};
 ghost use Rattle.qo_heap.specs.Board.{Shows};
@@ -40,7 +40,7 @@ fn own_value<L: Ledger>(
     alloc: Global,
     steps: &mut Steps<L>,
 ) -> Result<Val, Memory>
-    ensures { (b : Tree) → Shows b heap.now → IfOk result (λ val. val ≡ own_value b (shown_slot what.now)) }
+    ensures { (b : Tree) (n : ℕ) (name : List ℕ) → Shows b heap.now → IfOk result (λ val. val ≡ own_value b n name (shown_slot what.now)) }
 {
     match what {
         Slot::Plain(_, val) => Ok(copy_of(val, alloc)?),
@@ -64,7 +64,7 @@ fn passed_on<L: Ledger>(
     alloc: Global,
     steps: &mut Steps<L>,
 ) -> Result<Option<Val>, Memory>
-    ensures { (b : Tree) → Shows b heap.now → IfOk result (λ val. val ≡ option_map (own_value b) (slot_named b birth of.now)) }
+    ensures { (b : Tree) → Shows b heap.now → IfOk result (λ val. val ≡ option_map (own_value b birth of.now) (slot_named b birth of.now)) }
 {
     let Some(o) = object_of(heap, birth) else {
         return Ok(None);

@@ -5,6 +5,7 @@ ghost use Rattle.qo_model.specs.Board.{Board};
 ghost use Rattle.qo_model.specs.Objects.{object_del};
 ghost use Rattle.qo_heap.specs.Board.{Shows, pins_in};
 ghost use Rattle.qo_properties.specs.Changes.{IsAnswered};
+ghost use Rattle.qo_properties.specs.Claims.{KeepsBook};
 
 use crate::reading::lookup::{OBJECTS_BIRTH, child_place, object_of};
 use qo_heap::{Heap, Steps};
@@ -19,6 +20,7 @@ pub fn remove<L: Ledger>(heap: &mut Heap, id: &str, steps: &mut Steps<L>) -> Res
     ensures change { (b : Board) → Shows b heap.old → IsAnswered (object_del b id.now) result heap.new }
     ensures err { OnErr result (heap.new ≡ heap.old) }
     ensures pins { pins_in heap.new.rows ≡ pins_in heap.old.rows }
+    ensures book { KeepsBook heap.old heap.new }
 {
     let Some(objects) = object_of(heap, OBJECTS_BIRTH) else {
         return Err(Code::E15);

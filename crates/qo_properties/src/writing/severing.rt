@@ -9,6 +9,7 @@ ghost use Rattle.qo_heap.specs.Board.{Shows};
 ghost use Rattle.qo_heap.specs.Objects.{pins_of, slots_of};
 ghost use Rattle.qo_life.specs.Life.{Goes};
 ghost use Rattle.qo_properties.specs.Changes.{IsAnswered, is_strong_in, severed, severed_at};
+ghost use Rattle.qo_properties.specs.Claims.{KeepsBook};
 ghost use Rattle.qo_properties.specs.Pinned.{OnlyRootPinned};
 
 use crate::reading::lookup::object_of;
@@ -75,6 +76,7 @@ pub fn sever<L: Ledger>(heap: &mut Heap, birth: u64, steps: &mut Steps<L>) -> Re
     ensures change { (b : Board) → Shows b heap.old → IsAnswered (sever b birth) result heap.new }
     ensures err { OnErr result (heap.new ≡ heap.old) }
     ensures pinned { OnlyRootPinned heap.new }
+    ensures book { KeepsBook heap.old heap.new }
 {
     let Some(o) = object_of(heap, birth) else {
         return Err(Code::E33);

@@ -5,19 +5,20 @@ ghost use Rattle.std.specs.Prelude.{◌≡◌, true, false, Some, IfOk, IfSome, 
 ghost use Rattle.qo_slots.specs.declared.keys.Key.{Key};
 ghost use Rattle.qo_model.specs.Board.{Board as Tree, slot_at};
 ghost use Rattle.qo_model.specs.Properties.{link_target, pointed_at, relinked, write};
-ghost use Rattle.qo_properties.specs.At.{write_at};
+ghost use Rattle.qo_model.specs.Access.{write_at};
 ghost use Rattle.qo_object.specs.Content.{empty_link_at};
 ghost use Rattle.qo_object.specs.Shown.{birth_of};
 ghost use Rattle.qo_object.specs.Slots.{held, slot_in};
 ghost use Rattle.qo_table.specs.Rows.{IsLive};
 ghost use Rattle.qo_heap.specs.Board.{Shows, pins_in};
 ghost use Rattle.qo_heap.specs.Objects.{content_of, slots_of};
+ghost use Rattle.qo_properties.specs.Claims.{KeepsBook};
 ghost use Rattle.qo_properties.specs.Writes.{Writes, is_link_at, is_plain_at, kind_written, link_type_at, no_target, row_written, target_told, to_link, to_plain};
 
 use crate::reading::lookup::place_named;
 use crate::reading::naming::object_at;
-use crate::refusals::Refusal;
 use crate::reading::values::copy_of;
+use crate::refusals::Refusal;
 use qo_heap::{Heap, Oid, Slot, Steps};
 use qo_life::drop_hold;
 use qo_paths::{PathError, resolve};
@@ -91,6 +92,7 @@ fn point_at<L: Ledger>(
     ensures shown { (b : Tree) → Shows b heap.old → Shows (pointed_at (birth_of target) o.birth at b) heap.new }
     ensures names { (key : Key) → IsLive heap.old.rows key → IsLive heap.new.rows key }
     ensures pins { pins_in heap.new.rows ≡ pins_in heap.old.rows }
+    ensures book { KeepsBook heap.old heap.new }
 {
     if let Some(to) = target {
         heap.point(o, at, to, steps);
@@ -105,6 +107,7 @@ fn relink<L: Ledger>(heap: &mut Heap, o: Oid, at: usize, target: Option<Oid>, st
     requires link { is_link_at heap.old o.birth at ≡ true }
     ensures shown { (b : Tree) → Shows b heap.old → Shows (relinked b o.birth at (birth_of target)) heap.new }
     ensures pins { pins_in heap.new.rows ≡ pins_in heap.old.rows }
+    ensures book { KeepsBook heap.old heap.new }
 {
     heap.facts();
     let held = held_at(heap, o, at, steps);
@@ -139,6 +142,7 @@ fn write_plain<L: Ledger>(
     ensures written { (b : Tree) → Shows b heap.old → Writes heap.new result (to_plain b o.birth at ty (slot_at b o.birth at) val.now) }
     ensures err { OnErr result (heap.new ≡ heap.old) }
     ensures pins { pins_in heap.new.rows ≡ pins_in heap.old.rows }
+    ensures book { KeepsBook heap.old heap.new }
 {
     if !is_plain(heap, o, at, steps) {
         return Err(Refusal::Refused(Code::E18));
@@ -164,6 +168,7 @@ fn write_link<L: Ledger>(
     ensures written { (b : Tree) → Shows b heap.old → Writes heap.new result (to_link b o.birth at (slot_at b o.birth at) val.now) }
     ensures err { OnErr result (heap.new ≡ heap.old) }
     ensures pins { pins_in heap.new.rows ≡ pins_in heap.old.rows }
+    ensures book { KeepsBook heap.old heap.new }
 {
     let Some(ty) = link_type(heap, o, at, steps) else {
         return Err(Refusal::Refused(Code::E18));
@@ -190,6 +195,7 @@ fn write_kind<L: Ledger>(
     ensures written { (b : Tree) → Shows b heap.old → Writes heap.new result (kind_written b o.birth at kind val.now) }
     ensures err { OnErr result (heap.new ≡ heap.old) }
     ensures pins { pins_in heap.new.rows ≡ pins_in heap.old.rows }
+    ensures book { KeepsBook heap.old heap.new }
 {
     match kind {
         RowKind::Plain(ty, _) => write_plain(heap, o, at, ty, val, alloc, steps),
@@ -214,6 +220,7 @@ fn write_row<L: Ledger>(
     ensures written { (b : Tree) → Shows b heap.old → Writes heap.new result (row_written b o.birth at row val.now) }
     ensures err { OnErr result (heap.new ≡ heap.old) }
     ensures pins { pins_in heap.new.rows ≡ pins_in heap.old.rows }
+    ensures book { KeepsBook heap.old heap.new }
 {
     match row.mark {
         Mark::Both => write_kind(heap, o, at, row.kind, val, alloc, steps),
@@ -234,6 +241,7 @@ fn write<L: Ledger>(
     ensures written { (b : Tree) → Shows b heap.old → Writes heap.new result (write b o.birth name.now val.now) }
     ensures err { OnErr result (heap.new ≡ heap.old) }
     ensures pins { pins_in heap.new.rows ≡ pins_in heap.old.rows }
+    ensures book { KeepsBook heap.old heap.new }
 {
     let Some(at) = place_named(heap, o, name, steps) else {
         return Err(Refusal::Refused(Code::E17));
@@ -262,6 +270,7 @@ pub fn set<L: Ledger>(
     ensures written { (b : Tree) → Shows b heap.old → Writes heap.new result (write_at b path.now name.now val.now) }
     ensures err { OnErr result (heap.new ≡ heap.old) }
     ensures pins { pins_in heap.new.rows ≡ pins_in heap.old.rows }
+    ensures book { KeepsBook heap.old heap.new }
 {
     let o = object_at(heap, path, steps)?;
     write(heap, o, name, val, alloc, steps)

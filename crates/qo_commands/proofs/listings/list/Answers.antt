@@ -3,7 +3,7 @@ use Rattle.std.proofs.Common.{◌≡◌, Err, ◌∙◌, ap, sym, map, List}
 use Rattle.serde_json.specs.Data.{Data}
 use Rattle.qo_properties.specs.Listed.{prop_told}
 use Rattle.qo_properties.specs.declared.reading.listing.Prop.{Prop}
-use Rattle.qo_properties.specs.At.{listing_at}
+use Rattle.qo_model.specs.Access.{listing_at}
 use Rattle.qo_commands.specs.Commands.{answered, properties_data, returned}
 use Rattle.qo_commands.proofs.listings.list.Goals as goal
 

@@ -16,5 +16,5 @@ returns-in_ok-push-in-Ok-clause-served g c =
           ∙ ap (λ (outs : List Message). outs ++ (Session c.args.session, c.in-Ok.text) ∷ []) (c.in_ok-tell_all-in-Ok.ensures ∙ ap (λ (es : List Event). c.args.outs.now ++ event_outs c.args.at (beside c.args.machine.now) es) c.deref.ensures.value)
           ∙ append_assoc c.args.outs.now told ((Session c.args.session, c.in-Ok.text) ∷ []),
       told_lanes c.in-Ok.done.events.items (beside c.args.machine.now) c.args.at c.args.session c.in-Ok.text told front refl refl c.requires.session,
-      served_ask c.args.at c.args.session c.args.machine.now c.conclude.new.self c.args.request.now _ c.in-Ok.done c.in-Ok.text told front (λ b stands. (c.in-Ok.ensures.done b stands, c.in-Ok.ensures.text b stands)) (λ b. refl) refl c.conclude.ensures.state c.conclude.ensures.objects,
+      served_ask c.args.at c.args.session c.args.machine.now c.conclude.new.self c.args.request.now _ c.in-Ok.done c.in-Ok.text told front (λ b stands. (c.in-Ok.ensures.done b stands, c.in-Ok.ensures.text b stands)) (λ b. refl) refl c.conclude.ensures.state c.conclude.ensures.board,
     )

@@ -17,7 +17,7 @@ returns-in_ok-push-in-Answer-clause-served g c = (
   c.in_ok-push-in-Answer.ensures,
   (c.requires, tt),
   serves_answer c.args.at c.args.session c.args.machine.now c.heed.new.self c.args.item.now c.in-Answer.code c.in-Answer.id _ (sym c.if-ended.ensures) (λ b. sym c.in-Answer.is ∙ c.in_ok-code.ensures.act b)
-      (λ b. c.in_ok-code.ensures.state b ∙ ap (moved (state_at b c.args.machine.now) c.args.session) c.in-Answer.is) c.heed.ensures.objects (rw c.as_ref.ensures.value at c.in_ok-error_text-in-Answer.ensures),
+      (λ b. c.in_ok-code.ensures.state b ∙ ap (moved (state_at b c.args.machine.now) c.args.session) c.in-Answer.is) c.heed.ensures.board (rw c.as_ref.ensures.value at c.in_ok-error_text-in-Answer.ensures),
 )
 
 pub returns-in_ok-push-in-Negotiated-clause-served : goal.returns-in_ok-push-in-Negotiated-clause-served
@@ -26,7 +26,7 @@ returns-in_ok-push-in-Negotiated-clause-served g c = (
   c.in_ok-push-in-Negotiated.ensures,
   (c.requires, tt),
   serves_negotiation c.args.at c.args.session c.args.machine.now c.heed.new.self c.args.item.now c.in-Negotiated.id _ (sym c.if-ended.ensures) (λ b. sym c.in-Negotiated.is ∙ c.in_ok-code.ensures.act b)
-      (λ b. c.in_ok-code.ensures.state b ∙ ap (moved (state_at b c.args.machine.now) c.args.session) c.in-Negotiated.is) c.heed.ensures.objects
+      (λ b. c.in_ok-code.ensures.state b ∙ ap (moved (state_at b c.args.machine.now) c.args.session) c.in-Negotiated.is) c.heed.ensures.board
       (rw c.as_ref-in-Negotiated.ensures.value at (c.in_ok-return_written-in-Negotiated.ensures empty empty_written)),
 )
 
@@ -37,6 +37,6 @@ returns-in_ok-serve_command-in-Do-clause-served g c =
       served.1,
       served.2,
       serves_command c.args.at c.args.session c.args.machine.now c.heed.new.self c.serve_command.new.machine c.args.item.now c.in-Do.request c.in-Do.id served.0 (sym c.if-ended.ensures) (λ b. sym c.in-Do.is ∙ c.in_ok-code.ensures.act b)
-          (λ b. c.in_ok-code.ensures.state b ∙ ap (moved (state_at b c.args.machine.now) c.args.session) c.in-Do.is) c.heed.ensures.objects
+          (λ b. c.in_ok-code.ensures.state b ∙ ap (moved (state_at b c.args.machine.now) c.args.session) c.in-Do.is) c.heed.ensures.board
           (λ s here. subst (λ (id : Option (List ℕ)). CommandServed c.args.at c.args.session s c.in-Do.request id served.0 c.serve_command.new.machine) c.as_ref-in-Do.ensures.value (served.3 s here)),
     )

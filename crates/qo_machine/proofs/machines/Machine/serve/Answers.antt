@@ -11,7 +11,7 @@ returns-then-self-clause-answered g c = λ s here.
 
 pub returns-in-Open-clause-answered : goal.returns-in-Open-clause-answered
 returns-in-Open-clause-answered g c =
-    served_beside c.open.result c.args.input.now _ c.args.self.now c.open.new.self (sym (seen_ended c.self.view_is) ∙ c.if-self.false) c.in-Open.is c.open.ensures.answered c.open.ensures.objects
+    served_beside c.open.result c.args.input.now _ c.args.self.now c.open.new.self (sym (seen_ended c.self.view_is) ∙ c.if-self.false) c.in-Open.is c.open.ensures.answered c.open.ensures.board
 
 pub returns-in-Bytes-clause-answered : goal.returns-in-Bytes-clause-answered
 returns-in-Bytes-clause-answered g c =
@@ -20,12 +20,12 @@ returns-in-Bytes-clause-answered g c =
 pub returns-in-Shut-clause-answered : goal.returns-in-Shut-clause-answered
 returns-in-Shut-clause-answered g c =
     answers_moved c.args.input.now _ _ c.args.self.now c.shut.new.self (sym (seen_ended c.self.view_is) ∙ c.if-self.false) c.in-Shut.is
-    (λ b. c.shut.ensures.answered b c.args.input.now.at ∙ ap (λ (outs : List Message). record { outs = outs; state = state_at b c.shut.new.self; rest = [] }) (sym c.none-in-Shut.ensures)) c.shut.ensures.objects
+    (λ b. c.shut.ensures.answered b c.args.input.now.at ∙ ap (λ (outs : List Message). record { outs = outs; state = state_at b c.shut.new.self; rest = [] }) (sym c.none-in-Shut.ensures)) c.shut.ensures.board
 
 pub returns-in-End-clause-answered : goal.returns-in-End-clause-answered
 returns-in-End-clause-answered g c =
     answers_moved c.args.input.now _ _ c.args.self.now c.finish.new.self (sym (seen_ended c.self.view_is) ∙ c.if-self.false) c.in-End.is
-    (λ b. ap (λ (s : State). unchanged s []) (sym (c.finish.ensures.done b)) ∙ leaves (state_at b c.finish.new.self) _ c.none-in-End.ensures) c.finish.ensures.objects
+    (λ b. ap (λ (s : State). unchanged s []) (sym (c.finish.ensures.done b)) ∙ leaves (state_at b c.finish.new.self) _ c.none-in-End.ensures) c.finish.ensures.board
 
 pub returns-in-Guest-clause-answered : goal.returns-in-Guest-clause-answered
 returns-in-Guest-clause-answered g c =

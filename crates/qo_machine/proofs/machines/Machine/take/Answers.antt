@@ -5,7 +5,7 @@ use Rattle.qo_machine.proofs.machines.Machine.take.Goals as goal
 
 pub returns-clause-answered : goal.returns-clause-answered
 returns-clause-answered g c =
-    served_items c.serve_items.result c.args.at c.args.session c.args.self.now c.feed.new.self c.serve_items.new.machine c.args.bytes.now c.deref.result.now (omega arith) (λ b. c.deref.ensures.value ∙ c.in_ok-items.ensures.items b) c.in_ok-items.ensures.state c.feed.ensures.objects c.serve_items.ensures.served
+    served_items c.serve_items.result c.args.at c.args.session c.args.self.now c.feed.new.self c.serve_items.new.machine c.args.bytes.now c.deref.result.now (omega arith) (λ b. c.deref.ensures.value ∙ c.in_ok-items.ensures.items b) c.in_ok-items.ensures.state c.feed.ensures.board c.serve_items.ensures.served
 
 pub returns-then-session-ge-SESSIONS-clause-answered : goal.returns-then-session-ge-SESSIONS-clause-answered
 returns-then-session-ge-SESSIONS-clause-answered g c = λ s here.

@@ -30,4 +30,7 @@ returns-in-Err-clause-err g c = inr (newest-ends c.args.heap.now c.furnish.new.h
 
 pub returns-in-Ok-clause-made : goal.returns-in-Ok-clause-made
 returns-in-Ok-clause-made g c =
-    (c.in_ok-o.ensures.made.0, done-furnish c.args.heap.now c.create.new.heap c.furnish.new.heap c.in_ok-o.o c.args.parent c.args.name c.args.kind c.facts.ensures c.in_ok-o.ensures.made.0 c.requires c.in_ok-o.ensures.made.1 c.in-Ok.ensures.ok)
+    record {
+      birth = c.in_ok-o.ensures.made.0;
+      is = done-furnish c.args.heap.now c.create.new.heap c.furnish.new.heap c.in_ok-o.o c.args.parent c.args.name c.args.kind c.facts.ensures c.in_ok-o.ensures.made.0 c.requires c.in_ok-o.ensures.made.1 c.in-Ok.ensures.ok;
+    }

@@ -1,4 +1,4 @@
-use Rattle.std.proofs.Common.{◌∙◌, ap, subst, sym, ℕ, ◌+◌, codes}
+use Rattle.std.proofs.Common.{refl, ◌∙◌, ap, subst, sym, ℕ, ◌+◌, codes}
 use Rattle.qo_values.specs.declared.properties.Val.TheVariants.{Uint}
 use Rattle.qo_values.specs.declared.kinds.TypeId.TheVariants.{Clock}
 use Rattle.qo_model.specs.Board.{Board}
@@ -8,6 +8,7 @@ use Rattle.qo_object.specs.Content.{set_at}
 use Rattle.qo_heap.specs.Board.{Shows}
 use Rattle.qo_heap.proofs.HeapLemmas.{live-edit}
 use Rattle.qo_heap.proofs.ShowsChanges.{shows-set}
+use Rattle.qo_properties.proofs.ClaimLemmas.{edit-keeps}
 use Rattle.qo_properties.specs.Start.{with_new_child}
 use Rattle.qo_properties.proofs.adding.start.make_clock.Goals as goal
 
@@ -21,3 +22,7 @@ returns-clause-shown g c =
     let shown : Shows (set c.in_ok-clock.clock.birth 1 (Uint system_period) child) c.set_period.new.heap =
     rw c.set_period.ensures (shows-set child c.make_child.new.heap (c.in_ok-clock.ensures.shown b s) c.in_ok-clock.clock.birth 1 (Uint system_period)) in
     subst (λ (n : ℕ). Shows (set n 1 (Uint system_period) child) c.set_period.new.heap) (c.in_ok-clock.ensures.made.birth ∙ ap (λ (k : ℕ). k + 1) (sym s.born)) shown
+
+pub returns-clause-book : goal.returns-clause-book
+returns-clause-book g c = λ out h.
+    edit-keeps c.make_child.new.heap c.set_period.new.heap c.in_ok-clock.clock.birth (set_at (Uint system_period) 1) (λ d. refl) c.set_period.ensures out (c.in_ok-clock.ensures.made.book out h)

@@ -1,6 +1,6 @@
 -- Each place tells of its object, if that is detached.
 use Rattle.std.proofs.Common.{◌+◌, ◌∷◌, [], ◌++◌, List, Some, None, ap, sym, ◌∙◌, append_assoc}
-use Rattle.qo_properties.specs.declared.reading.detached.Detached.{Detached}
+use Rattle.qo_model.specs.declared.detached.Detached.{Detached}
 use Rattle.qo_properties.proofs.ReadLemmas.{detached-all, detached_behind, given-next, in_row}
 use Rattle.qo_properties.proofs.reading.detached.detached_list.Goals as goal
 

@@ -2,7 +2,7 @@
 use Rattle.std.proofs.Common.{◌≡◌, ◌++◌}
 use Rattle.qo_model.specs.Board.{Board as Tree}
 use Rattle.qo_heap.specs.Board.{Shows}
-use Rattle.qo_properties.specs.Reads.{detached_told}
+use Rattle.qo_model.specs.Detachment.{detached_told}
 use Rattle.qo_properties.proofs.ReadLemmas.{detached_behind}
 use Rattle.qo_properties.proofs.reading.detached.detached_list.Given as goal
 

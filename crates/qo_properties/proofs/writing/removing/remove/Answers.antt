@@ -16,3 +16,6 @@ returns-clause-change g c = λ b s.
 
 pub returns-clause-pins : goal.returns-clause-pins
 returns-clause-pins g c = let_go-same c.in-Some.objects.birth c.in-Some-child_place.at c.args.heap.now c.let_go.new.heap c.let_go.ensures.goes
+
+pub returns-clause-book : goal.returns-clause-book
+returns-clause-book g c = c.let_go.ensures.goes.book

@@ -16,7 +16,7 @@ returns-then-is_attached-clause-change g c = λ b s.
     sever-attached b c.args.heap.now s c.args.birth c.in-Some.o.birth c.in-Some.ensures.born live (sym (c.if-is_attached.ensures b s))
 
 pub sever_links-requires-clause-room : goal.sever_links-requires-clause-room
-sever_links-requires-clause-room g c = pins-room c.args.heap.now c.requires c.in-Some.o.birth
+sever_links-requires-clause-room g c = pins-room c.args.heap.now c.requires.pinned c.in-Some.o.birth
 
 pub returns-clause-change : goal.returns-clause-change
 returns-clause-change g c = λ b s.
@@ -25,4 +25,7 @@ returns-clause-change g c = λ b s.
 
 pub returns-clause-pinned : goal.returns-clause-pinned
 returns-clause-pinned g c =
-    goes-pins (λ b. severed b c.in-Some.o.birth) c.args.heap.now c.sever_links.new.heap c.sever_links.ensures c.requires (severed-keeps c.in-Some.o.birth)
+    goes-pins (λ b. severed b c.in-Some.o.birth) c.args.heap.now c.sever_links.new.heap c.sever_links.ensures c.requires.pinned (severed-keeps c.in-Some.o.birth)
+
+pub returns-clause-book : goal.returns-clause-book
+returns-clause-book g c = c.sever_links.ensures.book

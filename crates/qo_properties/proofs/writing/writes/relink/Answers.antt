@@ -8,6 +8,7 @@ use Rattle.qo_model.specs.Release.{drop_slot}
 use Rattle.qo_heap.specs.Board.{Shows}
 use Rattle.qo_heap.proofs.HeapLemmas.{live-edit}
 use Rattle.qo_heap.proofs.ShowsEdits.{shows-drop_slot}
+use Rattle.qo_properties.proofs.ClaimLemmas.{edit-keeps}
 use Rattle.qo_properties.proofs.PinLemmas.{edited-pins, hold-pins}
 use Rattle.qo_properties.proofs.WriteLemmas.{emptied-link, held-live, relinked-is, some-live}
 use Rattle.qo_properties.proofs.writing.writes.relink.Goals as goal
@@ -39,3 +40,8 @@ returns-clause-pins g c =
     hold-pins (birth_of c.held_at-held.result) c.point_at.new.heap c.drop_hold.new.heap c.drop_hold.ensures.goes
     ∙ c.point_at.ensures.pins
     ∙ edited-pins c.args.heap.now c.empty.new.self c.args.o.birth (dropped_at c.args.at) (λ d. refl) c.empty.ensures.now
+
+pub returns-clause-book : goal.returns-clause-book
+returns-clause-book g c = λ out h.
+    c.drop_hold.ensures.goes.book out
+    (c.point_at.ensures.book out (edit-keeps c.args.heap.now c.empty.new.self c.args.o.birth (dropped_at c.args.at) (λ d. refl) c.empty.ensures.now out h))

@@ -3,6 +3,7 @@ use Rattle.qo_values.specs.Properties.{admits}
 use Rattle.qo_model.specs.Changes.{set}
 use Rattle.qo_heap.proofs.ShowsChanges.{shows-set}
 use Rattle.qo_object.specs.Content.{set_at}
+use Rattle.qo_properties.proofs.ClaimLemmas.{edit-keeps}
 use Rattle.qo_properties.proofs.PinLemmas.{edited-pins}
 use Rattle.qo_properties.proofs.WriteLemmas.{plain-is}
 use Rattle.qo_properties.proofs.writing.writes.write_plain.Goals as goal
@@ -23,3 +24,6 @@ returns-clause-written g c = λ b s.
 
 pub returns-clause-pins : goal.returns-clause-pins
 returns-clause-pins g c = edited-pins c.args.heap.now c.set.new.self c.args.o.birth (set_at c.in_ok-copy.copy c.args.at) (λ d. refl) c.set.ensures.now
+
+pub returns-clause-book : goal.returns-clause-book
+returns-clause-book g c = edit-keeps c.args.heap.now c.set.new.self c.args.o.birth (set_at c.in_ok-copy.copy c.args.at) (λ d. refl) c.set.ensures.now

@@ -9,7 +9,7 @@ use Rattle.qo_values.specs.declared.properties.Val.TheVariants as val
 use Rattle.qo_model.specs.Board.{Board, Slot, plain, child, strong, weak, alias, is_live, kind_of, slot_at, slots_at, held}
 use Rattle.qo_model.specs.Changes.{point, set}
 use Rattle.qo_model.specs.FinalNotesRuns.{Change, added, deleted, wrote, severed, behind, behind_write, changed}
-use Rattle.qo_model.specs.Objects.{Given, added_as, added_by, barred, is_object_named, object_add, object_del, objects_birth, place_from, refusal_of, sever, severed_from, with_attempt}
+use Rattle.qo_model.specs.Objects.{Given, added_as, added_by, attempted_as, barred, barred_by, is_object_named, object_add, object_del, objects_birth, place_from, refusal_of, sever, severed_from, with_attempt}
 use Rattle.qo_model.specs.Paths.{attached}
 use Rattle.qo_model.specs.Properties.{link_target, link_written, linked, may_set, pointed_at, relinked, row_of_property, write, written, written_by}
 use Rattle.qo_model.specs.References.{refs}
@@ -17,9 +17,9 @@ use Rattle.qo_model.specs.Release.{after, drop_slot, finalise, let_go, pin, unpi
 use Rattle.qo_model.specs.ReleaseKeeps.{Leaves}
 use Rattle.qo_model.specs.Types.{Kind, Property, TypeRow, row_named}
 use Rattle.qo_model.proofs.ReleaseLeavesLemmas.{let_go-leaves, release_leaves, unpin-leaves}
-use Rattle.qo_sound.specs.Stays.{Stays, StaysLaw}
+use Rattle.qo_model.specs.Stays.{Stays, StaysLaw}
 
-stays-none : (b : Board) → Stays b b
+pub stays-none : (b : Board) → Stays b b
 stays-none b = record { anonymous = refl; now = refl; running = refl; holds = refl; pending = refl; notices = refl; rings = refl }
 
 stays-then : (b c d : Board) → Stays b c → Stays c d → Stays b d
@@ -48,6 +48,14 @@ after-stays b (Some m) = go (refs b m == 0) refl
 -- `object-add`
 attempt-stays : (b : Board) (t : TypeId) → Stays b (with_attempt b t)
 attempt-stays b t = record { anonymous = refl; now = refl; running = refl; holds = refl; pending = refl; notices = refl; rings = refl }
+
+pub attempted_as-stays : (b : Board) (driver id : List ℕ) → Stays b (attempted_as b driver id)
+attempted_as-stays b driver id = go (barred_by b driver id) refl (row_named driver) refl
+  where
+    go : (code : Option Code) → barred_by b driver id ≡ code → (row : Option TypeRow) → row_named driver ≡ row → Stays b (attempted_as b driver id)
+    go (Some code) p row q = rw (attempted_as, p) (stays-none b)
+    go None p None q = rw (attempted_as, p, q) (stays-none b)
+    go None p (Some row) q = rw (attempted_as, p, q) (attempt-stays b row.id)
 
 added_as-stays : (b : Board) (t : TypeId) (id : List ℕ) (props : List Given) (refusal : Option Code) → Stays b (added_as b t id props refusal).board
 added_as-stays b t id props None = record { anonymous = refl; now = refl; running = refl; holds = refl; pending = refl; notices = refl; rings = refl }

@@ -1,4 +1,4 @@
--- What commands on properties come to at a path (QEMU's QAPI, `qom-list`, `qom-get`, `qom-set`).
+-- Access to objects and their properties by path (QEMU's QAPI, `qom-list`, `qom-get`, `qom-set`).
 use Rattle.std.specs.Prelude.{ℕ, List, Result, Ok, Err, ok_or}
 use Rattle.qo_values.specs.declared.codes.Code.{Code}
 use Rattle.qo_values.specs.declared.codes.Code.TheVariants.{E17}

@@ -1,0 +1,13 @@
+use Rattle.std.proofs.Common.{sym, subst}
+use Rattle.qo_realize.specs.Parts.{Parts}
+use Rattle.qo_realize.specs.Stands.{Stands}
+use Rattle.qo_realize.proofs.StandsLemmas.{err-stays, sever-stands}
+use Rattle.qo_realize.proofs.board.Board.sever.Goals as goal
+
+pub returns-clause-change : goal.returns-clause-change
+returns-clause-change g c = λ b s.
+    let seen = subst (λ (p : Parts). Stands b p) (sym c.self.view_is) s in
+    sever-stands b _ c.sever.new.heap c.args.birth c.sever.result seen (c.sever.ensures.change b seen.shows) c.sever.ensures.book
+
+pub returns-clause-err : goal.returns-clause-err
+returns-clause-err g c = err-stays c.sever.result c.self.inside.anonymous c.self.inside.running c.self.inside.heap c.sever.new.heap _ c.self.view_is c.sever.ensures.err

@@ -1,0 +1,17 @@
+-- The board that a machine stands at.
+use Rattle.std.specs.Prelude.{◌≡◌, map}
+use Rattle.qo_model.specs.Board.{Board}
+use Rattle.qo_heap.specs.Board.{Shows}
+use Rattle.qo_heap.specs.Book.{IsBook}
+use Rattle.qo_realize.specs.Parts.{Parts, ring_claim}
+
+-- the heap shows the board's objects, and what stands beside them is the board's; each claim is kept by a body or by a ring
+pub record Stands (b : Board) (p : Parts) : Type 0 where
+  pub shows : Shows b p.objects
+  pub anonymous : b.anonymous ≡ p.anonymous
+  pub running : b.running ≡ p.running
+  pub holds : b.holds ≡ p.holds
+  pub pending : b.pending ≡ p.pending
+  pub notices : b.notices ≡ p.notices
+  pub rings : b.rings ≡ p.rings
+  pub book : IsBook (map ring_claim p.rings) p.objects
