@@ -100,7 +100,7 @@ named-gone b v s n name gone =
 
 -- a slot that is no alias reads as its own
 pub read-own : (b : board.Board) (s : Slot) → ((key : Key) (of : List ℕ) → s ≡ Alias key of → ⊥) → slot_value b (shown_slot s) ≡ Some (own_value b (shown_slot s))
-read-own b (Plain ty val) other = refl
+read-own b (Plain val) other = refl
 read-own b (Child key) other = refl
 read-own b (Link ty true target) other = refl
 read-own b (Link ty false target) other = refl

@@ -111,7 +111,7 @@ fn are_held<L: Ledger>(heap: &Heap, steps: &mut Steps<L>) -> bool {
 fn number<L: Ledger>(heap: &Heap, birth: u64, name: &str, steps: &mut Steps<L>) -> Option<u64> {
     let o = object(heap, birth)?;
     match heap.slot(o, name, steps)?.what {
-        Slot::Plain(_, Val::Uint(number)) => Some(*number),
+        Slot::Plain(Val::Uint(number)) => Some(*number),
         _ => None,
     }
 }
