@@ -17,18 +17,19 @@ use Rattle.qo_requests.specs.declared.requests.Request.TheVariants.{QmpCapabilit
 use Rattle.qo_commands.specs.Changes.{Changes, is_change}
 use Rattle.qo_commands.specs.Commands.{Done, changed, empty, perform, refused_with, returned, wrote}
 use Rattle.qo_commands.specs.Stands.{Stands}
+use Rattle.qo_commands.proofs.QuietLemmas.{performed_quiet, tried_quiet}
 use Rattle.qo_commands.proofs.RunningLemmas.{attempted_running, performed_running}
 
 -- a command that came to something, by what it came to
 done-ok : (b c : Board) (r : Request) (v w : Objects) → Stands b v → perform b r ≡ returned c empty → Shows c w → Changes b r (Ok tt) w
 done-ok b c r v w s is now =
     let board : (perform b r).board ≡ c = ap (λ (d : Done). d.board) is in
-    (record { shows = subst (λ (x : Board). Shows x w) (sym board) now; running = performed_running b r ∙ s.running }, is ∙ ap (λ (x : Board). returned x empty) (sym board))
+    (record { shows = subst (λ (x : Board). Shows x w) (sym board) now; running = performed_running b r ∙ s.running; quiet = performed_quiet b r s.quiet }, is ∙ ap (λ (x : Board). returned x empty) (sym board))
 
 done-err : (b c : Board) (r : Request) (code : Code) (v w : Objects) → Stands b v → perform b r ≡ refused_with c code → Shows c w → Changes b r (Err (Refused code)) w
 done-err b c r code v w s is now =
     let board : (perform b r).board ≡ c = ap (λ (d : Done). d.board) is in
-    (record { shows = subst (λ (x : Board). Shows x w) (sym board) now; running = performed_running b r ∙ s.running }, is ∙ ap (λ (x : Board). refused_with x code) (sym board))
+    (record { shows = subst (λ (x : Board). Shows x w) (sym board) now; running = performed_running b r ∙ s.running; quiet = performed_quiet b r s.quiet }, is ∙ ap (λ (x : Board). refused_with x code) (sym board))
 
 -- a property was written, or not
 pub set-changes : (b : Board) (v w : Objects) (path name : List ℕ) (val : Val) (result : Result Unit Refusal) → Stands b v → Writes w result (write_at b path name val) → OnErr result (w ≡ v) → Changes b (QomSet path name val) result w
@@ -66,8 +67,8 @@ pub add-changes : (b : Board) (v w : Objects) (driver id : List ℕ) (props : Li
 unfolding perform
 add-changes b v w driver id props (Ok u) s (none, now) = changed-ok b (ObjectAdd driver id props) (object_add b driver id props) v w s refl none now
 add-changes b v w driver id props (Err (Refused code)) s (some, now) = changed-err b (ObjectAdd driver id props) (object_add b driver id props) code v w s refl some now
-add-changes b v w driver id props (Err Memory) s (inl now) = inl (record { shows = now; running = s.running })
-add-changes b v w driver id props (Err Memory) s (inr now) = inr (record { shows = now; running = attempted_running b (ObjectAdd driver id props) ∙ s.running })
+add-changes b v w driver id props (Err Memory) s (inl now) = inl (record { shows = now; running = s.running; quiet = s.quiet })
+add-changes b v w driver id props (Err Memory) s (inr now) = inr (record { shows = now; running = attempted_running b (ObjectAdd driver id props) ∙ s.running; quiet = tried_quiet b driver id props s.quiet })
 
 -- there is no other change
 pub no-other : (r : Request) → is_change r ≡ true → ((path name : List ℕ) (val : Val) → r ≡ QomSet path name val → ⊥) → ((driver id : List ℕ) (props : List Given) → r ≡ ObjectAdd driver id props → ⊥) → ((id : List ℕ) → r ≡ ObjectDel id → ⊥) → ((birth : ℕ) → r ≡ XSever birth → ⊥) → ⊥

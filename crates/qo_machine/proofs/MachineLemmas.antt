@@ -336,7 +336,7 @@ pub starts : (m : Seen) → Shows opening_board m.objects → m.sessions ≡ rep
 unfolding opening_board
 starts m shows shut going =
     record {
-      stands = record { shows = shows; running = refl };
+      stands = record { shows = shows; running = refl; quiet = record { events = refl; pathless = (refl, (refl, (refl, (refl, (refl, (refl, (refl, (refl, tt)))))))) } };
       rest =
           ap (λ (ss : List sessions.State). record { board = opening_board; sessions = ss; guest_line = []; ended = false }) (sym shut)
           ∙ ap (λ (e : Bool). record { board = opening_board; sessions = m.sessions; guest_line = []; ended = e }) (sym going);
