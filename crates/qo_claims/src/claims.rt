@@ -175,8 +175,8 @@ impl Claims {
     }
 
     /// Claims a slot of a bus: the named one, or the least that is free. `Range` exactly where the
-    /// named one is above 7, `Held` exactly where it is held, `Full` exactly where none is named and
-    /// 0 to 7 are held. An error leaves all as it was.
+    /// named one is not below `BUS_SLOTS`, `Held` exactly where it is held, `Full` exactly where none
+    /// is named and all are held. An error leaves all as it was.
     pub fn take_slot(&mut self, bus: u64, slot: Option<u8>) -> Result<Claim, ClaimError>
         ensures { Took (on_whole on.Slot (slot_answer bus slot self.old.slots)) (λ claim. with_claim claim self.old) self.old self.new result }
     {

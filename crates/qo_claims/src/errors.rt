@@ -6,7 +6,7 @@ use thiserror::Error;
 /// Why nothing was claimed.
 #[derive(Clone, Copy, Debug, PartialEq, Eq, Error)]
 pub enum ClaimError {
-    /// The slot is above 7, or the range leaves the window.
+    /// The bus has no slot of that number, or the range leaves the window.
     #[error("out of range")]
     Range,
     /// It is held already; of a range, that one held overlaps it.

@@ -74,7 +74,7 @@ module _ (P : Key → Type 0) (n : ℕ) where
 
   pub targets-forgotten : (slots : List (List ℕ × Slot)) → AllByRecursion P (targets_in slots) → count_by (λ (s : List ℕ × Slot). holds n s.1) slots ≡ 0 → AllByRecursion Other (targets_in (each_changed (forgotten_in n) slots))
   targets-forgotten [] all none = tt
-  targets-forgotten ((name, Plain ty val) ∷ slots) all none = targets-forgotten slots all (rest-none slots (name, Plain ty val) none)
+  targets-forgotten ((name, Plain val) ∷ slots) all none = targets-forgotten slots all (rest-none slots (name, Plain val) none)
   targets-forgotten ((name, Alias key of) ∷ slots) all none = targets-forgotten slots all (rest-none slots (name, Alias key of) none)
   targets-forgotten ((name, Child key) ∷ slots) all none =
       let (differs, rest) = held-other key slots name (Child key) refl none in

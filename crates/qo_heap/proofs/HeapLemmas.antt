@@ -72,7 +72,7 @@ module _ (P : Key → Type 0) where
 
   pub targets-let_go : (i : ℕ) (slots : List (List ℕ × Slot)) → AllByRecursion P (targets_in slots) → AllByRecursion P (targets_in (let_go_at i slots))
   targets-let_go i [] all = all
-  targets-let_go zero ((name, Plain ty val) ∷ slots) all = all
+  targets-let_go zero ((name, Plain val) ∷ slots) all = all
   targets-let_go zero ((name, Child key) ∷ slots) all = all.1
   targets-let_go zero ((name, Link ty strong None) ∷ slots) all = all
   targets-let_go zero ((name, Link ty strong (Some key)) ∷ slots) all = all.1
@@ -100,13 +100,13 @@ module _ (P : Key → Type 0) where
 
   -- a link pointed at what has the property; a value set
   pub pointed-holds : (key : Key) → P key → (s : Slot) → Holds P (target_of s) → Holds P (target_of (pointed key s))
-  pointed-holds key new (Plain ty val) h = h
+  pointed-holds key new (Plain val) h = h
   pointed-holds key new (Child k) h = h
   pointed-holds key new (Link ty strong target) h = new
   pointed-holds key new (Alias k of) h = h
 
   pub valued-holds : (val : Val) (s : Slot) → Holds P (target_of s) → Holds P (target_of (with_val val s))
-  valued-holds val (Plain ty old) h = h
+  valued-holds val (Plain old) h = h
   valued-holds val (Child k) h = h
   valued-holds val (Link ty strong target) h = h
   valued-holds val (Alias k of) h = h

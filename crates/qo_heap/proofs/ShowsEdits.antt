@@ -58,7 +58,7 @@ module _ (n : ℕ) (f : Content → Content) where
         pins = s.pins ∙ sym (edit-pins kept v.rows);
         notes = s.notes;
         events = s.events;
-      now = s.now;
+        now = s.now;
       }
 
 -- a slot let go

@@ -62,13 +62,7 @@ impl Heap {
     }
 
     /// Gives a device its id, with the claim on it; it must have none. It takes no memory.
-    pub fn name_device<L: Ledger>(
-        &mut self,
-        o: Oid,
-        id: Id,
-        claim: Claim,
-        steps: &mut Steps<L>,
-    )
+    pub fn name_device<L: Ledger>(&mut self, o: Oid, id: Id, claim: Claim, steps: &mut Steps<L>)
         requires live { IsLive self.old.rows o }
         requires claim { claim ≡ on.Device id }
         requires unnamed { option_and_then (λ c. c.device_id) (content_of self.old o.birth) ≡ None }

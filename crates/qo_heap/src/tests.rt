@@ -5,7 +5,7 @@ ghost use Rattle.qo_values.specs.Names.{is_name_byte};
 
 use crate::devices::{id_again, text_again};
 use crate::{Heap, Steps};
-use qo_values::{Id, Name, PropType, Text, TypeId, Val};
+use qo_values::{Id, Name, Text, TypeId, Val};
 use std::alloc::Global;
 use std::marker::Brand;
 use std::sync::ledger::{Blank, Ledger};
@@ -40,8 +40,7 @@ fn name_of(alloc: Global, text: &str) -> Option<Name> {
 fn add_first<L: Ledger>(heap: &mut Heap, alloc: Global, steps: &mut Steps<L>) -> Option<()> {
     let (value, child) = (name_of(alloc, "value")?, name_of(alloc, "child")?);
     let owner = heap.by_birth(1)?;
-    heap.add_plain(owner, value, PropType::Bool, Val::Bool(false), steps)
-        .ok()?;
+    heap.add_plain(owner, value, Val::Bool(false), steps).ok()?;
     let owner = heap.by_birth(1)?;
     let second = heap.by_birth(2)?;
     heap.add_child(owner, child, second, steps).ok()

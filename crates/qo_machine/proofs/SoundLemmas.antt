@@ -24,7 +24,7 @@ sound_by s t m p q h =
     record {
       graph = frame_lem.graph s.board t.board (graph_same s.board t.board m.board.objects p.stands.shows q.stands.shows) h.0;
       aliases = frame_lem.aliases s.board t.board (records_same s.board t.board m.board.objects p.stands.shows q.stands.shows) h.1;
-      events = record { none = q.stands.shows.events };
+      events = record { none = q.stands.quiet.events };
     }
 
 -- a machine at first

@@ -37,8 +37,7 @@ some_lem total kept size bound =
     let note : Note = record { birth = 0; deed = Did Enter } in
     let before : ℕ = total - length kept in
     let long : length (replicate before note ++ kept) ≡ before + length kept = length-front note kept before in
-    let past : length (replicate before note ++ kept) - NOTES_KEPT ≡ before = omega (arith, long, size) in
-    (
+    let past : length (replicate before note ++ kept) - NOTES_KEPT ≡ before = omega (arith, long, size) in (
       replicate before note ++ kept,
       record {
         total = omega (arith, long, size, bound);

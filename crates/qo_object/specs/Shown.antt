@@ -13,7 +13,7 @@ birth_of key = option_map (λ (k : Key). k.birth) key
 
 -- a slot, as the board has it: objects are named by their births
 abbrev pub shown_slot : Slot → board.Slot
-shown_slot (Plain ty val) = board.plain val
+shown_slot (Plain val) = board.plain val
 shown_slot (Child key) = board.child key.birth
 shown_slot (Link ty true target) = board.strong ty (birth_of target)
 shown_slot (Link ty false target) = board.weak ty (birth_of target)

@@ -60,7 +60,7 @@ pointed key s = s
 
 -- a plain slot with a value; anything else stays
 abbrev pub with_val : Val → Slot → Slot
-with_val val (Plain ty old) = Plain ty val
+with_val val (Plain old) = Plain val
 with_val val s = s
 
 -- a target that is not of a birth

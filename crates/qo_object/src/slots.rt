@@ -1,14 +1,14 @@
 //! What stands in a slot of an object.
 
 use qo_slots::Key;
-use qo_values::{Name, PropType, TypeId, Val};
+use qo_values::{Name, TypeId, Val};
 
 /// What stands in a slot (docs/devel/qom.rst, "The QEMU Object Model": properties, children, links
 /// and aliases).
 #[derive(Debug, Drop)]
 pub enum Slot {
-    /// A plain property: which values it takes, and its value.
-    Plain(PropType, Val),
+    /// A plain property: its value.
+    Plain(Val),
     /// A child.
     Child(Key),
     /// A link to objects of a type, which may have no target, and which keeps its target alive where
@@ -135,7 +135,7 @@ impl Slot {
     pub(crate) fn set(&mut self, val: Val)
         ensures { self.new ≡ with_val val self.old }
     {
-        if let Slot::Plain(_, old) = self {
+        if let Slot::Plain(old) = self {
             *old = val;
         }
     }

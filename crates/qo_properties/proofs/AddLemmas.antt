@@ -131,7 +131,7 @@ apart-from v n high good = go 0 v.rows good.rising good.linked
 
 module _ (n : ℕ) where
   holds-none : (s : Slot) → ((key : Key) → target_of s ≡ Some key → eqb key.birth n ≡ false) → holds n s ≡ false
-  holds-none (Plain ty val) apart = refl
+  holds-none (Plain val) apart = refl
   holds-none (Child key) apart = apart key refl
   holds-none (Link ty true None) apart = refl
   holds-none (Link ty true (Some key)) apart = apart key refl
@@ -139,7 +139,7 @@ module _ (n : ℕ) where
   holds-none (Alias key name) apart = refl
 
   forgets-none : (s : Slot) → ((key : Key) → target_of s ≡ Some key → eqb key.birth n ≡ false) → forgotten_in n s ≡ s
-  forgets-none (Plain ty val) apart = refl
+  forgets-none (Plain val) apart = refl
   forgets-none (Child key) apart = refl
   forgets-none (Link ty true target) apart = refl
   forgets-none (Link ty false None) apart = refl
@@ -297,7 +297,7 @@ begun-bare : (t : TypeId) (p : Property) (slots : List Named) → count_by (λ (
 begun-bare t p slots = go p.kind refl
   where
     go : (k : Kind) → p.kind ≡ k → count_by (λ (s : Named). is_some (held s.1)) (cons_option (slot_begun t p) slots) ≡ count_by (λ (s : Named). is_some (held s.1)) slots
-    go (Kind.plain type first) e = rw e (omega (arith, sum_by-cons (λ (s : Named). cond {A = ℕ} (is_some (held s.1)) 1 0) (p.name, Plain type (first_value t first)) slots))
+    go (Kind.plain type first) e = rw e (omega (arith, sum_by-cons (λ (s : Named). cond {A = ℕ} (is_some (held s.1)) 1 0) (p.name, Plain (first_value t first)) slots))
     go (Kind.child child) e = rw e refl
     go (Kind.link target true) e = rw e (omega (arith, sum_by-cons (λ (s : Named). cond {A = ℕ} (is_some (held s.1)) 1 0) (p.name, Link target true None) slots))
     go (Kind.link target false) e = rw e (omega (arith, sum_by-cons (λ (s : Named). cond {A = ℕ} (is_some (held s.1)) 1 0) (p.name, Link target false None) slots))

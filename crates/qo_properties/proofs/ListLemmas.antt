@@ -1,7 +1,6 @@
 -- How the slots of an object are listed, by the heap.
 use Rattle.std.proofs.Common.{◌≡◌, refl, ap, sym, ◌∙◌, ℕ, zero, suc, ◌+◌, ◌<◌, List, [], ◌∷◌, map, length, drop, slice_get, Option, Some, None, IfSome, option_map, codes, arith}
 use Rattle.std.specs.Option.{option_and_then, option_map_or}
-use Rattle.qo_values.specs.declared.properties.PropType.{PropType}
 use Rattle.qo_values.specs.declared.properties.Val.{Val}
 use Rattle.qo_values.specs.declared.kinds.TypeId.{TypeId}
 use Rattle.qo_slots.specs.declared.keys.Key.{Key}
@@ -20,8 +19,8 @@ use Rattle.qo_heap.proofs.ShowsReads.{shows-kind, shows-slots}
 
 -- a slot that is no alias
 
-pub own-plain : (b : board.Board) (v : Objects) → Shows b v → (n : ℕ) (name : List ℕ) (kind : TypeId) → option_map (λ (c : Content). c.kind) (content_of v n) ≡ Some kind → (what : Slot) (ty : PropType) (val : Val) → what ≡ Plain ty val → plain_word kind name ≡ own_text b n name (shown_slot what)
-own-plain b v s n name kind is what ty val e =
+pub own-plain : (b : board.Board) (v : Objects) → Shows b v → (n : ℕ) (name : List ℕ) (kind : TypeId) → option_map (λ (c : Content). c.kind) (content_of v n) ≡ Some kind → (what : Slot) (val : Val) → what ≡ Plain val → plain_word kind name ≡ own_text b n name (shown_slot what)
+own-plain b v s n name kind is what val e =
     let shown : board.kind_of b n ≡ Some kind = shows-kind b v s n ∙ is in
     rw e (sym (ap (λ (o : Option TypeId). option_map_or (λ (t : TypeId). plain_word t name) o []) shown))
 

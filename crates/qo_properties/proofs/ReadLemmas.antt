@@ -101,7 +101,7 @@ named-gone b v s n name gone =
 
 -- a slot that is no alias reads as its own
 pub read-own : (b : board.Board) (n : ℕ) (name : List ℕ) (s : Slot) → ((key : Key) (of : List ℕ) → s ≡ Alias key of → ⊥) → slot_value b n name (shown_slot s) ≡ Some (own_value b n name (shown_slot s))
-read-own b n name (Plain ty val) other = refl
+read-own b n name (Plain val) other = refl
 read-own b n name (Child key) other = refl
 read-own b n name (Link ty true target) other = refl
 read-own b n name (Link ty false target) other = refl

@@ -36,7 +36,7 @@ use Rattle.qo_properties.specs.Changes.{is_strong_in, severed, severed_at}
 -- a slot that is a strong link, or that is none
 severed-is : (b : Board) (n i : ℕ) (o : Option Slot) → slot_at b n i ≡ option_map shown_slot o → option_map_or is_strong o false ≡ true → severed_at n i b ≡ let_go b n i
 severed-is b n i None e is = cc
-severed-is b n i (Some (Plain ty val)) e is = cc
+severed-is b n i (Some (Plain val)) e is = cc
 severed-is b n i (Some (Child key)) e is = cc
 severed-is b n i (Some (Link ty true target)) e is = rw (severed_at, e) refl
 severed-is b n i (Some (Link ty false target)) e is = cc
@@ -44,7 +44,7 @@ severed-is b n i (Some (Alias key name)) e is = cc
 
 severed-not : (b : Board) (n i : ℕ) (o : Option Slot) → slot_at b n i ≡ option_map shown_slot o → option_map_or is_strong o false ≡ false → severed_at n i b ≡ b
 severed-not b n i None e is = rw (severed_at, e) refl
-severed-not b n i (Some (Plain ty val)) e is = rw (severed_at, e) refl
+severed-not b n i (Some (Plain val)) e is = rw (severed_at, e) refl
 severed-not b n i (Some (Child key)) e is = rw (severed_at, e) refl
 severed-not b n i (Some (Link ty true target)) e is = cc
 severed-not b n i (Some (Link ty false target)) e is = rw (severed_at, e) refl

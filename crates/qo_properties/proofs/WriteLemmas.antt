@@ -138,7 +138,7 @@ module _ (b : board.Board) (v : Objects) (s : Shows b v) (n : ℕ) (name : List 
 
 to-plain-slot : (b : board.Board) (n i : ℕ) (ty : PropType) (val : Val) (o : Option Slot) → to_plain b n i ty (option_map shown_slot o) val ≡ cond (option_map_or is_plain o false) (cond (admits ty val) (Ok (set n i val b)) (Err E19)) (Err E18)
 to-plain-slot b n i ty val None = refl
-to-plain-slot b n i ty val (Some (Plain t old)) = refl
+to-plain-slot b n i ty val (Some (Plain old)) = refl
 to-plain-slot b n i ty val (Some (Child key)) = refl
 to-plain-slot b n i ty val (Some (Link t true target)) = refl
 to-plain-slot b n i ty val (Some (Link t false target)) = refl
@@ -150,7 +150,7 @@ to_typed b n i val (Some t) = link_written b n i t val
 
 to-link-slot : (b : board.Board) (n i : ℕ) (val : Val) (o : Option Slot) → to_link b n i (option_map shown_slot o) val ≡ to_typed b n i val (option_and_then link_type o)
 to-link-slot b n i val None = refl
-to-link-slot b n i val (Some (Plain t old)) = refl
+to-link-slot b n i val (Some (Plain old)) = refl
 to-link-slot b n i val (Some (Child key)) = refl
 to-link-slot b n i val (Some (Link t true target)) = refl
 to-link-slot b n i val (Some (Link t false target)) = refl
@@ -203,7 +203,7 @@ relinked-is b v s n i target was link e =
 -- what is held is named, and stays there when it is let go
 held-named : (o : Option Slot) (key : Key) → option_and_then held o ≡ Some key → option_and_then target_of o ≡ Some key
 held-named None key e = cc
-held-named (Some (Plain ty val)) key e = cc
+held-named (Some (Plain val)) key e = cc
 held-named (Some (Child k)) key e = e
 held-named (Some (Link ty true target)) key e = e
 held-named (Some (Link ty false target)) key e = cc
@@ -219,7 +219,7 @@ held-live v good o live i (Some key) e =
 -- a link that was let go has no target
 emptied : (slots : List Named) (i : ℕ) → is_some (option_and_then link_type (slot_in slots i)) ≡ true → option_map_or is_empty_link (slot_in (let_go_at i slots) i) false ≡ true
 emptied [] i is = cc
-emptied ((name, Plain ty val) ∷ slots) zero is = cc
+emptied ((name, Plain val) ∷ slots) zero is = cc
 emptied ((name, Child key) ∷ slots) zero is = cc
 emptied ((name, Link ty strong target) ∷ slots) zero is = refl
 emptied ((name, Alias key of) ∷ slots) zero is = cc

@@ -18,7 +18,7 @@ use Rattle.qo_object.specs.Content.{Content}
 
 -- what a property of a new object of a type begins as; children and aliases stay away
 abbrev pub begun : TypeId → Kind → Option Slot
-begun t (Kind.plain type first) = Some (Plain type (first_value t first))
+begun t (Kind.plain type first) = Some (Plain (first_value t first))
 begun t (Kind.link target strong) = Some (Link target strong None)
 begun t kind = None
 
@@ -46,7 +46,7 @@ val_of t (first.Uint n) = val.Uint n
 val_of t first.NoText = val.Text []
 
 abbrev pub begun_row : TypeId → RowKind → Option Slot
-begun_row t (row.Plain type begins) = Some (Plain type (val_of t begins))
+begun_row t (row.Plain type begins) = Some (Plain (val_of t begins))
 begun_row t (row.Link target strong) = Some (Link target strong None)
 begun_row t kind = None
 

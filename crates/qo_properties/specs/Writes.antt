@@ -51,7 +51,7 @@ abbrev pub is_link_at : Objects → ℕ → ℕ → Bool
 is_link_at v n i = is_some (link_type_at v n i)
 
 abbrev pub is_plain : Slot → Bool
-is_plain (Plain ty val) = true
+is_plain (Plain val) = true
 is_plain s = false
 
 abbrev pub is_plain_at : Objects → ℕ → ℕ → Bool

@@ -1,1 +1,2 @@
+mod QuietLemmas
 pub mod StandsLemmas

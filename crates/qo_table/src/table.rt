@@ -46,7 +46,7 @@ fn key_in(order: &[Key], place: usize) -> Option<Key>
 }
 
 impl<T> ObjectTable<T> {
-    ghost use Rattle.std.specs.Prelude.{◌≡◌, ◌+◌, ◌≤◌, [], ◌∷◌, ◌++◌, map, Some, None, IfOk, IfErr, OnOk, option_map, find, leb};
+    ghost use Rattle.std.specs.Prelude.{◌≡◌, ◌+◌, ◌≤◌, Bool, count_by, [], ◌∷◌, ◌++◌, map, Some, None, IfOk, IfErr, OnOk, option_map, find, leb};
     ghost use Rattle.std.specs.Borrow.{sem};
     ghost use Rattle.qo_table.specs.Rows.{IsLive, births, edit, object_at, without};
     ghost use Rattle.qo_table.specs.Lends.{lends_object};
@@ -142,8 +142,10 @@ impl<T> ObjectTable<T> {
         let _order = &self.order;
     }
 
-    /// Gives the table up, for the objects that it still holds. It takes no memory.
-    pub fn into_rest(self) -> Rest<T> {
+    /// Gives the table up, for the objects that it still holds, each once. It takes no memory.
+    pub fn into_rest(self) -> Rest<T>
+        ensures { (p : T → Bool) → count_by p result ≡ count_by (λ row. p row.1) self.rows }
+    {
         let ObjectTable { slots, order: _ } = self;
         slots.into_rest()
     }

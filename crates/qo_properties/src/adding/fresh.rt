@@ -57,10 +57,10 @@ fn add_row<L: Ledger>(
     ensures err { OnErr result (heap.new ≡ heap.old) }
 {
     match row.kind {
-        RowKind::Plain(ty, first) => {
+        RowKind::Plain(_, first) => {
             let name = name_of(row.name, alloc)?;
             let val = first_val(kind, first, alloc)?;
-            heap.add_plain(o, name, ty, val, steps)?;
+            heap.add_plain(o, name, val, steps)?;
             Ok(())
         }
         RowKind::Link { ty, strong } => {

@@ -89,7 +89,7 @@ fn own_text<L: Ledger>(
     ensures { (b : Tree) → Shows b heap.now → IfOk result (λ text. string_bytes text ≡ own_text b o.birth name.now (shown_slot what.now)) }
 {
     match what {
-        Slot::Plain(_, _) => {
+        Slot::Plain(_) => {
             let kind = heap.kind(o, steps);
             Ok(String::from_str(alloc, plain_word(kind, name))?)
         }

@@ -43,7 +43,7 @@ fn own_value<L: Ledger>(
     ensures { (b : Tree) (n : ℕ) (name : List ℕ) → Shows b heap.now → IfOk result (λ val. val ≡ own_value b n name (shown_slot what.now)) }
 {
     match what {
-        Slot::Plain(_, val) => Ok(copy_of(val, alloc)?),
+        Slot::Plain(val) => Ok(copy_of(val, alloc)?),
         Slot::Child(child) => {
             let text = path_text(heap, *child, alloc, steps)?;
             Ok(Val::Text(Text::from_string(text)))

@@ -124,7 +124,7 @@ fn is_plain<L: Ledger>(heap: &Heap, o: Oid, at: usize, steps: &mut Steps<L>) -> 
     let Some(slot) = heap.slot_at(o, at, steps) else {
         return false;
     };
-    matches!(slot.what, Slot::Plain(_, _))
+    matches!(slot.what, Slot::Plain(_))
 }
 
 /// Gives the slot of an object at a place a value; refused with E18 where the slot is not plain, and
