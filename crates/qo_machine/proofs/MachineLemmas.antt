@@ -28,7 +28,7 @@ use Rattle.qo_commands.specs.Views.{done_of}
 use Rattle.qo_commands.specs.declared.commands.Done as code
 use Rattle.qo_realize.specs.Parts.{Parts}
 use Rattle.qo_realize.specs.Stands.{Stands}
-use Rattle.qo_machine.specs.Machine.{Choice, IsIn, Made, Message, Seen, State, Stepped, Answers, opening, behind, behind_command, commanding, defined, given_up, refused, event_outs, first, input_step, item_step, made_by, mode_of, others, reply, serve, serve_unless, session_of, state_at, step, those_commanding, told_of, unchanged, with_board, with_session}
+use Rattle.qo_machine.specs.Machine.{Choice, IsIn, Made, Message, Seen, State, Stepped, Answers, opening, behind, behind_command, commanding, defined, refused, event_outs, first, input_step, item_step, made_by, mode_of, others, reply, serve, serve_unless, session_of, state_at, step, those_commanding, told_of, unchanged, with_board, with_session}
 use Rattle.qo_machine.specs.Serving.{Changed, CommandServed, Serves, ServesTo, moved}
 
 -- behind the end nothing is served
@@ -173,14 +173,14 @@ command_done at n s request id outs m sent to = (defined, sent, to)
 
 -- a command was refused for want of memory
 pub command_refused : (at : Moment) (n : ℕ) (s : State) (request : Request) (id : Option (List ℕ)) (text : List ℕ) (m : Seen) → text ≡ error_reply id E99 → IsIn s m → CommandServed at n s request id ((to_session n, text) ∷ []) m
-command_refused at n s request id text m written to = (refused, rw written refl, to)
+command_refused at n s request id text m written to = (refused 0 false, rw written refl, to)
 
 -- a command was refused for want of memory, behind an attempt
 pub command_given_up : (at : Moment) (n : ℕ) (s : State) (request : Request) (id : Option (List ℕ)) (text : List ℕ) (m : Seen) → text ≡ error_reply id E99 → IsIn (with_board s (attempted s.board request)) m → CommandServed at n s request id ((to_session n, text) ∷ []) m
-command_given_up at n s request id text m written to = (given_up, rw written refl, to)
+command_given_up at n s request id text m written to = (refused 1 false, rw written refl, to)
 
 -- all items of some bytes
-serve_all : (at : Moment) (n : ℕ) (s t : State) (items : List Item) (outs : List Message) → (p : Serves at n s items outs t) → serve at n items s p.0 ≡ record { outs = outs; state = t; rest = [] }
+pub serve_all : (at : Moment) (n : ℕ) (s t : State) (items : List Item) (outs : List Message) → (p : Serves at n s items outs t) → serve at n items s p.0 ≡ record { outs = outs; state = t; rest = [] }
 serve_all at n s t items outs p =
     ap (λ (is : List Item). serve at n is s p.0) (sym (append-nil items)) ∙ ap (serve at n (items ++ []) s) (sym (append-nil p.0)) ∙ p.1 [] []
     ∙ ap (λ (o : List Message). record { outs = o; state = t; rest = [] }) (append-nil outs)

@@ -10,7 +10,7 @@ ghost use Rattle.qo_machine.specs.Runs.{closed_where};
 use crate::outs::Outs;
 use crate::replying::{EMPTY, reply_text};
 use crate::serving::serve_items;
-use qo_causes::{Input, Memory, Moment, What};
+use qo_causes::{Input, Moment, What};
 use qo_commands::{Done, ask, change};
 use qo_framing::Item;
 use qo_heap::Steps;
@@ -54,7 +54,7 @@ fn close_where(sessions: &mut Vec<Session>, lost: &[bool; 16])
 /// The machine.
 ///
 /// It is driven by one input at a time. A step that runs out of memory ends it: every later one
-/// answers `Memory`.
+/// answers `AllocError`.
 #[derive(Drop)]
 pub struct Machine {
     board: Board,
@@ -85,13 +85,13 @@ impl Machine {
     ghost use Rattle.qo_commands.specs.Commands.{perform};
     ghost use Rattle.qo_realize.specs.Stands.{Stands};
     ghost use Rattle.qo_commands.specs.Views.{done_of};
-    ghost use Rattle.qo_machine.specs.Machine.{Answers, IsIn, State, behind_command, beside, finished, input_step, mode_of, opening, session_of, state_at, with_session};
+    ghost use Rattle.qo_machine.specs.Machine.{Answers, BreaksOff, IsIn, State, behind_command, beside, finished, input_step, mode_of, opening, session_of, state_at, with_session};
     ghost use Rattle.qo_machine.specs.Runs.{close_lost};
     ghost use Rattle.qo_machine.specs.Sending.{AreToLanes};
     ghost use Rattle.qo_machine.specs.Serving.{Changed, moved};
 
     /// The machine at first: the opening board, and all sessions closed.
-    pub fn start(alloc: Global) -> Result<Machine, Memory>
+    pub fn start(alloc: Global) -> Result<Machine, AllocError>
         ensures state { IfOk result (λ m. IsIn opening m × (m.spent ≡ false)) }
         ensures sound { IfOk result (λ m. (s : State) → IsIn s m → IsSound s.board) }
     {
@@ -99,7 +99,7 @@ impl Machine {
     }
 
     /// The machine at first, made with a counter of steps over a blank.
-    fn start_counting<L: Ledger>(alloc: Global, blank: Blank) -> Result<Machine, Memory>
+    fn start_counting<L: Ledger>(alloc: Global, blank: Blank) -> Result<Machine, AllocError>
         requires name { blank.name ≡ L.name }
         requires parts { blank.parts ≡ L.parts }
         requires some { 0 < blank.parts }
@@ -107,18 +107,15 @@ impl Machine {
     {
         let mut steps = Steps::<L>::from_blank(blank);
         let Ok(board) = Board::start(alloc, &mut steps) else {
-            return Err(Memory);
+            return Err(AllocError);
         };
-        match closed_sessions(alloc) {
-            Ok(sessions) => Ok(Machine {
-                board,
-                sessions,
-                guest_line: Vec::new(alloc),
-                ended: false,
-                spent: false,
-            }),
-            Err(AllocError) => Err(Memory),
-        }
+        Ok(Machine {
+            board,
+            sessions: closed_sessions(alloc)?,
+            guest_line: Vec::new(alloc),
+            ended: false,
+            spent: false,
+        })
     }
 
     /// Whether the run has ended. It takes no memory.
@@ -131,26 +128,31 @@ impl Machine {
     /// Does what one input does, and gives the messages that it makes.
     ///
     /// A reply may instead be E99, where memory runs out for the defined one; the item has then done
-    /// nothing, but that `object-add` may have made and ended an object. It answers `Memory` where
+    /// nothing, but that `object-add` may have made and ended an object. It answers `AllocError` where
     /// memory runs out otherwise, and from then on always: the run has then ended, and all sessions
-    /// are closed; nothing is said of the board.
-    pub fn step(&mut self, alloc: Global, input: &Input) -> Result<Outs, Memory>
+    /// are closed. The board is then one that a front of the input's items leads to; it stays sound.
+    pub fn step(&mut self, alloc: Global, input: &Input) -> Result<Outs, AllocError>
         ensures answered { (s : State) → IsIn s self.old → IfOk result (λ outs. Answers s input.now outs self.new) }
         ensures lanes { IfOk result AreToLanes }
         ensures closes { OnErr result ((b : Tree) → state_at b self.new ≡ finished (state_at b self.old)) }
         ensures lasts { OnOk result (self.new.spent ≡ false) }
         ensures spends { OnErr result (self.new.spent ≡ true) }
         ensures spent { self.old.spent ≡ true → IsErr result }
-        ensures sound { (s : State) → IsIn s self.old → IsSound s.board → OnOk result ((t : State) → IsIn t self.new → IsSound t.board) }
+        ensures breaks { (s : State) → IsIn s self.old → OnErr result (BreaksOff s input.now self.new) }
+        ensures sound { (s : State) → IsIn s self.old → IsSound s.board → (t : State) → IsIn t self.new → IsSound t.board }
     {
-        if !self.spent {
-            match self.step_counting::<Brand>(alloc, input, Blank::new(1)) {
-                Ok(outs) => return Ok(outs),
-                Err(AllocError) => self.spent = true,
+        if self.spent {
+            self.finish();
+            return Err(AllocError);
+        }
+        match self.step_counting::<Brand>(alloc, input, Blank::new(1)) {
+            Ok(outs) => Ok(outs),
+            Err(AllocError) => {
+                self.spent = true;
+                self.finish();
+                Err(AllocError)
             }
         }
-        self.finish();
-        Err(Memory)
     }
 
     /// One step, with a counter of steps over a blank.
@@ -164,6 +166,7 @@ impl Machine {
         requires parts { blank.parts ≡ L.parts }
         requires some { 0 < blank.parts }
         ensures answered { (s : State) → IsIn s self.old → IfOk result (λ outs. Answers s input.now outs self.new) }
+        ensures breaks { (s : State) → IsIn s self.old → OnErr result (BreaksOff s input.now self.new) }
         ensures lanes { IfOk result AreToLanes }
         ensures lasts { self.new.spent ≡ self.old.spent }
     {
@@ -187,6 +190,7 @@ impl Machine {
         steps: &mut Steps<L>,
     ) -> Result<Outs, AllocError>
         ensures answered { (s : State) → IsIn s self.old → IfOk result (λ outs. Answers s input.now outs self.new) }
+        ensures breaks { (s : State) → IsIn s self.old → OnErr result (BreaksOff s input.now self.new) }
         ensures lanes { IfOk result AreToLanes }
         ensures lasts { self.new.spent ≡ self.old.spent }
     {
@@ -251,6 +255,7 @@ impl Machine {
         steps: &mut Steps<L>,
     ) -> Result<Outs, AllocError>
         ensures answered { (s : State) → IsIn s self.old → IfOk result (λ outs. (choices : List Choice) × (t : State) × IsIn t self.new × (input_step s at (What.Bytes session bytes.now) choices ≡ record { outs = outs; state = t; rest = [] })) }
+        ensures breaks { (s : State) → IsIn s self.old → OnErr result (BreaksOff s (record { at = at; what = What.Bytes session bytes.now }) self.new) }
         ensures lanes { IfOk result AreToLanes }
         ensures lasts { self.new.spent ≡ self.old.spent }
     {
@@ -293,6 +298,7 @@ impl Machine {
         requires { session < 16 }
         ensures act { (b : Tree) → IfOk result (λ what. what ≡ act (mode_of (state_at b self.old) session) item.now) }
         ensures state { (b : Tree) → IfOk result (λ what. state_at b self.new ≡ moved (state_at b self.old) session what) }
+        ensures kept { (b : Tree) → OnErr result (state_at b self.new ≡ state_at b self.old) }
         ensures board { self.new.board ≡ self.old.board }
         ensures lasts { self.new.spent ≡ self.old.spent }
     {

@@ -1,8 +1,10 @@
 -- An input does what it does by itself, while the run goes on.
-use Rattle.std.proofs.Common.{[], ◌∙◌, ap, sym, refl, List}
+use Rattle.std.proofs.Common.{[], ◌∙◌, ap, sym, refl, subst, List, OnErr}
 use Rattle.qo_causes.specs.declared.inputs.What.TheVariants.{Bytes}
-use Rattle.qo_machine.specs.Machine.{Message, State, state_at, unchanged}
-use Rattle.qo_machine.proofs.MachineLemmas.{answers_ended, answers_moved, answers_still, leaves, seen_ended, served_beside, served_bytes}
+use Rattle.qo_causes.specs.declared.inputs.What.{What}
+use Rattle.qo_machine.specs.Machine.{BreaksOff, Message, State, state_at, unchanged}
+use Rattle.qo_machine.proofs.LeftLemmas.{breaks_before}
+use Rattle.qo_machine.proofs.MachineLemmas.{answers_ended, answers_moved, answers_still, leaves, on_err, seen_ended, served_beside, served_bytes}
 use Rattle.qo_machine.proofs.machines.Machine.serve.Goals as goal
 
 pub returns-then-self-clause-answered : goal.returns-then-self-clause-answered
@@ -34,3 +36,11 @@ returns-in-Guest-clause-answered g c =
 pub returns-in-Step-clause-answered : goal.returns-in-Step-clause-answered
 returns-in-Step-clause-answered g c =
     answers_still c.args.input.now _ _ c.args.self.now c.args.self.now (sym (seen_ended c.self.view_is) ∙ c.if-self.false) c.in-Step.is c.none-in-Step.ensures refl (λ s. refl)
+
+pub returns-in-Open-clause-breaks : goal.returns-in-Open-clause-breaks
+returns-in-Open-clause-breaks g c = λ s here.
+    on_err c.open.result (breaks_before s c.args.input.now c.args.self.now c.open.new.self c.open.ensures.board here)
+
+pub returns-in-Bytes-clause-breaks : goal.returns-in-Bytes-clause-breaks
+returns-in-Bytes-clause-breaks g c = λ s here.
+    subst (λ (w : What). OnErr c.take.result (BreaksOff s (record { at = c.args.input.now.at; what = w }) c.take.new.self)) (sym (c.in-Bytes.is ∙ ap (Bytes c.in-Bytes.session) (sym c.as_slice.ensures.value))) (c.take.ensures.breaks s here)
