@@ -111,7 +111,7 @@ module _ (v : Objects) (good : IsHeap v) (key : Key) (kind : TypeId) (birth : ke
         live = live-edit key.birth (with_slots (new_slots kind)) (made_in v key kind).rows key live-made;
         content = content-edited (made_in v key kind) key.birth (with_slots (new_slots kind)) ∙ ap (option_map (with_slots (new_slots kind))) (ap (option_map (λ (row : Row). row.1)) row-made);
         names = λ k live. live-edit key.birth (with_slots (new_slots kind)) (made_in v key kind).rows k (live-more v.rows ((key, fresh kind) ∷ []) k live);
-        book = λ out h. book-edit out (made_in v key kind) key.birth (with_slots (new_slots kind)) (λ c. refl) (more-keeps v key (fresh kind) (v.born + 1) v.log (fresh-bare kind) out h);
+        book = λ out h. book-edit out (made_in v key kind) key.birth (with_slots (new_slots kind)) (λ c. refl) (more-keeps v key (fresh kind) (v.born + 1) v.log (fresh-bare kind) refl out h);
       }
 
   pub shows-new : (b : board.Board) → Shows b v → (w : Objects) → (Shows (make kind b) (made_in v key kind) → Shows (with_fresh_slots key.birth kind (make kind b)) w) → Shows (with_new kind b) w
