@@ -7,17 +7,17 @@ import subprocess
 import sys
 
 TOP = pathlib.Path(__file__).resolve().parent.parent
-LISTS = {
+SESSIONS = {
     "": b"qrec 1\n",
     "open 0\n": b"qrec 1\nopen 0.000000 0\n",
-    "@1.500000 open 15\n>15 {}\nshut 15\n": b"qrec 1\nopen 1.500000 15\nbytes 1.500000 15 2\n{}\nshut 1.500000 15\n",
-    "g> poll\n": b"qrec 1\nguest 0.000000 5\npoll\n\n",
+    "@1.500000 open 15\n15-> {}\nshut 15\n": b"qrec 1\nopen 1.500000 15\nbytes 1.500000 15 2\n{}\nshut 1.500000 15\n",
+    "g-> poll\n": b"qrec 1\nguest 0.000000 5\npoll\n\n",
     "raw g ack 1\n": b"qrec 1\nguest 0.000000 5\nack 1\n",
     "open 0\nraw 0 \\x00\\n\\r\\t\\\\\n": b"qrec 1\nopen 0.000000 0\nbytes 0.000000 0 5\n\x00\n\r\t\\\n",
-    "open 0\n>0 {\"\u00e9\":1}\n": b"qrec 1\nopen 0.000000 0\nbytes 0.000000 0 8\n{\"\xc3\xa9\":1}\n",
+    "open 0\n-> {\"\u00e9\":1}\n": b"qrec 1\nopen 0.000000 0\nbytes 0.000000 0 8\n{\"\xc3\xa9\":1}\n",
     "@9223372036854775807.999999 step 9223372036854775807\n": b"qrec 1\nstep 9223372036854775807.999999 9223372036854775807\n",
 }
-NO_INPUTS = ["open 16", "open 00", "open 0\nopen 0", ">0 {}", "shut 0", "step 0", "step 9223372036854775808", "@1.5 step 1", "raw g \\q", "raw g \\", "g>", "hello"]
+NO_INPUTS = ["open 16", "open 00", "open 0\nopen 0", "-> {}", "shut 0", "step 0", "step 9223372036854775808", "@1.5 step 1", "raw g \\q", "raw g \\", "g->", "16<- {}", "hello"]
 NO_ENTRIES = [(b"", 0), (b"qrec 2\n", 0), (b"qrec 1\nopen 0.000000 0", 7), (b"qrec 1\nbytes 0.000000 0 1\na\n", 7), (b"qrec 1\nstep 0.000000 0\n", 7), (b"qrec 1\nguest 0.000000 3\nab\n", 7)]
 
 
@@ -27,9 +27,9 @@ def run(word, data):
     return done.returncode, done.stdout, done.stderr
 
 
-def test_lists():
-    """Each list is written as its record, and read back."""
-    for text, record in LISTS.items():
+def test_sessions():
+    """Each session is written as its record, and read back."""
+    for text, record in SESSIONS.items():
         assert run("write", text.encode()) == (0, record, b""), text
         assert run("read", record) == (0, text.encode(), b""), text
 

@@ -11,7 +11,7 @@ use Rattle.compose.specs.declared.reads.ReadError.TheVariants as read
 -- nothing was done with the bytes
 cut_nothing : (bytes : List ℕ) (held : Option (List ℕ)) → IsCut bytes held held
 cut_nothing bytes held =
-    ([], None, stream_inputs bytes, record { inputs = refl; lost = tt; put = (held, nothing_appended held, (0, omega arith, nothing_appended held)) })
+    ([], None, stream_inputs bytes, record { inputs = refl; going = refl; lost = tt; put = (held, nothing_appended held, (0, omega arith, nothing_appended held)) })
 
 -- a source that was not read to its end
 pub not_read : {V : Type 0} (items : V → List ℕ) (e : ReadError) (left_old left_new held : Option (List ℕ)) → (bytes : List ℕ) × (left_old ≡ prepend_known bytes left_new) × ReadAll items bytes left_new (Err e) → (bytes : List ℕ) × Replayed (read_status e) left_old left_new held held bytes × (line_of (read_status e) 0 ≡ line_of (read_status e) (unwrap_or (bad_place bytes) 0))

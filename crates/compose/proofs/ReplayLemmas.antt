@@ -90,7 +90,7 @@ going bytes xs ys os ns og ng ts h is none on =
 
 cut : (limit : ℕ) (bytes : List ℕ) (xs ys : List Input) (os ns : Option (List ℕ)) (og ng : Lane → Option (List ℕ)) → xs ≡ stream_inputs bytes → CutRun limit (told (Some xs) os og (λ n. 0)) (told (Some ys) ns ng (λ n. 0)) → IsCut bytes os ns
 cut limit bytes xs ys os ns og ng is h =
-    let whole_part = h.3 in
+    let whole_part = h.3.0 in
     let cut_part = h.4 in
     let first_split = split xs (turn_inputs h.1) h.0.inputs whole_part.took in
     let last_split = split first_split.0 (last_input h.2) (Some ys) (sym first_split.1 ∙ cut_part.took) in (
@@ -100,6 +100,7 @@ cut limit bytes xs ys os ns og ng is h =
       record {
         inputs =
             sym is ∙ first_split.2 ∙ ap (λ (r : List Input). turn_inputs h.1 ++ r) last_split.2 ∙ sym (append_assoc (turn_inputs h.1) (last_input h.2) last_split.0);
+        going = h.3.1;
         lost = none_lost h.1 (λ n. omega (arith, whole_part.losses n, cut_part.losses n));
         put = (h.0.sent, whole_part.sent, cut_part.sent);
       },

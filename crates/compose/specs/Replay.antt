@@ -10,6 +10,7 @@ use Rattle.qo_machine.specs.Runs.{EndsAtLast, Turn, has_end, last_input, last_ou
 use Rattle.qo_machine.specs.declared.running.Ending.{Ending}
 use Rattle.qo_machine.specs.declared.running.Ending.TheVariants as ending
 use Rattle.qo_record.specs.Record.{bad_place, stream_inputs}
+use Rattle.compose.specs.declared.reads.TheConstants.{INPUT_BYTES_MAX}
 use Rattle.compose.specs.declared.statuses.Status.{Status}
 use Rattle.compose.specs.declared.statuses.Status.TheVariants.{Done, Usage, BadRecord, Memory, ReadFault, WriteFault, HubFault, InputLimit}
 
@@ -32,9 +33,10 @@ pub record OpenReplay (bytes : List ℕ) (held_old held_new : Option (List ℕ))
   pub lost : NoneLost turns
   pub put : held_new ≡ append_known held_old (transcript (outs_of opening turns))
 
--- a run of a front of the stream; a front of its transcript was put, and at least all of it but for the last turn, if there is one
+-- a run of a front of the stream, which has not ended before its last turn; a front of its transcript was put, and at least all of it but for that turn, if there is one
 pub record CutReplay (bytes : List ℕ) (held_old held_new : Option (List ℕ)) (turns : List Turn) (last : Option Turn) (rest : List Input) : Type 0 where
   pub inputs : stream_inputs bytes ≡ (turn_inputs turns ++ last_input last) ++ rest
+  pub going : (state_after opening turns).ended ≡ false
   pub lost : NoneLost turns
   pub put : (held : Option (List ℕ)) × (held ≡ append_known held_old (transcript (outs_of opening turns))) × AppendsPrefix held held_new (transcript (last_outs (state_after opening turns) last))
 
@@ -95,12 +97,12 @@ line_of WriteFault place = codes "compose: write fault" ++ 10 ∷ []
 line_of HubFault place = codes "compose: hub fault" ++ 10 ∷ []
 line_of InputLimit place = codes "compose: input limit" ++ 10 ∷ []
 
--- the line went to the complaints, or where their count of faults rose a front of it
+-- the line went to the complaints, whose count of faults is as before, or where the count rose a front of it
 abbrev pub Complained : Option (List ℕ) → Option (List ℕ) → ℕ → ℕ → List ℕ → Type 0
-Complained old new before now line = (new ≡ append_known old line) ⊎ (AppendsPrefix old new line × Rose before now)
+Complained old new before now line = ((new ≡ append_known old line) × (now ≡ before)) ⊎ (AppendsPrefix old new line × Rose before now)
 
 -- `replay`: it took these bytes from the source, and did this with them
 pub record Replayed (status : Status) (left_old left_new held_old held_new : Option (List ℕ)) (bytes : List ℕ) : Type 0 where
   pub took : left_old ≡ prepend_known bytes left_new
-  pub limit : (status ≡ InputLimit) ↔ (16777216 < length bytes)
+  pub limit : (status ≡ InputLimit) ↔ (INPUT_BYTES_MAX < length bytes)
   pub did : DidReplay status bytes left_new held_old held_new

@@ -56,6 +56,8 @@ fn replay<S: Source, K: Sink>(alloc: Global, mut source: S, sink: K) -> (Ran<S, 
     ensures replayed { (bytes : List ℕ) × Replayed result.0.status (S.left source) (S.left result.0.source) (K.held sink) (K.held result.0.sink) bytes × (line_of result.0.status result.1 ≡ line_of result.0.status (unwrap_or (bad_place bytes) 0)) }
     ensures read_cause { result.0.status ≡ Status.ReadFault → Rose (S.faults source) (S.faults result.0.source) }
     ensures write_cause { result.0.status ≡ Status.WriteFault → Rose (K.faults sink) (K.faults result.0.sink) }
+    ensures read_quiet { result.0.status ≢ Status.ReadFault → S.faults result.0.source ≡ S.faults source }
+    ensures write_quiet { result.0.status ≢ Status.WriteFault → K.faults result.0.sink ≡ K.faults sink }
     ensures other { (result.0.status ≢ Status.Usage) × (result.0.status ≢ Status.HubFault) }
 {
     match read_all(alloc, &mut source) {
@@ -87,7 +89,8 @@ fn replay<S: Source, K: Sink>(alloc: Global, mut source: S, sink: K) -> (Ran<S, 
 ///
 /// - `Usage`: exactly where the words are no order; nothing was read.
 /// - `BadRecord`: the run came to the bad place, which the line shows.
-/// - `ReadFault`, `WriteFault`: only where the count of faults of the source or the sink rose.
+/// - `ReadFault`, `WriteFault`: only where the count of faults of the source or the sink rose; by any other
+///   status that count is as before.
 /// - `InputLimit`: exactly where a byte behind the first 16,777,216 was taken.
 /// - `Memory`: memory ran out; what was put is a front of the run's transcript.
 pub fn compose<S: Source, K: Sink, E: Sink, H: Hub>(
@@ -103,6 +106,8 @@ pub fn compose<S: Source, K: Sink, E: Sink, H: Hub>(
     ensures replay { order (map string_bytes words.now) ≡ Some a_replay → (bytes : List ℕ) × Replayed result.status (S.left source) (S.left result.source) (K.held sink) (K.held result.sink) bytes × Complained (E.held complaints.old) (E.held complaints.new) (E.faults complaints.old) (E.faults complaints.new) (line_of result.status (unwrap_or (bad_place bytes) 0)) }
     ensures read_cause { result.status ≡ Status.ReadFault → Rose (S.faults source) (S.faults result.source) }
     ensures write_cause { result.status ≡ Status.WriteFault → Rose (K.faults sink) (K.faults result.sink) }
+    ensures read_quiet { result.status ≢ Status.ReadFault → S.faults result.source ≡ S.faults source }
+    ensures write_quiet { result.status ≢ Status.WriteFault → K.faults result.sink ≡ K.faults sink }
     ensures no_hub_fault { result.status ≢ Status.HubFault }
     ensures hub { _hub.new ≡ _hub.old }
 {

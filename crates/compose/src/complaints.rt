@@ -1,6 +1,6 @@
 //! The lines that tell how a call ended.
 
-ghost use Rattle.std.specs.Prelude.{◌≡◌, ◌∷◌, [], ◌++◌, codes, decimal};
+ghost use Rattle.std.specs.Prelude.{◌≡◌, ◌∷◌, [], ◌++◌, OnOk, codes, decimal};
 ghost use Rattle.qo_causes.specs.Bytes.{PutsAll};
 ghost use Rattle.qo_causes.specs.Cause.{HasCause};
 ghost use Rattle.compose.specs.Replay.{Complained, line_of};
@@ -13,6 +13,7 @@ use qo_causes::{Failed, Sink, put_all};
 fn put_place<K: Sink>(sink: &mut K, place: u64) -> Result<(), Failed>
     ensures bytes { PutsAll (K.held sink.old) (K.held sink.new) result (line_of Status.BadRecord place) }
     ensures cause { HasCause (K.faults sink.old) (K.faults sink.new) result }
+    ensures quiet { OnOk result (K.faults sink.new ≡ K.faults sink.old) }
 {
     if let Err(Failed) = put_all(sink, b"compose: bad record at byte ") {
         return Err(Failed);
@@ -24,6 +25,7 @@ fn put_place<K: Sink>(sink: &mut K, place: u64) -> Result<(), Failed>
 fn put_number<K: Sink>(sink: &mut K, number: u64) -> Result<(), Failed>
     ensures bytes { PutsAll (K.held sink.old) (K.held sink.new) result (decimal number ++ 10 ∷ []) }
     ensures cause { HasCause (K.faults sink.old) (K.faults sink.new) result }
+    ensures quiet { OnOk result (K.faults sink.new ≡ K.faults sink.old) }
 {
     let mut buffer = Buffer::new();
     if let Err(Failed) = put_all(sink, buffer.format(number).as_bytes()) {
@@ -39,6 +41,7 @@ fn put_number<K: Sink>(sink: &mut K, number: u64) -> Result<(), Failed>
 fn put_line<K: Sink>(sink: &mut K, status: Status, place: u64) -> Result<(), Failed>
     ensures bytes { PutsAll (K.held sink.old) (K.held sink.new) result (line_of status place) }
     ensures cause { HasCause (K.faults sink.old) (K.faults sink.new) result }
+    ensures quiet { OnOk result (K.faults sink.new ≡ K.faults sink.old) }
 {
     match status {
         Status::Done => put_all(sink, b""),
@@ -53,6 +56,15 @@ fn put_line<K: Sink>(sink: &mut K, status: Status, place: u64) -> Result<(), Fai
         Status::HubFault => put_all(sink, b"compose: hub fault\n"),
         Status::InputLimit => put_all(sink, b"compose: input limit\n"),
     }
+}
+
+/// Tells that memory ran out before the call, as for its words, and gives the status of that.
+pub fn out_of_memory<E: Sink>(complaints: &mut E) -> Status
+    ensures status { result ≡ Status.Memory }
+    ensures told { Complained (E.held complaints.old) (E.held complaints.new) (E.faults complaints.old) (E.faults complaints.new) (line_of Status.Memory 0) }
+{
+    complain(complaints, Status::Memory, 0);
+    Status::Memory
 }
 
 /// Tells a status, as far as the sink takes the line.

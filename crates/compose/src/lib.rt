@@ -10,6 +10,7 @@ mod statuses;
 mod words;
 
 pub use calls::compose;
+pub use complaints::out_of_memory;
 pub use no_hub::NoHub;
 pub use statuses::{Ran, Status};
 

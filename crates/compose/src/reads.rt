@@ -1,6 +1,6 @@
 //! Reads a source to its end.
 
-ghost use Rattle.std.specs.Prelude.{◌≡◌, ◌≤◌, ℕ, List, IfOk, vec_len};
+ghost use Rattle.std.specs.Prelude.{◌≡◌, ◌≢◌, ◌≤◌, ℕ, List, IfOk, vec_len};
 ghost use Rattle.std.specs.Io.KnownBytes.{prepend_known};
 ghost use Rattle.qo_causes.specs.Cause.{Rose};
 ghost use Rattle.compose.specs.Reads.{ReadAll};
@@ -38,6 +38,7 @@ pub(crate) fn read_all<S: Source>(alloc: Global, source: &mut S) -> Result<Vec<u
     ensures read { (bytes : List ℕ) × (S.left source.old ≡ prepend_known bytes (S.left source.new)) × ReadAll (λ v. v.items) bytes (S.left source.new) result }
     ensures count { S.faults source.old ≤ S.faults source.new }
     ensures cause { result ≡ Err ReadError.Fault → Rose (S.faults source.old) (S.faults source.new) }
+    ensures quiet { result ≢ Err ReadError.Fault → S.faults source.new ≡ S.faults source.old }
 {
     let Ok(mut buffer) = buffer_of(alloc, PIECE) else {
         return Err(ReadError::Memory);

@@ -1,19 +1,33 @@
 //! The program `compose`: the top call over standard input, output and error.
 #![tactic(auto)]
 
-use compose::{NoHub, Ran, compose};
+use compose::{NoHub, Ran, compose, out_of_memory};
 use qo_causes::{StdSink, StdSource};
 use std::process::ExitCode;
 use std::{env, io};
 
-fn main(rt: HostRuntime) -> io::Result<ExitCode> {
-    let mut words: Vec<String> = Vec::new(rt.alloc());
-    for word in env::args(&rt)?.skip(1) {
+/// The words behind the program's name.
+fn words_of(rt: &HostRuntime) -> io::Result<Vec<String>> {
+    let mut words = Vec::new(rt.alloc());
+    for word in env::args(rt)?.skip(1) {
         words.push(word)?;
     }
+    Ok(words)
+}
+
+fn main(rt: HostRuntime) -> io::Result<ExitCode> {
+    let mut complaints = StdSink::new(rt.stderr());
+    let words = match words_of(&rt) {
+        Ok(words) => words,
+        Err(error) => {
+            if error.kind() == io::ErrorKind::OutOfMemory {
+                return Ok(ExitCode::from(out_of_memory(&mut complaints).code()));
+            }
+            return Err(error);
+        }
+    };
     let source = StdSource::new(rt.reader());
     let sink = StdSink::new(io::writer(&rt));
-    let mut complaints = StdSink::new(rt.stderr());
     let mut hub = NoHub;
     let Ran {
         status,

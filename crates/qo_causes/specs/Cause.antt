@@ -23,3 +23,8 @@ pub record HasCause {T E : Type 0} (before now : ℕ) (result : Result T E) : Ty
 abbrev pub StuckRose : {E : Type 0} → ℕ → ℕ → List ℕ → Result ℕ E → Type 0
 StuckRose before now piece (Ok n) = n ≡ 0 → 0 < length piece → Rose before now
 StuckRose before now piece (Err e) = Unit {0}
+
+-- a put that took something, or that had nothing to take, left the count of faults
+abbrev pub PutQuiet : {E : Type 0} → ℕ → ℕ → List ℕ → Result ℕ E → Type 0
+PutQuiet before now piece (Ok n) = (0 < n → now ≡ before) × (length piece ≡ 0 → now ≡ before)
+PutQuiet before now piece (Err e) = Unit {0}

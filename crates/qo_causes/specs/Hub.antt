@@ -66,6 +66,13 @@ OnNextFailed (Err (Bad n)) fact = Unit {0}
 OnNextFailed (Err NextFailed) fact = fact
 OnNextFailed (Err Memory) fact = Unit {0}
 
+-- the fact holds but where `next` answered Failed
+abbrev pub ButNextFailed : Result Input NextError → Type 0 → Type 0
+ButNextFailed (Ok i) fact = fact
+ButNextFailed (Err (Bad n)) fact = fact
+ButNextFailed (Err NextFailed) fact = Unit {0}
+ButNextFailed (Err Memory) fact = fact
+
 -- `begin` with Ok is what was asked
 abbrev pub Asks : Option (Option (List ℕ × ℕ)) → Option (Option (List ℕ × ℕ)) → List ℕ → ℕ → Result Unit Failed → Type 0
 Asks old new path connections (Ok u) = new ≡ option_map (λ _. Some (path, connections)) old
@@ -88,6 +95,12 @@ abbrev pub OnSendFailed : Result Unit SendError → Type 0 → Type 0
 OnSendFailed (Ok u) fact = Unit {0}
 OnSendFailed (Err SendFailed) fact = fact
 OnSendFailed (Err (Gone s)) fact = Unit {0}
+
+-- the fact holds but where `send` answered Failed
+abbrev pub ButSendFailed : Result Unit SendError → Type 0 → Type 0
+ButSendFailed (Ok u) fact = fact
+ButSendFailed (Err SendFailed) fact = Unit {0}
+ButSendFailed (Err (Gone s)) fact = fact
 
 -- did `send` answer that session t is gone
 abbrev pub is_gone : Result Unit SendError → ℕ → Bool

@@ -1,12 +1,12 @@
 //! A sink in memory, with room for so many bytes, whose calls fail where they are told to.
 ghost use Rattle.std.specs.Prelude.{◌≡◌, ◌≤◌, [], length, IfOk, Some};
 ghost use Rattle.qo_causes.specs.Bytes.{Puts};
-ghost use Rattle.qo_causes.specs.Cause.{HasCause, StuckRose};
+ghost use Rattle.qo_causes.specs.Cause.{HasCause, PutQuiet, StuckRose};
 ghost use Rattle.qo_causes.specs.InMemory.{after_put, put_answer};
 
-use crate::faults::{Failed, Memory};
+use crate::faults::Failed;
 use crate::sinks::Sink;
-use std::alloc::Global;
+use std::alloc::{AllocError, Global};
 use std::marker::Model;
 
 /// Bytes in memory, with room for so many, and the numbers of the calls that fail.
@@ -42,7 +42,7 @@ impl Model for ByteSink {
 impl ByteSink {
     /// A sink with room for so many bytes, of whose calls those fail whose numbers are listed, counted from
     /// 1. The room is taken here: no later call takes memory.
-    pub fn new(alloc: Global, room: usize, fails: Vec<u64>) -> Result<ByteSink, Memory>
+    pub fn new(alloc: Global, room: usize, fails: Vec<u64>) -> Result<ByteSink, AllocError>
         ensures { IfOk result (λ sink. sink ≡
             record { held = []; room = room; calls = 0; fails = fails.items; faults = 0 }) }
     {
@@ -77,6 +77,7 @@ impl Sink for ByteSink {
         ensures bytes { Puts (Some self.old.held) (Some self.new.held) result piece.now }
         ensures cause { HasCause self.old.faults self.new.faults result }
         ensures stuck { StuckRose self.old.faults self.new.faults piece.now result }
+        ensures quiet { PutQuiet self.old.faults self.new.faults piece.now result }
 
         ensures answer { result ≡ put_answer self.old piece.now }
         ensures after { self.new ≡ after_put self.old piece.now }

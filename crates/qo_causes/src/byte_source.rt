@@ -1,5 +1,5 @@
 //! A source in memory, whose calls fail where they are told to.
-ghost use Rattle.std.specs.Prelude.{◌≡◌, ◌≤◌, ◌++◌, length, take, drop, IfOk, OnErr, Some};
+ghost use Rattle.std.specs.Prelude.{◌≡◌, ◌≤◌, ◌++◌, length, take, drop, IfOk, OnErr, OnOk, Some};
 ghost use Rattle.qo_causes.specs.Bytes.{Takes};
 ghost use Rattle.qo_causes.specs.Cause.{HasCause};
 ghost use Rattle.qo_causes.specs.InMemory.{after_take, take_answer};
@@ -65,6 +65,7 @@ impl Source for ByteSource {
         ensures bound { IfOk result (λ n. n ≤ length buf.new) }
         ensures bytes { Takes (Some self.old.bytes) (Some self.new.bytes) result buf.new }
         ensures cause { HasCause self.old.faults self.new.faults result }
+        ensures quiet { OnOk result (self.new.faults ≡ self.old.faults) }
 
         ensures answer { result ≡ take_answer self.old (length buf.old) }
         ensures after { self.new ≡ after_take self.old (length buf.old) }

@@ -1,8 +1,8 @@
 //! The trusted edge: a source and a sink over std's reader and writer. They tell nothing of the bytes.
-ghost use Rattle.std.specs.Prelude.{◌≡◌, ◌≤◌, length, IfOk, None};
+ghost use Rattle.std.specs.Prelude.{◌≡◌, ◌≤◌, length, IfOk, OnOk, None};
 ghost use Rattle.std.specs.Io.KnownBytes.{ReadConsumes, WriteAppends};
 ghost use Rattle.qo_causes.specs.Bytes.{Puts, Takes};
-ghost use Rattle.qo_causes.specs.Cause.{HasCause, StuckRose};
+ghost use Rattle.qo_causes.specs.Cause.{HasCause, PutQuiet, StuckRose};
 ghost use Rattle.qo_causes.specs.Edge.{put_faults, take_faults};
 
 use crate::faults::Failed;
@@ -45,6 +45,7 @@ impl<R: Read> Source for StdSource<R> {
         ensures bound { IfOk result (λ n. n ≤ length buf.new) }
         ensures bytes { Takes None None result buf.new }
         ensures cause { HasCause self.old.faults self.new.faults result }
+        ensures quiet { OnOk result (self.new.faults ≡ self.old.faults) }
 
         ensures read { ReadConsumes (R.remaining self.old.inner) (R.remaining self.new.inner) result buf.new }
         ensures faults { self.new.faults ≡ take_faults self.old.faults result }
@@ -98,6 +99,7 @@ impl<W: Write> Sink for StdSink<W> {
         ensures bytes { Puts None None result piece.now }
         ensures cause { HasCause self.old.faults self.new.faults result }
         ensures stuck { StuckRose self.old.faults self.new.faults piece.now result }
+        ensures quiet { PutQuiet self.old.faults self.new.faults piece.now result }
 
         ensures written { WriteAppends (W.contents self.old.inner) (W.contents self.new.inner) result piece.now }
         ensures faults { self.new.faults ≡ put_faults self.old.faults piece.now result }

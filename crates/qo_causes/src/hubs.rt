@@ -1,10 +1,10 @@
 //! The hub: it gives the inputs, one at a time, and takes the messages to each lane.
-ghost use Rattle.std.specs.Prelude.{◌≡◌, ◌≤◌, ℕ, List, Option};
+ghost use Rattle.std.specs.Prelude.{◌≡◌, ◌≤◌, ℕ, List, Option, OnOk};
 ghost use Rattle.qo_causes.specs.declared.hubs.Lane.{Lane};
 ghost use Rattle.qo_causes.specs.declared.inputs.Input.{Input};
 ghost use Rattle.qo_causes.specs.Bytes.{PutsAll};
 ghost use Rattle.qo_causes.specs.Cause.{HasCause, Rose};
-ghost use Rattle.qo_causes.specs.Hub.{Asks, GoneOnly, Loses, NextGives, OnNextFailed, OnSendFailed, SameCounts, SameLanes, Sends, is_gone, line, part};
+ghost use Rattle.qo_causes.specs.Hub.{Asks, ButNextFailed, ButSendFailed, GoneOnly, Loses, NextGives, OnNextFailed, OnSendFailed, SameCounts, SameLanes, Sends, is_gone, line, part};
 
 use crate::faults::Failed;
 use crate::inputs::Input;
@@ -77,7 +77,7 @@ pub trait Hub {
     ghost later: { Self → Self → Type 0 };
 
     /// Begins to serve `connections` connections at `path`. It answers `Failed` only where the count of
-    /// faults of `begin` and `next` rose.
+    /// faults of `begin` and `next` rose; after Ok both counts of faults are as before.
     fn begin(&mut self, path: &str, connections: u32) -> Result<(), Failed>
         ensures asked { Asks (asked self.old) (asked self.new) path.now connections result }
         ensures inputs { inputs self.new ≡ inputs self.old }
@@ -85,7 +85,8 @@ pub trait Hub {
         ensures got { SameLanes (got self.old) (got self.new) }
         ensures sent { sent self.new ≡ sent self.old }
         ensures cause { HasCause (next_faults self.old) (next_faults self.new) result }
-        ensures send_count { send_faults self.old ≤ send_faults self.new }
+        ensures quiet { OnOk result (next_faults self.new ≡ next_faults self.old) }
+        ensures send_count { send_faults self.new ≡ send_faults self.old }
         ensures losses { SameCounts (losses self.old) (losses self.new) }
         ensures later { later self.old self.new };
 
@@ -93,7 +94,7 @@ pub trait Hub {
     ///
     /// It answers `Failed` only where the count of faults of `begin` and `next` rose, and `Bad` only where
     /// no input is left and the bad place is the one that it names. After an error the inputs left are as
-    /// before.
+    /// before. No count of faults rises where it does not answer `Failed`.
     fn next(&mut self) -> Result<Input, NextError>
         ensures given { NextGives (inputs self.old) (inputs self.new) (bad self.old) result }
         ensures bad { bad self.new ≡ bad self.old }
@@ -102,7 +103,8 @@ pub trait Hub {
         ensures sent { sent self.new ≡ sent self.old }
         ensures next_count { next_faults self.old ≤ next_faults self.new }
         ensures cause { OnNextFailed result (Rose (next_faults self.old) (next_faults self.new)) }
-        ensures send_count { send_faults self.old ≤ send_faults self.new }
+        ensures quiet { ButNextFailed result (next_faults self.new ≡ next_faults self.old) }
+        ensures send_count { send_faults self.new ≡ send_faults self.old }
         ensures losses { SameCounts (losses self.old) (losses self.new) }
         ensures later { later self.old self.new };
 
@@ -110,6 +112,7 @@ pub trait Hub {
     ///
     /// It answers `Failed` only where the count of faults of `send` rose, and `Gone` only for the session
     /// of the lane, and where the count of its losses rose. No hub that tells a transcript answers `Gone`.
+    /// No count of faults rises where it does not answer `Failed`.
     fn send(&mut self, lane: Lane, bytes: &[u8]) -> Result<(), SendError>
         ensures inputs { inputs self.new ≡ inputs self.old }
         ensures bad { bad self.new ≡ bad self.old }
@@ -120,7 +123,8 @@ pub trait Hub {
         ensures losses { (t : ℕ) → Loses (is_gone result t) (losses self.old t) (losses self.new t) }
         ensures send_count { send_faults self.old ≤ send_faults self.new }
         ensures cause { OnSendFailed result (Rose (send_faults self.old) (send_faults self.new)) }
-        ensures next_count { next_faults self.old ≤ next_faults self.new }
+        ensures quiet { ButSendFailed result (send_faults self.new ≡ send_faults self.old) }
+        ensures next_count { next_faults self.new ≡ next_faults self.old }
         ensures later { later self.old self.new };
 
     // A state is no earlier than itself.

@@ -18,7 +18,7 @@ mod tests;
 pub use byte_sink::ByteSink;
 pub use byte_source::ByteSource;
 pub use edge::{StdSink, StdSource};
-pub use faults::{Failed, Memory};
+pub use faults::Failed;
 pub use hubs::{Hub, Lane, NextError, SendError};
 pub use inputs::{Chunk, Input, Moment, What};
 pub use script_hub::ScriptHub;

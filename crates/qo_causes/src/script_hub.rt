@@ -4,7 +4,7 @@ ghost use Rattle.qo_causes.specs.Cause.{HasCause, counted};
 ghost use Rattle.qo_causes.specs.Hub.{Loses, is_gone};
 ghost use Rattle.qo_causes.specs.Script.{after_begin, after_next, after_send, before_end, begin_answer, behind_first, empty_shelf, first_input, has_room, next_answer, script_of, send_answer, shelf_of, with_added, with_fault, with_loss};
 
-use crate::faults::{Failed, Memory};
+use crate::faults::Failed;
 use crate::hubs::{Hub, Lane, NextError, SendError};
 use crate::inputs::{Input, Moment, What};
 use crate::shelves::Shelf;
@@ -125,7 +125,7 @@ impl ScriptHub {
         nexts: Vec<u64>,
         sends: Vec<u64>,
         gone: Vec<u64>,
-    ) -> Result<ScriptHub, Memory>
+    ) -> Result<ScriptHub, AllocError>
         ensures { IfOk result (λ hub. hub ≡ script_of inputs.items room nexts.items sends.items gone.items) }
     {
         Ok(ScriptHub {

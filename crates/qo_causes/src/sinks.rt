@@ -1,7 +1,7 @@
 //! Where bytes go.
-ghost use Rattle.std.specs.Prelude.{ℕ, List, Option, ◌≤◌, length, IfOk};
+ghost use Rattle.std.specs.Prelude.{ℕ, List, Option, ◌≡◌, ◌≤◌, length, IfOk, OnOk};
 ghost use Rattle.qo_causes.specs.Bytes.{Puts, PutsAll};
-ghost use Rattle.qo_causes.specs.Cause.{HasCause, StuckRose};
+ghost use Rattle.qo_causes.specs.Cause.{HasCause, PutQuiet, StuckRose};
 
 use crate::faults::Failed;
 
@@ -14,19 +14,23 @@ pub trait Sink {
     ghost faults: { Self → ℕ };
 
     /// Appends a front of the piece, and answers how many bytes it has. It answers `Failed`, and 0 for a
-    /// piece that is not empty, only where the count of faults rose; what is held is then as before.
+    /// piece that is not empty, only where the count of faults rose; what is held is then as before. The
+    /// count does not rise where it took something, or where the piece is empty.
     fn put(&mut self, piece: &[u8]) -> Result<usize, Failed>
         ensures bound { IfOk result (λ n. n ≤ length piece.now) }
         ensures bytes { Puts (held self.old) (held self.new) result piece.now }
         ensures cause { HasCause (faults self.old) (faults self.new) result }
-        ensures stuck { StuckRose (faults self.old) (faults self.new) piece.now result };
+        ensures stuck { StuckRose (faults self.old) (faults self.new) piece.now result }
+        ensures quiet { PutQuiet (faults self.old) (faults self.new) piece.now result };
 }
 
 /// Puts all the bytes, piece by piece. After `Failed` the sink has a front of them, and its count of faults
-/// rose: a put failed, or took nothing of a piece that is not empty. It takes no memory.
+/// rose: a put failed, or took nothing of a piece that is not empty. After Ok no put did: the count is as
+/// before. It takes no memory.
 pub fn put_all<K: Sink>(sink: &mut K, bytes: &[u8]) -> Result<(), Failed>
     ensures bytes { PutsAll (K.held sink.old) (K.held sink.new) result bytes.now }
     ensures cause { HasCause (K.faults sink.old) (K.faults sink.new) result }
+    ensures quiet { OnOk result (K.faults sink.new ≡ K.faults sink.old) }
 {
     let mut at = 0;
     while at < bytes.len() {

@@ -1,7 +1,7 @@
 //! What no clause says: that calls succeed with ample memory, the texts, and the impls at concrete types.
 use crate::{
-    ByteSink, ByteSource, Chunk, Failed, Hub, Input, Lane, Memory, Moment, NextError, ScriptHub,
-    SendError, Sink, Source, StdSink, StdSource, What, put_all,
+    ByteSink, ByteSource, Chunk, Failed, Hub, Input, Lane, Moment, NextError, ScriptHub, SendError,
+    Sink, Source, StdSink, StdSource, What, put_all,
 };
 use std::alloc::AllocError;
 use std::io::{self, ErrorKind, Read};
@@ -50,7 +50,7 @@ fn put_all_puts_all_or_fails(rt: HostRuntime) -> Result<(), Fail> {
 fn room_past_all_memory_is_refused(rt: HostRuntime) {
     let alloc = rt.alloc();
     let sink = ByteSink::new(alloc, usize::MAX, Vec::new(alloc));
-    assert!(rt; matches!(sink, Err(Memory)));
+    assert!(rt; matches!(sink, Err(AllocError)));
 }
 
 #[derive(Drop)]
@@ -97,16 +97,10 @@ fn chunk_lends_its_bytes(rt: HostRuntime) -> Result<(), Fail> {
 #[test]
 fn errors_have_their_texts(rt: HostRuntime) -> Result<(), Fail> {
     let alloc = rt.alloc();
-    let texts = format!(in alloc;
-        "{}; {}; {}; {}",
-        Failed,
-        Memory::from(AllocError),
-        NextError::Bad(7),
-        SendError::Gone(3)
-    )?;
+    let texts = format!(in alloc; "{}; {}; {}", Failed, NextError::Bad(7), SendError::Gone(3))?;
     assert_eq!(rt;
         texts.as_str(),
-        "a call of the outside failed; not enough memory; no input at byte 7; session 3 is gone"
+        "a call of the outside failed; no input at byte 7; session 3 is gone"
     );
     assert!(rt; Lane::Session(3) != Lane::Guest);
     Ok(())
@@ -227,5 +221,5 @@ fn script_room_past_all_memory_is_refused(rt: HostRuntime) {
         Vec::new(alloc),
         Vec::new(alloc),
     );
-    assert!(rt; matches!(hub, Err(Memory)));
+    assert!(rt; matches!(hub, Err(AllocError)));
 }

@@ -1,11 +1,12 @@
 -- The lists of what is held, each of its own kind.
-use Rattle.std.specs.Prelude.{ℕ, Bool, not, ◌&&◌, ◌==◌, nat_lt, nat_le, if◌then◌else◌, List, [], ◌∷◌, Option, Some, None}
+use Rattle.std.specs.Prelude.{ℕ, Bool, not, ◌&&◌, ◌==◌, nat_lt, if◌then◌else◌, List, [], ◌∷◌, Option, Some, None}
 use Rattle.std.specs.List.{list_any}
 use Rattle.std.specs.Option.{option_map}
 use Rattle.std.specs.Set.{remove_key}
 use Rattle.std.specs.Str.{bytes_eq}
 use Rattle.std.specs.declared.result.Result.{Result}
 use Rattle.std.specs.declared.result.Result.TheVariants.{Ok, Err}
+use Rattle.qo_values.specs.declared.limits.TheConstants.{BUS_SLOTS}
 use Rattle.qo_values.specs.declared.ranges.Range.{Range}
 use Rattle.qo_values.specs.Placing.{range_at, is_in_window, overlaps_any, least, place_of}
 use Rattle.qo_claims.specs.declared.errors.ClaimError.{ClaimError}
@@ -67,14 +68,14 @@ without_slot s slots = remove_key (slot_eq s) slots
 abbrev pub slot_at : ℕ → ℕ → BusSlot
 slot_at bus slot = record { bus = bus; slot = slot }
 
--- the least of slots 0 to 7 that is not held on a bus
+-- the least of the slots of a bus, from 0, that is not held
 abbrev pub least_free : ℕ → List BusSlot → Option ℕ
-least_free bus slots = least (λ slot. not (has_slot (slot_at bus slot) slots)) 0 8
+least_free bus slots = least (λ slot. not (has_slot (slot_at bus slot) slots)) 0 BUS_SLOTS
 
--- the slot that is named: Range above 7, Held where it is held; else the least free, and Full where there is none
+-- the slot that is named: Range where a bus has none of that number, Held where it is held; else the least free, and Full where there is none
 abbrev pub slot_answer : ℕ → Option ℕ → List BusSlot → Result BusSlot ClaimError
 slot_answer bus (Some slot) slots =
-    if nat_le slot 7 then unless_held (has_slot (slot_at bus slot) slots) (slot_at bus slot) else Err refusal.Range
+    if nat_lt slot BUS_SLOTS then unless_held (has_slot (slot_at bus slot) slots) (slot_at bus slot) else Err refusal.Range
 slot_answer bus None slots = unless_full (option_map (slot_at bus) (least_free bus slots))
 
 -- ranges of addresses

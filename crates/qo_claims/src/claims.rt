@@ -4,7 +4,7 @@ ghost use Rattle.std.specs.Prelude.{◌≡◌};
 ghost use Rattle.qo_claims.specs.Held.{at_of};
 
 use crate::births::Births;
-use crate::errors::{ClaimError, Memory};
+use crate::errors::ClaimError;
 use crate::ids::Ids;
 use crate::ranges::Ranges;
 use crate::slots::{BusSlot, Slots};
@@ -143,24 +143,24 @@ impl Kept {
 }
 
 impl Claims {
-    ghost use Rattle.std.specs.Prelude.{◌≡◌, ◌≤◌, IfOk};
+    ghost use Rattle.std.specs.Prelude.{◌≡◌, ◌≤◌};
     ghost use Rattle.qo_claims.specs.declared.claims.Claimed.TheVariants as on;
     ghost use Rattle.qo_claims.specs.Answers.{Took, on_whole};
     ghost use Rattle.qo_claims.specs.Lists.{id_answer, birth_answer, slot_answer, range_answer};
     ghost use Rattle.qo_claims.specs.Held.{nothing_held, ids_of, id_claim, with_claim, without_claim};
 
     /// A book in which nothing is held. It takes memory only by the calls `take_..`.
-    pub fn new(alloc: Global) -> Result<Claims, Memory>
-        ensures { IfOk result (λ claims. claims ≡ nothing_held) }
+    pub fn new(alloc: Global) -> Claims
+        ensures { result ≡ nothing_held }
     {
-        Ok(Claims {
+        Claims {
             devices: Ids::new(alloc),
             ring_ids: Ids::new(alloc),
             slots: Slots::new(alloc),
             rings: Ids::new(alloc),
             backends: Births::new(alloc),
             ranges: Ranges::new(alloc),
-        })
+        }
     }
 
     /// Claims an id in a space; `Held` exactly where it is held. An error leaves all as it was.
@@ -175,8 +175,8 @@ impl Claims {
     }
 
     /// Claims a slot of a bus: the named one, or the least that is free. `Range` exactly where the
-    /// named one is above 7, `Held` exactly where it is held, `Full` exactly where none is named and
-    /// 0 to 7 are held. An error leaves all as it was.
+    /// named one is not below `BUS_SLOTS`, `Held` exactly where it is held, `Full` exactly where none
+    /// is named and all are held. An error leaves all as it was.
     pub fn take_slot(&mut self, bus: u64, slot: Option<u8>) -> Result<Claim, ClaimError>
         ensures { Took (on_whole on.Slot (slot_answer bus slot self.old.slots)) (λ claim. with_claim claim self.old) self.old self.new result }
     {

@@ -1,17 +1,12 @@
-//! The errors of this crate's calls.
+//! The error of this crate's calls.
 
 use std::alloc::AllocError;
 use thiserror::Error;
 
-/// There was not enough memory.
-#[derive(Clone, Copy, Debug, PartialEq, Eq, Error)]
-#[error("not enough memory")]
-pub struct Memory;
-
 /// Why nothing was claimed.
 #[derive(Clone, Copy, Debug, PartialEq, Eq, Error)]
 pub enum ClaimError {
-    /// The slot is above 7, or the range leaves the window.
+    /// The bus has no slot of that number, or the range leaves the window.
     #[error("out of range")]
     Range,
     /// It is held already; of a range, that one held overlaps it.

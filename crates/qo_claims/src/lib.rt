@@ -16,6 +16,6 @@ mod slots;
 mod tests;
 
 pub use claims::{Claim, Claims, Kept, Space, keep};
-pub use errors::{ClaimError, Memory};
+pub use errors::ClaimError;
 pub use placing::place;
 pub use qo_values::Range;

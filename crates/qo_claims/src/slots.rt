@@ -11,7 +11,7 @@ use std::marker::Model;
 pub struct BusSlot {
     /// The birth of the bus.
     pub bus: u64,
-    /// The slot, from 0 to 7.
+    /// The slot, below `BUS_SLOTS`.
     pub slot: u8,
 }
 

@@ -4,70 +4,65 @@ use Rattle.qo_values.specs.declared.codes.Code.{Code}
 use Rattle.qo_values.specs.declared.properties.Val.{Val}
 use Rattle.qo_model.specs.Board.{Board}
 use Rattle.qo_model.specs.Objects.{Changed, Given, object_add, object_del, sever}
-use Rattle.qo_heap.specs.Board.{Shows}
-use Rattle.qo_heap.specs.Objects.{Objects}
-use Rattle.qo_realize.specs.Adding.{Adds}
-use Rattle.qo_realize.specs.At.{write_at}
-use Rattle.qo_realize.specs.Changes.{IsAnswered}
-use Rattle.qo_realize.specs.Writes.{Writes}
-use Rattle.qo_realize.specs.declared.refusals.Refusal.{Refusal}
-use Rattle.qo_realize.specs.declared.refusals.Refusal.TheVariants.{Refused, Memory}
+use Rattle.qo_model.specs.Access.{write_at}
+use Rattle.qo_properties.specs.declared.refusals.Refusal.{Refusal}
+use Rattle.qo_properties.specs.declared.refusals.Refusal.TheVariants.{Refused, Memory}
+use Rattle.qo_realize.specs.Answers.{Adds, IsAnswered, Writes}
+use Rattle.qo_realize.specs.Parts.{Parts}
+use Rattle.qo_realize.specs.Stands.{Stands}
 use Rattle.qo_requests.specs.declared.requests.Request.{Request}
 use Rattle.qo_requests.specs.declared.requests.Request.TheVariants.{QmpCapabilities, QueryVersion, QueryCommands, QueryStatus, Stop, Cont, SystemReset, Quit, QomList, QomGet, QomSet, QomListTypes, DeviceListProperties, ObjectAdd, ObjectDel, DeviceAdd, DeviceDel, ChardevAdd, ChardevRemove, RingbufRead, RingbufWrite, XResetHold, XResetRelease, XSever, XQueryNotes, XQueryDetached, XGuest, XStep}
 use Rattle.qo_commands.specs.Changes.{Changes, is_change}
 use Rattle.qo_commands.specs.Commands.{Done, changed, empty, perform, refused_with, returned, wrote}
-use Rattle.qo_commands.specs.Stands.{Stands}
-use Rattle.qo_commands.proofs.RunningLemmas.{attempted_running, performed_running}
 
 -- a command that came to something, by what it came to
-done-ok : (b c : Board) (r : Request) (v w : Objects) → Stands b v → perform b r ≡ returned c empty → Shows c w → Changes b r (Ok tt) w
-done-ok b c r v w s is now =
+done-ok : (b c : Board) (r : Request) (p : Parts) → perform b r ≡ returned c empty → Stands c p → Changes b r (Ok tt) p
+done-ok b c r p is now =
     let board : (perform b r).board ≡ c = ap (λ (d : Done). d.board) is in
-    (record { shows = subst (λ (x : Board). Shows x w) (sym board) now; running = performed_running b r ∙ s.running }, is ∙ ap (λ (x : Board). returned x empty) (sym board))
+    (subst (λ (x : Board). Stands x p) (sym board) now, is ∙ ap (λ (x : Board). returned x empty) (sym board))
 
-done-err : (b c : Board) (r : Request) (code : Code) (v w : Objects) → Stands b v → perform b r ≡ refused_with c code → Shows c w → Changes b r (Err (Refused code)) w
-done-err b c r code v w s is now =
+done-err : (b c : Board) (r : Request) (code : Code) (p : Parts) → perform b r ≡ refused_with c code → Stands c p → Changes b r (Err (Refused code)) p
+done-err b c r code p is now =
     let board : (perform b r).board ≡ c = ap (λ (d : Done). d.board) is in
-    (record { shows = subst (λ (x : Board). Shows x w) (sym board) now; running = performed_running b r ∙ s.running }, is ∙ ap (λ (x : Board). refused_with x code) (sym board))
+    (subst (λ (x : Board). Stands x p) (sym board) now, is ∙ ap (λ (x : Board). refused_with x code) (sym board))
 
 -- a property was written, or not
-pub set-changes : (b : Board) (v w : Objects) (path name : List ℕ) (val : Val) (result : Result Unit Refusal) → Stands b v → Writes w result (write_at b path name val) → OnErr result (w ≡ v) → Changes b (QomSet path name val) result w
+pub set-changes : (b : Board) (p q : Parts) (path name : List ℕ) (val : Val) (result : Result Unit Refusal) → Stands b p → Writes q result (write_at b path name val) → OnErr result (q ≡ p) → Changes b (QomSet path name val) result q
 unfolding perform
-set-changes b v w path name val (Ok u) s (c, is, now) same = done-ok b c (QomSet path name val) v w s (ap (wrote b) is) now
-set-changes b v w path name val (Err (Refused code)) s is same =
-    done-err b b (QomSet path name val) code v w s (ap (wrote b) is) (subst (λ (x : Objects). Shows b x) (sym same) s.shows)
-set-changes b v w path name val (Err Memory) s is same = inl (subst (λ (x : Objects). Stands b x) (sym same) s)
+set-changes b p q path name val (Ok u) s (c, is, now) same = done-ok b c (QomSet path name val) q (ap (wrote b) is) now
+set-changes b p q path name val (Err (Refused code)) s is same =
+    done-err b b (QomSet path name val) code q (ap (wrote b) is) (subst (λ (x : Parts). Stands b x) (sym same) s)
+set-changes b p q path name val (Err Memory) s is same = inl (subst (λ (x : Parts). Stands b x) (sym same) s)
 
 -- a change was made, or refused
-changed-ok : (b : Board) (r : Request) (change : Changed) (v w : Objects) → Stands b v → perform b r ≡ changed change → change.refusal ≡ None → Shows change.board w → Changes b r (Ok tt) w
-changed-ok b r change v w s is none now = done-ok b change.board r v w s (is ∙ rw (changed, none) refl) now
+changed-ok : (b : Board) (r : Request) (change : Changed) (p : Parts) → perform b r ≡ changed change → change.refusal ≡ None → Stands change.board p → Changes b r (Ok tt) p
+changed-ok b r change p is none now = done-ok b change.board r p (is ∙ rw (changed, none) refl) now
 
-changed-err : (b : Board) (r : Request) (change : Changed) (code : Code) (v w : Objects) → Stands b v → perform b r ≡ changed change → change.refusal ≡ Some code → Shows change.board w → Changes b r (Err (Refused code)) w
-changed-err b r change code v w s is some now = done-err b change.board r code v w s (is ∙ rw (changed, some) refl) now
+changed-err : (b : Board) (r : Request) (change : Changed) (code : Code) (p : Parts) → perform b r ≡ changed change → change.refusal ≡ Some code → Stands change.board p → Changes b r (Err (Refused code)) p
+changed-err b r change code p is some now = done-err b change.board r code p (is ∙ rw (changed, some) refl) now
 
-pub del-ok : (b : Board) (v w : Objects) (id : List ℕ) → Stands b v → IsAnswered {T = Unit} (object_del b id) (Ok tt) w → Changes b (ObjectDel id) (Ok tt) w
+pub del-ok : (b : Board) (p : Parts) (id : List ℕ) → IsAnswered (object_del b id) (Ok tt) p → Changes b (ObjectDel id) (Ok tt) p
 unfolding perform
-del-ok b v w id s h = changed-ok b (ObjectDel id) (object_del b id) v w s refl h.refusal h.board
+del-ok b p id h = changed-ok b (ObjectDel id) (object_del b id) p refl h.refusal h.board
 
-pub del-err : (b : Board) (v w : Objects) (id : List ℕ) (code : Code) → Stands b v → IsAnswered {T = Unit} (object_del b id) (Err code) w → Changes b (ObjectDel id) (Err (Refused code)) w
+pub del-err : (b : Board) (p : Parts) (id : List ℕ) (code : Code) → IsAnswered (object_del b id) (Err code) p → Changes b (ObjectDel id) (Err (Refused code)) p
 unfolding perform
-del-err b v w id code s h = changed-err b (ObjectDel id) (object_del b id) code v w s refl h.refusal h.board
+del-err b p id code h = changed-err b (ObjectDel id) (object_del b id) code p refl h.refusal h.board
 
-pub sever-ok : (b : Board) (v w : Objects) (n : ℕ) → Stands b v → IsAnswered {T = Unit} (sever b n) (Ok tt) w → Changes b (XSever n) (Ok tt) w
+pub sever-ok : (b : Board) (p : Parts) (n : ℕ) → IsAnswered (sever b n) (Ok tt) p → Changes b (XSever n) (Ok tt) p
 unfolding perform
-sever-ok b v w n s h = changed-ok b (XSever n) (sever b n) v w s refl h.refusal h.board
+sever-ok b p n h = changed-ok b (XSever n) (sever b n) p refl h.refusal h.board
 
-pub sever-err : (b : Board) (v w : Objects) (n : ℕ) (code : Code) → Stands b v → IsAnswered {T = Unit} (sever b n) (Err code) w → Changes b (XSever n) (Err (Refused code)) w
+pub sever-err : (b : Board) (p : Parts) (n : ℕ) (code : Code) → IsAnswered (sever b n) (Err code) p → Changes b (XSever n) (Err (Refused code)) p
 unfolding perform
-sever-err b v w n code s h = changed-err b (XSever n) (sever b n) code v w s refl h.refusal h.board
+sever-err b p n code h = changed-err b (XSever n) (sever b n) code p refl h.refusal h.board
 
 -- an object was added, or not; for want of memory the board is as it was, or an attempt was given up
-pub add-changes : (b : Board) (v w : Objects) (driver id : List ℕ) (props : List Given) (result : Result Unit Refusal) → Stands b v → Adds b driver id props result w → Changes b (ObjectAdd driver id props) result w
+pub add-changes : (b : Board) (p : Parts) (driver id : List ℕ) (props : List Given) (result : Result Unit Refusal) → Adds b driver id props result p → Changes b (ObjectAdd driver id props) result p
 unfolding perform
-add-changes b v w driver id props (Ok u) s (none, now) = changed-ok b (ObjectAdd driver id props) (object_add b driver id props) v w s refl none now
-add-changes b v w driver id props (Err (Refused code)) s (some, now) = changed-err b (ObjectAdd driver id props) (object_add b driver id props) code v w s refl some now
-add-changes b v w driver id props (Err Memory) s (inl now) = inl (record { shows = now; running = s.running })
-add-changes b v w driver id props (Err Memory) s (inr now) = inr (record { shows = now; running = attempted_running b (ObjectAdd driver id props) ∙ s.running })
+add-changes b p driver id props (Ok u) (none, now) = changed-ok b (ObjectAdd driver id props) (object_add b driver id props) p refl none now
+add-changes b p driver id props (Err (Refused code)) (some, now) = changed-err b (ObjectAdd driver id props) (object_add b driver id props) code p refl some now
+add-changes b p driver id props (Err Memory) stands = stands
 
 -- there is no other change
 pub no-other : (r : Request) → is_change r ≡ true → ((path name : List ℕ) (val : Val) → r ≡ QomSet path name val → ⊥) → ((driver id : List ℕ) (props : List Given) → r ≡ ObjectAdd driver id props → ⊥) → ((id : List ℕ) → r ≡ ObjectDel id → ⊥) → ((birth : ℕ) → r ≡ XSever birth → ⊥) → ⊥

@@ -13,16 +13,16 @@ use Rattle.qo_values.specs.declared.properties.Val.TheVariants as val
 use Rattle.qo_values.specs.declared.codes.Code.TheVariants.{E10, E22}
 use Rattle.qo_model.specs.Objects.{Changed, object_add, object_del, sever}
 use Rattle.qo_model.specs.Types.{TypeRow, is_a, row_named}
-use Rattle.qo_notes.specs.Log.{given_from}
-use Rattle.qo_realize.specs.At.{listing_at, read, write_at}
-use Rattle.qo_realize.specs.Reads.{detached_told}
-use Rattle.qo_realize.specs.declared.reads.Detached.{Detached}
+use Rattle.qo_model.specs.NoteReplies.{given_from}
+use Rattle.qo_model.specs.Access.{listing_at, read, write_at}
+use Rattle.qo_model.specs.Detachment.{detached_told}
+use Rattle.qo_model.specs.declared.detached.Detached.{Detached}
 use Rattle.qo_requests.specs.declared.requests.Request.{Request}
 use Rattle.qo_requests.specs.declared.requests.Request.TheVariants.{QmpCapabilities, QueryVersion, QueryCommands, QueryStatus, Stop, Cont, SystemReset, Quit, QomList, QomGet, QomSet, QomListTypes, DeviceListProperties, ObjectAdd, ObjectDel, DeviceAdd, DeviceDel, ChardevAdd, ChardevRemove, RingbufRead, RingbufWrite, XResetHold, XResetRelease, XSever, XQueryNotes, XQueryDetached, XGuest, XStep}
 use Rattle.std.specs.Str.{chars}
 use Rattle.serde_json.proofs.OnLiterals.{serde_json_on_literals}
 use Rattle.qo_replies.specs.Json.{ascii, json}
-use Rattle.qo_commands.specs.Commands.{adding_properties, answered, changed, detached_data, device_properties, empty, log_of, note_data, perform, properties_data, property_data, refused_with, returned, status_data, type_data, types_of, wrote}
+use Rattle.qo_commands.specs.Commands.{adding_properties, answered, changed, detached_data, device_properties, empty, note_data, perform, properties_data, property_data, refused_with, returned, status_data, type_data, types_of, wrote}
 use Rattle.qo_commands.specs.Changes.{is_change}
 use Rattle.qo_commands.specs.Views.{has_float_in}
 
@@ -105,7 +105,7 @@ no_float b (RingbufWrite device payload format) = refl
 no_float b (XResetHold path) = refl
 no_float b (XResetRelease path) = refl
 no_float b (XSever birth) = changed_no_float (sever b birth)
-no_float b (XQueryNotes start) = rw (notes_no_float (given_from start (log_of b.notes))) refl
+no_float b (XQueryNotes start) = rw (notes_no_float (given_from start b.notes)) refl
 no_float b XQueryDetached = detached_no_float (detached_told b)
 no_float b (XGuest line) = refl
 no_float b (XStep ns) = refl

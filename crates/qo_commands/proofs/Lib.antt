@@ -2,4 +2,3 @@ mod ChangeLemmas
 pub mod CommandLemmas
 mod ListingLemmas
 mod NoteLemmas
-pub mod RunningLemmas

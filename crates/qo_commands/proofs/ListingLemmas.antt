@@ -1,6 +1,7 @@
 -- Lists of types and of properties, as they are made one after another.
 use Rattle.std.proofs.Common.{◌≡◌, refl, ap, sym, ◌∙◌, ℕ, ◌+◌, ◌<◌, ◌≤◌, Bool, true, false, cond, if◌then◌else◌, List, [], ◌∷◌, ◌++◌, map, filter, filter_map, flat_map, length, take, get_or, zero, suc, codes, Option, Some, None, option_map, IfSome, arith}
-use Rattle.std.proofs.lemmas.List.{take_more, take_all}
+use Rattle.std.proofs.lemmas.List.{map-append, take_more, take_all}
+use Rattle.std.proofs.lemmas.List.Concat.{flat_map-append}
 use Rattle.std.proofs.lemmas.List.Elements.{filter_map-append}
 use Rattle.serde_json.specs.Data.{Data, array}
 use Rattle.serde_json.specs.View.{items_of}
@@ -13,18 +14,6 @@ use Rattle.qo_types.specs.Rows.{property_told}
 use Rattle.qo_types.specs.declared.rows.SlotRow.{SlotRow}
 use Rattle.qo_commands.specs.Commands.{adding_properties, device_properties, is_for_adding, kind_word, property_data, property_words, refused_with, returned, type_data}
 use Rattle.qo_commands.specs.Views.{words_for_adding}
-
-pub map-append : {A B : Type 0} (f : A → B) (xs ys : List A) → map f (xs ++ ys) ≡ map f xs ++ map f ys
-map-append f [] ys = refl
-map-append {A} {B} f (x ∷ xs) ys = ap (λ (l : List B). f x ∷ l) (map-append f xs ys)
-
-flat_map-append : {A B : Type 0} (f : A → List B) (xs ys : List A) → flat_map f (xs ++ ys) ≡ flat_map f xs ++ flat_map f ys
-flat_map-append f [] ys = refl
-flat_map-append {A} {B} f (x ∷ xs) ys = ap (λ (l : List B). f x ++ l) (flat_map-append f xs ys) ∙ sym (append-assoc (f x) (flat_map f xs) (flat_map f ys))
-  where
-    append-assoc : (xs ys zs : List B) → (xs ++ ys) ++ zs ≡ xs ++ (ys ++ zs)
-    append-assoc [] ys zs = refl
-    append-assoc (a ∷ xs) ys zs = ap (λ (l : List B). a ∷ l) (append-assoc xs ys zs)
 
 -- a type more
 pub types-more : (ids : List TypeId) (i : ℕ) (d : TypeId) (before behind : List Data) → i < length ids → before ≡ map type_data (filter_map row_of (take i ids)) → behind ≡ before ++ map type_data (filter_map row_of (get_or ids i d ∷ [])) → behind ≡ map type_data (filter_map row_of (take (i + 1) ids))

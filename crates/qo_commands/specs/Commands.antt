@@ -9,13 +9,13 @@ use Rattle.qo_values.specs.declared.kinds.TypeId.{TypeId}
 use Rattle.qo_model.specs.Board.{Board}
 use Rattle.qo_values.specs.Plain.{data_of}
 use Rattle.qo_model.specs.Listing.{around, value_word}
-use Rattle.qo_model.specs.Notes.{kept_of, note_text, total_of}
+use Rattle.qo_model.specs.NoteReplies.{first_from, given_from}
+use Rattle.qo_model.specs.Notes.{note_text, total_of}
 use Rattle.qo_model.specs.Objects.{Changed, may_add, object_add, object_del, sever}
 use Rattle.qo_model.specs.declared.notes.Note.{Note}
-use Rattle.qo_notes.specs.Log.{Log, first_from, given_from}
-use Rattle.qo_realize.specs.At.{listing_at, read, write_at}
-use Rattle.qo_realize.specs.Reads.{detached_told}
-use Rattle.qo_realize.specs.declared.reads.Detached.{Detached}
+use Rattle.qo_model.specs.Access.{listing_at, read, write_at}
+use Rattle.qo_model.specs.Detachment.{detached_told}
+use Rattle.qo_model.specs.declared.detached.Detached.{Detached}
 use Rattle.qo_model.specs.Types.{Kind, Property, TypeRow, is_a, row_named, row_of, slots_of}
 use Rattle.qo_types.specs.Rows.{listed as listed_types}
 use Rattle.qo_replies.specs.Replies.{version_data}
@@ -65,9 +65,6 @@ abbrev pub changed : Changed → Done
 changed change = elim change.refusal [ None ↦ returned change.board empty | Some code ↦ refused_with change.board code ]
 
 -- notes from a number on, as they are told: the number of the first, the texts of at most 256, and how many there were
-abbrev pub log_of : List Note → Log
-log_of notes = record { total = total_of notes; kept = kept_of notes }
-
 abbrev pub note_data : Note → Data
 note_data note = string (note_text note)
 
@@ -78,8 +75,8 @@ notes_told first notes total =
     (member (codes "notes") (array (items_of (map note_data notes)))
     (member (codes "total") (number (unsigned total)) no_members)))
 
-abbrev pub notes_data : ℕ → Log → Data
-notes_data from log = notes_told (first_from from log) (given_from from log) log.total
+abbrev pub notes_data : ℕ → List Note → Data
+notes_data from notes = notes_told (first_from from notes) (given_from from notes) (total_of notes)
 
 -- an object without a parent, as it is told
 abbrev pub detached_data : Detached → Data
@@ -179,7 +176,7 @@ perform b (DeviceListProperties typename) = device_properties b (row_named typen
 perform b (ObjectAdd driver id props) = changed (object_add b driver id props)
 perform b (ObjectDel id) = changed (object_del b id)
 perform b (XSever birth) = changed (sever b birth)
-perform b (XQueryNotes from) = returned b (notes_data from (log_of b.notes))
+perform b (XQueryNotes from) = returned b (notes_data from b.notes)
 perform b XQueryDetached = returned b (array (items_of (map detached_data (detached_told b))))
 perform b QueryVersion = returned b version_data
 perform b QueryCommands = returned b (array (items_of (map command_data built)))

@@ -1,4 +1,3 @@
 pub mod Changes
 pub mod Commands
-pub mod Stands
 pub mod Views

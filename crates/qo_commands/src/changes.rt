@@ -4,10 +4,11 @@ ghost use Rattle.std.specs.Prelude.{◌≡◌, true};
 ghost use Rattle.qo_model.specs.Board.{Board as Tree};
 ghost use Rattle.qo_requests.specs.declared.requests.Request.TheVariants as request;
 ghost use Rattle.qo_commands.specs.Changes.{Changes, is_change};
-ghost use Rattle.qo_commands.specs.Stands.{Stands};
+ghost use Rattle.qo_realize.specs.Stands.{Stands};
 
 use qo_heap::Steps;
-use qo_realize::{Board, Refusal};
+use qo_properties::Refusal;
+use qo_realize::Board;
 use qo_requests::Request;
 use qo_values::{PropList, Val};
 use std::alloc::Global;

@@ -5,7 +5,7 @@ ghost use Rattle.qo_model.specs.Board.{Board as Tree};
 ghost use Rattle.qo_replies.specs.declared.events.Event.TheVariants as event;
 ghost use Rattle.qo_commands.specs.Changes.{is_change};
 ghost use Rattle.qo_commands.specs.Commands.{empty, perform, refused_with, returned};
-ghost use Rattle.qo_commands.specs.Stands.{Stands};
+ghost use Rattle.qo_realize.specs.Stands.{Stands};
 ghost use Rattle.qo_commands.specs.Views.{body_data, done_of};
 
 use crate::built::commands;
@@ -108,7 +108,7 @@ pub fn ask<L: Ledger>(
         Request::XQueryDetached => query_detached(alloc, board, steps),
         Request::QueryVersion => Ok(returned(alloc, Body::Value(version(alloc)?))),
         Request::QueryCommands => Ok(returned(alloc, Body::Value(commands(alloc)?))),
-        Request::QueryStatus => Ok(returned(alloc, Body::Status(true))),
+        Request::QueryStatus => Ok(returned(alloc, Body::Status(board.running()))),
         Request::Quit => quit(alloc),
         _ => Ok(refused(alloc, Code::E10)),
     }

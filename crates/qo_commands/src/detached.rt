@@ -4,14 +4,15 @@ ghost use Rattle.std.specs.Prelude.{◌≡◌, ◌++◌, [], ◌∷◌, map, IfO
 ghost use Rattle.serde_json.specs.Data.{array};
 ghost use Rattle.serde_json.specs.View.{items_of, view};
 ghost use Rattle.qo_model.specs.Board.{Board as Tree};
-ghost use Rattle.qo_heap.specs.Board.{Shows};
-ghost use Rattle.qo_realize.specs.Reads.{detached_told};
+ghost use Rattle.qo_model.specs.Detachment.{detached_told};
+ghost use Rattle.qo_realize.specs.Stands.{Stands};
 ghost use Rattle.qo_commands.specs.Commands.{detached_data, returned};
 ghost use Rattle.qo_commands.specs.Views.{done_of};
 
 use crate::commands::{Body, Done, returned};
 use qo_heap::Steps;
-use qo_realize::{Board, Detached};
+use qo_model::Detached;
+use qo_realize::Board;
 use serde_json::{Value, json};
 use std::alloc::{AllocError, Global};
 use std::sync::ledger::Ledger;
@@ -49,7 +50,7 @@ pub(crate) fn query_detached<L: Ledger>(
     board: &Board,
     steps: &mut Steps<L>,
 ) -> Result<Done, AllocError>
-    ensures { (b : Tree) → Shows b board.now → IfOk result (λ d. done_of b d ≡ returned b (array (items_of (map detached_data (detached_told b))))) }
+    ensures { (b : Tree) → Stands b board.now → IfOk result (λ d. done_of b d ≡ returned b (array (items_of (map detached_data (detached_told b))))) }
 {
     let Ok(objects) = board.detached(alloc, steps) else {
         return Err(AllocError);

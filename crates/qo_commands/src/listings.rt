@@ -3,15 +3,16 @@
 ghost use Rattle.std.specs.Prelude.{◌≡◌, ◌++◌, [], ◌∷◌, map, IfOk, OnOk};
 ghost use Rattle.serde_json.specs.View.{view};
 ghost use Rattle.qo_model.specs.Board.{Board as Tree};
-ghost use Rattle.qo_heap.specs.Board.{Shows};
-ghost use Rattle.qo_realize.specs.At.{listing_at};
-ghost use Rattle.qo_realize.specs.Listed.{prop_told};
+ghost use Rattle.qo_model.specs.Access.{listing_at};
+ghost use Rattle.qo_properties.specs.Listed.{prop_told};
+ghost use Rattle.qo_realize.specs.Stands.{Stands};
 ghost use Rattle.qo_commands.specs.Commands.{answered, properties_data, property_data};
 ghost use Rattle.qo_commands.specs.Views.{done_of};
 
 use crate::commands::{Body, Done, refused, returned};
 use qo_heap::Steps;
-use qo_realize::{Board, Prop, Refusal};
+use qo_properties::{Prop, Refusal};
+use qo_realize::Board;
 use serde_json::{Value, json};
 use std::alloc::{AllocError, Global};
 use std::sync::ledger::Ledger;
@@ -50,7 +51,7 @@ pub(crate) fn list<L: Ledger>(
     path: &str,
     steps: &mut Steps<L>,
 ) -> Result<Done, AllocError>
-    ensures { (b : Tree) → Shows b board.now → IfOk result (λ d. done_of b d ≡ answered b properties_data (listing_at b path.now)) }
+    ensures { (b : Tree) → Stands b board.now → IfOk result (λ d. done_of b d ≡ answered b properties_data (listing_at b path.now)) }
 {
     match board.qom_list(path, alloc, steps) {
         Ok(props) => {

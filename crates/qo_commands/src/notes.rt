@@ -4,8 +4,8 @@ ghost use Rattle.std.specs.Prelude.{◌≡◌, ◌++◌, [], ◌∷◌, ℕ, map
 ghost use Rattle.serde_json.specs.Data.{array, member, no_members, number, object, unsigned};
 ghost use Rattle.serde_json.specs.View.{items_of, view};
 ghost use Rattle.qo_model.specs.Board.{Board as Tree};
-ghost use Rattle.qo_heap.specs.Board.{Shows};
-ghost use Rattle.qo_commands.specs.Commands.{log_of, note_data, notes_data, notes_told, returned};
+ghost use Rattle.qo_realize.specs.Stands.{Stands};
+ghost use Rattle.qo_commands.specs.Commands.{note_data, notes_data, notes_told, returned};
 ghost use Rattle.qo_commands.specs.Views.{done_of};
 
 use crate::commands::{Body, Done, returned};
@@ -51,7 +51,7 @@ fn told(alloc: Global, first: u64, notes: &[Note], total: u64) -> Result<Value, 
 
 /// The notes from a number on.
 pub(crate) fn query_notes(alloc: Global, board: &Board, from: u64) -> Result<Done, AllocError>
-    ensures { (b : Tree) → Shows b board.now → IfOk result (λ d. done_of b d ≡ returned b (notes_data from (log_of b.notes))) }
+    ensures { (b : Tree) → Stands b board.now → IfOk result (λ d. done_of b d ≡ returned b (notes_data from b.notes)) }
 {
     let Ok(notes) = board.notes(from, alloc) else {
         return Err(AllocError);

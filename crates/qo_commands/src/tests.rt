@@ -5,7 +5,8 @@ ghost use Rattle.qo_commands.specs.Changes.{is_change};
 
 use crate::{Body, Done, ask, change};
 use qo_heap::Steps;
-use qo_realize::{Board, Memory, Refusal};
+use qo_properties::{Memory, Refusal};
+use qo_realize::Board;
 use qo_requests::Request;
 use qo_values::{Code, PropList, Text, Val};
 use std::alloc::{AllocError, Global};

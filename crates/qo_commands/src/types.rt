@@ -13,8 +13,9 @@ ghost use Rattle.qo_commands.specs.Views.{done_of, words_for_adding};
 
 use crate::commands::{Body, Done, refused, returned};
 use crate::listings::property_value;
+use qo_properties::{around, value_word};
 use qo_types::{Mark, RowKind, SlotRow, TypeTable};
-use qo_values::{Code, PropType, Text, TypeId};
+use qo_values::{Code, Text, TypeId};
 use serde_json::{Value, json};
 use std::alloc::{AllocError, Global};
 
@@ -83,12 +84,9 @@ fn kind_text(alloc: Global, kind: &RowKind) -> Result<String, AllocError>
     ensures { IfOk result (λ text. IfSome (kind_told kind.now) (λ k. string_bytes text ≡ kind_word k)) }
 {
     match kind {
-        RowKind::Plain(PropType::Bool, _) => String::from_str(alloc, "bool"),
-        RowKind::Plain(PropType::Int { .. }, _) => String::from_str(alloc, "int64"),
-        RowKind::Plain(PropType::Uint { .. }, _) => String::from_str(alloc, "uint64"),
-        RowKind::Plain(PropType::Text, _) => String::from_str(alloc, "string"),
-        RowKind::Child(ty) => format!(in alloc; "child<{}>", ty.name()),
-        RowKind::Link { ty, .. } => format!(in alloc; "link<{}>", ty.name()),
+        RowKind::Plain(ty, _) => String::from_str(alloc, value_word(*ty)),
+        RowKind::Child(ty) => around("child", *ty, alloc),
+        RowKind::Link { ty, .. } => around("link", *ty, alloc),
         RowKind::Alias { .. } => Ok(String::new(alloc)),
     }
 }

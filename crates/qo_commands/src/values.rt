@@ -3,14 +3,15 @@
 ghost use Rattle.std.specs.Prelude.{◌≡◌, IfOk};
 ghost use Rattle.qo_values.specs.Plain.{data_of};
 ghost use Rattle.qo_model.specs.Board.{Board as Tree};
-ghost use Rattle.qo_heap.specs.Board.{Shows};
-ghost use Rattle.qo_realize.specs.At.{read};
+ghost use Rattle.qo_model.specs.Access.{read};
+ghost use Rattle.qo_realize.specs.Stands.{Stands};
 ghost use Rattle.qo_commands.specs.Commands.{answered};
 ghost use Rattle.qo_commands.specs.Views.{done_of};
 
 use crate::commands::{Body, Done, refused, returned};
 use qo_heap::Steps;
-use qo_realize::{Board, Refusal};
+use qo_properties::Refusal;
+use qo_realize::Board;
 use qo_values::to_json;
 use std::alloc::{AllocError, Global};
 use std::sync::ledger::Ledger;
@@ -23,7 +24,7 @@ pub(crate) fn get<L: Ledger>(
     name: &str,
     steps: &mut Steps<L>,
 ) -> Result<Done, AllocError>
-    ensures { (b : Tree) → Shows b board.now → IfOk result (λ d. done_of b d ≡ answered b data_of (read b path.now name.now)) }
+    ensures { (b : Tree) → Stands b board.now → IfOk result (λ d. done_of b d ≡ answered b data_of (read b path.now name.now)) }
 {
     match board.qom_get(path, name, alloc, steps) {
         Ok(val) => {

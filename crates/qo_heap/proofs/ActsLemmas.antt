@@ -1,10 +1,11 @@
 -- What acts leave as it was: who is there, and the book.
-use Rattle.std.proofs.Common.{◌≡◌, refl, ap, ap₂, sym, ◌∙◌, ℕ, ◌+◌, Bool, true, false, cond, eqb, List, [], ◌∷◌, map, sum_by, count_by, Some, arith}
+use Rattle.std.proofs.Common.{◌≡◌, refl, ap, ap₂, sym, ◌∙◌, ℕ, ◌+◌, Bool, true, false, cond, eqb, List, [], ◌∷◌, map, sum_by, count_by, Some, option_map, arith}
 use Rattle.std.proofs.lemmas.List.Sums.{sum_by-cons}
 use Rattle.qo_values.specs.Bodies.{body_act}
 use Rattle.qo_values.specs.Registers.{Registers, uart, timer, dimm, bridge, bare}
 use Rattle.qo_values.specs.declared.kinds.Act.{Act}
 use Rattle.qo_claims.specs.declared.claims.Claimed.{Claimed}
+use Rattle.qo_claims.specs.declared.claims.Claimed.TheVariants as on
 use Rattle.qo_kinds.specs.Bodies.{acted, kept_of, registers_of, with_registers}
 use Rattle.qo_kinds.specs.declared.bodies.Body.{Body}
 use Rattle.qo_kinds.specs.declared.bodies.Body.TheVariants.{Uart, Timer, Dimm, Bridge, Bus, Clock, Backend, Plain}
@@ -14,7 +15,7 @@ use Rattle.qo_object.specs.Content.{Content, acted_at}
 use Rattle.qo_table.specs.Rows.{IsLive, edit, edited}
 use Rattle.qo_model.specs.declared.notes.Note.{Note}
 use Rattle.qo_heap.specs.Acts.{Acts, stilled}
-use Rattle.qo_heap.specs.Book.{IsBook, claim_eq, kept_times, owned}
+use Rattle.qo_heap.specs.Book.{IsBook, claim_eq, kept_times, one, owned}
 use Rattle.qo_heap.specs.Objects.{Objects, with_edit, with_note}
 
 -- an act leaves the claims of a body
@@ -74,13 +75,13 @@ still-edited n act time period (row ∷ rows) =
     go false = refl
 
 pub acts-act : (v : Objects) (note : Note) (n : ℕ) (act : Act) (time period : ℕ) → Acts v (with_note note (with_edit n (acted_at act time period) v))
-acts-act v note n act time period = record { rows = still-edited n act time period v.rows; born = refl; claims = refl; time = refl }
+acts-act v note n act time period = record { rows = still-edited n act time period v.rows; born = refl; claims = refl; events = refl; time = refl }
 
 pub acts-none : (v : Objects) → Acts v v
-acts-none v = record { rows = refl; born = refl; claims = refl; time = refl }
+acts-none v = record { rows = refl; born = refl; claims = refl; events = refl; time = refl }
 
 pub acts-then : (v w x : Objects) → Acts v w → Acts w x → Acts v x
-acts-then v w x first next = record { rows = next.rows ∙ first.rows; born = next.born ∙ first.born; claims = next.claims ∙ first.claims; time = next.time ∙ first.time }
+acts-then v w x first next = record { rows = next.rows ∙ first.rows; born = next.born ∙ first.born; claims = next.claims ∙ first.claims; events = next.events ∙ first.events; time = next.time ∙ first.time }
 
 -- who is there stays
 live-still : (rows : List (Key × Content)) (key : Key) → IsLive (map stilled rows) key ≡ IsLive rows key
@@ -95,13 +96,16 @@ pub acts-live : (v w : Objects) → Acts v w → (key : Key) → IsLive w.rows k
 acts-live v w acts key = sym (live-still w.rows key) ∙ ap (λ (l : List (Key × (Content × KeptSet))). IsLive l key) acts.rows ∙ live-still v.rows key
 
 -- the book stays right
-sum-still : (x : Claimed) (rows : List (Key × Content)) → sum_by (λ (row : Key × (Content × KeptSet)). kept_times x row.1.1) (map stilled rows) ≡ sum_by (owned x) rows
+abbrev still-owned : Claimed → Key × (Content × KeptSet) → ℕ
+still-owned x row = kept_times x row.1.1 + one x (option_map on.Device row.1.0.device_id)
+
+sum-still : (x : Claimed) (rows : List (Key × Content)) → sum_by (still-owned x) (map stilled rows) ≡ sum_by (owned x) rows
 sum-still x [] = refl
 sum-still x (row ∷ rows) =
     let rest = sum-still x rows in
-    omega (arith, rest, sum_by-cons (owned x) row rows, sum_by-cons (λ (r : Key × (Content × KeptSet)). kept_times x r.1.1) (stilled row) (map stilled rows))
+    omega (arith, rest, sum_by-cons (owned x) row rows, sum_by-cons (still-owned x) (stilled row) (map stilled rows))
 
 pub acts-book : (out : List Claimed) (v w : Objects) → Acts v w → IsBook out v → IsBook out w
 acts-book out v w acts book x =
-    let sums : sum_by (owned x) w.rows ≡ sum_by (owned x) v.rows = sym (sum-still x w.rows) ∙ ap (sum_by (λ (row : Key × (Content × KeptSet)). kept_times x row.1.1)) acts.rows ∙ sum-still x v.rows in
+    let sums : sum_by (owned x) w.rows ≡ sum_by (owned x) v.rows = sym (sum-still x w.rows) ∙ ap (sum_by (still-owned x)) acts.rows ∙ sum-still x v.rows in
     rw (acts.claims, sums) (book x)

@@ -1,24 +1,26 @@
--- A book that is right stays right where an object ends.
-use Rattle.std.proofs.Common.{◌≡◌, refl, ap, sym, subst, ◌∙◌, ℕ, zero, suc, ◌+◌, ◌<◌, ◌≤◌, Bool, true, false, cond, eqb, ◌&&◌, List, [], ◌∷◌, map, filter, sum_by, count_by, Option, Some, None, arith}
+-- A book that is right stays right: where an object is made, changed and ends, and where claims are taken and given back.
+use Rattle.std.proofs.Common.{◌≡◌, refl, ap, sym, subst, ◌∙◌, ℕ, zero, suc, ◌+◌, ◌<◌, ◌≤◌, Bool, true, false, cond, eqb, ◌&&◌, List, [], ◌∷◌, ◌++◌, map, filter, sum_by, count_by, nat_lt, Option, Some, None, option_map, arith}
 use Rattle.std.specs.Option.{option_map_or}
 use Rattle.std.specs.Set.{remove_key}
 use Rattle.std.specs.Str.{bytes_eq}
 use Rattle.std.proofs.lemmas.Bool.{eqb-true}
 use Rattle.std.proofs.lemmas.Bool.Decides.{nat_tests}
-use Rattle.std.proofs.lemmas.List.Sums.{sum_by-cons}
+use Rattle.std.proofs.lemmas.List.Sums.{sum_by-append, sum_by-cons}
 use Rattle.std.proofs.lemmas.Slice.Eq.{bytes_eq-Decides}
 use Rattle.qo_values.specs.declared.ranges.Range.{Range}
-use Rattle.qo_claims.specs.Held.{Held, without_claim}
-use Rattle.qo_claims.specs.Lists.{slot_eq, range_eq}
+use Rattle.qo_claims.specs.Held.{Held, with_claim, without_claim}
+use Rattle.qo_claims.specs.Lists.{slot_eq, range_eq, with_range}
 use Rattle.qo_claims.specs.declared.claims.Claimed.{Claimed}
 use Rattle.qo_claims.specs.declared.claims.Claimed.TheVariants as on
 use Rattle.qo_claims.specs.declared.slots.BusSlot.{BusSlot}
 use Rattle.qo_claims.proofs.Back.{eqb-same, slot_eq-same, range_eq-same}
-use Rattle.qo_kinds.specs.Bodies.{kept_of}
+use Rattle.qo_kinds.proofs.BodyLemmas.{fresh-bare}
+use Rattle.qo_kinds.specs.Bodies.{body_of, kept_of}
 use Rattle.qo_kinds.specs.declared.bodies.Body.{Body}
 use Rattle.qo_kinds.specs.declared.kept.KeptSet.{KeptSet}
 use Rattle.qo_slots.specs.declared.keys.Key.{Key}
-use Rattle.qo_object.specs.Content.{Content}
+use Rattle.qo_object.specs.Content.{Content, fresh}
+use Rattle.qo_values.specs.declared.kinds.TypeId.{TypeId}
 use Rattle.qo_table.specs.Rows.{Rises, births, edit, edited, object_at, without}
 use Rattle.qo_heap.specs.Book.{IsBook, claim_eq, counted, kept_times, one, owned}
 use Rattle.qo_heap.specs.Objects.{IsHeap, Objects, content_of, ended, forgets, with_edit, without_kept, without_one}
@@ -150,15 +152,17 @@ module _ (f : Key × Content → ℕ) (n : ℕ) (plain : (row : Key × Content) 
           let rest = later (rw e at there) flat in
           rw e (omega (arith, rest, plain row, sum_by-cons f row rows, sum_by-cons f (forgets n row) (map (forgets n) (without n rows))))
 
--- an object ends: the claims of its body end with it, and the book stays right
+-- an object ends: the claims that it keeps end with it, and the book stays right
 pub book-ended : (out : List Claimed) (v : Objects) → IsHeap v → (n : ℕ) (c : Content) → content_of v n ≡ Some c → IsBook out v → IsBook out (ended n c v)
 book-ended out v good n c there book x =
-    let parts : (y : Claimed) → sum_by (owned y) v.rows ≡ kept_times y (kept_of c.body) + sum_by (owned y) (map (forgets n) (without n v.rows)) = (λ y. sum-ended (owned y) n (λ row. refl) 0 v.born v.rows good.rising c there (λ key. refl)) in
-    let left = kept-without (kept_of c.body) v.claims (λ y. omega (arith, book y, parts y)) x in
-    omega (arith, left, book x, parts x)
+    let device : Option Claimed = option_map on.Device c.device_id in
+    let parts : (y : Claimed) → sum_by (owned y) v.rows ≡ (kept_times y (kept_of c.body) + one y device) + sum_by (owned y) (map (forgets n) (without n v.rows)) = (λ y. sum-ended (owned y) n (λ row. refl) 0 v.born v.rows good.rising c there (λ key. refl)) in
+    let body : (y : Claimed) → kept_times y (kept_of c.body) + counted y (without_kept (kept_of c.body) v.claims) ≡ counted y v.claims = kept-without (kept_of c.body) v.claims (λ y. omega (arith, book y, parts y)) in
+    let left = one-without device (without_kept (kept_of c.body) v.claims) (λ y. omega (arith, book y, parts y, body y)) x in
+    omega (arith, left, body x, book x, parts x)
 
--- an object is changed, and its body stays
-sum-edit : (f : Key × Content → ℕ) (n : ℕ) (change : Content → Content) → ((row : Key × Content) → f (row.0, change row.1) ≡ f row) → (rows : List (Key × Content)) → sum_by f (edit n change rows) ≡ sum_by f rows
+-- an object is changed, and keeps what it keeps
+pub sum-edit : (f : Key × Content → ℕ) (n : ℕ) (change : Content → Content) → ((row : Key × Content) → f (row.0, change row.1) ≡ f row) → (rows : List (Key × Content)) → sum_by f (edit n change rows) ≡ sum_by f rows
 sum-edit f n change same [] = refl
 sum-edit f n change same (row ∷ rows) =
     let here = go (eqb row.0.birth n) in
@@ -169,7 +173,120 @@ sum-edit f n change same (row ∷ rows) =
     go true = same row
     go false = refl
 
-pub book-edit : (out : List Claimed) (v : Objects) (n : ℕ) (change : Content → Content) → ((c : Content) → (change c).body ≡ c.body) → IsBook out v → IsBook out (with_edit n change v)
+-- how often an object keeps a claim, by its body and the id of its device
+abbrev owned_by : Claimed → Body × Option (List ℕ) → ℕ
+owned_by x p = kept_times x (kept_of p.0) + one x (option_map on.Device p.1)
+
+pub book-edit : (out : List Claimed) (v : Objects) (n : ℕ) (change : Content → Content) → ((c : Content) → ◌≡◌ {A = Body × Option (List ℕ)} ((change c).body, (change c).device_id) (c.body, c.device_id)) → IsBook out v → IsBook out (with_edit n change v)
 book-edit out v n change same book x =
-    let sums : sum_by (owned x) (edit n change v.rows) ≡ sum_by (owned x) v.rows = sum-edit (owned x) n change (λ row. ap (λ (b : Body). kept_times x (kept_of b)) (same row.1)) v.rows in
+    let sums : sum_by (owned x) (edit n change v.rows) ≡ sum_by (owned x) v.rows = sum-edit (owned x) n change (λ row. ap (owned_by x) (same row.1)) v.rows in
     omega (arith, book x, sums)
+
+-- the object of a birth is changed: the sum has what it is now in place of what it was
+module _ (f : Key × Content → ℕ) (n : ℕ) (change : Content → Content) where
+  sum-higher : (above last : ℕ) (rows : List (Key × Content)) → n ≤ above → Rises above (births rows) last → sum_by f (edit n change rows) ≡ sum_by f rows
+  sum-higher above last [] le rises = refl
+  sum-higher above last (row ∷ rows) le rises =
+      let up : above < row.0.birth = rises.0 in
+      let other : eqb row.0.birth n ≡ false = grind arith in
+      let rest : sum_by f (edit n change rows) ≡ sum_by f rows = sum-higher row.0.birth last rows (omega arith) rises.1 in
+      rw other (omega (arith, rest, sum_by-cons f row rows, sum_by-cons f row (edit n change rows)))
+
+  pub sum-changed : (above last : ℕ) (rows : List (Key × Content)) → Rises above (births rows) last → (c : Content) → object_at rows n ≡ Some c → ((key : Key) (d : Content) → f (key, d) ≡ f (record { index = 0; birth = 0 }, d)) → sum_by f (edit n change rows) + f (record { index = 0; birth = 0 }, c) ≡ sum_by f rows + f (record { index = 0; birth = 0 }, change c)
+  sum-changed above last [] rises c there flat = absurd (cc there)
+  sum-changed above last (row ∷ rows) rises c there flat = go (eqb row.0.birth n) refl (sum-changed row.0.birth last rows rises.1 c)
+    where
+      go : (t : Bool) → eqb row.0.birth n ≡ t → (object_at rows n ≡ Some c → ((key : Key) (d : Content) → f (key, d) ≡ f (record { index = 0; birth = 0 }, d)) → sum_by f (edit n change rows) + f (record { index = 0; birth = 0 }, c) ≡ sum_by f rows + f (record { index = 0; birth = 0 }, change c)) → sum_by f (edit n change (row ∷ rows)) + f (record { index = 0; birth = 0 }, c) ≡ sum_by f (row ∷ rows) + f (record { index = 0; birth = 0 }, change c)
+      go true e later =
+          let same : row.0.birth ≡ n = eqb-true row.0.birth n e in
+          let here : row.1 ≡ c = cc (rw e at there) in
+          let old : f row ≡ f (record { index = 0; birth = 0 }, c) = ap (λ (d : Content). f (row.0, d)) here ∙ flat row.0 c in
+          let new : f (row.0, change row.1) ≡ f (record { index = 0; birth = 0 }, change c) = ap (λ (d : Content). f (row.0, change d)) here ∙ flat row.0 (change c) in
+          let rest : sum_by f (edit n change rows) ≡ sum_by f rows = sum-higher row.0.birth last rows (omega arith) rises.1 in
+          rw e (omega (arith, old, new, rest, sum_by-cons f row rows, sum_by-cons f (row.0, change row.1) (edit n change rows)))
+      go false e later =
+          let rest = later (rw e at there) flat in
+          rw e (omega (arith, rest, sum_by-cons f row rows, sum_by-cons f row (edit n change rows)))
+
+-- an object takes claims that were out: it keeps each of them once more
+pub book-put : (xs out : List Claimed) (v : Objects) → IsHeap v → (n : ℕ) (change : Content → Content) (c : Content) → content_of v n ≡ Some c → ((x : Claimed) → owned x (record { index = 0; birth = 0 }, change c) ≡ count_by (claim_eq x) xs + owned x (record { index = 0; birth = 0 }, c)) → IsBook (xs ++ out) v → IsBook out (with_edit n change v)
+book-put xs out v good n change c there more book x =
+    let sums : sum_by (owned x) (edit n change v.rows) + owned x (record { index = 0; birth = 0 }, c) ≡ sum_by (owned x) v.rows + owned x (record { index = 0; birth = 0 }, change c) = sum-changed (owned x) n change 0 v.born v.rows good.rising c there (λ key d. refl) in
+    omega (arith, book x, sums, more x, sum_by-append (λ (y : Claimed). cond {A = ℕ} (claim_eq x y) 1 0) xs out)
+
+-- an object gives claims out: it keeps each of them once less
+pub book-out : (xs out : List Claimed) (v : Objects) → IsHeap v → (n : ℕ) (change : Content → Content) (c : Content) → content_of v n ≡ Some c → ((x : Claimed) → owned x (record { index = 0; birth = 0 }, c) ≡ count_by (claim_eq x) xs + owned x (record { index = 0; birth = 0 }, change c)) → IsBook out v → IsBook (xs ++ out) (with_edit n change v)
+book-out xs out v good n change c there less book x =
+    let sums : sum_by (owned x) (edit n change v.rows) + owned x (record { index = 0; birth = 0 }, c) ≡ sum_by (owned x) v.rows + owned x (record { index = 0; birth = 0 }, change c) = sum-changed (owned x) n change 0 v.born v.rows good.rising c there (λ key d. refl) in
+    omega (arith, book x, sums, less x, sum_by-append (λ (y : Claimed). cond {A = ℕ} (claim_eq x y) 1 0) xs out)
+
+-- an object is made: it keeps no claim
+pub book-made : (out : List Claimed) (v : Objects) (key : Key) (kind : TypeId) (born : ℕ) → IsBook out v → IsBook out (record v { rows = v.rows ++ (key, fresh kind) ∷ []; born = born })
+book-made out v key kind born book x =
+    let none : kept_times x (kept_of (body_of kind)) ≡ 0 = ap (kept_times x) (fresh-bare kind) in
+    omega (arith, book x, none, sum_by-append (owned x) v.rows ((key, fresh kind) ∷ []), sum_by-cons (owned x) (key, fresh kind) [])
+
+-- one key more at the end of a list
+module _ {K : Type 0} (eq : K → K → Bool) where
+  one-more : (a b : K) (ks : List K) → count_by (eq b) (ks ++ a ∷ []) ≡ cond (eq b a) 1 0 + count_by (eq b) ks
+  one-more a b ks = omega (arith, sum_by-append (λ (x : K). cond {A = ℕ} (eq b x) 1 0) ks (a ∷ []), sum_by-cons (λ (x : K). cond {A = ℕ} (eq b x) 1 0) a [])
+
+-- and one range more by rising addresses
+range-more : (a b : Range) (rs : List Range) → count_by (range_eq b) (with_range a rs) ≡ cond (range_eq b a) 1 0 + count_by (range_eq b) rs
+range-more a b [] = omega (arith, sum_by-cons (λ (x : Range). cond {A = ℕ} (range_eq b x) 1 0) a [])
+range-more a b (r ∷ rs) = go (nat_lt a.at r.at) (range-more a b rs)
+  where
+    go : (t : Bool) → count_by (range_eq b) (with_range a rs) ≡ cond (range_eq b a) 1 0 + count_by (range_eq b) rs → count_by (range_eq b) (cond t (a ∷ r ∷ rs) (r ∷ with_range a rs)) ≡ cond (range_eq b a) 1 0 + count_by (range_eq b) (r ∷ rs)
+    go true rest = omega (arith, sum_by-cons (λ (x : Range). cond {A = ℕ} (range_eq b x) 1 0) a (r ∷ rs))
+    go false rest = omega (arith, rest, sum_by-cons (λ (x : Range). cond {A = ℕ} (range_eq b x) 1 0) r rs, sum_by-cons (λ (x : Range). cond {A = ℕ} (range_eq b x) 1 0) r (with_range a rs))
+
+-- one claim more is held
+counted-with : (x y : Claimed) (h : Held) → counted y (with_claim x h) ≡ cond (claim_eq y x) 1 0 + counted y h
+counted-with (on.Device a) (on.Device b) h = one-more bytes_eq a b h.devices
+counted-with (on.Device a) (on.RingId b) h = omega arith
+counted-with (on.Device a) (on.Slot b) h = omega arith
+counted-with (on.Device a) (on.Ring b) h = omega arith
+counted-with (on.Device a) (on.Backend b) h = omega arith
+counted-with (on.Device a) (on.Range b) h = omega arith
+counted-with (on.RingId a) (on.Device b) h = omega arith
+counted-with (on.RingId a) (on.RingId b) h = one-more bytes_eq a b h.ring_ids
+counted-with (on.RingId a) (on.Slot b) h = omega arith
+counted-with (on.RingId a) (on.Ring b) h = omega arith
+counted-with (on.RingId a) (on.Backend b) h = omega arith
+counted-with (on.RingId a) (on.Range b) h = omega arith
+counted-with (on.Slot a) (on.Device b) h = omega arith
+counted-with (on.Slot a) (on.RingId b) h = omega arith
+counted-with (on.Slot a) (on.Slot b) h = one-more slot_eq a b h.slots
+counted-with (on.Slot a) (on.Ring b) h = omega arith
+counted-with (on.Slot a) (on.Backend b) h = omega arith
+counted-with (on.Slot a) (on.Range b) h = omega arith
+counted-with (on.Ring a) (on.Device b) h = omega arith
+counted-with (on.Ring a) (on.RingId b) h = omega arith
+counted-with (on.Ring a) (on.Slot b) h = omega arith
+counted-with (on.Ring a) (on.Ring b) h = one-more bytes_eq a b h.rings
+counted-with (on.Ring a) (on.Backend b) h = omega arith
+counted-with (on.Ring a) (on.Range b) h = omega arith
+counted-with (on.Backend a) (on.Device b) h = omega arith
+counted-with (on.Backend a) (on.RingId b) h = omega arith
+counted-with (on.Backend a) (on.Slot b) h = omega arith
+counted-with (on.Backend a) (on.Ring b) h = omega arith
+counted-with (on.Backend a) (on.Backend b) h = one-more eqb a b h.backends
+counted-with (on.Backend a) (on.Range b) h = omega arith
+counted-with (on.Range a) (on.Device b) h = omega arith
+counted-with (on.Range a) (on.RingId b) h = omega arith
+counted-with (on.Range a) (on.Slot b) h = omega arith
+counted-with (on.Range a) (on.Ring b) h = omega arith
+counted-with (on.Range a) (on.Backend b) h = omega arith
+counted-with (on.Range a) (on.Range b) h = range-more a b h.ranges
+
+-- a claim is taken: it is out
+pub book-taken : (x : Claimed) (out : List Claimed) (v : Objects) → IsBook out v → IsBook (x ∷ out) (record v { claims = with_claim x v.claims })
+book-taken x out v book y = omega (arith, book y, counted-with x y v.claims, sum_by-cons (λ (z : Claimed). cond {A = ℕ} (claim_eq y z) 1 0) x out)
+
+-- a claim that is out is given back
+pub book-given : (x : Claimed) (out : List Claimed) (v : Objects) → IsBook (x ∷ out) v → IsBook out (record v { claims = without_claim x v.claims })
+book-given x out v book y =
+    let self : cond {A = ℕ} (claim_eq x x) 1 0 ≡ 1 = rw (claim-self x) refl in
+    let split : (z : Claimed) → count_by (claim_eq z) (x ∷ out) ≡ cond (claim_eq z x) 1 0 + count_by (claim_eq z) out = λ z. sum_by-cons (λ (w : Claimed). cond {A = ℕ} (claim_eq z w) 1 0) x out in
+    let less = counted-without x y v.claims (omega (arith, self, book x, split x)) in
+    omega (arith, less, book y, split y)

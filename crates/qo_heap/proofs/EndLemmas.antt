@@ -1,9 +1,9 @@
 -- The final notes of an object, as they are added one after another.
-use Rattle.std.proofs.Common.{◌≡◌, refl, ap, sym, ◌∙◌, ℕ, ◌+◌, ◌<◌, ◌≤◌, Bool, true, false, cond, eqb, List, [], ◌∷◌, ◌++◌, map, filter, length, take, get_or, if◌then◌else◌, sum_by, count_by, Some, None, Result, Ok, Err, IfOk, IfErr, arith}
+use Rattle.std.proofs.Common.{◌≡◌, refl, ap, sym, ◌∙◌, ℕ, ◌+◌, ◌<◌, ◌≤◌, Bool, true, false, cond, eqb, List, [], ◌∷◌, ◌++◌, map, filter, length, take, get_or, if◌then◌else◌, sum_by, count_by, Option, Some, None, is_some, option_map, IfSome, Result, Ok, Err, IfOk, IfErr, arith}
 use Rattle.std.specs.List.{AllByRecursion}
 use Rattle.std.proofs.lemmas.Bool.{eqb-true, eq-eqb}
 use Rattle.std.proofs.lemmas.List.{take_more, take_all}
-use Rattle.std.proofs.lemmas.List.Sums.{sum_by-cons}
+use Rattle.std.proofs.lemmas.List.Sums.{sum_by-append, sum_by-cons}
 use Rattle.qo_claims.specs.Held.{Held}
 use Rattle.qo_slots.specs.declared.keys.Key.{Key}
 use Rattle.qo_object.specs.Content.{Content, fresh, forgotten, holding}
@@ -13,7 +13,12 @@ use Rattle.qo_object.specs.declared.slots.Slot.TheVariants.{Plain, Child, Link, 
 use Rattle.qo_table.specs.Rows.{Rows, IsLive, Rises, births, without}
 use Rattle.qo_notes.specs.Log.{Log, noted, noted_all}
 use Rattle.qo_notes.proofs.Logs.{parts_lem}
-use Rattle.qo_heap.specs.Objects.{Objects, IsHeap, final_notes, refs_of, targets, forgets}
+use Rattle.qo_heap.specs.Objects.{HasPlaces, Objects, IsHeap, content_of, final_notes, has_path, refs_of, targets, forgets, with_kept_event}
+use Rattle.qo_heap.proofs.BookLemmas.{sum-ended}
+use Rattle.qo_events.specs.Waiting.{Waiting}
+use Rattle.qo_object.specs.Shown.{shown}
+use Rattle.qo_model.specs.Board.{DeviceEvent}
+use Rattle.qo_model.specs.Release.{deleted_event}
 use Rattle.qo_heap.proofs.HeapLemmas.{all-weaker, targets_in}
 use Rattle.qo_values.specs.declared.kinds.TypeId.{TypeId}
 use Rattle.qo_model.specs.declared.notes.Deed.TheVariants.{Final}
@@ -69,7 +74,7 @@ module _ (P : Key → Type 0) (n : ℕ) where
 
   pub targets-forgotten : (slots : List (List ℕ × Slot)) → AllByRecursion P (targets_in slots) → count_by (λ (s : List ℕ × Slot). holds n s.1) slots ≡ 0 → AllByRecursion Other (targets_in (each_changed (forgotten_in n) slots))
   targets-forgotten [] all none = tt
-  targets-forgotten ((name, Plain ty val) ∷ slots) all none = targets-forgotten slots all (rest-none slots (name, Plain ty val) none)
+  targets-forgotten ((name, Plain val) ∷ slots) all none = targets-forgotten slots all (rest-none slots (name, Plain val) none)
   targets-forgotten ((name, Alias key of) ∷ slots) all none = targets-forgotten slots all (rest-none slots (name, Alias key of) none)
   targets-forgotten ((name, Child key) ∷ slots) all none =
       let (differs, rest) = held-other key slots name (Child key) refl none in
@@ -131,13 +136,46 @@ linked-without n by (row ∷ rows) linked none = go (eqb row.0.birth n) refl (li
     go false e rest = rw e (there, rest)
 
 -- the heap without an object to which nothing referred
-pub heap-ended : (v : Objects) → IsHeap v → (n : ℕ) → refs_of v n ≡ 0 → (log : Log) (claims : Held) → IsHeap (record v { rows = map (forgets n) (without n v.rows); log = log; claims = claims })
-heap-ended v good n free log claims =
+pub heap-ended : (v : Objects) → IsHeap v → (n : ℕ) → refs_of v n ≡ 0 → (log : Log) (claims : Held) (events : Waiting) → IsHeap (record v { rows = map (forgets n) (without n v.rows); log = log; claims = claims; events = events })
+heap-ended v good n free log claims events =
     record {
       rising = rises-without n 0 v.born v.rows good.rising;
       few = let less = length-without n v.rows in let few : length v.rows ≤ 4096 = good.few in omega arith;
       linked = linked-without n v.rows v.rows good.linked (none-holds n v.rows (let sum : refs_of v n ≡ 0 = free in omega arith));
     }
+
+-- an event in its place: one place less is promised
+kept-place : (w : Waiting) (e : Option DeviceEvent) (rest : ℕ) → w.promised ≡ cond (is_some e) 1 0 + rest → (with_kept_event e w).promised ≡ rest
+kept-place w None rest is = omega (arith, is)
+kept-place w (Some e) rest is = omega (arith, is)
+
+-- and no free place is taken
+pub kept-spare : (w : Waiting) (e : Option DeviceEvent) → (with_kept_event e w).spare ≡ w.spare
+kept-spare w None = refl
+kept-spare w (Some e) = refl
+
+some-mapped : {X Y : Type 0} (f : X → Y) (o : Option X) → is_some (option_map f o) ≡ is_some o
+some-mapped f None = refl
+some-mapped f (Some x) = refl
+
+-- the paths that are kept, by that of one object and those of the others
+paths-parts : (v : Objects) → IsHeap v → (n : ℕ) (c : Content) → content_of v n ≡ Some c → count_by has_path v.rows ≡ cond (is_some c.kept_path) 1 0 + count_by has_path (map (forgets n) (without n v.rows))
+paths-parts v good n c there = sum-ended (λ (row : Key × Content). cond {A = ℕ} (has_path row) 1 0) n (λ row. refl) 0 v.born v.rows good.rising c there (λ key. refl)
+
+-- a place is promised to an object whose path is kept
+pub path-place : (v : Objects) → IsHeap v → HasPlaces v → (n : ℕ) (c : Content) → content_of v n ≡ Some c → IfSome c.kept_path (λ p. 1 ≤ v.events.promised)
+path-place v good places n c there = go c.kept_path (places ∙ paths-parts v good n c there)
+  where
+    go : (o : Option (List ℕ)) → v.events.promised ≡ cond (is_some o) 1 0 + count_by has_path (map (forgets n) (without n v.rows)) → IfSome o (λ p. 1 ≤ v.events.promised)
+    go None is = tt
+    go (Some p) is = omega (arith, is)
+
+-- and it has what waits, where an object ended
+pub places-ended : (v : Objects) → IsHeap v → HasPlaces v → (n : ℕ) (c : Content) → content_of v n ≡ Some c → (with_kept_event (deleted_event (shown n c)) v.events).promised ≡ count_by has_path (map (forgets n) (without n v.rows))
+places-ended v good places n c there =
+    let left : ℕ = count_by has_path (map (forgets n) (without n v.rows)) in
+    let event : is_some (deleted_event (shown n c)) ≡ is_some c.kept_path = some-mapped (λ (path : List ℕ). record { deleted = true; id = c.device_id; path = path }) c.kept_path in
+    kept-place v.events (deleted_event (shown n c)) left (places ∙ paths-parts v good n c there ∙ ap (λ (b : Bool). cond {A = ℕ} b 1 0 + left) (sym event))
 
 -- the heap with an object more
 live-more : (rows more : List (Key × Content)) (key : Key) → IsLive rows key → IsLive (rows ++ more) key
@@ -173,9 +211,14 @@ heap-more v good key kind is below =
           tt;
     }
 
+paths-more : (rows : List (Key × Content)) (key : Key) (kind : TypeId) → count_by has_path (rows ++ (key, fresh kind) ∷ []) ≡ count_by has_path rows
+paths-more rows key kind =
+    let f : Key × Content → ℕ = λ row. cond {A = ℕ} (has_path row) 1 0 in
+    omega (arith, sum_by-append f rows ((key, fresh kind) ∷ []), sum_by-cons f (key, fresh kind) [])
+
 -- the heap behind a call that adds an object or gives it back
-pub heap-made : (v : Objects) → IsHeap v → (kind : TypeId) → length v.rows < 4096 → (r : Result Key Content) (t : Rows Content) → IfOk r (λ key. (key.birth ≡ v.born + 1) × (t ≡ record { rows = v.rows ++ (key, fresh kind) ∷ []; born = v.born + 1 })) → IfErr r (λ back. (back ≡ fresh kind) × (t ≡ record { rows = v.rows; born = v.born })) → IsHeap (record { rows = t.rows; born = t.born; log = v.log; claims = v.claims; time = v.time })
-heap-made v good kind below (Ok key) t done back = rw done.1 (heap-more v good key kind done.0 below)
+pub heap-made : (v : Objects) → IsHeap v × HasPlaces v → (kind : TypeId) → length v.rows < 4096 → (r : Result Key Content) (t : Rows Content) → IfOk r (λ key. (key.birth ≡ v.born + 1) × (t ≡ record { rows = v.rows ++ (key, fresh kind) ∷ []; born = v.born + 1 })) → IfErr r (λ back. (back ≡ fresh kind) × (t ≡ record { rows = v.rows; born = v.born })) → IsHeap (record { rows = t.rows; born = t.born; log = v.log; claims = v.claims; events = v.events; time = v.time }) × HasPlaces (record { rows = t.rows; born = t.born; log = v.log; claims = v.claims; events = v.events; time = v.time })
+heap-made v good kind below (Ok key) t done back = rw done.1 (heap-more v good.0 key kind done.0 below, good.1 ∙ sym (paths-more v.rows key kind))
 heap-made v good kind below (Err c) t done back = rw back.1 good
 
 -- one note

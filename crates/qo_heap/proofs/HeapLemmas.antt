@@ -1,5 +1,6 @@
 -- What an edit of one object leaves of the heap.
-use Rattle.std.proofs.Common.{◌≡◌, refl, ap, sym, subst, ◌∙◌, ℕ, zero, suc, Bool, true, false, cond, List, [], ◌∷◌, ◌++◌, length, filter_map, eqb, Option, Some, None, find, option_map, remove, is_some, ◌||◌, Result, Ok, Err, OnErr, IfSome}
+use Rattle.std.proofs.Common.{◌≡◌, refl, ap, sym, subst, ◌∙◌, ℕ, zero, suc, Bool, true, false, cond, List, [], ◌∷◌, ◌++◌, length, filter_map, eqb, Option, Some, None, find, option_map, remove, is_some, ◌||◌, Result, Ok, Err, OnErr, IfSome, ◌+◌, sum_by, count_by, arith}
+use Rattle.std.specs.Prelude.{option_and_then}
 use Rattle.std.specs.Bool.{⊤}
 use Rattle.std.specs.List.{AllByRecursion, cons_option, list_any}
 use Rattle.qo_values.specs.declared.properties.Val.{Val}
@@ -8,10 +9,12 @@ use Rattle.qo_object.specs.declared.slots.Slot.{Slot}
 use Rattle.qo_object.specs.declared.slots.Slot.TheVariants.{Plain, Child, Link, Alias}
 use Rattle.std.specs.Str.{bytes_eq}
 use Rattle.qo_object.specs.Slots.{has_name, target_of, changed_at, let_go_at, pointed, with_val}
-use Rattle.qo_object.specs.Content.{Content, with_slot, dropped_at, pointed_at, set_at, cut_at}
+use Rattle.qo_object.specs.Content.{Content, with_path, with_slot, dropped_at, pointed_at, set_at, cut_at}
 use Rattle.qo_table.specs.Rows.{IsLive, births, edited, edit, is_at, object_at}
 use Rattle.qo_table.proofs.RowsLemmas.{edit-as}
-use Rattle.qo_heap.specs.Objects.{IsHeap, Objects, content_of, targets, with_edit}
+use Rattle.qo_heap.specs.Objects.{HasPlaces, IsHeap, Objects, content_of, has_path, targets, with_edit}
+use Rattle.qo_events.specs.Waiting.{Waiting, promised}
+use Rattle.qo_heap.proofs.BookLemmas.{sum-changed, sum-edit}
 
 module _ {T : Type 0} (n : ℕ) (f : T → T) where
   -- an edited row has its name
@@ -69,7 +72,7 @@ module _ (P : Key → Type 0) where
 
   pub targets-let_go : (i : ℕ) (slots : List (List ℕ × Slot)) → AllByRecursion P (targets_in slots) → AllByRecursion P (targets_in (let_go_at i slots))
   targets-let_go i [] all = all
-  targets-let_go zero ((name, Plain ty val) ∷ slots) all = all
+  targets-let_go zero ((name, Plain val) ∷ slots) all = all
   targets-let_go zero ((name, Child key) ∷ slots) all = all.1
   targets-let_go zero ((name, Link ty strong None) ∷ slots) all = all
   targets-let_go zero ((name, Link ty strong (Some key)) ∷ slots) all = all.1
@@ -97,13 +100,13 @@ module _ (P : Key → Type 0) where
 
   -- a link pointed at what has the property; a value set
   pub pointed-holds : (key : Key) → P key → (s : Slot) → Holds P (target_of s) → Holds P (target_of (pointed key s))
-  pointed-holds key new (Plain ty val) h = h
+  pointed-holds key new (Plain val) h = h
   pointed-holds key new (Child k) h = h
   pointed-holds key new (Link ty strong target) h = new
   pointed-holds key new (Alias k of) h = h
 
   pub valued-holds : (val : Val) (s : Slot) → Holds P (target_of s) → Holds P (target_of (with_val val s))
-  valued-holds val (Plain ty old) h = h
+  valued-holds val (Plain old) h = h
   valued-holds val (Child k) h = h
   valued-holds val (Link ty strong target) h = h
   valued-holds val (Alias k of) h = h
@@ -174,15 +177,52 @@ added-there v name slot c new all = targets-added (IsLive v.rows) name slot c.sl
 
 -- a heap whose object was changed by an edit that names what is there
 pub record Edited (v : Objects) (n : ℕ) (f : Content → Content) (d : Content) : Type 0 where
-  pub good : IsHeap (record v { rows = edit n (λ _. d) v.rows })
+  pub good : IsHeap (record v { rows = edit n (λ _. d) v.rows }) × HasPlaces (record v { rows = edit n (λ _. d) v.rows })
   pub now : record v { rows = edit n (λ _. d) v.rows } ≡ with_edit n f v
 
-pub edited-heap : (v : Objects) → IsHeap v → (n : ℕ) (f : Content → Content) (c d : Content) → content_of v n ≡ Some c → d ≡ f c → ((x : Content) → AreThere v x → AreThere v (f x)) → Edited v n f d
-edited-heap v good n f c d there is keeps =
+-- an edit that keeps the path keeps the number of paths
+paths-edit : (n : ℕ) (f : Content → Content) → ((x : Content) → is_some (f x).kept_path ≡ is_some x.kept_path) → (rows : List (Key × Content)) → count_by has_path (edit n f rows) ≡ count_by has_path rows
+paths-edit n f same rows = sum-edit (λ (row : Key × Content). cond {A = ℕ} (has_path row) 1 0) n f (λ row. ap (λ (b : Bool). cond {A = ℕ} b 1 0) (same row.1)) rows
+
+pub edited-heap : (v : Objects) → IsHeap v × HasPlaces v → (n : ℕ) (f : Content → Content) (c d : Content) → content_of v n ≡ Some c → d ≡ f c → ((x : Content) → AreThere v x → AreThere v (f x)) → ((x : Content) → is_some (f x).kept_path ≡ is_some x.kept_path) → Edited v n f d
+edited-heap v good n f c d there is keeps paths =
+    let now = edit-is v good.0 n f c d there is in
     record {
-      good = heap-edited v good n d (subst (λ (x : Content). AreThere v x) (sym is) (keeps c (linked-at v good n c there)));
-      now = edit-is v good n f c d there is;
+      good = (
+        heap-edited v good.0 n d (subst (λ (x : Content). AreThere v x) (sym is) (keeps c (linked-at v good.0 n c there))),
+        subst (λ (w : Objects). HasPlaces w) (sym now) (good.1 ∙ sym (paths-edit n f paths v.rows)),
+      );
+      now = now;
     }
+
+-- a path is kept where none was: there is one more
+pub path-kept : (v : Objects) → IsHeap v → (n : ℕ) (path : List ℕ) (c : Content) → content_of v n ≡ Some c → c.kept_path ≡ None → count_by has_path (edit n (with_path path) v.rows) ≡ count_by has_path v.rows + 1
+path-kept v good n path c there none =
+    let f : Key × Content → ℕ = λ row. cond {A = ℕ} (has_path row) 1 0 in
+    let sums : sum_by f (edit n (with_path path) v.rows) + f (record { index = 0; birth = 0 }, c) ≡ sum_by f v.rows + f (record { index = 0; birth = 0 }, with_path path c) = sum-changed f n (with_path path) 0 v.born v.rows good.rising c there (λ key d. refl) in
+    let was : f (record { index = 0; birth = 0 }, c) ≡ 0 = ap (λ (o : Option (List ℕ)). cond {A = ℕ} (is_some o) 1 0) none in
+    omega (arith, sums, was)
+
+-- a heap in which a path is kept where none was, for which a place was promised
+pub record KeptPath (v : Objects) (n : ℕ) (path : List ℕ) (d : Content) (w : Waiting) : Type 0 where
+  pub good : IsHeap (record v { rows = edit n (λ _. d) v.rows; events = w }) × HasPlaces (record v { rows = edit n (λ _. d) v.rows; events = w })
+  pub now : record v { rows = edit n (λ _. d) v.rows; events = w } ≡ record (with_edit n (with_path path) v) { events = promised v.events }
+
+pub path-heap : (v : Objects) → IsHeap v × HasPlaces v → (n : ℕ) (path : List ℕ) (c d : Content) → content_of v n ≡ Some c → d ≡ with_path path c → c.kept_path ≡ None → (w : Waiting) → w ≡ promised v.events → KeptPath v n path d w
+path-heap v good n path c d there is none w place =
+    let rows : edit n (λ _. d) v.rows ≡ edit n (with_path path) v.rows = edit-as n (with_path path) c d 0 v.born v.rows good.0.rising there is in
+    let same = heap-edited v good.0 n d (subst (λ (x : Content). AreThere v x) (sym is) (linked-at v good.0 n c there)) in
+    record {
+      good = (
+        record { rising = same.rising; few = same.few; linked = same.linked },
+        ap (λ (x : Waiting). x.promised) place ∙ ap (λ (k : ℕ). k + 1) good.1 ∙ sym (path-kept v good.0 n path c there none) ∙ ap (λ (l : List (Key × Content)). count_by has_path l) (sym rows),
+      );
+      now = λ j. record v { rows = rows j; events = place j };
+    }
+
+-- what an option has, where nothing comes of it
+pub none-of : {T : Type 0} (get : Content → Option T) (o : Option Content) (c : Content) → o ≡ Some c → option_and_then get o ≡ None → get c ≡ None
+none-of {T = T} get o c is none = subst (λ (x : Option Content). option_and_then get x ≡ None) is none
 
 -- an edit that changes nothing
 edit-same-rows : (n : ℕ) (rows : List (Key × Content)) → edit n (λ (x : Content). x) rows ≡ rows

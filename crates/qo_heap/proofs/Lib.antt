@@ -1,6 +1,7 @@
 pub mod ActsLemmas
 pub mod BookLemmas
 pub mod EndLemmas
+pub mod FoundLemmas
 pub mod HeapLemmas
 pub mod PlacesLemmas
 pub mod ShowsChanges
@@ -8,4 +9,3 @@ pub mod ShowsEdits
 pub mod ShowsEnds
 pub mod ShowsLive
 pub mod ShowsReads
-pub mod TestLemmas

@@ -62,6 +62,7 @@ shows-made b v s good kind key birth =
           ∙ sym (pins-added v.rows key kind);
       notes = s.notes;
       events = s.events;
+      now = s.now;
     }
 
 -- a slot changed
@@ -72,14 +73,14 @@ changed-shown f g same zero (s ∷ slots) = ap (λ (t : board.Slot). (s.0, t) �
 changed-shown f g same (suc i) (s ∷ slots) = ap (λ (ss : List (List ℕ × board.Slot)). (s.0, shown_slot s.1) ∷ ss) (changed-shown f g same i slots)
 
 pointed-shown : (key : Key) (s : Slot) → shown_slot (pointed key s) ≡ changes.pointed key.birth (shown_slot s)
-pointed-shown key (Plain ty val) = refl
+pointed-shown key (Plain val) = refl
 pointed-shown key (Child k) = refl
 pointed-shown key (Link ty true target) = refl
 pointed-shown key (Link ty false target) = refl
 pointed-shown key (Alias k name) = refl
 
 valued-shown : (val : Val) (s : Slot) → shown_slot (with_val val s) ≡ changes.with_val val (shown_slot s)
-valued-shown val (Plain ty old) = refl
+valued-shown val (Plain old) = refl
 valued-shown val (Child key) = refl
 valued-shown val (Link ty true target) = refl
 valued-shown val (Link ty false target) = refl

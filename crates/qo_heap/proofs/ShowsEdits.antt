@@ -58,6 +58,7 @@ module _ (n : ℕ) (f : Content → Content) where
         pins = s.pins ∙ sym (edit-pins kept v.rows);
         notes = s.notes;
         events = s.events;
+        now = s.now;
       }
 
 -- a slot let go
@@ -67,7 +68,7 @@ shows-drop_slot b v s n i = shows-edit n (dropped_at i) b v s (with_dropped i) (
 
 -- a note more
 pub shows-note : (b : board.Board) (v : Objects) → Shows b v → (note : Note) → Shows (record b { notes = b.notes ++ note ∷ [] }) (with_note note v)
-shows-note b v s note = record { records = s.records; born = s.born; pins = s.pins; notes = one_lem b.notes v.log note s.notes; events = s.events }
+shows-note b v s note = record { records = s.records; born = s.born; pins = s.pins; notes = one_lem b.notes v.log note s.notes; events = s.events; now = s.now }
 
 -- pins
 
@@ -142,6 +143,7 @@ shows-pin b v s good n c there =
       pins = ap (put_in_order n) s.pins ∙ sym (pins-more n 0 v.born v.rows c good.rising there);
       notes = s.notes;
       events = s.events;
+      now = s.now;
     }
 
 -- a pin less
@@ -176,4 +178,5 @@ shows-without_pin b v s good n some =
       pins = ap (without_first n) s.pins ∙ sym (pins-less n 0 v.born v.rows good.rising some);
       notes = s.notes;
       events = s.events;
+      now = s.now;
     }

@@ -1,5 +1,5 @@
 -- What a board shows, where an object of the heap ends.
-use Rattle.std.proofs.Common.{◌≡◌, refl, ap, sym, subst, ◌∙◌, ℕ, ◌<◌, ◌≤◌, Bool, true, false, not, eqb, List, [], ◌∷◌, ◌++◌, map, filter, replicate, Option, Some, option_map, arith}
+use Rattle.std.proofs.Common.{◌≡◌, refl, ap, sym, subst, ◌∙◌, ℕ, ◌<◌, ◌≤◌, Bool, true, false, not, eqb, List, [], ◌∷◌, ◌++◌, map, filter, replicate, Option, Some, None, option_map, append-nil, arith}
 use Rattle.std.specs.Prelude.{option_and_then, option_to_list}
 use Rattle.std.specs.Option.{option_map_or}
 use Rattle.std.proofs.lemmas.Bool.{eqb-true}
@@ -11,10 +11,11 @@ use Rattle.qo_model.specs.Release.{finish}
 use Rattle.qo_model.specs.Release as release
 use Rattle.qo_notes.specs.Log.{IsLogOf, noted_all}
 use Rattle.qo_notes.proofs.Logs.{all_lem}
+use Rattle.qo_events.specs.Waiting.{Waiting}
 use Rattle.qo_object.specs.Content.{Content}
 use Rattle.qo_object.specs.Shown.{shown}
 use Rattle.qo_object.proofs.ShownLemmas.{forgotten_is_shown}
-use Rattle.qo_heap.specs.Objects.{IsHeap, Objects, content_of, pins_of, refs_of, ended, final_notes, forgets}
+use Rattle.qo_heap.specs.Objects.{IsHeap, Objects, content_of, pins_of, refs_of, ended, final_notes, forgets, with_kept_event}
 use Rattle.qo_heap.specs.Board.{Shows, pins_in}
 use Rattle.qo_heap.proofs.ShowsReads.{records_of, shows-record}
 
@@ -50,6 +51,11 @@ pins-without n above last (row ∷ rows) rises none = go (eqb row.0.birth n) ref
         rw (is, stay, unpinned) refl
     go false is later = rw is (ap (λ (ms : List ℕ). replicate row.1.pins row.0.birth ++ ms) (later (rw is at none)))
 
+-- an event for which a place was promised waits behind the others
+kept-list : (w : Waiting) (e : Option board.DeviceEvent) → w.list ++ option_to_list e ≡ (with_kept_event e w).list
+kept-list w None = append-nil w.list
+kept-list w (Some e) = refl
+
 -- an object without references ends
 pub shows-ended : (b : board.Board) (v : Objects) → Shows b v → IsHeap v → (n : ℕ) (c : Content) → content_of v n ≡ Some c → refs_of v n ≡ 0 → Shows (finish b n) (ended n c v)
 unfolding finish
@@ -57,11 +63,12 @@ shows-ended b v s good n c there free =
     let unpinned : pins_of v n ≡ 0 = omega arith in
     let found : board.record_of b n ≡ Some (shown n c) = shows-record b v s n ∙ ap (option_map (shown n)) there in
     let said : option_map_or release.final_notes (board.record_of b n) [] ≡ final_notes n c.kind = ap (λ (o : Option board.Record). option_map_or release.final_notes o []) found in
-    let silent : option_to_list (option_and_then release.deleted_event (board.record_of b n)) ≡ [] = ap (λ (o : Option board.Record). option_to_list (option_and_then release.deleted_event o)) found in
+    let told : option_to_list (option_and_then release.deleted_event (board.record_of b n)) ≡ option_to_list (release.deleted_event (shown n c)) = ap (λ (o : Option board.Record). option_to_list (option_and_then release.deleted_event o)) found in
     record {
       records = ap (λ (rs : List board.Record). map (release.forgotten n) (filter (λ (r : board.Record). not (eqb r.birth n)) rs)) s.records ∙ ended-records n v.rows;
       born = s.born;
       pins = s.pins ∙ sym (pins-forgot n (without n v.rows) ∙ pins-without n 0 v.born v.rows good.rising unpinned);
       notes = subst (λ (ns : List Note). IsLogOf (b.notes ++ ns) (noted_all (final_notes n c.kind) v.log)) (sym said) (all_lem b.notes (final_notes n c.kind) v.log s.notes);
-      events = λ j. s.events j ++ silent j;
+      events = (λ j. s.events j ++ told j) ∙ kept-list v.events (release.deleted_event (shown n c));
+      now = s.now;
     }

@@ -7,7 +7,7 @@ use Rattle.qo_table.specs.Rows.{IsLive, edit, object_at, row_at, without}
 use Rattle.qo_object.specs.Slots.{Named, named_in, target_of}
 use Rattle.qo_object.specs.Content.{Content, named_at, dropped_at, with_pin, without_pin, forgotten}
 use Rattle.qo_heap.specs.Objects.{IsHeap, Objects, content_of, with_edit, ended, forgets}
-use Rattle.qo_heap.proofs.HeapLemmas.{AreThere, Edited, edited-heap, dropped-there, linked-at, live-edit, targets_in}
+use Rattle.qo_heap.proofs.HeapLemmas.{AreThere, dropped-there, linked-at, live-edit, targets_in, edit-is, heap-edited}
 
 -- what slots name
 
@@ -36,7 +36,7 @@ named-live_dropped v good n i c there key e = live-edit n (dropped_at i) v.rows 
 -- a heap with a slot let go, with a pin more, with a pin less
 
 heap-changed : (v : Objects) → IsHeap v → (n : ℕ) (f : Content → Content) (c : Content) → content_of v n ≡ Some c → ((x : Content) → AreThere v x → AreThere v (f x)) → IsHeap (with_edit n f v)
-heap-changed v good n f c there keeps = let e : Edited v n f (f c) = edited-heap v good n f c (f c) there refl keeps in subst (λ (w : Objects). IsHeap w) e.now e.good
+heap-changed v good n f c there keeps = subst (λ (w : Objects). IsHeap w) (edit-is v good n f c (f c) there refl) (heap-edited v good n (f c) (keeps c (linked-at v good n c there)))
 
 pub heap-dropped : (v : Objects) → IsHeap v → (n i : ℕ) (c : Content) → content_of v n ≡ Some c → IsHeap (with_edit n (dropped_at i) v)
 heap-dropped v good n i c there = heap-changed v good n (dropped_at i) c there (λ x all. dropped-there v i x all)

@@ -130,7 +130,7 @@ shows-held b v s n i c there = ap (option_and_then board.held) (shows-slot_in b 
 
 -- where the next slot stands, behind one that was let go: at the same place behind a child
 pub next-shown : (s : Slot) (i : ℕ) → release.next_place (shown_slot s) i ≡ cond (is_some (child_of s)) i (suc i)
-next-shown (Plain ty val) i = refl
+next-shown (Plain val) i = refl
 next-shown (Child key) i = refl
 next-shown (Link ty true target) i = refl
 next-shown (Link ty false target) i = refl
@@ -199,7 +199,7 @@ abbrev pub place_under : ℕ → Key × Content → Option (ℕ × List ℕ)
 place_under n row = option_map (λ (t : Named). (row.0.birth, t.0)) (find (λ (t : Named). names_child n t.1) row.1.slots)
 
 child-slot : (n : ℕ) (s : Slot) → paths.is_child n (shown_slot s) ≡ names_child n s
-child-slot n (Plain ty val) = refl
+child-slot n (Plain val) = refl
 child-slot n (Child key) = refl
 child-slot n (Link ty true target) = refl
 child-slot n (Link ty false target) = refl

@@ -16,4 +16,5 @@ pub record Acts (v w : Objects) : Type 0 where
   pub rows : map stilled w.rows ≡ map stilled v.rows
   pub born : w.born ≡ v.born
   pub claims : w.claims ≡ v.claims
+  pub events : w.events ≡ v.events
   pub time : w.time ≡ v.time

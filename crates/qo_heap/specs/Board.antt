@@ -1,4 +1,4 @@
--- The heap as a part of the board: the objects, the births, the pins and the notes.
+-- The heap as a part of the board.
 use Rattle.std.specs.Prelude.{◌≡◌, ℕ, List, [], ◌∷◌, ◌++◌, map, replicate}
 use Rattle.qo_slots.specs.declared.keys.Key.{Key}
 use Rattle.qo_object.specs.Content.{Content}
@@ -16,10 +16,11 @@ abbrev pub pins_in : List (Key × Content) → List ℕ
 pins_in [] = []
 pins_in (row ∷ rows) = replicate row.1.pins row.0.birth ++ pins_in rows
 
--- a heap has a board's objects, births, pins and notes; no event waits, since no device has a path kept yet
+-- a heap has a board's objects, births, pins, notes, events that wait, and virtual time
 pub record Shows (b : Board) (v : Objects) : Type 0 where
   pub records : b.records ≡ map record_of v.rows
   pub born : b.born ≡ v.born
   pub pins : b.pins ≡ pins_in v.rows
   pub notes : IsLogOf b.notes v.log
-  pub events : b.events ≡ []
+  pub events : b.events ≡ v.events.list
+  pub now : b.now ≡ v.time

@@ -1,5 +1,5 @@
--- What is held, recounted: each claim is kept by a body or is out.
-use Rattle.std.specs.Prelude.{◌≡◌, ℕ, ◌+◌, Bool, false, ◌==◌, if◌then◌else◌, List, count_by, sum_by, Option}
+-- What is held, recounted: each claim is kept by an object or is out.
+use Rattle.std.specs.Prelude.{◌≡◌, ℕ, ◌+◌, Bool, false, ◌==◌, if◌then◌else◌, List, count_by, sum_by, Option, option_map}
 use Rattle.std.specs.Option.{option_map_or}
 use Rattle.std.specs.Str.{bytes_eq}
 use Rattle.qo_claims.specs.Held.{Held}
@@ -37,9 +37,10 @@ one x o = option_map_or (λ (y : Claimed). if claim_eq x y then 1 else 0) o 0
 abbrev pub kept_times : Claimed → KeptSet → ℕ
 kept_times x k = one x k.slot + (one x k.ring + (one x k.backend + one x k.range))
 
+-- how often an object keeps a claim: its body does, or it is on the id of its device
 abbrev pub owned : Claimed → Key × Content → ℕ
-owned x row = kept_times x (kept_of row.1.body)
+owned x row = kept_times x (kept_of row.1.body) + one x (option_map on.Device row.1.device_id)
 
--- each claim is held as often as it is out or kept by a body
+-- each claim is held as often as it is out or kept by an object
 abbrev pub IsBook : List Claimed → Objects → Type 0
 IsBook out v = (x : Claimed) → counted x v.claims ≡ count_by (claim_eq x) out + sum_by (owned x) v.rows

@@ -34,6 +34,14 @@ impl Heap {
         &mut self.claims
     }
 
+    /// The body of an object. It takes no memory.
+    pub fn body<L: Ledger>(&self, o: Oid, steps: &mut Steps<L>) -> &Body
+        requires { IsLive self.now.rows o }
+        ensures { option_map (λ c. c.body) (content_of self.now o.birth) ≡ Some result.now }
+    {
+        self.table.look(o, steps).body()
+    }
+
     /// The body of an object, for writing. It takes no memory.
     pub fn body_mut<L: Ledger>(&mut self, o: Oid, steps: &mut Steps<L>) -> &mut Body
         requires live { IsLive self.old.rows o }

@@ -1,20 +1,22 @@
-//! What ends with an object: the weak links that name it, and its final notes.
+//! What ends with an object: the weak links that name it, its final notes, its claims, and what is
+//! told of it.
 
-ghost use Rattle.std.specs.Prelude.{◌≡◌, if◌then◌else◌, [], ◌∷◌, map};
+ghost use Rattle.std.specs.Prelude.{◌≡◌, ◌≤◌, if◌then◌else◌, true, [], ◌∷◌, IfSome, map, option_map};
 ghost use Rattle.qo_model.specs.Types.{has_finaliser};
 ghost use Rattle.qo_model.specs.declared.notes.Deed.TheVariants.{Final};
 ghost use Rattle.qo_notes.specs.Log.{noted_all};
-ghost use Rattle.qo_heap.specs.Objects.{final_notes, forgets, without_kept, without_one};
+ghost use Rattle.qo_heap.specs.Objects.{final_notes, forgets, with_kept_event, without_device, without_kept, without_one};
 ghost use Rattle.qo_heap.specs.Places.{changed_at};
 
 use qo_claims::{Claims, Kept};
+use qo_events::{DeviceEvent, Events};
 use qo_kinds::KeptSet;
 use qo_model::{Deed, Note};
 use qo_notes::NoteLog;
-use qo_object::Object;
+use qo_object::{DeviceId, Object};
 use qo_table::{ObjectTable, Steps};
 use qo_types::TypeTable;
-use qo_values::TypeId;
+use qo_values::{Id, Text, TypeId};
 use std::sync::ledger::Ledger;
 
 /// Empties the weak links of the object at a place that name the object of a birth.
@@ -74,7 +76,7 @@ fn free_one(claims: &mut Claims, kept: Option<Kept>)
 }
 
 /// Ends the claims of a body.
-pub fn free_all(claims: &mut Claims, kept: KeptSet)
+fn free_kept(claims: &mut Claims, kept: KeptSet)
     ensures { claims.new ≡ without_kept kept claims.old }
 {
     let KeptSet {
@@ -87,4 +89,38 @@ pub fn free_all(claims: &mut Claims, kept: KeptSet)
     free_one(claims, ring);
     free_one(claims, backend);
     free_one(claims, range);
+}
+
+/// Ends the claim on the id of a device, if there is one, and answers the id.
+fn free_device(claims: &mut Claims, device: Option<DeviceId>) -> Option<Id>
+    ensures free { claims.new ≡ without_device device claims.old }
+    ensures id { result ≡ device }
+{
+    match device {
+        Some(device) => {
+            let (id, kept) = device.into_parts();
+            claims.free(kept);
+            Some(id)
+        }
+        None => None,
+    }
+}
+
+/// Ends the claims of an object, and answers the id of its device.
+pub fn free_all(claims: &mut Claims, kept: KeptSet, device: Option<DeviceId>) -> Option<Id>
+    ensures free { claims.new ≡ without_device device (without_kept kept claims.old) }
+    ensures id { result ≡ device }
+{
+    free_kept(claims, kept);
+    free_device(claims, device)
+}
+
+/// Adds the event that a device was deleted, where its path was kept, in the place that was promised.
+pub fn tell_deleted(events: &mut Events, id: Option<Id>, path: Option<Text>)
+    requires { IfSome path (λ p. 1 ≤ events.old.promised) }
+    ensures { events.new ≡ with_kept_event (option_map (λ p. record { deleted = true; id = id; path = p }) path) events.old }
+{
+    if let Some(path) = path {
+        events.keep(DeviceEvent::deleted(id, path));
+    }
 }

@@ -6,7 +6,7 @@ use thiserror::Error;
 /// Why no object was made.
 #[derive(Clone, Copy, Debug, PartialEq, Eq, Error)]
 pub enum MakeError {
-    /// There are 4,096 live objects.
+    /// There are `LIVE_OBJECTS_MAX` live objects.
     #[error("too many objects")]
     Limit,
     /// There was not enough memory, or no birth is left below 2^64.

@@ -3,9 +3,8 @@
 //! is finalised here: `qo_life` does this over these calls.
 #![tactic(auto)]
 
-#[cfg(test)]
-mod calls;
 mod bodies;
+mod devices;
 mod ends;
 mod errors;
 mod heap;
@@ -18,6 +17,5 @@ mod tree;
 
 pub use errors::{MakeError, SlotError};
 pub use heap::Heap;
-pub use qo_notes::Memory;
 pub use qo_object::{Oid, Slot, SlotView};
 pub use qo_table::Steps;

@@ -8,7 +8,7 @@ use qo_values::Val;
 use std::sync::ledger::Ledger;
 
 impl Heap {
-    ghost use Rattle.std.specs.Prelude.{◌≡◌, ◌<◌, ◌^◌, true, Some, option_map, option_and_then};
+    ghost use Rattle.std.specs.Prelude.{◌≡◌, ◌+◌, ◌<◌, ◌^◌, true, Some, option_map, option_and_then};
     ghost use Rattle.qo_object.specs.Content.{dropped_at, named_at, empty_link_at, pointed_at, set_at, cut_at, with_pin, without_pin};
     ghost use Rattle.qo_table.specs.Rows.{IsLive};
     ghost use Rattle.qo_heap.specs.Objects.{content_of, pins_of, with_edit};
@@ -19,6 +19,7 @@ impl Heap {
         requires live { IsLive self.old.rows o }
         ensures now { self.new ≡ with_edit o.birth (dropped_at at) self.old }
         ensures answer { result ≡ option_and_then (λ c. named_at c at) (content_of self.old o.birth) }
+        ensures cost { steps.new ≡ steps.old + 1 }
     {
         self.table.change(o, steps).empty(at)
     }
@@ -28,7 +29,8 @@ impl Heap {
         requires live { IsLive self.old.rows o }
         requires target { IsLive self.old.rows target }
         requires link { option_map (λ c. empty_link_at c at) (content_of self.old o.birth) ≡ Some true }
-        ensures { self.new ≡ with_edit o.birth (pointed_at target at) self.old }
+        ensures now { self.new ≡ with_edit o.birth (pointed_at target at) self.old }
+        ensures cost { steps.new ≡ steps.old + 1 }
     {
         self.table.change(o, steps).point(at, target);
     }
@@ -36,7 +38,8 @@ impl Heap {
     /// Gives the plain slot at a place a value; any other slot stays.
     pub fn set<L: Ledger>(&mut self, o: Oid, at: usize, val: Val, steps: &mut Steps<L>)
         requires live { IsLive self.old.rows o }
-        ensures { self.new ≡ with_edit o.birth (set_at val at) self.old }
+        ensures now { self.new ≡ with_edit o.birth (set_at val at) self.old }
+        ensures cost { steps.new ≡ steps.old + 1 }
     {
         self.table.change(o, steps).set(at, val);
     }
@@ -45,7 +48,8 @@ impl Heap {
     pub fn cut<L: Ledger>(&mut self, o: Oid, at: usize, steps: &mut Steps<L>)
         requires live { IsLive self.old.rows o }
         requires link { option_map (λ c. empty_link_at c at) (content_of self.old o.birth) ≡ Some true }
-        ensures { self.new ≡ with_edit o.birth (cut_at at) self.old }
+        ensures now { self.new ≡ with_edit o.birth (cut_at at) self.old }
+        ensures cost { steps.new ≡ steps.old + 1 }
     {
         self.table.change(o, steps).cut(at);
     }
@@ -54,7 +58,8 @@ impl Heap {
     pub fn pin<L: Ledger>(&mut self, o: Oid, steps: &mut Steps<L>)
         requires live { IsLive self.old.rows o }
         requires room { pins_of self.old o.birth < 2 ^ 32 }
-        ensures { self.new ≡ with_edit o.birth with_pin self.old }
+        ensures now { self.new ≡ with_edit o.birth with_pin self.old }
+        ensures cost { steps.new ≡ steps.old + 1 }
     {
         self.table.change(o, steps).pin();
     }
@@ -63,7 +68,8 @@ impl Heap {
     pub fn unpin<L: Ledger>(&mut self, o: Oid, steps: &mut Steps<L>)
         requires live { IsLive self.old.rows o }
         requires pinned { 0 < pins_of self.old o.birth }
-        ensures { self.new ≡ with_edit o.birth without_pin self.old }
+        ensures now { self.new ≡ with_edit o.birth without_pin self.old }
+        ensures cost { steps.new ≡ steps.old + 1 }
     {
         self.table.change(o, steps).unpin();
     }

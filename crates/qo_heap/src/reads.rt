@@ -2,15 +2,15 @@
 
 ghost use Rattle.std.specs.Prelude.{◌≡◌, ◌≤◌, ◌^◌, false, length, find, slice_get, sum_by};
 ghost use Rattle.std.specs.Option.{option_map_or};
+ghost use Rattle.qo_values.specs.declared.limits.TheConstants.{LIVE_OBJECTS_MAX};
 ghost use Rattle.qo_object.specs.Content.{holding, is_parent};
 
 use crate::heap::Heap;
 use qo_model::Note;
-use qo_notes::Memory;
 use qo_object::{Object, Oid, SlotView};
 use qo_table::{ObjectTable, Steps};
 use qo_values::TypeId;
-use std::alloc::Global;
+use std::alloc::{AllocError, Global};
 use std::sync::ledger::Ledger;
 
 /// How many slots of the object at a place hold the object of a birth; 0 past the last.
@@ -36,7 +36,7 @@ fn holding_at<L: Ledger>(
 
 /// How many slots of all objects hold the object of a birth.
 fn holding_in<L: Ledger>(table: &ObjectTable<Object>, birth: u64, steps: &mut Steps<L>) -> u64
-    requires few { length table.now.rows ≤ 4096 }
+    requires few { length table.now.rows ≤ LIVE_OBJECTS_MAX }
     ensures count { result ≡ sum_by (λ row. holding birth row.1) table.now.rows }
     ensures bound { result ≤ 2 ^ 44 }
 {
@@ -77,7 +77,7 @@ fn parent_place<L: Ledger>(table: &ObjectTable<Object>, birth: u64, steps: &mut 
 }
 
 impl Heap {
-    ghost use Rattle.std.specs.Prelude.{◌<◌, Some, option_map, option_and_then, length, find, leb, slice_get, position, IfSome, IfOk};
+    ghost use Rattle.std.specs.Prelude.{◌<◌, ◌+◌, Some, option_map, option_and_then, length, find, leb, slice_get, position, IfSome, IfNone, None, IfOk};
     ghost use Rattle.std.specs.Str.{bytes_eq};
     ghost use Rattle.qo_notes.specs.Log.{given_from, first_from};
     ghost use Rattle.qo_table.specs.Rows.{IsLive};
@@ -93,7 +93,8 @@ impl Heap {
     /// The type of an object.
     pub fn kind<L: Ledger>(&self, o: Oid, steps: &mut Steps<L>) -> TypeId
         requires { IsLive self.now.rows o }
-        ensures { option_map (λ c. c.kind) (content_of self.now o.birth) ≡ Some result }
+        ensures kind { option_map (λ c. c.kind) (content_of self.now o.birth) ≡ Some result }
+        ensures cost { steps.new ≡ steps.old + 1 }
     {
         self.table.look(o, steps).kind()
     }
@@ -103,6 +104,7 @@ impl Heap {
         requires { IsLive self.now.rows o }
         ensures slot { option_map (λ v. (v.name.now, v.what.now)) result ≡ find (λ s. bytes_eq name.now s.0) (slots_of self.now o.birth) }
         ensures at { option_map (λ v. v.at) result ≡ position (λ s. bytes_eq name.now s.0) (slots_of self.now o.birth) }
+        ensures cost { steps.new ≡ steps.old + 1 }
     {
         let object = self.table.look(o, steps);
         match object.find(name) {
@@ -122,6 +124,7 @@ impl Heap {
         ensures slot { option_map (λ v. (v.name.now, v.what.now)) result ≡ slice_get (slots_of self.now o.birth) at }
         ensures at { IfSome result (λ v. v.at ≡ at) }
         ensures few { IfSome result (λ v. at < 2 ^ 32) }
+        ensures cost { steps.new ≡ steps.old + 1 }
     {
         let object = self.table.look(o, steps);
         object.facts();
@@ -133,6 +136,7 @@ impl Heap {
         requires { IsLive self.now.rows o }
         ensures pins { result ≡ pins_of self.now o.birth }
         ensures few { result ≤ 2 ^ 32 }
+        ensures cost { steps.new ≡ steps.old + 1 }
     {
         let object = self.table.look(o, steps);
         object.facts();
@@ -156,6 +160,20 @@ impl Heap {
         self.table.key_at(place)
     }
 
+    /// The live object of a birth; `None` exactly where there is none.
+    pub fn by_birth(&self, birth: u64) -> Option<Oid>
+        ensures born { IfSome result (λ o. o.birth ≡ birth) }
+        ensures live { IfSome result (IsLive self.now.rows) }
+        ensures none { IfNone result (content_of self.now birth ≡ None) }
+    {
+        self.facts();
+        let o = self.from_birth(birth)?;
+        if o.birth == birth {
+            return Some(o);
+        }
+        None
+    }
+
     /// The live object of the least birth from this one on; `None` where none is as high.
     pub fn from_birth(&self, birth: u64) -> Option<Oid>
         ensures { result ≡ option_map (λ row. row.0) (find (λ row. leb birth row.0.birth) self.now.rows) }
@@ -177,8 +195,8 @@ impl Heap {
         self.log.first_from(from)
     }
 
-    /// The notes that a reading from a number gives, at most 256. The error is want of memory.
-    pub fn notes(&self, from: u64, alloc: Global) -> Result<Vec<Note>, Memory>
+    /// The notes that a reading from a number gives, at most `NOTES_PER_REPLY`. The error is want of memory.
+    pub fn notes(&self, from: u64, alloc: Global) -> Result<Vec<Note>, AllocError>
         ensures { IfOk result (λ notes. notes.items ≡ given_from from self.now.log) }
     {
         self.log.get(from, alloc)

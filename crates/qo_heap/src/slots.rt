@@ -4,7 +4,7 @@ use crate::errors::SlotError;
 use crate::heap::Heap;
 use qo_object::{Oid, Slot};
 use qo_table::Steps;
-use qo_values::{Name, PropType, TypeId, Val};
+use qo_values::{Name, TypeId, Val};
 use std::sync::ledger::Ledger;
 
 impl Heap {
@@ -37,25 +37,24 @@ impl Heap {
         Ok(())
     }
 
-    /// Adds a plain property with the values that it takes and its value. `Duplicate` comes exactly
+    /// Adds a plain property with its value. `Duplicate` comes exactly
     /// where the object has a slot of that name. An error leaves the heap as it was.
     pub fn add_plain<L: Ledger>(
         &mut self,
         o: Oid,
         name: Name,
-        ty: PropType,
         val: Val,
         steps: &mut Steps<L>,
     ) -> Result<(), SlotError>
         requires live { IsLive self.old.rows o }
-        ensures added { OnOk result (self.new ≡ with_edit o.birth (with_slot name (Plain ty val)) self.old) }
+        ensures added { OnOk result (self.new ≡ with_edit o.birth (with_slot name (Plain val)) self.old) }
         ensures absent { OnOk result (has_name name (slots_of self.old o.birth) ≡ false) }
         ensures duplicate { result ≡ Err Duplicate → has_name name (slots_of self.old o.birth) ≡ true }
         ensures memory { result ≡ Err Memory → has_name name (slots_of self.old o.birth) ≡ false }
         ensures parent { result ≢ Err HasParent }
         ensures err { OnErr result (self.new ≡ self.old) }
     {
-        self.add(o, name, Slot::Plain(ty, val), steps)
+        self.add(o, name, Slot::Plain(val), steps)
     }
 
     /// Adds a child slot. `Duplicate` comes exactly where the owner has a slot of that name, else

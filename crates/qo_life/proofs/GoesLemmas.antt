@@ -38,7 +38,7 @@ slot-shown : (b : Board) (v : Objects) → Shows b v → (n i : ℕ) (o : Option
 slot-shown b v s n i o is = shows-slot_at b v s n i ∙ ap (option_map shown_slot) is
 
 next-shown : (i : ℕ) (s : Slot) → next_place (shown_slot s) i ≡ next_at i s
-next-shown i (Plain ty val) = refl
+next-shown i (Plain val) = refl
 next-shown i (Child key) = refl
 next-shown i (Link ty true target) = refl
 next-shown i (Link ty false target) = refl
@@ -96,7 +96,7 @@ turn-falls v u n i (Some key) t e is decreases =
 
 -- what a slot holds is there
 named-held : (s : Slot) (key : Key) → held s ≡ Some key → target_of s ≡ Some key
-named-held (Plain ty val) key e = cc
+named-held (Plain val) key e = cc
 named-held (Child k) key e = e
 named-held (Link ty true target) key e = e
 named-held (Link ty false target) key e = cc

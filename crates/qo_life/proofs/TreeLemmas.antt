@@ -3,7 +3,7 @@ use Rattle.std.proofs.Common.{◌≡◌, refl, ap, sym, subst, ◌∙◌, ℕ, �
 use Rattle.std.proofs.lemmas.Bool.{eqb-true}
 use Rattle.qo_slots.specs.declared.keys.Key.{Key}
 use Rattle.qo_table.specs.Rows.{IsLive, edit, without, row_at}
-use Rattle.qo_model.specs.Board.{Board, Record}
+use Rattle.qo_model.specs.Board.{Board, DeviceEvent, Record}
 use Rattle.qo_model.specs.Release.{drop_slot, finish}
 use Rattle.qo_model.specs.Release as release
 use Rattle.qo_notes.specs.Log.{Log, empty_log, noted_all}
@@ -13,18 +13,20 @@ use Rattle.qo_object.specs.Content as content
 use Rattle.qo_heap.specs.Board.{Shows, record_of, pins_in}
 use Rattle.qo_heap.specs.Objects.{IsHeap, Objects, content_of, ended, final_notes, forgets, pins_of, refs_of, with_edit}
 use Rattle.qo_heap.proofs.ShowsEdits.{shows-drop_slot, shows-without_pin}
+use Rattle.qo_object.specs.Shown.{shown}
+use Rattle.qo_heap.proofs.EndLemmas.{kept-spare}
 use Rattle.qo_heap.proofs.ShowsEnds.{shows-ended}
 use Rattle.qo_heap.proofs.BookLemmas.{book-edit, book-ended}
 use Rattle.qo_life.specs.Life.{Goes, KeepsNames, with_log}
 
--- the tree of a heap: a board with its objects, births and pins, and nothing beside them
-abbrev pub tree_with : List Record → ℕ → List ℕ → Board
-tree_with records born pins =
+-- the tree of a heap: a board with its objects, births, pins, events and time, and nothing beside them
+abbrev pub tree_with : List Record → ℕ → List ℕ → List DeviceEvent → ℕ → Board
+tree_with records born pins events now =
     record {
       records = records;
       born = born;
       anonymous = 0;
-      now = 0;
+      now = now;
       running = false;
       holds = [];
       pending = [];
@@ -32,29 +34,29 @@ tree_with records born pins =
       rings = [];
       pins = pins;
       notes = [];
-      events = [];
+      events = events;
     }
 
 abbrev pub tree : Objects → Board
-tree v = tree_with (map record_of v.rows) v.born (pins_in v.rows)
+tree v = tree_with (map record_of v.rows) v.born (pins_in v.rows) v.events.list v.time
 
 pub tree-shows : (v : Objects) → Shows (tree v) (with_log empty_log v)
-tree-shows v = record { records = refl; born = refl; pins = refl; notes = none_lem; events = refl }
+tree-shows v = record { records = refl; born = refl; pins = refl; notes = none_lem; events = refl; now = refl }
 
 -- another log, the same heap
 pub heap-with_log : (v : Objects) (log : Log) → IsHeap v → IsHeap (with_log log v)
 heap-with_log v log good = record { rising = good.rising; few = good.few; linked = good.linked }
 
 -- the tree behind a step
-pub tree-behind : (step : Board → Board) (v w : Objects) → Goes step v w → tree_with (step (tree v)).records (step (tree v)).born (step (tree v)).pins ≡ tree w
+pub tree-behind : (step : Board → Board) (v w : Objects) → Goes step v w → tree_with (step (tree v)).records (step (tree v)).born (step (tree v)).pins (step (tree v)).events (step (tree v)).now ≡ tree w
 tree-behind step v w g =
     let s = g.shown (tree v) empty_log (tree-shows v) in
-    λ j. tree_with (s.records j) (s.born j) (s.pins j)
+    λ j. tree_with (s.records j) (s.born j) (s.pins j) (s.events j) (s.now j)
 
 -- no step, a step that is another on all boards of the heap, and a step behind a step
 pub goes-none : (v : Objects) → Goes (λ b. b) v v
 unfolding noted_all
-goes-none v = record { more = []; log = refl; shown = λ b log s. s; names = λ key live. live; book = λ out h. h; time = refl }
+goes-none v = record { more = []; log = refl; shown = λ b log s. s; names = λ key live. live; book = λ out h. h; time = refl; spare = refl }
 
 pub goes-same : (f g : Board → Board) (v w : Objects) → Goes f v w → ((b : Board) (log : Log) → Shows b (with_log log v) → g b ≡ f b) → Goes g v w
 goes-same f g v w go is =
@@ -65,6 +67,7 @@ goes-same f g v w go is =
       names = go.names;
       book = go.book;
       time = go.time;
+      spare = go.spare;
     }
 
 pub goes-then : (f g : Board → Board) (v u w : Objects) → Goes f v u → Goes g u w → Goes (λ b. g (f b)) v w
@@ -76,6 +79,7 @@ goes-then f g v u w first then =
       names = λ key live. first.names key (then.names key live);
       book = λ out h. then.book out (first.book out h);
       time = then.time ∙ first.time;
+      spare = then.spare ∙ first.spare;
     }
 
 -- who is there behind an edit was there before it
@@ -124,6 +128,7 @@ goes-drop v n i =
       names = live-before_edit n (dropped_at i) v.rows;
       book = λ out h. book-edit out v n (dropped_at i) (λ c. refl) h;
       time = refl;
+      spare = refl;
     }
 
 pub goes-unpin : (v : Objects) → IsHeap v → (n : ℕ) → 0 < pins_of v n → Goes (λ b. release.without_pin b n) v (with_edit n content.without_pin v)
@@ -136,6 +141,7 @@ goes-unpin v good n some =
       names = live-before_edit n content.without_pin v.rows;
       book = λ out h. book-edit out v n content.without_pin (λ c. refl) h;
       time = refl;
+      spare = refl;
     }
 
 pub goes-end : (v : Objects) → IsHeap v → (n : ℕ) (c : Content) → content_of v n ≡ Some c → refs_of v n ≡ 0 → Goes (λ b. finish b n) v (ended n c v)
@@ -147,6 +153,7 @@ goes-end v good n c there free =
       names = live-before_end n v.rows;
       book = λ out h. book-ended out v good n c there h;
       time = refl;
+      spare = kept-spare v.events (release.deleted_event (shown n c));
     }
 
 -- who was there and is still there has the same name

@@ -39,7 +39,8 @@ next_at at _ = suc at
 abbrev pub KeepsNames : Objects → Objects → Type 0
 KeepsNames v w = (key : Key) → IsLive v.rows key → is_some (content_of w key.birth) ≡ true → IsLive w.rows key
 
--- a heap becomes another as a board does by a step, with some notes more whatever the log was, nobody is there who was not, and the book of claims stays right
+-- a heap becomes another as a board does by a step, with some notes more whatever the log was, nobody is there who was
+-- not, the book of claims stays right, and the time and the room for further events stay
 pub record Goes (step : Board → Board) (v w : Objects) : Type 0 where
   pub more : List Note
   pub log : w.log ≡ noted_all more v.log
@@ -47,3 +48,4 @@ pub record Goes (step : Board → Board) (v w : Objects) : Type 0 where
   pub names : (key : Key) → IsLive w.rows key → IsLive v.rows key
   pub book : (out : List Claimed) → IsBook out v → IsBook out w
   pub time : w.time ≡ v.time
+  pub spare : w.events.spare ≡ v.events.spare

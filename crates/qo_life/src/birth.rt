@@ -2,6 +2,7 @@
 
 ghost use Rattle.std.specs.Prelude.{◌≡◌, ◌+◌, ◌<◌, [], ◌∷◌, ◌++◌, length, IfOk, OnErr, Err, if◌then◌else◌};
 ghost use Rattle.qo_values.specs.declared.kinds.TypeId.{TypeId};
+ghost use Rattle.qo_values.specs.declared.limits.TheConstants.{LIVE_OBJECTS_MAX};
 ghost use Rattle.qo_model.specs.Types.{has_finaliser};
 ghost use Rattle.qo_notes.specs.Log.{noted_all};
 ghost use Rattle.qo_object.specs.Content.{fresh};
@@ -40,7 +41,7 @@ fn note_inits(heap: &mut Heap, o: Oid, kind: TypeId)
 
 /// Makes an object of a type, without slots and pinned once, of the next birth, and notes its
 /// initialisers, base first (docs/devel/qom.rst, "The QEMU Object Model": `instance_init`). `Limit`
-/// comes exactly at 4,096 live objects. An error leaves the heap as it was.
+/// comes exactly at `LIVE_OBJECTS_MAX` live objects. An error leaves the heap as it was.
 pub fn create<L: Ledger>(
     heap: &mut Heap,
     alloc: Global,
@@ -48,9 +49,9 @@ pub fn create<L: Ledger>(
     steps: &mut Steps<L>,
 ) -> Result<Oid, MakeError>
     ensures made { IfOk result (λ o. (o.birth ≡ heap.old.born + 1) × (heap.new ≡ record heap.old { rows = heap.old.rows ++ (o, fresh kind) ∷ []; born = heap.old.born + 1; log = noted_all (init_notes o.birth kind) heap.old.log })) }
-    ensures below { IfOk result (λ o. length heap.old.rows < 4096) }
-    ensures limit { result ≡ Err Limit → length heap.old.rows ≡ 4096 }
-    ensures memory { result ≡ Err NoMemory → length heap.old.rows < 4096 }
+    ensures below { IfOk result (λ o. length heap.old.rows < LIVE_OBJECTS_MAX) }
+    ensures limit { result ≡ Err Limit → length heap.old.rows ≡ LIVE_OBJECTS_MAX }
+    ensures memory { result ≡ Err NoMemory → length heap.old.rows < LIVE_OBJECTS_MAX }
     ensures err { OnErr result (heap.new ≡ heap.old) }
 {
     let o = heap.make(alloc, kind, steps)?;

@@ -1,26 +1,28 @@
 -- Commands that change the board, by what they answer.
 use Rattle.std.proofs.Common.{◌≡◌, ℕ, Bool, true, false, List, refl, sym, ap, ◌∙◌, Option, None, Some, Result, Ok, Err, ◌⊎◌, inl, inr, subst}
 use Rattle.std.proofs.lemmas.Bool.{true≢false}
+use Rattle.std.specs.Option.{option_map_or}
 use Rattle.qo_values.specs.declared.codes.Code.{Code}
+use Rattle.qo_values.specs.declared.codes.Code.TheVariants.{E20}
 use Rattle.qo_values.specs.declared.properties.Val.{Val}
 use Rattle.qo_model.specs.Board.{Board}
-use Rattle.qo_model.specs.Objects.{Given, added_as, added_by, barred, is_object_named, object_add, object_del, objects_birth, place_from, refusal_of, sever, with_attempt}
+use Rattle.qo_model.specs.Objects.{Given, added_as, added_by, attempted_as, barred, barred_by, is_object_named, object_add, object_del, objects_birth, place_from, refusal_of, sever, with_attempt}
 use Rattle.qo_model.specs.Board.{slots_at, is_live}
 use Rattle.qo_model.specs.Paths.{attached}
 use Rattle.qo_model.specs.Types.{TypeRow, row_named}
-use Rattle.qo_heap.specs.Objects.{Objects}
-use Rattle.qo_realize.specs.At.{write_at}
+use Rattle.qo_model.specs.Access.{write_at}
 use Rattle.qo_replies.specs.Replies.{error_reply, return_reply}
 use Rattle.qo_requests.specs.declared.requests.Request.{Request}
 use Rattle.qo_requests.specs.declared.requests.Request.TheVariants.{QmpCapabilities, QueryVersion, QueryCommands, QueryStatus, Stop, Cont, SystemReset, Quit, QomList, QomGet, QomSet, QomListTypes, DeviceListProperties, ObjectAdd, ObjectDel, DeviceAdd, DeviceDel, ChardevAdd, ChardevRemove, RingbufRead, RingbufWrite, XResetHold, XResetRelease, XSever, XQueryNotes, XQueryDetached, XGuest, XStep}
 use Rattle.qo_commands.specs.Changes.{attempted, is_change}
 use Rattle.qo_commands.specs.Commands.{Done, changed, empty, perform, refused_with, returned, wrote}
-use Rattle.qo_commands.specs.Stands.{Stands}
+use Rattle.qo_realize.specs.Parts.{Parts}
+use Rattle.qo_realize.specs.Stands.{Stands}
 use Rattle.qo_machine.specs.Machine.{reply}
 use Rattle.qo_machine.specs.Serving.{Changed}
 
 -- what is known of a command that was done
-pub changed_done : (b : Board) (r : Request) (id : Option (List ℕ)) (text : List ℕ) (v : Objects) → Stands (perform b r).board v → perform b r ≡ returned (perform b r).board empty → text ≡ return_reply id empty → Changed b r id text v
+pub changed_done : (b : Board) (r : Request) (id : Option (List ℕ)) (text : List ℕ) (v : Parts) → Stands (perform b r).board v → perform b r ≡ returned (perform b r).board empty → text ≡ return_reply id empty → Changed b r id text v
 changed_done b r id text v stands is written =
     record {
       stands = stands;
@@ -30,7 +32,7 @@ changed_done b r id text v stands is written =
     }
 
 -- and of one that was refused
-pub changed_refused : (b : Board) (r : Request) (id : Option (List ℕ)) (code : Code) (text : List ℕ) (v : Objects) → Stands (perform b r).board v → perform b r ≡ refused_with (perform b r).board code → text ≡ error_reply id code → Changed b r id text v
+pub changed_refused : (b : Board) (r : Request) (id : Option (List ℕ)) (code : Code) (text : List ℕ) (v : Parts) → Stands (perform b r).board v → perform b r ≡ refused_with (perform b r).board code → text ≡ error_reply id code → Changed b r id text v
 changed_refused b r id code text v stands is written =
     record {
       stands = stands;
@@ -56,13 +58,18 @@ added_stays b driver id props code is = by (row_named driver) refl is
     by_props row None e = absurd (cc (ap (λ (d : Done). d.result) e))
     by_props row (Some other) e = refl
 
-    by_bar : (row : TypeRow) (refusal : Option Code) → changed (added_by b row id props refusal) ≡ refused_with (changed (added_by b row id props refusal)).board code → ((changed (added_by b row id props refusal)).board ≡ b) ⊎ ((changed (added_by b row id props refusal)).board ≡ with_attempt b row.id)
-    by_bar row None e = inr (by_props row (refusal_of b row.id props) e)
-    by_bar row (Some other) e = inl refl
+    attempted_is : (row : TypeRow) → row_named driver ≡ Some row → barred b row id ≡ None → with_attempt b row.id ≡ attempted b (ObjectAdd driver id props)
+    attempted_is row named open_so =
+        let bar : barred_by b driver id ≡ None = ap (λ (o : Option TypeRow). option_map_or (λ (r : TypeRow). barred b r id) o (Some E20)) named ∙ open_so in
+        rw (attempted_as, bar) (ap (λ (o : Option TypeRow). option_map_or (λ (r : TypeRow). with_attempt b r.id) o b) (sym named))
+
+    by_bar : (row : TypeRow) (refusal : Option Code) → row_named driver ≡ Some row → barred b row id ≡ refusal → changed (added_by b row id props refusal) ≡ refused_with (changed (added_by b row id props refusal)).board code → ((changed (added_by b row id props refusal)).board ≡ b) ⊎ ((changed (added_by b row id props refusal)).board ≡ attempted b (ObjectAdd driver id props))
+    by_bar row None named open_so e = inr (by_props row (refusal_of b row.id props) e ∙ attempted_is row named open_so)
+    by_bar row (Some other) named barred_so e = inl refl
 
     by : (row : Option TypeRow) → row_named driver ≡ row → changed (object_add b driver id props) ≡ refused_with (changed (object_add b driver id props)).board code → Stays b (ObjectAdd driver id props) (changed (object_add b driver id props)).board
     by None named e = rw (object_add, named) (inl refl)
-    by (Some row) named e = rw (object_add, named) (by_bar row (barred b row id) (rw (object_add, named) at e))
+    by (Some row) named e = rw (object_add, named) (by_bar row (barred b row id) named refl (rw (object_add, named) at e))
 
 deleted_stays : (b : Board) (id : List ℕ) (code : Code) → changed (object_del b id) ≡ refused_with (changed (object_del b id)).board code → (changed (object_del b id)).board ≡ b
 deleted_stays b id code is = by (place_from (is_object_named id) 0 (slots_at b objects_birth)) refl is
@@ -110,7 +117,7 @@ refused_stays b XQueryDetached code change is = absurd (true≢false (sym change
 refused_stays b (XGuest line) code change is = absurd (true≢false (sym change))
 refused_stays b (XStep ns) code change is = absurd (true≢false (sym change))
 
-pub stands_still : (b : Board) (r : Request) (code : Code) (v : Objects) → is_change r ≡ true → Stands (perform b r).board v → perform b r ≡ refused_with (perform b r).board code → Stands b v ⊎ Stands (attempted b r) v
+pub stands_still : (b : Board) (r : Request) (code : Code) (v : Parts) → is_change r ≡ true → Stands (perform b r).board v → perform b r ≡ refused_with (perform b r).board code → Stands b v ⊎ Stands (attempted b r) v
 stands_still b r code v change stands is = by (refused_stays b r code change is)
   where
     by : ((perform b r).board ≡ b) ⊎ ((perform b r).board ≡ attempted b r) → Stands b v ⊎ Stands (attempted b r) v

@@ -23,10 +23,9 @@ use Rattle.qo_sessions.specs.declared.modes.Mode.TheVariants.{Closed, Negotiatin
 use Rattle.qo_values.specs.declared.codes.Code.TheVariants.{E99}
 use Rattle.qo_machine.proofs.MachineLemmas.{behind_twice, serve_on, step_ended, step_on, stopped, with_same}
 use Rattle.qo_machine.proofs.RunLemmas.{outs_more, state_more}
-use Rattle.qo_commands.specs.Changes.{attempted}
 use Rattle.qo_commands.specs.Commands.{empty, perform}
 use Rattle.qo_machine.specs.Laws.{ChunksAreFree, CutAnywhere, Matches, in_one, in_two, quiet}
-use Rattle.qo_machine.specs.Machine.{Choice, Made, Message, State, Stepped, answered, behind, behind_command, defined, given_up, refused, event_outs, first, id_of, is_commanding, item_step, made_by, mode_of, numbers_below, opening, others, reply, serve, serve_unless, session_of, step, taken, those_commanding, told_of, unchanged, with_board, with_session}
+use Rattle.qo_machine.specs.Machine.{Choice, Made, Message, State, Stepped, answered, behind, behind_command, defined, given_up, refused, event_outs, first, is_commanding, item_step, made_by, mode_of, numbers_below, opening, others, reply, serve, serve_unless, session_of, step, taken, those_commanding, told_of, unchanged, with_board, with_session}
 use Rattle.qo_machine.specs.Runs.{Turn, closed_where, outs_of, state_after}
 
 -- Where the stream of one session stands.
@@ -118,14 +117,12 @@ behind_same true n f s b going = refl
 behind_same false n f s b going = sym (still_on n f (with_board s b) false going)
 
 made_still : (choice : Choice) (at : Moment) (n : ℕ) (f : Framing) (s : State) (what : SessionAct) → s.ended ≡ false → made_by choice at n (reframed n f s) what ≡ still_made n f (made_by choice at n s what)
-made_still refused at n f s what going =
-    ap (λ (t : State). answered t n (error_reply (id_of what) E99)) (sym (still_on n f s false going))
-made_still given_up at n f s (Answer code id) going =
-    ap (λ (t : State). answered t n (error_reply id E99)) (sym (still_on n f s false going))
-made_still given_up at n f s (Negotiated id) going =
-    ap (λ (t : State). answered t n (error_reply id E99)) (sym (still_on n f s false going))
-made_still given_up at n f s (Do request id) going =
-    ap (λ (t : State). answered t n (error_reply id E99)) (sym (still_on n f (with_board s (attempted s.board request)) false going))
+made_still (refused i joined) at n f s (Answer code id) going =
+    ap (λ (t : State). answered t n (error_reply id code)) (sym (still_on n f s false going))
+made_still (refused i joined) at n f s (Negotiated id) going =
+    ap (λ (t : State). answered t n (return_reply id empty)) (negotiated_same n f s ∙ sym (still_on n f (negotiated n s) false going))
+made_still (refused i joined) at n f s (Do request id) going =
+    ap (λ (t : State). answered t n (error_reply id E99)) (sym (still_on n f (with_board s (given_up s.board request i joined)) false going))
 made_still defined at n f s (Answer code id) going =
     ap (λ (t : State). answered t n (error_reply id code)) (sym (still_on n f s false going))
 made_still defined at n f s (Negotiated id) going =
@@ -230,10 +227,10 @@ command_lives true n s b h = refl
 command_lives false n s b h = h
 
 made_lives : (choice : Choice) (at : Moment) (n : ℕ) (s : State) (what : SessionAct) → lives n s ≡ true → lives n (made_by choice at n s what).state ≡ true
-made_lives refused at n s what h = h
-made_lives given_up at n s (Answer code id) h = h
-made_lives given_up at n s (Negotiated id) h = h
-made_lives given_up at n s (Do request id) h = h
+made_lives (refused i joined) at n s (Answer code id) h = h
+made_lives (refused i joined) at n s (Negotiated id) h =
+    or_more s.ended (is_open (mode_of s n)) (is_open (mode_of (negotiated n s) n)) (negotiated_open s.sessions n) h
+made_lives (refused i joined) at n s (Do request id) h = h
 made_lives defined at n s (Answer code id) h = h
 made_lives defined at n s (Negotiated id) h =
     or_more s.ended (is_open (mode_of s n)) (is_open (mode_of (negotiated n s) n)) (negotiated_open s.sessions n) h

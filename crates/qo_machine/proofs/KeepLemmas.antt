@@ -1,5 +1,5 @@
 -- What each command keeps of the board, and each attempt that is given up, a step and a run keep.
-use Rattle.std.proofs.Common.{◌≡◌, ℕ, nat_lt, Bool, true, false, if◌then◌else◌, List, [], ◌∷◌, map, refl, Option, None, Some, Result, Ok, Err, codes}
+use Rattle.std.proofs.Common.{◌≡◌, ℕ, nat_lt, ◌==◌, Bool, true, false, if◌then◌else◌, List, [], ◌∷◌, map, refl, Option, None, Some, Result, Ok, Err, codes}
 use Rattle.std.specs.Option.{option_map_or}
 use Rattle.qo_causes.specs.declared.inputs.Input.{Input}
 use Rattle.qo_causes.specs.declared.inputs.Moment.{Moment}
@@ -15,10 +15,10 @@ use Rattle.qo_values.specs.declared.kinds.TypeId.{TypeId}
 use Rattle.qo_values.specs.declared.properties.Val.{Val}
 use Rattle.qo_model.specs.Board.{Board}
 use Rattle.qo_model.specs.FinalNotesRuns.{Change, added, deleted, wrote, severed, changed}
-use Rattle.qo_model.specs.Objects.{Changed, object_add, object_del, sever, with_attempt}
+use Rattle.qo_model.specs.Objects.{Changed, barred_by, object_add, object_del, sever, with_attempt}
 use Rattle.qo_model.specs.Properties.{object_at, write}
 use Rattle.qo_model.specs.Types.{TypeRow, is_a, row_named}
-use Rattle.qo_realize.specs.At.{listing_at, read, write_at}
+use Rattle.qo_model.specs.Access.{listing_at, read, write_at}
 use Rattle.qo_requests.specs.declared.requests.Request.{Request}
 use Rattle.qo_requests.specs.declared.requests.Request.TheVariants.{QmpCapabilities, QueryVersion, QueryCommands, QueryStatus, Stop, Cont, SystemReset, Quit, QomList, QomGet, QomSet, QomListTypes, DeviceListProperties, ObjectAdd, ObjectDel, DeviceAdd, DeviceDel, ChardevAdd, ChardevRemove, RingbufRead, RingbufWrite, XResetHold, XResetRelease, XSever, XQueryNotes, XQueryDetached, XGuest, XStep}
 use Rattle.qo_sessions.specs.Acts.{act}
@@ -30,7 +30,7 @@ use Rattle.qo_sessions.specs.declared.modes.Mode.TheVariants.{Closed, Negotiatin
 use Rattle.qo_commands.specs.Changes.{attempted}
 use Rattle.qo_commands.specs.Commands.{answered, device_properties, perform}
 use Rattle.qo_commands.specs.Commands as commands
-use Rattle.qo_machine.specs.Machine.{Choice, State, Stepped, behind, behind_command, defined, first, given_up, input_step, item_step, made_by, mode_of, opened, others, refused, serve, serve_unless, session_of, step, taken, unchanged, with_board, with_session}
+use Rattle.qo_machine.specs.Machine.{Choice, State, Stepped, behind, behind_command, defined, first, input_step, item_step, made_by, mode_of, opened, others, refused, serve, serve_unless, session_of, step, taken, unchanged, with_board, with_session}
 use Rattle.qo_machine.specs.Runs.{Turn, after, state_after}
 
 -- what each change of the board keeps, and each attempt
@@ -105,11 +105,12 @@ perform_keeps P k b (XGuest line) p = p
 perform_keeps P k b (XStep ns) p = p
 
 pub attempted_keeps : (P : Board → Type 0) → KeepsBoard P → (b : Board) (r : Request) → P b → P (attempted b r)
-attempted_keeps P k b (ObjectAdd driver id props) p = by (row_named driver)
+attempted_keeps P k b (ObjectAdd driver id props) p = by (barred_by b driver id) (row_named driver)
   where
-    by : (row : Option TypeRow) → P (option_map_or (λ (row : TypeRow). with_attempt b row.id) row b)
-    by None = p
-    by (Some row) = k.attempt b row.id p
+    by : (bar : Option Code) (row : Option TypeRow) → P (elim bar as (λ o. Board) [ Some code ↦ b | None ↦ option_map_or (λ (row : TypeRow). with_attempt b row.id) row b ])
+    by (Some code) row = p
+    by None None = p
+    by None (Some row) = k.attempt b row.id p
 attempted_keeps P k b (QmpCapabilities enable) p = p
 attempted_keeps P k b QueryVersion p = p
 attempted_keeps P k b QueryCommands p = p
@@ -144,11 +145,14 @@ ends_board : (P : Board → Type 0) (e : Bool) (s : State) → P s.board → P (
 ends_board P true s p = p
 ends_board P false s p = p
 
+given_up_board : (P : Board → Type 0) → KeepsBoard P → (b : Board) (request : Request) (made : Bool) → P b → P (if made then attempted b request else b)
+given_up_board P k b request true p = attempted_keeps P k b request p
+given_up_board P k b request false p = p
+
 made_board : (P : Board → Type 0) → KeepsBoard P → (choice : Choice) (at : Moment) (n : ℕ) (s : State) (what : SessionAct) → P s.board → P (made_by choice at n s what).state.board
-made_board P k refused at n s what p = p
-made_board P k given_up at n s (Answer code id) p = p
-made_board P k given_up at n s (Negotiated id) p = p
-made_board P k given_up at n s (Do request id) p = attempted_keeps P k s.board request p
+made_board P k (refused i joined) at n s (Answer code id) p = p
+made_board P k (refused i joined) at n s (Negotiated id) p = p
+made_board P k (refused i joined) at n s (Do request id) p = given_up_board P k s.board request (i == 1) p
 made_board P k defined at n s (Answer code id) p = p
 made_board P k defined at n s (Negotiated id) p = p
 made_board P k defined at n s (Do request id) p = ends_board P (perform s.board request).ends (with_board s (perform s.board request).board) (perform_keeps P k s.board request p)
@@ -161,7 +165,7 @@ unless_board : (P : Board → Type 0) (e : Bool) (a b : Stepped) → P a.state.b
 unless_board P true a b p q = p
 unless_board P false a b p q = q
 
-serve_board : (P : Board → Type 0) → KeepsBoard P → (items : List Item) (at : Moment) (n : ℕ) (s : State) (cs : List Choice) → P s.board → P (serve at n items s cs).state.board
+pub serve_board : (P : Board → Type 0) → KeepsBoard P → (items : List Item) (at : Moment) (n : ℕ) (s : State) (cs : List Choice) → P s.board → P (serve at n items s cs).state.board
 serve_board P k [] at n s cs p = p
 serve_board P k (item ∷ items) at n s cs p =
     unless_board P s.ended (unchanged s cs) (behind (item_step (first cs) at n s item).outs (serve at n items (item_step (first cs) at n s item).state (others cs))) p (serve_board P k items at n (item_step (first cs) at n s item).state (others cs) (item_board P k (first cs) at n s item p))

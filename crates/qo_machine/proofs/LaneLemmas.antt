@@ -15,7 +15,7 @@ use Rattle.qo_sessions.specs.declared.modes.Mode.{Mode}
 use Rattle.qo_sessions.specs.declared.modes.Mode.TheVariants.{Closed, Negotiating, Commanding}
 use Rattle.qo_machine.proofs.MachineLemmas.{told_more}
 use Rattle.qo_commands.specs.Commands.{perform}
-use Rattle.qo_machine.specs.Machine.{Choice, Message, State, Stepped, behind, defined, given_up, refused, event_outs, first, input_step, is_commanding, item_step, made_by, mode_of, numbers_below, opened, others, serve, serve_unless, session_of, taken, those_commanding, told_of, unchanged, with_session}
+use Rattle.qo_machine.specs.Machine.{Choice, Message, State, Stepped, behind, defined, refused, event_outs, first, input_step, is_commanding, item_step, made_by, mode_of, numbers_below, opened, others, serve, serve_unless, session_of, taken, those_commanding, told_of, unchanged, with_session}
 use Rattle.qo_machine.specs.Sending.{AreToLanes}
 
 lanes_more : (a b : List Message) → AreToLanes a → AreToLanes b → AreToLanes (a ++ b)
@@ -40,8 +40,9 @@ made_lanes : (choice : Choice) (at : Moment) (n : ℕ) (s : State) (what : Sessi
 made_lanes defined at n s (Answer code id) below = (below, tt)
 made_lanes defined at n s (Negotiated id) below = (below, tt)
 made_lanes defined at n s (Do request id) below = lanes_more (event_outs at s (perform s.board request).events) _ (events_told (perform s.board request).events s at) (below, tt)
-made_lanes refused at n s what below = (below, tt)
-made_lanes given_up at n s what below = (below, tt)
+made_lanes (refused i joined) at n s (Answer code id) below = (below, tt)
+made_lanes (refused i joined) at n s (Negotiated id) below = (below, tt)
+made_lanes (refused i joined) at n s (Do request id) below = (below, tt)
 
 item_lanes : (choice : Choice) (at : Moment) (n : ℕ) (s : State) (item : Item) → n < 16 → AreToLanes (item_step choice at n s item).outs
 unfolding item_step

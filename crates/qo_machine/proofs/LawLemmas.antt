@@ -12,7 +12,7 @@ use Rattle.qo_sessions.specs.declared.acts.SessionAct.TheVariants.{Answer, Negot
 use Rattle.qo_sessions.specs.declared.modes.Mode.{Mode}
 use Rattle.qo_sessions.specs.declared.modes.Mode.TheVariants.{Closed, Negotiating, Commanding}
 use Rattle.qo_machine.specs.Laws.{Alone, IsOwn, ItemAlone, LanesAreApart, OpenAlone, ShutAlone}
-use Rattle.qo_machine.specs.Machine.{Choice, State, Stepped, defined, given_up, refused, input_step, item_step, made_by, mode_of, opened, serve_unless, session_of, step, unchanged, with_session}
+use Rattle.qo_machine.specs.Machine.{Choice, State, Stepped, defined, refused, input_step, item_step, made_by, mode_of, opened, serve_unless, session_of, step, unchanged, with_session}
 
 -- a session that is put changes no other
 set_elsewhere : (ss : List sessions.State) (n m : ℕ) (x : sessions.State) → m ≢ n → slice_index_or (slice_set ss n x) m closed ≡ slice_index_or ss m closed
@@ -73,10 +73,9 @@ shut_alone s at n cs = on s.ended
     on false = by_number (nat_lt n 16)
 
 made_alone : (choice : Choice) (at : Moment) (n : ℕ) (s : State) (what : SessionAct) → IsOwn what → Alone n s (made_by choice at n s what).outs (made_by choice at n s what).state
-made_alone refused at n s what own = alone_told n s _
-made_alone given_up at n s (Answer code id) own = alone_told n s _
-made_alone given_up at n s (Negotiated id) own = alone_told n s _
-made_alone given_up at n s (Do request id) own = absurd own
+made_alone (refused i joined) at n s (Answer code id) own = alone_told n s _
+made_alone (refused i joined) at n s (Negotiated id) own = alone_both n s (in_mode Commanding (session_of s n)) _
+made_alone (refused i joined) at n s (Do request id) own = absurd own
 made_alone defined at n s (Answer code id) own = alone_told n s _
 made_alone defined at n s (Negotiated id) own = alone_both n s (in_mode Commanding (session_of s n)) _
 made_alone defined at n s (Do request id) own = absurd own

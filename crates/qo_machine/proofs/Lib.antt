@@ -3,6 +3,7 @@ pub mod ChunkLemmas
 pub mod KeepLemmas
 pub mod LaneLemmas
 pub mod LawLemmas
+pub mod LeftLemmas
 pub mod MachineLemmas
 pub mod NoteLemmas
 pub mod RunLemmas

@@ -22,14 +22,13 @@ use Rattle.qo_values.specs.declared.codes.Code.{Code}
 use Rattle.qo_values.specs.declared.codes.Code.TheVariants.{E99}
 use Rattle.qo_model.specs.Board.{Board}
 use Rattle.qo_model.specs.Opening.{opening_board}
-use Rattle.qo_heap.specs.Board.{Shows}
-use Rattle.qo_heap.specs.Objects.{Objects}
 use Rattle.qo_commands.specs.Changes.{attempted}
 use Rattle.qo_commands.specs.Commands.{Done, empty, perform}
 use Rattle.qo_commands.specs.Views.{done_of}
 use Rattle.qo_commands.specs.declared.commands.Done as code
-use Rattle.qo_commands.specs.Stands.{Stands}
-use Rattle.qo_machine.specs.Machine.{Choice, IsIn, Made, Message, Seen, State, Stepped, Answers, opening, behind, behind_command, commanding, defined, given_up, refused, event_outs, first, input_step, item_step, made_by, mode_of, others, reply, serve, serve_unless, session_of, state_at, step, those_commanding, told_of, unchanged, with_board, with_session}
+use Rattle.qo_realize.specs.Parts.{Parts}
+use Rattle.qo_realize.specs.Stands.{Stands}
+use Rattle.qo_machine.specs.Machine.{Choice, IsIn, Made, Message, Seen, State, Stepped, Answers, opening, behind, behind_command, commanding, defined, refused, event_outs, first, input_step, item_step, made_by, mode_of, others, reply, serve, serve_unless, session_of, state_at, step, those_commanding, told_of, unchanged, with_board, with_session}
 use Rattle.qo_machine.specs.Serving.{Changed, CommandServed, Serves, ServesTo, moved}
 
 -- behind the end nothing is served
@@ -47,11 +46,11 @@ pub seen_ended : {m n : Seen} → m ≡ n → m.ended ≡ n.ended
 seen_ended is = ap (λ (m : Seen). m.ended) is
 
 -- a state that a machine is in, by its board
-pub in_at : (b : Board) (m : Seen) → Stands b m.objects → IsIn (state_at b m) m
+pub in_at : (b : Board) (m : Seen) → Stands b m.board → IsIn (state_at b m) m
 in_at b m stands = record { stands = stands; rest = refl }
 
 -- what is so of a state that a machine is in, is so of its board with the rest of the machine
-pub by_board : (P : State → Type 0) (m : Seen) → ((b : Board) → Stands b m.objects → P (state_at b m)) → (s : State) → IsIn s m → P s
+pub by_board : (P : State → Type 0) (m : Seen) → ((b : Board) → Stands b m.board → P (state_at b m)) → (s : State) → IsIn s m → P s
 by_board P m h s at = subst P (sym at.rest) (h s.board at.stands)
 
 -- what a step is, by its answer
@@ -174,14 +173,14 @@ command_done at n s request id outs m sent to = (defined, sent, to)
 
 -- a command was refused for want of memory
 pub command_refused : (at : Moment) (n : ℕ) (s : State) (request : Request) (id : Option (List ℕ)) (text : List ℕ) (m : Seen) → text ≡ error_reply id E99 → IsIn s m → CommandServed at n s request id ((to_session n, text) ∷ []) m
-command_refused at n s request id text m written to = (refused, rw written refl, to)
+command_refused at n s request id text m written to = (refused 0 false, rw written refl, to)
 
 -- a command was refused for want of memory, behind an attempt
 pub command_given_up : (at : Moment) (n : ℕ) (s : State) (request : Request) (id : Option (List ℕ)) (text : List ℕ) (m : Seen) → text ≡ error_reply id E99 → IsIn (with_board s (attempted s.board request)) m → CommandServed at n s request id ((to_session n, text) ∷ []) m
-command_given_up at n s request id text m written to = (given_up, rw written refl, to)
+command_given_up at n s request id text m written to = (refused 1 false, rw written refl, to)
 
 -- all items of some bytes
-serve_all : (at : Moment) (n : ℕ) (s t : State) (items : List Item) (outs : List Message) → (p : Serves at n s items outs t) → serve at n items s p.0 ≡ record { outs = outs; state = t; rest = [] }
+pub serve_all : (at : Moment) (n : ℕ) (s t : State) (items : List Item) (outs : List Message) → (p : Serves at n s items outs t) → serve at n items s p.0 ≡ record { outs = outs; state = t; rest = [] }
 serve_all at n s t items outs p =
     ap (λ (is : List Item). serve at n is s p.0) (sym (append-nil items)) ∙ ap (serve at n (items ++ []) s) (sym (append-nil p.0)) ∙ p.1 [] []
     ∙ ap (λ (o : List Message). record { outs = o; state = t; rest = [] }) (append-nil outs)
@@ -197,7 +196,7 @@ bytes_taken at n s m bytes items outs below is p =
 -- A machine that moved beside its board.
 
 -- from a state that it was in it is in the one that is moved so
-pub in_moved : (f : State → State) (m to : Seen) → ((b : Board) → state_at b to ≡ f (state_at b m)) → to.objects ≡ m.objects → (s : State) → IsIn s m → IsIn (f s) to
+pub in_moved : (f : State → State) (m to : Seen) → ((b : Board) → state_at b to ≡ f (state_at b m)) → to.board ≡ m.board → (s : State) → IsIn s m → IsIn (f s) to
 in_moved f m to move same s at =
     by_board (λ (x : State). IsIn (f x) to) m (λ b stands. subst (λ (x : State). IsIn x to) (move b) (in_at b to (subst (Stands b) (sym same) stands))) s at
 
@@ -206,7 +205,7 @@ pub in_still : (m to : Seen) → to ≡ m → (s : State) → IsIn s m → IsIn 
 in_still m to same s at = subst (IsIn s) (sym same) at
 
 -- an input that touches no board, as the machine answers it
-pub answers_moved : (i : Input) (w : What) (outs : List Message) (m to : Seen) → m.ended ≡ false → i.what ≡ w → ((b : Board) → input_step (state_at b m) i.at w [] ≡ record { outs = outs; state = state_at b to; rest = [] }) → to.objects ≡ m.objects → (s : State) → IsIn s m → Answers s i outs to
+pub answers_moved : (i : Input) (w : What) (outs : List Message) (m to : Seen) → m.ended ≡ false → i.what ≡ w → ((b : Board) → input_step (state_at b m) i.at w [] ≡ record { outs = outs; state = state_at b to; rest = [] }) → to.board ≡ m.board → (s : State) → IsIn s m → Answers s i outs to
 answers_moved i w outs m to going what is same s at =
     by_board (λ (x : State). Answers x i outs to) m
     (λ b stands. answers_on (state_at b m) (state_at b to) i w outs to [] [] going what (is b) (in_at b to (subst (Stands b) (sym same) stands))) s at
@@ -229,7 +228,7 @@ serves_on at n s mid to is js a b p q =
     let next = q p.0 p.1 in (next.0, next.1, serves_more at n s p.0 next.0 is js a b p.2 next.2)
 
 -- a refused item, and a negotiation, as the machine serves them
-pub serves_answer : (at : Moment) (n : ℕ) (m to : Seen) (item : Item) (code : Code) (id : Option (List ℕ)) (text : List ℕ) → m.ended ≡ false → ((b : Board) → Answer code id ≡ act (mode_of (state_at b m) n) item) → ((b : Board) → state_at b to ≡ moved (state_at b m) n (Answer code id)) → to.objects ≡ m.objects → text ≡ error_reply id code → (s : State) → IsIn s m → ServesTo at n s (item ∷ []) ((to_session n, text) ∷ []) to
+pub serves_answer : (at : Moment) (n : ℕ) (m to : Seen) (item : Item) (code : Code) (id : Option (List ℕ)) (text : List ℕ) → m.ended ≡ false → ((b : Board) → Answer code id ≡ act (mode_of (state_at b m) n) item) → ((b : Board) → state_at b to ≡ moved (state_at b m) n (Answer code id)) → to.board ≡ m.board → text ≡ error_reply id code → (s : State) → IsIn s m → ServesTo at n s (item ∷ []) ((to_session n, text) ∷ []) to
 serves_answer at n m to item code id text going is move same written s here =
     by_board (λ (x : State). ServesTo at n x (item ∷ []) ((to_session n, text) ∷ []) to) m
     (λ b stands. (
@@ -238,7 +237,7 @@ serves_answer at n m to item code id text going is move same written s here =
       item_answered at n (state_at b m) (state_at b to) item code id text going (is b) (move b) written,
     )) s here
 
-pub serves_negotiation : (at : Moment) (n : ℕ) (m to : Seen) (item : Item) (id : Option (List ℕ)) (text : List ℕ) → m.ended ≡ false → ((b : Board) → Negotiated id ≡ act (mode_of (state_at b m) n) item) → ((b : Board) → state_at b to ≡ moved (state_at b m) n (Negotiated id)) → to.objects ≡ m.objects → text ≡ return_reply id empty → (s : State) → IsIn s m → ServesTo at n s (item ∷ []) ((to_session n, text) ∷ []) to
+pub serves_negotiation : (at : Moment) (n : ℕ) (m to : Seen) (item : Item) (id : Option (List ℕ)) (text : List ℕ) → m.ended ≡ false → ((b : Board) → Negotiated id ≡ act (mode_of (state_at b m) n) item) → ((b : Board) → state_at b to ≡ moved (state_at b m) n (Negotiated id)) → to.board ≡ m.board → text ≡ return_reply id empty → (s : State) → IsIn s m → ServesTo at n s (item ∷ []) ((to_session n, text) ∷ []) to
 serves_negotiation at n m to item id text going is move same written s here =
     by_board (λ (x : State). ServesTo at n x (item ∷ []) ((to_session n, text) ∷ []) to) m
     (λ b stands. (
@@ -248,7 +247,7 @@ serves_negotiation at n m to item id text going is move same written s here =
     )) s here
 
 -- a command, as the machine serves it
-pub serves_command : (at : Moment) (n : ℕ) (m mid to : Seen) (item : Item) (request : Request) (id : Option (List ℕ)) (outs : List Message) → m.ended ≡ false → ((b : Board) → Do request id ≡ act (mode_of (state_at b m) n) item) → ((b : Board) → state_at b mid ≡ moved (state_at b m) n (Do request id)) → mid.objects ≡ m.objects → ((s : State) → IsIn s mid → CommandServed at n s request id outs to) → (s : State) → IsIn s m → ServesTo at n s (item ∷ []) outs to
+pub serves_command : (at : Moment) (n : ℕ) (m mid to : Seen) (item : Item) (request : Request) (id : Option (List ℕ)) (outs : List Message) → m.ended ≡ false → ((b : Board) → Do request id ≡ act (mode_of (state_at b m) n) item) → ((b : Board) → state_at b mid ≡ moved (state_at b m) n (Do request id)) → mid.board ≡ m.board → ((s : State) → IsIn s mid → CommandServed at n s request id outs to) → (s : State) → IsIn s m → ServesTo at n s (item ∷ []) outs to
 serves_command at n m mid to item request id outs going is move same served s here =
     by_board (λ (x : State). ServesTo at n x (item ∷ []) outs to) m
     (λ b stands.
@@ -263,7 +262,7 @@ serves_over at n m to item over same s here =
 -- Commands.
 
 -- one that leaves the board
-pub served_ask : (at : Moment) (n : ℕ) (m to : Seen) (request : Request) (id : Option (List ℕ)) (d : code.Done) (text : List ℕ) (told front : List Message) → ((b : Board) → Stands b m.objects → (done_of b d ≡ perform b request) × (text ≡ reply id (perform b request).result)) → ((b : Board) → told ≡ event_outs at (state_at b m) d.events.items) → front ≡ told ++ (to_session n, text) ∷ [] → ((b : Board) → state_at b to ≡ behind_command d.ends (state_at b m)) → to.objects ≡ m.objects → (s : State) → IsIn s m → CommandServed at n s request id front to
+pub served_ask : (at : Moment) (n : ℕ) (m to : Seen) (request : Request) (id : Option (List ℕ)) (d : code.Done) (text : List ℕ) (told front : List Message) → ((b : Board) → Stands b m.board → (done_of b d ≡ perform b request) × (text ≡ reply id (perform b request).result)) → ((b : Board) → told ≡ event_outs at (state_at b m) d.events.items) → front ≡ told ++ (to_session n, text) ∷ [] → ((b : Board) → state_at b to ≡ behind_command d.ends (state_at b m)) → to.board ≡ m.board → (s : State) → IsIn s m → CommandServed at n s request id front to
 served_ask at n m to request id d text told front done tells is move same s here =
     by_board (λ (x : State). CommandServed at n x request id front to) m
     (λ b stands.
@@ -277,7 +276,7 @@ served_ask at n m to request id d text told front done tells is move same s here
     (in_at b to (subst (Stands b) (sym same) stands)))) s here
 
 -- one that changes the board: done, or refused for want of memory
-pub served_change : (at : Moment) (n : ℕ) (m to : Seen) (request : Request) (id : Option (List ℕ)) (text : List ℕ) → ((b : Board) → Stands b m.objects → Changed b request id text to.objects) → ((b : Board) → state_at b to ≡ state_at b m) → (s : State) → IsIn s m → CommandServed at n s request id ((to_session n, text) ∷ []) to
+pub served_change : (at : Moment) (n : ℕ) (m to : Seen) (request : Request) (id : Option (List ℕ)) (text : List ℕ) → ((b : Board) → Stands b m.board → Changed b request id text to.board) → ((b : Board) → state_at b to ≡ state_at b m) → (s : State) → IsIn s m → CommandServed at n s request id ((to_session n, text) ∷ []) to
 served_change at n m to request id text done move s here =
     by_board (λ (x : State). CommandServed at n x request id ((to_session n, text) ∷ []) to) m
     (λ b stands.
@@ -288,12 +287,12 @@ served_change at n m to request id text done move s here =
     (subst (λ (x : State). IsIn x to) (move (perform b request).board ∙ ap (λ (e : Bool). behind_command e (with_board (state_at b m) (perform b request).board)) (sym d.going))
     (in_at (perform b request).board to d.stands))) s here
 
-pub served_want : (at : Moment) (n : ℕ) (m to : Seen) (request : Request) (id : Option (List ℕ)) (text : List ℕ) → text ≡ error_reply id E99 → ((b : Board) → Stands b m.objects → Stands b to.objects ⊎ Stands (attempted b request) to.objects) → ((b : Board) → state_at b to ≡ state_at b m) → (s : State) → IsIn s m → CommandServed at n s request id ((to_session n, text) ∷ []) to
+pub served_want : (at : Moment) (n : ℕ) (m to : Seen) (request : Request) (id : Option (List ℕ)) (text : List ℕ) → text ≡ error_reply id E99 → ((b : Board) → Stands b m.board → Stands b to.board ⊎ Stands (attempted b request) to.board) → ((b : Board) → state_at b to ≡ state_at b m) → (s : State) → IsIn s m → CommandServed at n s request id ((to_session n, text) ∷ []) to
 served_want at n m to request id text written kept move s here =
     by_board (λ (x : State). CommandServed at n x request id ((to_session n, text) ∷ []) to) m
     (λ b stands. by b (kept b stands)) s here
   where
-    by : (b : Board) → Stands b to.objects ⊎ Stands (attempted b request) to.objects → CommandServed at n (state_at b m) request id ((to_session n, text) ∷ []) to
+    by : (b : Board) → Stands b to.board ⊎ Stands (attempted b request) to.board → CommandServed at n (state_at b m) request id ((to_session n, text) ∷ []) to
     by b (inl stands) =
         command_refused at n (state_at b m) request id text to written (subst (λ (x : State). IsIn x to) (move b) (in_at b to stands))
     by b (inr stands) =
@@ -302,7 +301,7 @@ served_want at n m to request id text written kept move s here =
 -- The answers of the machine's own calls.
 
 -- an input that touches no board
-pub served_beside : {E : Type 0} (r : Result (List Message) E) (i : Input) (w : What) (m to : Seen) → m.ended ≡ false → i.what ≡ w → ((b : Board) (at : Moment) → IfOk r (λ outs. input_step (state_at b m) at w [] ≡ record { outs = outs; state = state_at b to; rest = [] })) → to.objects ≡ m.objects → (s : State) → IsIn s m → IfOk r (λ outs. Answers s i outs to)
+pub served_beside : {E : Type 0} (r : Result (List Message) E) (i : Input) (w : What) (m to : Seen) → m.ended ≡ false → i.what ≡ w → ((b : Board) (at : Moment) → IfOk r (λ outs. input_step (state_at b m) at w [] ≡ record { outs = outs; state = state_at b to; rest = [] })) → to.board ≡ m.board → (s : State) → IsIn s m → IfOk r (λ outs. Answers s i outs to)
 served_beside r i w m to going what is same s here =
     by_board (λ (x : State). IfOk r (λ outs. Answers x i outs to)) m
     (λ b stands. if_ok r (λ outs h. answers_on (state_at b m) (state_at b to) i w outs to [] [] going what h (in_at b to (subst (Stands b) (sym same) stands))) (is b i.at)) s here
@@ -312,7 +311,7 @@ pub served_bytes : {E : Type 0} (r : Result (List Message) E) (i : Input) (w : W
 served_bytes r i w m to going what is s here = if_ok r (λ outs p. answers_taken i w outs m to going what s here p) (is s here)
 
 -- the items that bytes complete
-pub served_items : {E : Type 0} (r : Result (List Message) E) (at : Moment) (n : ℕ) (m mid to : Seen) (bytes : List ℕ) (items : List Item) → n < 16 → ((b : Board) → items ≡ (fed (session_of (state_at b m) n) bytes).items) → ((b : Board) → state_at b mid ≡ with_session (state_at b m) n (fed (session_of (state_at b m) n) bytes).session) → mid.objects ≡ m.objects → IfOk r (λ outs. (s : State) → IsIn s mid → ServesTo at n s items outs to) → (s : State) → IsIn s m → IfOk r (λ outs. (choices : List Choice) × (t : State) × IsIn t to × (input_step s at (Bytes n bytes) choices ≡ record { outs = outs; state = t; rest = [] }))
+pub served_items : {E : Type 0} (r : Result (List Message) E) (at : Moment) (n : ℕ) (m mid to : Seen) (bytes : List ℕ) (items : List Item) → n < 16 → ((b : Board) → items ≡ (fed (session_of (state_at b m) n) bytes).items) → ((b : Board) → state_at b mid ≡ with_session (state_at b m) n (fed (session_of (state_at b m) n) bytes).session) → mid.board ≡ m.board → IfOk r (λ outs. (s : State) → IsIn s mid → ServesTo at n s items outs to) → (s : State) → IsIn s m → IfOk r (λ outs. (choices : List Choice) × (t : State) × IsIn t to × (input_step s at (Bytes n bytes) choices ≡ record { outs = outs; state = t; rest = [] }))
 served_items r at n m mid to bytes items below cuts move same served s here =
     by_board
     (λ (x : State). IfOk r (λ outs. (choices : List Choice) × (t : State) × IsIn t to × (input_step x at (Bytes n bytes) choices ≡ record { outs = outs; state = t; rest = [] }))) m
@@ -332,14 +331,14 @@ beyond at n bytes s outs high none = by (nat_lt n 16) refl
     by false is = rw is (leaves s outs none)
 
 -- a machine at first
-pub starts : (m : Seen) → Shows opening_board m.objects → m.sessions ≡ replicate 16 closed → m.ended ≡ false → IsIn opening m
-unfolding opening_board
-starts m shows shut going =
+pub starts : (m : Seen) → Stands opening_board m.board → m.sessions ≡ replicate 16 closed → m.guest_line ≡ [] → m.ended ≡ false → IsIn opening m
+starts m stands shut empty_line going =
     record {
-      stands = record { shows = shows; running = refl };
+      stands = stands;
       rest =
           ap (λ (ss : List sessions.State). record { board = opening_board; sessions = ss; guest_line = []; ended = false }) (sym shut)
-          ∙ ap (λ (e : Bool). record { board = opening_board; sessions = m.sessions; guest_line = []; ended = e }) (sym going);
+          ∙ ap (λ (line : List ℕ). record { board = opening_board; sessions = m.sessions; guest_line = line; ended = false }) (sym empty_line)
+          ∙ ap (λ (e : Bool). record { board = opening_board; sessions = m.sessions; guest_line = m.guest_line; ended = e }) (sym going);
     }
 
 pub on_ok : {T E P Q : Type 0} (r : Result T E) → (P → Q) → OnOk r P → OnOk r Q
@@ -351,9 +350,9 @@ pub on_err : {T E P : Type 0} (r : Result T E) → P → OnErr r P
 on_err (Ok x) p = tt
 on_err (Err e) p = p
 
--- a heap by the view of the machine that has it
-pub stands_in : (b : Board) (v : Objects) (m : Seen) → v ≡ m.objects → Stands b m.objects → Stands b v
+-- a board by the view of the machine that has it
+pub stands_in : (b : Board) (v : Parts) (m : Seen) → v ≡ m.board → Stands b m.board → Stands b v
 stands_in b v m is stands = subst (Stands b) (sym is) stands
 
-pub seen_objects : {m n : Seen} → m ≡ n → m.objects ≡ n.objects
-seen_objects is = ap (λ (m : Seen). m.objects) is
+pub seen_board : {m n : Seen} → m ≡ n → m.board ≡ n.board
+seen_board is = ap (λ (m : Seen). m.board) is

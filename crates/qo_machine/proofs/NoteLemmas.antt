@@ -17,5 +17,5 @@ notes_kept =
     }
 
 pub final_once_in_runs : FinalOnceInRuns
-final_once_in_runs turns n =
-    once (state_after opening turns).board (run_keeps NotesInOrder notes_kept opening turns opening_notes) n
+final_once_in_runs turns =
+    let kept = run_keeps NotesInOrder notes_kept opening turns opening_notes in (kept, λ n. once (state_after opening turns).board kept n)

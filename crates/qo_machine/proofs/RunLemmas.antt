@@ -229,7 +229,7 @@ cut_none limit i t g n = (
   told i t g n,
   [],
   None,
-  turns_none opening i t g n,
+  (turns_none opening i t g n, refl),
   record { took = none_taken i; sent = (0, omega arith, nothing_appended t); lanes = λ l. (0, omega arith, nothing_appended (g l)); losses = λ k. omega arith },
   omega arith,
 )
@@ -359,5 +359,5 @@ stopped_by a b c m to count limit bad e few h p = by e (p (state_after opening h
       (also a b c m count h.0 h.1 q, still_going a b m count h.0 h.1),
       (let few_turns : length h.0 < limit = omega (arith, h.1.count_is) in few_turns),
     )
-    by SendFailed q = (b, h.0, q.0, h.1.turns_are, q.1, last_within h.0 q.0 count limit h.1.count_is few)
-    by Memory q = (b, h.0, q.0, h.1.turns_are, q.1, last_within h.0 q.0 count limit h.1.count_is few)
+    by SendFailed q = (b, h.0, q.0, (h.1.turns_are, still_going a b m count h.0 h.1), q.1, last_within h.0 q.0 count limit h.1.count_is few)
+    by Memory q = (b, h.0, q.0, (h.1.turns_are, still_going a b m count h.0 h.1), q.1, last_within h.0 q.0 count limit h.1.count_is few)

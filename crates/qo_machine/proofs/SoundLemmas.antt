@@ -22,9 +22,9 @@ records_same b c v p q = p.records ∙ sym q.records
 pub sound_by : (s t : State) (m : Seen) → IsIn s m → IsIn t m → SoundGraph s.board × SoundAliases s.board → IsSound t.board
 sound_by s t m p q h =
     record {
-      graph = frame_lem.graph s.board t.board (graph_same s.board t.board m.objects p.stands.shows q.stands.shows) h.0;
-      aliases = frame_lem.aliases s.board t.board (records_same s.board t.board m.objects p.stands.shows q.stands.shows) h.1;
-      events = record { none = q.stands.shows.events };
+      graph = frame_lem.graph s.board t.board (graph_same s.board t.board m.board.objects p.stands.shows q.stands.shows) h.0;
+      aliases = frame_lem.aliases s.board t.board (records_same s.board t.board m.board.objects p.stands.shows q.stands.shows) h.1;
+      events = record { none = q.stands.quiet.events };
     }
 
 -- a machine at first

@@ -1,14 +1,16 @@
 -- Steps keep the tree of the board sound.
-use Rattle.std.proofs.Common.{List}
+use Rattle.std.proofs.Common.{List, subst, sym}
 use Rattle.qo_causes.specs.declared.inputs.Input.{Input}
 use Rattle.qo_model.proofs.OpeningLemmas.{opening_sound}
 use Rattle.qo_model.specs.Sound.{IsSound}
 use Rattle.qo_sound.proofs.KeptLemmas.{sound_kept_lem}
 use Rattle.qo_sound.specs.Kept.{SoundTree}
-use Rattle.qo_machine.proofs.KeepLemmas.{KeepsBoard, run_keeps, step_keeps}
+use Rattle.qo_machine.proofs.KeepLemmas.{KeepsBoard, run_keeps, serve_board, step_keeps}
+use Rattle.qo_machine.proofs.LeftLemmas.{fed_board}
+use Rattle.qo_machine.proofs.MachineLemmas.{in_at}
 use Rattle.qo_machine.proofs.SoundLemmas.{sound_by}
 use Rattle.qo_machine.specs.Laws.{SoundInRuns}
-use Rattle.qo_machine.specs.Machine.{Answers, IsIn, Message, Seen, State, opening, step}
+use Rattle.qo_machine.specs.Machine.{Answers, BreaksOff, IsIn, Message, Seen, State, fed_at, number_of, opening, serve, state_at, step}
 
 -- changes and attempts keep the tree sound
 tree_kept : KeepsBoard SoundTree
@@ -30,3 +32,10 @@ pub stepped_sound : (old new : Seen) (i : Input) (outs : List Message) → ((s :
 stepped_sound old new i outs answered s at sound t there =
     let p = answered s at in
     sound_by (step s i p.0).state t new p.2 there (step_keeps SoundTree tree_kept s i p.0 (sound.graph, sound.aliases))
+
+-- a step that was broken off
+pub broken_sound : (s : State) (i : Input) (m : Seen) → IsSound s.board → BreaksOff s i m → (t : State) → IsIn t m → IsSound t.board
+broken_sound s i m sound p t there =
+    let left = (serve i.at (number_of i.what) p.0 (fed_at s i.what) p.2).state.board in
+    sound_by (state_at left m) t m (in_at left m p.4) there
+    (serve_board SoundTree tree_kept p.0 i.at (number_of i.what) (fed_at s i.what) p.2 (subst SoundTree (sym (fed_board s i.what)) (sound.graph, sound.aliases)))

@@ -7,7 +7,7 @@ use Rattle.qo_causes.specs.declared.inputs.Moment.{Moment}
 use Rattle.qo_causes.specs.declared.inputs.What.{What}
 use Rattle.qo_causes.specs.declared.inputs.What.TheVariants.{Open, Bytes, Shut, Guest}
 use Rattle.qo_framing.specs.declared.items.Item.{Item}
-use Rattle.qo_model.specs.FinalNotes.{FinalOnce}
+use Rattle.qo_model.specs.FinalNotes.{FinalOnce, NotesInOrder}
 use Rattle.qo_sound.specs.Kept.{SoundTree}
 use Rattle.qo_sessions.specs.Acts.{act}
 use Rattle.qo_sessions.specs.declared.acts.SessionAct.{SessionAct}
@@ -71,9 +71,10 @@ CutAnywhere piece = (before behind : List Turn) (at : Moment) (a b : List ℕ) �
 abbrev pub ChunksAreFree : Type 0
 ChunksAreFree = ((n : ℕ) → CutAnywhere (Bytes n)) × CutAnywhere Guest
 
--- over every run each birth has its final notes at most once, derived first, and no note behind them
+-- over every run the notes are in order, with the births and types of the objects, and each birth has its final notes at most once, derived first, and no note behind them
 abbrev pub FinalOnceInRuns : Type 0
-FinalOnceInRuns = (turns : List Turn) (n : ℕ) → FinalOnce n (state_after opening turns).board.notes
+FinalOnceInRuns =
+    (turns : List Turn) → NotesInOrder (state_after opening turns).board × ((n : ℕ) → FinalOnce n (state_after opening turns).board.notes)
 
 -- each step keeps the tree of the board sound, and so it is over every run
 pub record SoundInRuns : Type 0 where

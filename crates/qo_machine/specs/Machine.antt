@@ -1,5 +1,5 @@
 -- The machine: its state, and what one input does.
-use Rattle.std.specs.Prelude.{◌≡◌, ℕ, zero, suc, nat_lt, Bool, true, false, if◌then◌else◌, List, [], ◌∷◌, ◌++◌, map, filter, Option, Result, Ok, Err, replicate, slice_set, slice_index_or}
+use Rattle.std.specs.Prelude.{◌≡◌, ℕ, zero, suc, nat_lt, ◌==◌, Bool, true, false, if◌then◌else◌, List, [], ◌∷◌, ◌++◌, map, filter, Option, Result, Ok, Err, replicate, slice_set, slice_index_or}
 use Rattle.std.specs.List.{flat_map}
 use Rattle.serde_json.specs.Data.{Data}
 use Rattle.qo_values.specs.declared.codes.Code.{Code}
@@ -16,6 +16,7 @@ use Rattle.qo_model.specs.Opening.{opening_board}
 use Rattle.qo_replies.specs.Events.{event_line}
 use Rattle.qo_replies.specs.Replies.{error_reply, greeting, return_reply}
 use Rattle.qo_replies.specs.declared.events.Event.{Event}
+use Rattle.qo_requests.specs.declared.requests.Request.{Request}
 use Rattle.qo_sessions.specs.Acts.{act}
 use Rattle.qo_sessions.specs.Sessions.{begun, closed, fed, in_mode}
 use Rattle.qo_sessions.specs.Sessions as sessions
@@ -23,10 +24,10 @@ use Rattle.qo_sessions.specs.declared.acts.SessionAct.{SessionAct}
 use Rattle.qo_sessions.specs.declared.acts.SessionAct.TheVariants.{Answer, Negotiated, Do}
 use Rattle.qo_sessions.specs.declared.modes.Mode.{Mode}
 use Rattle.qo_sessions.specs.declared.modes.Mode.TheVariants.{Commanding, Closed}
-use Rattle.qo_heap.specs.Objects.{Objects}
+use Rattle.qo_realize.specs.Parts.{Parts}
+use Rattle.qo_realize.specs.Stands.{Stands}
 use Rattle.qo_commands.specs.Changes.{attempted}
 use Rattle.qo_commands.specs.Commands.{Done, empty, perform}
-use Rattle.qo_commands.specs.Stands.{Stands}
 
 -- a message: where it goes, and its bytes with their line end
 abbrev pub Message : Type 0
@@ -43,11 +44,10 @@ pub record State : Type 0 where
 abbrev pub opening : State
 opening = record { board = opening_board; sessions = replicate 16 closed; guest_line = []; ended = false }
 
--- how an item is served: as it is defined; refused for want of memory; or so refused behind an attempt that was given up. A missing choice is `defined`.
+-- how an item is served: as it is defined; or, where it is a command, refused for want of memory, behind an attempt that had made so many objects, the last of them joined to the tree or not. A missing choice is `defined`.
 pub data Choice : Type 0 where
   defined : Choice
-  refused : Choice
-  given_up : Choice
+  refused : ℕ → Bool → Choice
 
 abbrev pub first : List Choice → Choice
 first [] = defined
@@ -142,22 +142,14 @@ made at n s (Answer code id) = answered s n (error_reply id code)
 made at n s (Negotiated id) = answered (with_session s n (in_mode Commanding (session_of s n))) n (return_reply id empty)
 made at n s (Do request id) = done at n s id (perform s.board request)
 
--- the id of the message that an item is
-abbrev pub id_of : SessionAct → Option (List ℕ)
-id_of (Answer code id) = id
-id_of (Negotiated id) = id
-id_of (Do request id) = id
+-- the board behind an attempt of a command that was given up when it had made so many objects: an attempt makes one
+abbrev pub given_up : Board → Request → ℕ → Bool → Board
+given_up b request i joined = if i == 1 then attempted b request else b
 
--- the state behind an attempt of a command that was given up
-abbrev pub behind_attempt : State → SessionAct → State
-behind_attempt s (Do request id) = with_board s (attempted s.board request)
-behind_attempt s what = s
-
--- refused for want of memory: E99 with the id, and nothing changes, or what an attempt leaves
+-- a command that is refused for want of memory: E99 with its id, and nothing changes but what an attempt leaves; all else is as it is defined
 abbrev pub made_by : Choice → Moment → ℕ → State → SessionAct → Made
-made_by defined at n s what = made at n s what
-made_by refused at n s what = answered s n (error_reply (id_of what) E99)
-made_by given_up at n s what = answered (behind_attempt s what) n (error_reply (id_of what) E99)
+made_by (refused i joined) at n s (Do request id) = answered (with_board s (given_up s.board request i joined)) n (error_reply id E99)
+made_by choice at n s what = made at n s what
 
 -- each item of a session makes exactly one reply
 unfoldable pub item_step : Choice → Moment → ℕ → State → Item → Made
@@ -197,26 +189,46 @@ input_step s at what choices = unchanged s choices
 unfoldable pub step : State → Input → List Choice → Stepped
 step s input choices = serve_unless s.ended (unchanged s choices) (input_step s input.at input.what choices)
 
--- what is seen of a machine: its objects, its sessions, whether its run has ended, and whether it ran out of memory
+-- what is seen of a machine: its board, its sessions, the front of the unfinished guest line, whether its run has ended, and whether it ran out of memory
 pub record Seen : Type 0 where
-  pub objects : Objects
+  pub board : Parts
   pub sessions : List sessions.State
+  pub guest_line : List ℕ
   pub ended : Bool
   pub spent : Bool
 
--- the state of a machine that stands at a board; it keeps no guest line yet
+-- the state of a machine that stands at a board
 abbrev pub state_at : Board → Seen → State
-state_at b m = record { board = b; sessions = m.sessions; guest_line = []; ended = m.ended }
+state_at b m = record { board = b; sessions = m.sessions; guest_line = m.guest_line; ended = m.ended }
 
 -- the same but for the board, for which the opening one stands: what is read of sessions alone is the same on every board
 abbrev pub beside : Seen → State
 beside m = state_at opening_board m
 
--- a machine is in a state: its objects stand for the state's board, and the rest is its own
+-- a machine is in a state: it stands at the state's board, and the rest is its own
 pub record IsIn (s : State) (m : Seen) : Type 0 where
-  pub stands : Stands s.board m.objects
+  pub stands : Stands s.board m.board
   pub rest : s ≡ state_at s.board m
 
 -- by some choices, a step from a state sends this, and a machine is then in the state that it leads to
 abbrev pub Answers : State → Input → List Message → Seen → Type 0
 Answers s input outs m = (choices : List Choice) × ((step s input choices).outs ≡ outs) × IsIn (step s input choices).state m
+
+-- the items that an input completes, the session whose they are, and the state in which they are served: what is unfinished is kept
+abbrev pub items_at : State → What → List Item
+items_at s (Bytes n bytes) = if nat_lt n 16 then (fed (session_of s n) bytes).items else []
+items_at s what = []
+
+abbrev pub number_of : What → ℕ
+number_of (Bytes n bytes) = n
+number_of what = 0
+
+abbrev pub fed_at : State → What → State
+fed_at s (Bytes n bytes) = if nat_lt n 16 then with_session s n (fed (session_of s n) bytes).session else s
+fed_at s what = s
+
+-- broken off: by some choices, a front of the items leads to a board that the machine's objects stand for
+abbrev pub BreaksOff : State → Input → Seen → Type 0
+BreaksOff s i m =
+    (front : List Item) × (back : List Item) × (choices : List Choice) × (items_at s i.what ≡ front ++ back)
+    × Stands (serve i.at (number_of i.what) front (fed_at s i.what) choices).state.board m.board

@@ -144,10 +144,10 @@ abbrev pub EndsAtLast : List Turn → Type 0
 EndsAtLast turns =
     (before : List Turn) × (last : Turn) × (turns ≡ before ++ last ∷ []) × ((state_after opening before).ended ≡ false) × ((state_after opening turns).ended ≡ true)
 
--- whole turns, and then one that was cut, if any; at most so many
+-- whole turns, behind which the run has not ended, and then one that was cut, if any; at most so many
 abbrev pub CutRun : ℕ → Told → Told → Type 0
 CutRun limit old new =
-    (mid : Told) × (turns : List Turn) × (last : Option Turn) × Turns opening old mid turns × Cut (state_after opening turns) mid new last
+    (mid : Told) × (turns : List Turn) × (last : Option Turn) × OpenRun old mid turns × Cut (state_after opening turns) mid new last
     × (length turns + length (option_to_list last) ≤ limit)
 
 -- what one turn did by its answer, from a state; a machine is then in the state behind it; the hub has this bad place

@@ -1,5 +1,5 @@
 -- Items served one after another, whatever choices and whatever items come behind.
-use Rattle.std.specs.Prelude.{◌≡◌, ℕ, false, List, [], ◌++◌, Option}
+use Rattle.std.specs.Prelude.{◌≡◌, ℕ, false, List, [], ◌++◌, Option, ◌⊎◌}
 use Rattle.qo_causes.specs.declared.inputs.Moment.{Moment}
 use Rattle.qo_framing.specs.declared.items.Item.{Item}
 use Rattle.qo_requests.specs.declared.requests.Request.{Request}
@@ -8,9 +8,9 @@ use Rattle.qo_sessions.specs.declared.acts.SessionAct.{SessionAct}
 use Rattle.qo_sessions.specs.declared.acts.SessionAct.TheVariants.{Answer, Negotiated, Do}
 use Rattle.qo_sessions.specs.declared.modes.Mode.TheVariants.{Commanding}
 use Rattle.qo_model.specs.Board.{Board}
-use Rattle.qo_heap.specs.Objects.{Objects}
 use Rattle.qo_commands.specs.Commands.{perform}
-use Rattle.qo_commands.specs.Stands.{Stands}
+use Rattle.qo_realize.specs.Parts.{Parts}
+use Rattle.qo_realize.specs.Stands.{Stands}
 use Rattle.qo_machine.specs.Machine.{Choice, IsIn, Message, Seen, State, behind, made_by, reply, serve, session_of, with_session}
 
 -- the state when it is known what an item comes to
@@ -33,8 +33,17 @@ Serves at n s items outs t =
 abbrev pub ServesTo : Moment → ℕ → State → List Item → List Message → Seen → Type 0
 ServesTo at n s items outs m = (t : State) × IsIn t m × Serves at n s items outs t
 
+-- where memory ran out for a command, a machine is in the state that the command found, or in one that it leads to by some choice
+abbrev pub CommandLeft : Moment → ℕ → State → Request → Option (List ℕ) → Seen → Type 0
+CommandLeft at n s request id m = IsIn s m ⊎ ((choice : Choice) × IsIn (made_by choice at n s (Do request id)).state m)
+
+-- where memory ran out for some items, a machine is in a state that a front of them leads to by some choices
+abbrev pub ServesFront : Moment → ℕ → State → List Item → Seen → Type 0
+ServesFront at n s items m =
+    (front : List Item) × (back : List Item) × (choices : List Choice) × (items ≡ front ++ back) × IsIn (serve at n front s choices).state m
+
 -- a command that changes the board was done as it is defined: without events, and the run goes on; this is its reply, and its board stands
-pub record Changed (b : Board) (request : Request) (id : Option (List ℕ)) (text : List ℕ) (v : Objects) : Type 0 where
+pub record Changed (b : Board) (request : Request) (id : Option (List ℕ)) (text : List ℕ) (v : Parts) : Type 0 where
   pub stands : Stands (perform b request).board v
   pub quiet : (perform b request).events ≡ []
   pub going : (perform b request).ends ≡ false

@@ -10,11 +10,12 @@ ghost use Rattle.qo_machine.specs.Runs.{closed_where};
 use crate::outs::Outs;
 use crate::replying::{EMPTY, reply_text};
 use crate::serving::serve_items;
-use qo_causes::{Input, Memory, Moment, What};
+use qo_causes::{Input, Moment, What};
 use qo_commands::{Done, ask, change};
 use qo_framing::Item;
 use qo_heap::Steps;
-use qo_realize::{Board, Refusal};
+use qo_properties::Refusal;
+use qo_realize::Board;
 use qo_replies::{error_text, return_written};
 use qo_requests::Request;
 use qo_sessions::{Mode, Session, SessionAct};
@@ -53,11 +54,12 @@ fn close_where(sessions: &mut Vec<Session>, lost: &[bool; 16])
 /// The machine.
 ///
 /// It is driven by one input at a time. A step that runs out of memory ends it: every later one
-/// answers `Memory`.
+/// answers `AllocError`.
 #[derive(Drop)]
 pub struct Machine {
     board: Board,
     sessions: Vec<Session>,
+    guest_line: Vec<u8>,
     ended: bool,
     spent: bool,
 }
@@ -68,7 +70,7 @@ impl Model for Machine {
 
     ghost Value = { Seen };
 
-    ghost view = { λ m. record { objects = m.board; sessions = m.sessions.items; ended = m.ended; spent = m.spent } };
+    ghost view = { λ m. record { board = m.board; sessions = m.sessions.items; guest_line = m.guest_line.items; ended = m.ended; spent = m.spent } };
 
     ghost invariant = { λ m. length m.sessions.items ≡ 16 };
 }
@@ -81,15 +83,15 @@ impl Machine {
     ghost use Rattle.qo_sessions.specs.Sessions.{fed};
     ghost use Rattle.qo_commands.specs.Changes.{attempted, is_change};
     ghost use Rattle.qo_commands.specs.Commands.{perform};
-    ghost use Rattle.qo_commands.specs.Stands.{Stands};
+    ghost use Rattle.qo_realize.specs.Stands.{Stands};
     ghost use Rattle.qo_commands.specs.Views.{done_of};
-    ghost use Rattle.qo_machine.specs.Machine.{Answers, IsIn, State, behind_command, beside, finished, input_step, mode_of, opening, session_of, state_at, with_session};
+    ghost use Rattle.qo_machine.specs.Machine.{Answers, BreaksOff, IsIn, State, behind_command, beside, finished, input_step, mode_of, opening, session_of, state_at, with_session};
     ghost use Rattle.qo_machine.specs.Runs.{close_lost};
     ghost use Rattle.qo_machine.specs.Sending.{AreToLanes};
     ghost use Rattle.qo_machine.specs.Serving.{Changed, moved};
 
     /// The machine at first: the opening board, and all sessions closed.
-    pub fn start(alloc: Global) -> Result<Machine, Memory>
+    pub fn start(alloc: Global) -> Result<Machine, AllocError>
         ensures state { IfOk result (λ m. IsIn opening m × (m.spent ≡ false)) }
         ensures sound { IfOk result (λ m. (s : State) → IsIn s m → IsSound s.board) }
     {
@@ -97,7 +99,7 @@ impl Machine {
     }
 
     /// The machine at first, made with a counter of steps over a blank.
-    fn start_counting<L: Ledger>(alloc: Global, blank: Blank) -> Result<Machine, Memory>
+    fn start_counting<L: Ledger>(alloc: Global, blank: Blank) -> Result<Machine, AllocError>
         requires name { blank.name ≡ L.name }
         requires parts { blank.parts ≡ L.parts }
         requires some { 0 < blank.parts }
@@ -105,17 +107,15 @@ impl Machine {
     {
         let mut steps = Steps::<L>::from_blank(blank);
         let Ok(board) = Board::start(alloc, &mut steps) else {
-            return Err(Memory);
+            return Err(AllocError);
         };
-        match closed_sessions(alloc) {
-            Ok(sessions) => Ok(Machine {
-                board,
-                sessions,
-                ended: false,
-                spent: false,
-            }),
-            Err(AllocError) => Err(Memory),
-        }
+        Ok(Machine {
+            board,
+            sessions: closed_sessions(alloc)?,
+            guest_line: Vec::new(alloc),
+            ended: false,
+            spent: false,
+        })
     }
 
     /// Whether the run has ended. It takes no memory.
@@ -128,26 +128,31 @@ impl Machine {
     /// Does what one input does, and gives the messages that it makes.
     ///
     /// A reply may instead be E99, where memory runs out for the defined one; the item has then done
-    /// nothing, but that `object-add` may have made and ended an object. It answers `Memory` where
+    /// nothing, but that `object-add` may have made and ended an object. It answers `AllocError` where
     /// memory runs out otherwise, and from then on always: the run has then ended, and all sessions
-    /// are closed; nothing is said of the board.
-    pub fn step(&mut self, alloc: Global, input: &Input) -> Result<Outs, Memory>
+    /// are closed. The board is then one that a front of the input's items leads to; it stays sound.
+    pub fn step(&mut self, alloc: Global, input: &Input) -> Result<Outs, AllocError>
         ensures answered { (s : State) → IsIn s self.old → IfOk result (λ outs. Answers s input.now outs self.new) }
         ensures lanes { IfOk result AreToLanes }
         ensures closes { OnErr result ((b : Tree) → state_at b self.new ≡ finished (state_at b self.old)) }
         ensures lasts { OnOk result (self.new.spent ≡ false) }
         ensures spends { OnErr result (self.new.spent ≡ true) }
         ensures spent { self.old.spent ≡ true → IsErr result }
-        ensures sound { (s : State) → IsIn s self.old → IsSound s.board → OnOk result ((t : State) → IsIn t self.new → IsSound t.board) }
+        ensures breaks { (s : State) → IsIn s self.old → OnErr result (BreaksOff s input.now self.new) }
+        ensures sound { (s : State) → IsIn s self.old → IsSound s.board → (t : State) → IsIn t self.new → IsSound t.board }
     {
-        if !self.spent {
-            match self.step_counting::<Brand>(alloc, input, Blank::new(1)) {
-                Ok(outs) => return Ok(outs),
-                Err(AllocError) => self.spent = true,
+        if self.spent {
+            self.finish();
+            return Err(AllocError);
+        }
+        match self.step_counting::<Brand>(alloc, input, Blank::new(1)) {
+            Ok(outs) => Ok(outs),
+            Err(AllocError) => {
+                self.spent = true;
+                self.finish();
+                Err(AllocError)
             }
         }
-        self.finish();
-        Err(Memory)
     }
 
     /// One step, with a counter of steps over a blank.
@@ -161,6 +166,7 @@ impl Machine {
         requires parts { blank.parts ≡ L.parts }
         requires some { 0 < blank.parts }
         ensures answered { (s : State) → IsIn s self.old → IfOk result (λ outs. Answers s input.now outs self.new) }
+        ensures breaks { (s : State) → IsIn s self.old → OnErr result (BreaksOff s input.now self.new) }
         ensures lanes { IfOk result AreToLanes }
         ensures lasts { self.new.spent ≡ self.old.spent }
     {
@@ -184,6 +190,7 @@ impl Machine {
         steps: &mut Steps<L>,
     ) -> Result<Outs, AllocError>
         ensures answered { (s : State) → IsIn s self.old → IfOk result (λ outs. Answers s input.now outs self.new) }
+        ensures breaks { (s : State) → IsIn s self.old → OnErr result (BreaksOff s input.now self.new) }
         ensures lanes { IfOk result AreToLanes }
         ensures lasts { self.new.spent ≡ self.old.spent }
     {
@@ -212,7 +219,7 @@ impl Machine {
     fn open(&mut self, alloc: Global, session: u8) -> Result<Outs, AllocError>
         ensures answered { (b : Tree) (at : Moment) → IfOk result (λ outs. input_step (state_at b self.old) at (What.Open session) [] ≡ record { outs = outs; state = state_at b self.new; rest = [] }) }
         ensures lanes { IfOk result AreToLanes }
-        ensures objects { self.new.objects ≡ self.old.objects }
+        ensures board { self.new.board ≡ self.old.board }
         ensures lasts { self.new.spent ≡ self.old.spent }
     {
         let mut outs = Outs::none(alloc);
@@ -230,7 +237,7 @@ impl Machine {
     /// A session is shut: what is unfinished of it is dropped. It takes no memory.
     fn shut(&mut self, session: u8)
         ensures answered { (b : Tree) (at : Moment) → input_step (state_at b self.old) at (What.Shut session) [] ≡ record { outs = []; state = state_at b self.new; rest = [] } }
-        ensures objects { self.new.objects ≡ self.old.objects }
+        ensures board { self.new.board ≡ self.old.board }
         ensures lasts { self.new.spent ≡ self.old.spent }
     {
         if session < SESSIONS {
@@ -248,6 +255,7 @@ impl Machine {
         steps: &mut Steps<L>,
     ) -> Result<Outs, AllocError>
         ensures answered { (s : State) → IsIn s self.old → IfOk result (λ outs. (choices : List Choice) × (t : State) × IsIn t self.new × (input_step s at (What.Bytes session bytes.now) choices ≡ record { outs = outs; state = t; rest = [] })) }
+        ensures breaks { (s : State) → IsIn s self.old → OnErr result (BreaksOff s (record { at = at; what = What.Bytes session bytes.now }) self.new) }
         ensures lanes { IfOk result AreToLanes }
         ensures lasts { self.new.spent ≡ self.old.spent }
     {
@@ -263,7 +271,7 @@ impl Machine {
         requires { session < 16 }
         ensures items { (b : Tree) → IfOk result (λ items. items.items ≡ (fed (session_of (state_at b self.old) session) bytes.now).items) }
         ensures state { (b : Tree) → IfOk result (λ items. state_at b self.new ≡ with_session (state_at b self.old) session (fed (session_of (state_at b self.old) session) bytes.now).session) }
-        ensures objects { self.new.objects ≡ self.old.objects }
+        ensures board { self.new.board ≡ self.old.board }
         ensures lasts { self.new.spent ≡ self.old.spent }
     {
         match self.sessions[usize::from(session)].feed(alloc, bytes) {
@@ -290,7 +298,8 @@ impl Machine {
         requires { session < 16 }
         ensures act { (b : Tree) → IfOk result (λ what. what ≡ act (mode_of (state_at b self.old) session) item.now) }
         ensures state { (b : Tree) → IfOk result (λ what. state_at b self.new ≡ moved (state_at b self.old) session what) }
-        ensures objects { self.new.objects ≡ self.old.objects }
+        ensures kept { (b : Tree) → OnErr result (state_at b self.new ≡ state_at b self.old) }
+        ensures board { self.new.board ≡ self.old.board }
         ensures lasts { self.new.spent ≡ self.old.spent }
     {
         match self.sessions[usize::from(session)].act(alloc, item) {
@@ -308,8 +317,8 @@ impl Machine {
         steps: &mut Steps<L>,
     ) -> Result<(Done, Chars), AllocError>
         requires { is_change request.now ≡ false }
-        ensures done { (b : Tree) → Stands b self.now.objects → IfOk result (λ a. done_of b a.0 ≡ perform b request.now) }
-        ensures text { (b : Tree) → Stands b self.now.objects → IfOk result (λ a. a.1 ≡ reply (option_map (λ id. id.now) id.entry) (perform b request.now).result) }
+        ensures done { (b : Tree) → Stands b self.now.board → IfOk result (λ a. done_of b a.0 ≡ perform b request.now) }
+        ensures text { (b : Tree) → Stands b self.now.board → IfOk result (λ a. a.1 ≡ reply (option_map (λ id. id.now) id.entry) (perform b request.now).result) }
     {
         let done = ask(alloc, &self.board, request, steps)?;
         let text = reply_text(alloc, id, &done.result)?;
@@ -327,8 +336,8 @@ impl Machine {
         steps: &mut Steps<L>,
     ) -> Result<Chars, AllocError>
         requires { is_change request.now ≡ true }
-        ensures changed { (b : Tree) → Stands b self.old.objects → IfOk result (λ text. Changed b request.now (option_map (λ id. id.now) id.entry) text self.new.objects) }
-        ensures kept { (b : Tree) → Stands b self.old.objects → OnErr result (Stands b self.new.objects ⊎ Stands (attempted b request.now) self.new.objects) }
+        ensures changed { (b : Tree) → Stands b self.old.board → IfOk result (λ text. Changed b request.now (option_map (λ id. id.now) id.entry) text self.new.board) }
+        ensures kept { (b : Tree) → Stands b self.old.board → OnErr result (Stands b self.new.board ⊎ Stands (attempted b request.now) self.new.board) }
         ensures rest { (b : Tree) → state_at b self.new ≡ state_at b self.old }
         ensures lasts { self.new.spent ≡ self.old.spent }
     {
@@ -343,7 +352,7 @@ impl Machine {
     /// The run ends where a command ends it. It takes no memory.
     pub(crate) fn conclude(&mut self, ends: bool)
         ensures state { (b : Tree) → state_at b self.new ≡ behind_command ends (state_at b self.old) }
-        ensures objects { self.new.objects ≡ self.old.objects }
+        ensures board { self.new.board ≡ self.old.board }
         ensures lasts { self.new.spent ≡ self.old.spent }
     {
         if ends {
@@ -354,10 +363,11 @@ impl Machine {
     /// The run ends: all sessions are closed. It takes no memory.
     fn finish(&mut self)
         ensures done { (b : Tree) → state_at b self.new ≡ finished (state_at b self.old) }
-        ensures objects { self.new.objects ≡ self.old.objects }
+        ensures board { self.new.board ≡ self.old.board }
         ensures lasts { self.new.spent ≡ self.old.spent }
     {
         close_where(&mut self.sessions, &[true; 16]);
+        self.guest_line.clear();
         self.ended = true;
     }
 }

@@ -1,6 +1,6 @@
 //! Runs: inputs from a hub, until the run ends.
 
-ghost use Rattle.std.specs.Prelude.{◌≡◌, ◌≤◌, List, [], ◌∷◌, ◌++◌, OnErr, OnOk};
+ghost use Rattle.std.specs.Prelude.{◌≡◌, ◌≢◌, ◌≤◌, List, [], ◌∷◌, ◌++◌, OnErr, OnOk};
 ghost use Rattle.qo_causes.specs.Cause.{HasCause, Rose};
 ghost use Rattle.qo_machine.specs.Machine.{IsIn, Message, State};
 ghost use Rattle.qo_machine.specs.Runs.{RunMeets, Told, TurnMeets, is_lost, told};
@@ -52,7 +52,8 @@ fn send_one<H: Hub>(
     ensures bad { H.bad hub.new ≡ H.bad hub.old }
     ensures asked { H.asked hub.new ≡ H.asked hub.old }
     ensures cause { HasCause (H.send_faults hub.old) (H.send_faults hub.new) result }
-    ensures next_count { H.next_faults hub.old ≤ H.next_faults hub.new }
+    ensures quiet { OnOk result (H.send_faults hub.new ≡ H.send_faults hub.old) }
+    ensures next_count { H.next_faults hub.new ≡ H.next_faults hub.old }
     ensures later { H.later hub.old hub.new }
 {
     if is_lost(lost, lane) {
@@ -75,7 +76,8 @@ fn send_all<H: Hub>(hub: &mut H, outs: &[(Lane, Chars)]) -> Result<[bool; 16], F
     ensures bad { H.bad hub.new ≡ H.bad hub.old }
     ensures asked { H.asked hub.new ≡ H.asked hub.old }
     ensures cause { HasCause (H.send_faults hub.old) (H.send_faults hub.new) result }
-    ensures next_count { H.next_faults hub.old ≤ H.next_faults hub.new }
+    ensures quiet { OnOk result (H.send_faults hub.new ≡ H.send_faults hub.old) }
+    ensures next_count { H.next_faults hub.new ≡ H.next_faults hub.old }
     ensures later { H.later hub.old hub.new }
 {
     let mut lost = [false; 16];
@@ -96,6 +98,8 @@ fn turn<H: Hub>(alloc: Global, hub: &mut H, machine: &mut Machine) -> Result<(),
     ensures send_count { H.send_faults hub.old ≤ H.send_faults hub.new }
     ensures next_cause { result ≡ Err Ending.NextFailed → Rose (H.next_faults hub.old) (H.next_faults hub.new) }
     ensures send_cause { result ≡ Err Ending.SendFailed → Rose (H.send_faults hub.old) (H.send_faults hub.new) }
+    ensures next_quiet { result ≢ Err Ending.NextFailed → H.next_faults hub.new ≡ H.next_faults hub.old }
+    ensures send_quiet { result ≢ Err Ending.SendFailed → H.send_faults hub.new ≡ H.send_faults hub.old }
     ensures later { H.later hub.old hub.new }
 {
     let input = match hub.next() {
@@ -117,6 +121,9 @@ fn turn<H: Hub>(alloc: Global, hub: &mut H, machine: &mut Machine) -> Result<(),
 }
 
 /// Runs a new machine on the inputs of a hub, at most `limit` of them, until the run ends.
+///
+/// The count of faults of `begin` and `next` rises where it answers `NextFailed` and only there, and that of
+/// `send` where it answers `SendFailed` and only there: no call that failed is made again.
 pub fn run<H: Hub>(alloc: Global, hub: &mut H, limit: u64) -> Ending
     ensures meets { RunMeets result limit (told (H.inputs hub.old) (H.sent hub.old) (H.got hub.old) (H.losses hub.old)) (told (H.inputs hub.new) (H.sent hub.new) (H.got hub.new) (H.losses hub.new)) (H.bad hub.old) }
     ensures bad { H.bad hub.new ≡ H.bad hub.old }
@@ -125,6 +132,8 @@ pub fn run<H: Hub>(alloc: Global, hub: &mut H, limit: u64) -> Ending
     ensures send_count { H.send_faults hub.old ≤ H.send_faults hub.new }
     ensures next_cause { result ≡ Ending.NextFailed → Rose (H.next_faults hub.old) (H.next_faults hub.new) }
     ensures send_cause { result ≡ Ending.SendFailed → Rose (H.send_faults hub.old) (H.send_faults hub.new) }
+    ensures next_quiet { result ≢ Ending.NextFailed → H.next_faults hub.new ≡ H.next_faults hub.old }
+    ensures send_quiet { result ≢ Ending.SendFailed → H.send_faults hub.new ≡ H.send_faults hub.old }
     ensures later { H.later hub.old hub.new }
 {
     let Ok(mut machine) = Machine::start(alloc) else {

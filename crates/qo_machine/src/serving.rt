@@ -1,13 +1,13 @@
 //! Serving the items of a session: each makes exactly one reply, behind the events of its command.
 
-ghost use Rattle.std.specs.Prelude.{◌≡◌, ◌<◌, true, false, [], ◌∷◌, ◌++◌, List, option_map, IfOk, OnOk};
+ghost use Rattle.std.specs.Prelude.{◌≡◌, ◌<◌, true, false, [], ◌∷◌, ◌++◌, List, option_map, IfOk, OnErr, OnOk};
 ghost use Rattle.qo_causes.specs.declared.hubs.Lane.TheVariants as Lane;
 ghost use Rattle.qo_replies.specs.Replies.{error_reply};
 ghost use Rattle.qo_values.specs.declared.codes.Code.TheVariants.{E99};
 ghost use Rattle.qo_commands.specs.Changes.{is_change};
 ghost use Rattle.qo_machine.specs.Machine.{IsIn, Message, State, beside, commanding, event_outs, those_commanding, told_of};
 ghost use Rattle.qo_machine.specs.Sending.{AreToLanes};
-ghost use Rattle.qo_machine.specs.Serving.{CommandServed, ServesTo};
+ghost use Rattle.qo_machine.specs.Serving.{CommandLeft, CommandServed, ServesFront, ServesTo};
 
 use crate::machines::Machine;
 use crate::outs::Outs;
@@ -100,6 +100,7 @@ fn serve_ask<L: Ledger>(
     requires session { session < 16 }
     requires asks { is_change request.now ≡ false }
     ensures served { OnOk result ((front : List Message) × (outs.new ≡ outs.old ++ front) × AreToLanes front × ((s : State) → IsIn s machine.old → CommandServed at session s request.now (option_map (λ id. id.now) id.entry) front machine.new)) }
+    ensures left { OnErr result ((s : State) → IsIn s machine.old → CommandLeft at session s request.now (option_map (λ id. id.now) id.entry) machine.new) }
     ensures lasts { machine.new.spent ≡ machine.old.spent }
 {
     match machine.answer(alloc, request, id, steps) {
@@ -127,6 +128,7 @@ fn serve_change<L: Ledger>(
     requires session { session < 16 }
     requires changes { is_change request.now ≡ true }
     ensures served { OnOk result ((front : List Message) × (outs.new ≡ outs.old ++ front) × AreToLanes front × ((s : State) → IsIn s machine.old → CommandServed at session s request.now (option_map (λ id. id.now) id.entry) front machine.new)) }
+    ensures left { OnErr result ((s : State) → IsIn s machine.old → CommandLeft at session s request.now (option_map (λ id. id.now) id.entry) machine.new) }
     ensures lasts { machine.new.spent ≡ machine.old.spent }
 {
     match machine.change(alloc, request, id, steps) {
@@ -151,6 +153,7 @@ fn serve_command<L: Ledger>(
 ) -> Result<(), AllocError>
     requires { session < 16 }
     ensures served { OnOk result ((front : List Message) × (outs.new ≡ outs.old ++ front) × AreToLanes front × ((s : State) → IsIn s machine.old → CommandServed at session s request.now (option_map (λ id. id.now) id.entry) front machine.new)) }
+    ensures left { OnErr result ((s : State) → IsIn s machine.old → CommandLeft at session s request.now (option_map (λ id. id.now) id.entry) machine.new) }
     ensures lasts { machine.new.spent ≡ machine.old.spent }
 {
     if is_change(request) {
@@ -172,6 +175,7 @@ fn serve_item<L: Ledger>(
 ) -> Result<(), AllocError>
     requires { session < 16 }
     ensures served { OnOk result ((front : List Message) × (outs.new ≡ outs.old ++ front) × AreToLanes front × ((s : State) → IsIn s machine.old → ServesTo at session s (item.now ∷ []) front machine.new)) }
+    ensures left { OnErr result ((s : State) → IsIn s machine.old → ServesFront at session s (item.now ∷ []) machine.new) }
     ensures lasts { machine.new.spent ≡ machine.old.spent }
 {
     if machine.ended() {
@@ -211,6 +215,7 @@ pub(crate) fn serve_items<L: Ledger>(
 ) -> Result<Outs, AllocError>
     requires { session < 16 }
     ensures served { IfOk result (λ outs. (s : State) → IsIn s machine.old → ServesTo at session s items.now outs machine.new) }
+    ensures left { OnErr result ((s : State) → IsIn s machine.old → ServesFront at session s items.now machine.new) }
     ensures lanes { IfOk result AreToLanes }
     ensures lasts { machine.new.spent ≡ machine.old.spent }
 {

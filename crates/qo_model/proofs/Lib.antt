@@ -20,6 +20,7 @@ mod ObjectRows
 mod ReleaseRows
 pub mod ReleaseRulesLemmas
 mod Rows
+pub mod StaysLemmas
 pub mod StepLemmas
 pub mod TreeLemmas
 pub mod WeakLinkLemmas

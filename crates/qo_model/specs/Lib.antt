@@ -1,13 +1,16 @@
+pub mod Access
 pub mod Board
 pub mod Changes
 pub mod Clocks
 pub mod Depth
+pub mod Detachment
 pub mod Devices
 pub mod FinalNotes
 pub mod FinalNotesRuns
 pub mod Holders
 pub mod Laws
 pub mod Listing
+pub mod NoteReplies
 pub mod Notes
 pub mod Objects
 pub mod Opening
@@ -24,5 +27,6 @@ pub mod Sound
 pub mod SoundAliases
 pub mod SoundEvents
 pub mod SoundGraph
+pub mod Stays
 pub mod Types
 pub mod Unplug

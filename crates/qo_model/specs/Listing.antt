@@ -1,24 +1,11 @@
 -- What `qom-list` says of an object's slots (the profile's type texts; compare QEMU's QAPI, `ObjectPropertyInfo`).
-use Rattle.std.specs.Prelude.{ℕ, List, [], ◌++◌, map, find, codes}
+use Rattle.std.specs.Prelude.{ℕ, List, [], map, find, codes}
 use Rattle.std.specs.Option.{option_map_or}
 use Rattle.std.specs.Str.{bytes_eq}
-use Rattle.qo_values.specs.Kinds.{type_name}
 use Rattle.qo_values.specs.declared.kinds.TypeId.{TypeId}
-use Rattle.qo_values.specs.declared.properties.PropType.{PropType}
-use Rattle.qo_values.specs.declared.properties.PropType.TheVariants as ty
+pub use Rattle.qo_values.specs.TypeTexts.{around, value_word}
 use Rattle.qo_model.specs.Board.{Board, Slot, kind_of, slots_at, slot_named}
 use Rattle.qo_model.specs.Types.{Property, Kind, slots_of}
-
--- the word for the values of a type
-abbrev pub value_word : PropType → List ℕ
-value_word ty.Bool = codes "bool"
-value_word (ty.Int lo hi) = codes "int64"
-value_word (ty.Uint lo hi step) = codes "uint64"
-value_word ty.Text = codes "string"
-
--- a word around a type's name, as `child<clock>`
-abbrev pub around : List ℕ → TypeId → List ℕ
-around word t = word ++ codes "<" ++ type_name t ++ codes ">"
 
 -- the word of a property's row; only plain rows have one
 abbrev pub row_word : Property → List ℕ

@@ -4,6 +4,7 @@ use Rattle.std.specs.List.{join_with_byte}
 use Rattle.qo_values.specs.Kinds.{type_name}
 use Rattle.qo_values.specs.declared.kinds.Act.TheVariants.{Init, Realize, Unrealize, Enter, Hold, Exit, Pre, Update}
 use Rattle.qo_values.specs.declared.kinds.TypeId.{TypeId}
+use Rattle.qo_values.specs.declared.limits.TheConstants.{NOTES_KEPT}
 use Rattle.qo_model.specs.declared.notes.Deed.{Deed}
 use Rattle.qo_model.specs.declared.notes.Deed.TheVariants.{Did, Final}
 use Rattle.qo_model.specs.declared.notes.Note.{Note}
@@ -34,6 +35,6 @@ note_text n = join_with_byte 32 (deed_word n.deed ∷ decimal n.birth ∷ option
 abbrev pub total_of : List Note → ℕ
 total_of notes = min (length notes) (2 ^ 64 - 1)
 
--- the notes that are kept: the last 65,536
+-- the notes that are kept: the last `NOTES_KEPT`
 abbrev pub kept_of : List Note → List Note
-kept_of notes = drop (length notes - 65536) notes
+kept_of notes = drop (length notes - NOTES_KEPT) notes

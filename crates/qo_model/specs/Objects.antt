@@ -1,6 +1,7 @@
 -- Adding and removing objects by command (QEMU's QAPI, `object-add` and `object-del`; the order of refusals is the profile's), and cutting the links of a detached one.
 use Rattle.std.specs.Prelude.{ℕ, zero, suc, ◌+◌, ◌==◌, ◌&&◌, Bool, true, false, not, leb, if◌then◌else◌, List, [], ◌∷◌, ◌++◌, map, filter, length, codes, find, Option, Some, None, is_none, Result, Ok, Err}
 use Rattle.std.specs.List.{list_any}
+use Rattle.std.specs.Option.{option_map_or}
 use Rattle.std.specs.Str.{bytes_eq}
 use Rattle.qo_values.specs.Ids.{is_id}
 use Rattle.qo_values.specs.Properties.{admits}
@@ -9,6 +10,7 @@ use Rattle.qo_values.specs.declared.codes.Code.{Code}
 use Rattle.qo_values.specs.declared.codes.Code.TheVariants.{E15, E17, E18, E19, E20, E21, E22, E23, E24, E33, E43, E50}
 use Rattle.qo_values.specs.declared.kinds.Act.TheVariants.{Init}
 use Rattle.qo_values.specs.declared.kinds.TypeId.{TypeId}
+use Rattle.qo_values.specs.declared.limits.TheConstants.{LIVE_OBJECTS_MAX}
 use Rattle.qo_values.specs.declared.properties.Val.{Val}
 use Rattle.qo_values.specs.declared.properties.Val.TheVariants as val
 use Rattle.qo_model.specs.declared.notes.Deed.TheVariants.{Did}
@@ -16,7 +18,7 @@ use Rattle.qo_model.specs.declared.notes.Note.{Note}
 use Rattle.qo_model.specs.Board.{Board, Record, Slot, plain, child, strong, weak, is_live, slot_at, slots_at}
 use Rattle.qo_model.specs.Changes.{with_added}
 use Rattle.qo_model.specs.Opening.{fresh_slots}
-use Rattle.qo_model.specs.Paths.{attached, place_of}
+use Rattle.qo_model.specs.Paths.{attached, place_of, root_birth}
 use Rattle.qo_model.specs.Properties.{link_target, row_of_property}
 use Rattle.qo_model.specs.Release.{edited, final_notes, let_go, pin, unpin}
 use Rattle.qo_model.specs.Types.{Kind, Mark, Property, TypeRow, both, on_add, inits, is_a, row_named}
@@ -90,8 +92,12 @@ barred b row id =
     else if not (is_id id) then Some E23
     else if not (is_live b objects_birth) then Some E15
     else if has_slot b objects_birth id then Some E24
-    else if leb 4096 (length b.records) then Some E43
+    else if leb LIVE_OBJECTS_MAX (length b.records) then Some E43
     else None
+
+-- why an object of a type's name, under an id, is refused before an attempt is made, if it is
+abbrev pub barred_by : Board → List ℕ → List ℕ → Option Code
+barred_by b driver id = option_map_or (λ (row : TypeRow). barred b row id) (row_named driver) (Some E20)
 
 -- the board with an object more, under an id at `/objects`
 abbrev pub with_object : Board → TypeId → List ℕ → List Given → Board
@@ -113,6 +119,11 @@ with_attempt b t =
           b.notes ++ init_notes (b.born + 1) t
           ++ final_notes (record { birth = b.born + 1; kind = t; slots = []; registers = fresh_registers t; device_id = None; kept_path = None });
     }
+
+-- the board behind an attempt of `object-add` that was given up; the board itself where the type, the id or the number of objects bars the attempt
+abbrev pub attempted_as : Board → List ℕ → List ℕ → Board
+attempted_as b driver id =
+    elim (barred_by b driver id) [ Some code ↦ b | None ↦ option_map_or (λ (row : TypeRow). with_attempt b row.id) (row_named driver) b ]
 
 -- what a change comes to: the code that refuses it, if it is refused, and the board behind it
 pub record Changed : Type 0 where
@@ -165,4 +176,4 @@ sever b n =
 
 -- the objects without parent, but birth 1, in the order of births
 abbrev pub detached : Board → List Record
-detached b = filter (λ (r : Record). not (r.birth == 1) && is_none (place_of b r.birth)) b.records
+detached b = filter (λ (r : Record). not (r.birth == root_birth) && is_none (place_of b r.birth)) b.records

@@ -8,6 +8,10 @@ use Rattle.qo_model.specs.Board.{Board, Record, Slot, child, kind_of, slots_at, 
 use Rattle.qo_model.specs.Depth.{by_objects}
 use Rattle.qo_model.specs.Types.{is_a}
 
+-- the birth of `/`
+abbrev pub root_birth : ℕ
+root_birth = 1
+
 -- whether a slot is a child slot that names n
 abbrev pub is_child : ℕ → Slot → Bool
 is_child n (child m) = m == n
@@ -89,9 +93,9 @@ is_absolute (c ∷ cs) = c == 47
 abbrev pub only_of : Board → List ℕ → ℕ → Option ℕ
 only_of b wanted n = if is_of b wanted n then Some n else None
 
--- the object of an absolute path: where its components lead from birth 1, if that is of the wanted type
+-- the object of an absolute path: where its components lead from `/`, if that is of the wanted type
 abbrev pub resolve_absolute : Board → List ℕ → List ℕ → Option ℕ
-resolve_absolute b path wanted = if is_absolute path then option_and_then (only_of b wanted) (walk b 1 (components path)) else None
+resolve_absolute b path wanted = if is_absolute path then option_and_then (only_of b wanted) (walk b root_birth (components path)) else None
 
 -- what a path leads to from the objects that it may begin at: one object, none, or several, also where these are the same object
 pub data Place : Type 0 where
@@ -99,9 +103,9 @@ pub data Place : Type 0 where
   missing : Place
   several : Place
 
--- the objects that a path begins at: birth 1 for an absolute one, else each attached object
+-- the objects that a path begins at: `/` for an absolute one, else each attached object
 abbrev pub starts : Board → List ℕ → List ℕ
-starts b path = if is_absolute path then 1 ∷ [] else filter (attached b) (births b)
+starts b path = if is_absolute path then root_birth ∷ [] else filter (attached b) (births b)
 
 -- the objects of the wanted type that a path ends at, for each of its beginnings that leads to one
 abbrev pub ends : Board → List ℕ → List ℕ → List ℕ

@@ -7,6 +7,7 @@ use Rattle.qo_values.specs.Ids.{is_id}
 use Rattle.qo_values.specs.Kinds.{type_name}
 use Rattle.qo_values.specs.Placing.{is_in_window, least, overlaps_any, place_of, range_at}
 use Rattle.qo_values.specs.Registers.{Registers, dimm}
+use Rattle.qo_values.specs.declared.limits.TheConstants.{LIVE_OBJECTS_MAX}
 use Rattle.qo_values.specs.declared.codes.Code.{Code}
 use Rattle.qo_values.specs.declared.codes.Code.TheVariants.{E15, E20, E21, E22, E23, E24, E25, E26, E27, E28, E29, E30, E36, E37, E38, E39, E40, E41, E42, E43, E44}
 use Rattle.qo_values.specs.declared.kinds.Act.{Act}
@@ -106,7 +107,7 @@ bus_barred b t (Some m) =
 
 -- stage 4: the objects
 abbrev pub room_barred : Board → TypeId → Option Code
-room_barred b t = if nat_le (length b.records + objects_in t) 4096 then None else Some E43
+room_barred b t = if nat_le (length b.records + objects_in t) LIVE_OBJECTS_MAX then None else Some E43
 
 -- what is given for a property
 abbrev pub given_for : List Given → List ℕ → Option Val

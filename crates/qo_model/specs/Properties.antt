@@ -23,22 +23,22 @@ path_text b n = unwrap_or (canonical b n) (codes "detached:" ++ decimal n)
 abbrev pub target_text : Board → Option ℕ → List ℕ
 target_text b target = option_map_or (path_text b) target []
 
--- what is read of a slot that is no alias
-abbrev pub own_value : Board → Slot → Val
-own_value b (plain v) = v
-own_value b (child m) = val.Text (path_text b m)
-own_value b (strong t target) = val.Text (target_text b target)
-own_value b (weak t target) = val.Text (target_text b target)
-own_value b (alias m property) = val.Nothing
+-- what is read of a slot of n, of this name, that is no alias
+abbrev pub own_value : Board → ℕ → List ℕ → Slot → Val
+own_value b n name (plain v) = v
+own_value b n name (child m) = val.Text (path_text b m)
+own_value b n name (strong t target) = val.Text (target_text b target)
+own_value b n name (weak t target) = val.Text (target_text b target)
+own_value b n name (alias m property) = val.Nothing
 
--- what is read of a slot; an alias reads as the property that it passes on to, which is no alias
-abbrev pub slot_value : Board → Slot → Option Val
-slot_value b (alias m property) = option_map (own_value b) (slot_named b m property)
-slot_value b s = Some (own_value b s)
+-- what is read of a slot of n, of this name; an alias reads as the property that it passes on to, which is no alias
+abbrev pub slot_value : Board → ℕ → List ℕ → Slot → Option Val
+slot_value b n name (alias m property) = option_map (own_value b m property) (slot_named b m property)
+slot_value b n name s = Some (own_value b n name s)
 
 -- the value of the property of a name of an object; none where it has no such property
 abbrev pub value_of : Board → ℕ → List ℕ → Option Val
-value_of b n name = option_and_then (slot_value b) (slot_named b n name)
+value_of b n name = option_and_then (slot_value b n name) (slot_named b n name)
 
 -- the row of the property of a name, of objects of a type
 abbrev pub row_of_property : TypeId → List ℕ → Option Property

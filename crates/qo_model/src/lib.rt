@@ -2,7 +2,9 @@
 //! sound. `specs/` has the definitions; the module `laws` states what follows from them.
 #![tactic(auto)]
 
+mod detached;
 pub mod laws;
 mod notes;
 
+pub use detached::Detached;
 pub use notes::{Deed, Note};

@@ -1,8 +1,11 @@
 -- A log keeps what its notes give.
-use Rattle.std.proofs.Common.{◌≡◌, ℕ, ◌+◌, ◌-◌, List, [], ◌∷◌, ◌++◌, length, take, drop, refl, sym, ap, ◌∙◌, arith, append-nil, append_assoc, length-drop, drop-drop}
+use Rattle.std.proofs.Common.{◌≡◌, ℕ, zero, suc, ◌+◌, ◌-◌, ◌^◌, ◌≤◌, min, replicate, List, [], ◌∷◌, ◌++◌, length, take, drop, refl, sym, ap, ◌∙◌, arith, append-nil, append_assoc, length-drop, drop-drop}
 use Rattle.std.proofs.lemmas.List.{length_push, drop-append-le}
+use Rattle.qo_values.specs.declared.limits.TheConstants.{NOTES_KEPT, NOTES_PER_REPLY}
 use Rattle.qo_model.specs.Notes.{kept_of}
+use Rattle.qo_model.specs.declared.notes.Deed.TheVariants.{Did}
 use Rattle.qo_model.specs.declared.notes.Note.{Note}
+use Rattle.qo_values.specs.declared.kinds.Act.TheVariants.{Enter}
 use Rattle.qo_notes.specs.Log.{Log, IsLogOf, empty_log, noted, noted_all, first_from}
 use Rattle.qo_notes.specs.Laws.{LogLaw, GivenLaw}
 
@@ -18,6 +21,30 @@ module _ {X : Type 0} where
       ∙ drop-drop (length (drop skip (xs ++ x ∷ [])) - most) skip (xs ++ x ∷ [])
       ∙ ap (λ n. drop n (xs ++ x ∷ [])) {x = skip + (length (drop skip (xs ++ x ∷ [])) - most)} {y = length (xs ++ x ∷ []) - most} (omega (arith, short, long))
 
+-- notes before those that are kept are passed over
+module _ (note : Note) (kept : List Note) where
+  drop-front : (m : ℕ) → drop m (replicate m note ++ kept) ≡ kept
+  drop-front zero = refl
+  drop-front (suc m) = drop-front m
+
+  length-front : (m : ℕ) → length (replicate m note ++ kept) ≡ m + length kept
+  length-front zero = omega arith
+  length-front (suc m) = omega (arith, length-front m)
+
+-- each log is that of some notes
+pub some_lem : (total : ℕ) (kept : List Note) → length kept ≡ min total NOTES_KEPT → total ≤ 2 ^ 64 - 1 → (notes : List Note) × IsLogOf notes (record { total = total; kept = kept })
+some_lem total kept size bound =
+    let note : Note = record { birth = 0; deed = Did Enter } in
+    let before : ℕ = total - length kept in
+    let long : length (replicate before note ++ kept) ≡ before + length kept = length-front note kept before in
+    let past : length (replicate before note ++ kept) - NOTES_KEPT ≡ before = omega (arith, long, size) in (
+      replicate before note ++ kept,
+      record {
+        total = omega (arith, long, size, bound);
+        kept = sym (ap (λ n. drop n (replicate before note ++ kept)) past ∙ drop-front note kept before);
+      },
+    )
+
 -- no notes give the log without notes
 pub none_lem : IsLogOf [] empty_log
 none_lem = record { total = refl; kept = refl }
@@ -26,7 +53,7 @@ none_lem = record { total = refl; kept = refl }
 pub one_lem : (notes : List Note) (log : Log) (n : Note) → IsLogOf notes log → IsLogOf (notes ++ n ∷ []) (noted n log)
 one_lem notes log n of = record {
   total = let long = length_push notes n in omega (arith, of.total, long);
-  kept = ap (λ kept. kept_of (kept ++ n ∷ [])) of.kept ∙ last_again 65536 notes n;
+  kept = ap (λ kept. kept_of (kept ++ n ∷ [])) of.kept ∙ last_again NOTES_KEPT notes n;
 }
 
 -- notes more give the log with them
@@ -48,8 +75,8 @@ log_lem = record { none = none_lem; one = one_lem; all = all_lem; parts = parts_
 pub given_lem : GivenLaw
 given_lem notes log from of below =
     let first = first_from from log in
-    let skip = length notes - 65536 in
+    let skip = length notes - NOTES_KEPT in
     let short : length log.kept ≡ length notes - skip = ap length of.kept ∙ length-drop skip notes in
-    ap (λ kept. take 256 (drop (first - (log.total - length log.kept)) kept)) of.kept
-    ∙ ap (take 256) (drop-drop (first - (log.total - length log.kept)) skip notes
+    ap (λ kept. take NOTES_PER_REPLY (drop (first - (log.total - length log.kept)) kept)) of.kept
+    ∙ ap (take NOTES_PER_REPLY) (drop-drop (first - (log.total - length log.kept)) skip notes
     ∙ ap (λ k. drop k notes) {x = skip + (first - (log.total - length log.kept))} {y = first} (omega (arith, short, of.total, below)))

@@ -1,5 +1,6 @@
--- The log of the notes on objects: how many there were, and the last 65,536 (docs/PROFILE.md, limits).
+-- The log of the notes on objects: how many there were, and the last `NOTES_KEPT`.
 use Rattle.std.specs.Prelude.{◌≡◌, ℕ, ◌+◌, ◌-◌, ◌^◌, min, max, List, [], ◌∷◌, ◌++◌, length, take, drop}
+use Rattle.qo_values.specs.declared.limits.TheConstants.{NOTES_KEPT, NOTES_PER_REPLY}
 use Rattle.qo_model.specs.Notes.{total_of, kept_of}
 use Rattle.qo_model.specs.declared.notes.Note.{Note}
 
@@ -26,10 +27,10 @@ pub record IsLogOf (notes : List Note) (log : Log) : Type 0 where
   pub total : log.total ≡ total_of notes
   pub kept : log.kept ≡ kept_of notes
 
--- the first number that a reading gives: `from`, raised to the total less 65,536 where that is greater, and lowered to the total where it is above
+-- the first number that a reading gives: `from`, raised to the total less `NOTES_KEPT` where that is greater, and lowered to the total where it is above
 abbrev pub first_from : ℕ → Log → ℕ
-first_from from log = min (max from (log.total - 65536)) log.total
+first_from from log = min (max from (log.total - NOTES_KEPT)) log.total
 
--- the notes that a reading gives: from that number on, at most 256; numbers count all notes from 0, so the first kept has the total less how many are kept
+-- the notes that a reading gives: from that number on, at most `NOTES_PER_REPLY`; numbers count all notes from 0, so the first kept has the total less how many are kept
 abbrev pub given_from : ℕ → Log → List Note
-given_from from log = take 256 (drop (first_from from log - (log.total - length log.kept)) log.kept)
+given_from from log = take NOTES_PER_REPLY (drop (first_from from log - (log.total - length log.kept)) log.kept)

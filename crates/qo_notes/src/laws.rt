@@ -10,7 +10,7 @@ pub fn law_log()
 {}
 
 /// Of the log of some notes, fewer than 2^64 - 1, a reading gives the notes from its first number
-/// on, at most 256.
+/// on, at most `NOTES_PER_REPLY`.
 #[tactic(auto, using(crate::proofs::Logs::given_lem))]
 pub fn law_given()
     ensures { GivenLaw }

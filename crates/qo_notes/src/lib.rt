@@ -1,10 +1,10 @@
-//! The log of the notes on objects: how many there were, and the last 65,536.
+//! The log of the notes on objects: how many there were, and the last `NOTES_KEPT`.
 #![tactic(auto)]
 
 pub mod laws;
 mod log;
 
-pub use log::{Memory, NoteLog};
+pub use log::NoteLog;
 
 #[cfg(test)]
 mod tests;

@@ -7,20 +7,8 @@ use qo_model::Note;
 use qo_values::{NOTES_KEPT, NOTES_PER_REPLY};
 use std::alloc::{AllocError, Global};
 use std::marker::Model;
-use thiserror::Error;
 
-/// There was not enough memory.
-#[derive(Clone, Copy, Debug, PartialEq, Eq, Error)]
-#[error("not enough memory")]
-pub struct Memory;
-
-impl From<AllocError> for Memory {
-    fn from(_error: AllocError) -> Memory {
-        Memory
-    }
-}
-
-/// How many notes there were, and the last 65,536 of them. A note's number is how many there were
+/// How many notes there were, and the last `NOTES_KEPT` of them. A note's number is how many there were
 /// before it.
 #[derive(Debug, Drop)]
 pub struct NoteLog {
@@ -30,13 +18,14 @@ pub struct NoteLog {
 
 impl Model for NoteLog {
     ghost use Rattle.std.specs.Prelude.{◌≡◌, min, length};
+    ghost use Rattle.qo_values.specs.declared.limits.TheConstants.{NOTES_KEPT};
     ghost use Rattle.qo_notes.specs.Log.{Log};
 
     ghost Value = { Log };
 
     ghost view = { λ l. record { total = l.total; kept = l.buffer.items } };
 
-    ghost invariant = { λ l. (l.buffer.capacity ≡ 65536) × (length l.buffer.items ≡ min l.total 65536) };
+    ghost invariant = { λ l. (l.buffer.capacity ≡ NOTES_KEPT) × (length l.buffer.items ≡ min l.total NOTES_KEPT) };
 }
 
 /// The notes of a buffer past the first `skip`, in two slices.
@@ -64,18 +53,27 @@ fn first(alloc: Global, front: &[Note], back: &[Note], most: usize) -> Result<Ve
 }
 
 impl NoteLog {
-    ghost use Rattle.qo_notes.specs.Log.{empty_log, noted, first_from, given_from};
+    ghost use Rattle.std.specs.Prelude.{List};
+    ghost use Rattle.qo_model.specs.declared.notes.Note.{Note};
+    ghost use Rattle.qo_notes.specs.Log.{IsLogOf, empty_log, noted, first_from, given_from};
 
     /// A log without notes. It takes the memory for all the notes that it will keep at once:
     /// 1,048,576 bytes, 16 for each.
-    pub fn new(alloc: Global) -> Result<NoteLog, Memory>
+    pub fn new(alloc: Global) -> Result<NoteLog, AllocError>
         ensures { IfOk result (λ log. log ≡ empty_log) }
     {
         let buffer = HeapCircularBuffer::with_capacity(alloc, NOTES_KEPT as usize)?;
         Ok(NoteLog { total: 0, buffer })
     }
 
-    /// Adds a note; where 65,536 are kept, the oldest goes. It takes no memory.
+    /// What it stands for: there are notes of which it is the log.
+    pub fn facts(&self)
+        ensures { (notes : List Note) × IsLogOf notes self.now }
+    {
+        let _total = self.total;
+    }
+
+    /// Adds a note; where `NOTES_KEPT` are kept, the oldest goes. It takes no memory.
     pub fn add(&mut self, note: Note)
         ensures { self.new ≡ noted note self.old }
     {
@@ -91,7 +89,7 @@ impl NoteLog {
     }
 
     /// The number of the first note that a reading from a number gives: `from`, raised to the
-    /// total less 65,536 where that is greater, and lowered to the total where it is above.
+    /// total less `NOTES_KEPT` where that is greater, and lowered to the total where it is above.
     pub fn first_from(&self, from: u64) -> u64
         ensures { result ≡ first_from from self.now }
     {
@@ -99,13 +97,13 @@ impl NoteLog {
             .min(self.total)
     }
 
-    /// The notes from that number on, in order, at most 256.
-    pub fn get(&self, from: u64, alloc: Global) -> Result<Vec<Note>, Memory>
+    /// The notes from that number on, in order, at most `NOTES_PER_REPLY`.
+    pub fn get(&self, from: u64, alloc: Global) -> Result<Vec<Note>, AllocError>
         ensures { IfOk result (λ notes. notes.items ≡ given_from from self.now) }
     {
         let first_kept = self.total - self.buffer.len() as u64;
         let skip = (self.first_from(from) - first_kept) as usize;
         let (front, back) = past(&self.buffer, skip);
-        Ok(first(alloc, front, back, NOTES_PER_REPLY as usize)?)
+        first(alloc, front, back, NOTES_PER_REPLY as usize)
     }
 }

@@ -32,7 +32,7 @@ length-each change (s ∷ slots) = ap suc (length-each change slots)
 module _ (P : List ℕ → Type 0) where
   all-let_go : (i : ℕ) (slots : List Named) → AllByRecursion P (names_of slots) → AllByRecursion P (names_of (let_go_at i slots))
   all-let_go i [] all = all
-  all-let_go zero ((name, Plain ty val) ∷ slots) all = all
+  all-let_go zero ((name, Plain val) ∷ slots) all = all
   all-let_go zero ((name, Child key) ∷ slots) all = all.1
   all-let_go zero ((name, Link ty strong target) ∷ slots) all = all
   all-let_go zero ((name, Alias key property) ∷ slots) all = all
@@ -47,7 +47,7 @@ module _ (P : List ℕ → Type 0) where
 distinct-let_go : (i : ℕ) (slots : List Named) → IsDistinct bytes_eq (names_of slots) → IsDistinct bytes_eq (names_of (let_go_at i slots))
 unfolding IsDistinct
 distinct-let_go i [] distinct = distinct
-distinct-let_go zero ((name, Plain ty val) ∷ slots) distinct = distinct
+distinct-let_go zero ((name, Plain val) ∷ slots) distinct = distinct
 distinct-let_go zero ((name, Child key) ∷ slots) distinct = distinct.1
 distinct-let_go zero ((name, Link ty strong target) ∷ slots) distinct = distinct
 distinct-let_go zero ((name, Alias key property) ∷ slots) distinct = distinct

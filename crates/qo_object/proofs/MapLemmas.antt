@@ -1,5 +1,5 @@
 -- Slots by name against the entries of the map that stores them.
-use Rattle.std.proofs.Common.{◌≡◌, ℕ, zero, suc, Bool, true, false, cond, ◌||◌, List, [], ◌∷◌, ◌++◌, map, length, remove, slice_get, position, Some, None, option_map, is_some, count_by, refl, ap, ◌∙◌}
+use Rattle.std.proofs.Common.{◌≡◌, ℕ, ◌+◌, zero, suc, Bool, true, false, cond, ◌||◌, List, [], ◌∷◌, ◌++◌, map, length, remove, slice_get, position, Some, None, option_map, is_some, count_by, nat_lt, refl, ap, ap₂, ◌∙◌}
 use Rattle.std.proofs.lemmas.List.Sums.{sum_by-cons}
 use Rattle.std.specs.List.{AllByRecursion, IsDistinct, list_any, position_or_len}
 use Rattle.std.specs.Str.{bytes_eq}
@@ -108,6 +108,21 @@ module _ {K : Type 0} (test : Slot → Bool) where
   pub any-slot : (es : List (K × Named)) → list_any (λ (n : Named). test n.slot) (values_of es) ≡ list_any (λ (s : List ℕ × Slot). test s.1) (slots_of es)
   any-slot [] = refl
   any-slot (x ∷ es) = ap (λ b. test x.1.slot || b) (any-slot es)
+
+  place-slot : (es : List (K × Named)) → position_or_len (λ (n : Named). test n.slot) (values_of es) ≡ position_or_len (λ (s : List ℕ × Slot). test s.1) (slots_of es)
+  place-slot [] = refl
+  place-slot (x ∷ es) = go (test x.1.slot) refl (place-slot es)
+    where
+      go : (b : Bool) → test x.1.slot ≡ b → position_or_len (λ (n : Named). test n.slot) (values_of es) ≡ position_or_len (λ (s : List ℕ × Slot). test s.1) (slots_of es) → position_or_len (λ (n : Named). test n.slot) (values_of (x ∷ es)) ≡ position_or_len (λ (s : List ℕ × Slot). test s.1) (slots_of (x ∷ es))
+      go true is rest = rw is refl
+      go false is rest = rw is (ap (λ (k : ℕ). 1 + k) rest)
+
+  length-slot : (es : List (K × Named)) → length (values_of es) ≡ length (slots_of es)
+  length-slot [] = refl
+  length-slot (x ∷ es) = ap suc (length-slot es)
+
+  pub position-slot : (es : List (K × Named)) → position (λ (n : Named). test n.slot) (values_of es) ≡ position (λ (s : List ℕ × Slot). test s.1) (slots_of es)
+  position-slot es = ap₂ (λ (a b : ℕ). cond (nat_lt a b) (Some a) None) (place-slot es) (length-slot es)
 
   pub count-slots : (es : List (K × Named)) → count_by (λ (n : Named). test n.slot) (values_of es) ≡ count_by (λ (s : List ℕ × Slot). test s.1) (slots_of es)
   count-slots [] = refl

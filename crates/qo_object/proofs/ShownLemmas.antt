@@ -21,14 +21,14 @@ use Rattle.qo_object.specs.Shown.{birth_of, shown_slot, shown_slots, shown}
 -- one slot
 
 pub shown-target : (s : Slot) → board.target_of (shown_slot s) ≡ birth_of (target_of s)
-shown-target (Plain ty val) = refl
+shown-target (Plain val) = refl
 shown-target (Child key) = refl
 shown-target (Link ty true target) = refl
 shown-target (Link ty false target) = refl
 shown-target (Alias key name) = refl
 
 pub shown-held : (s : Slot) → board.held (shown_slot s) ≡ birth_of (held s)
-shown-held (Plain ty val) = refl
+shown-held (Plain val) = refl
 shown-held (Child key) = refl
 shown-held (Link ty true target) = refl
 shown-held (Link ty false target) = refl
@@ -42,7 +42,7 @@ some-held s = rw (shown-held s) (by (held s))
     by (Some key) = refl
 
 pub shown-holds : (n : ℕ) (s : Slot) → references.holds_it n (shown_slot s) ≡ holds n s
-shown-holds n (Plain ty val) = refl
+shown-holds n (Plain val) = refl
 shown-holds n (Child key) = refl
 shown-holds n (Link ty true None) = refl
 shown-holds n (Link ty true (Some key)) = refl
@@ -57,7 +57,7 @@ unless-shown n key = by (key.birth == n)
     by false = refl
 
 pub shown-forgotten : (n : ℕ) (s : Slot) → shown_slot (forgotten_in n s) ≡ release.forgotten_in n (shown_slot s)
-shown-forgotten n (Plain ty val) = refl
+shown-forgotten n (Plain val) = refl
 shown-forgotten n (Child key) = refl
 shown-forgotten n (Link ty true None) = refl
 shown-forgotten n (Link ty true (Some key)) = refl
@@ -66,7 +66,7 @@ shown-forgotten n (Link ty false (Some key)) = ap (board.weak ty) (unless-shown 
 shown-forgotten n (Alias key name) = refl
 
 pub shown-left : (s : Slot) → release.emptied (shown_slot s) ≡ option_map shown_slot (left_of s)
-shown-left (Plain ty val) = refl
+shown-left (Plain val) = refl
 shown-left (Child key) = refl
 shown-left (Link ty true target) = refl
 shown-left (Link ty false target) = refl
@@ -89,7 +89,7 @@ names-shown (s ∷ slots) = ap (λ names. s.0 ∷ names) (names-shown slots)
 
 let_go-shown : (i : ℕ) (slots : List Named) → shown_slots (let_go_at i slots) ≡ release.without_hold i (shown_slots slots)
 let_go-shown i [] = refl
-let_go-shown zero ((name, Plain ty val) ∷ slots) = refl
+let_go-shown zero ((name, Plain val) ∷ slots) = refl
 let_go-shown zero ((name, Child key) ∷ slots) = refl
 let_go-shown zero ((name, Link ty true target) ∷ slots) = refl
 let_go-shown zero ((name, Link ty false target) ∷ slots) = refl
@@ -137,7 +137,7 @@ pub parent-shown : (n m : ℕ) (c : Content) → is_some (paths.place_in m (show
 parent-shown n m c = some-mapped _ (find (λ s. paths.is_child m s.1) (shown_slots c.slots)) ∙ go c.slots
   where
     one : (s : Slot) → paths.is_child m (shown_slot s) ≡ names_child m s
-    one (Plain ty val) = refl
+    one (Plain val) = refl
     one (Child key) = refl
     one (Link ty true target) = refl
     one (Link ty false target) = refl
@@ -153,7 +153,7 @@ parent-shown n m c = some-mapped _ (find (λ s. paths.is_child m s.1) (shown_slo
 
 pub child-shown : (m : ℕ) (slots : List Named) → list_any (λ (k : ℕ). k == m) (paths.children_in (shown_slots slots)) ≡ list_any (λ (s : Named). names_child m s.1) slots
 child-shown m [] = refl
-child-shown m ((name, Plain ty val) ∷ slots) = child-shown m slots
+child-shown m ((name, Plain val) ∷ slots) = child-shown m slots
 child-shown m ((name, Child key) ∷ slots) = ap (λ b. (key.birth == m) || b) (child-shown m slots)
 child-shown m ((name, Link ty true target) ∷ slots) = child-shown m slots
 child-shown m ((name, Link ty false target) ∷ slots) = child-shown m slots

@@ -13,7 +13,7 @@ use Rattle.qo_object.specs.Slots.{Named, slot_in, named_in, child_of, unlinked, 
 -- a child that is let go is removed
 pub child-gone : (slots : List Named) (i : ℕ) (key : Key) → option_and_then child_of (slot_in slots i) ≡ Some key → remove slots i ≡ let_go_at i slots
 child-gone [] i key found = cc
-child-gone ((name, Plain ty val) ∷ slots) zero key found = cc
+child-gone ((name, Plain val) ∷ slots) zero key found = cc
 child-gone ((name, Child other) ∷ slots) zero key found = refl
 child-gone ((name, Link ty strong target) ∷ slots) zero key found = cc
 child-gone ((name, Alias other property) ∷ slots) zero key found = cc
@@ -22,7 +22,7 @@ child-gone (s ∷ slots) (suc i) key found = ap (λ ss. s ∷ ss) (child-gone sl
 -- and names what was named
 pub child-named : (slots : List Named) (i : ℕ) (key : Key) → option_and_then child_of (slot_in slots i) ≡ Some key → named_in slots i ≡ Some key
 child-named [] i key found = cc
-child-named ((name, Plain ty val) ∷ slots) zero key found = cc
+child-named ((name, Plain val) ∷ slots) zero key found = cc
 child-named ((name, Child other) ∷ slots) zero key found = found
 child-named ((name, Link ty strong target) ∷ slots) zero key found = cc
 child-named ((name, Alias other property) ∷ slots) zero key found = cc
@@ -31,7 +31,7 @@ child-named (s ∷ slots) (suc i) key found = child-named slots i key found
 -- anything else that is let go stays, a link without its target
 pub link-emptied : (slots : List Named) (i : ℕ) → option_and_then child_of (slot_in slots i) ≡ None → changed_at unlinked i slots ≡ let_go_at i slots
 link-emptied [] i none = refl
-link-emptied ((name, Plain ty val) ∷ slots) zero none = refl
+link-emptied ((name, Plain val) ∷ slots) zero none = refl
 link-emptied ((name, Child other) ∷ slots) zero none = cc
 link-emptied ((name, Link ty strong target) ∷ slots) zero none = refl
 link-emptied ((name, Alias other property) ∷ slots) zero none = refl
@@ -40,7 +40,7 @@ link-emptied (s ∷ slots) (suc i) none = ap (λ ss. s ∷ ss) (link-emptied slo
 -- a slot that is let go leaves no more slots, and one that is changed as many
 pub length-let_go : (i : ℕ) (slots : List Named) → length (let_go_at i slots) ≤ length slots
 length-let_go i [] = omega arith
-length-let_go zero ((name, Plain ty val) ∷ slots) = omega arith
+length-let_go zero ((name, Plain val) ∷ slots) = omega arith
 length-let_go zero ((name, Child other) ∷ slots) = omega arith
 length-let_go zero ((name, Link ty strong target) ∷ slots) = omega arith
 length-let_go zero ((name, Alias other property) ∷ slots) = omega arith

@@ -1,18 +1,19 @@
 -- An object by itself.
-use Rattle.std.specs.Prelude.{ℕ, ◌+◌, ◌-◌, ◌≤◌, ◌^◌, Bool, false, List, [], ◌∷◌, ◌++◌, length, remove, count_by, Option, None, is_some}
+use Rattle.std.specs.Prelude.{◌≡◌, ℕ, ◌+◌, ◌-◌, ◌≤◌, ◌^◌, Bool, false, List, [], ◌∷◌, ◌++◌, length, remove, count_by, Option, Some, None, is_some}
 use Rattle.std.specs.List.{list_any, IsDistinct}
 use Rattle.std.specs.Option.{option_map_or}
 use Rattle.std.specs.Str.{bytes_eq}
 use Rattle.qo_values.specs.declared.kinds.TypeId.{TypeId}
 use Rattle.qo_values.specs.declared.properties.Val.{Val}
-use Rattle.qo_kinds.specs.Bodies.{acted, body_of}
+use Rattle.qo_kinds.specs.Bodies.{IsBare, acted, body_of}
 use Rattle.qo_values.specs.declared.kinds.Act.{Act}
 use Rattle.qo_kinds.specs.declared.bodies.Body.{Body}
 use Rattle.qo_slots.specs.declared.keys.Key.{Key}
 use Rattle.qo_object.specs.declared.slots.Slot.{Slot}
 use Rattle.qo_object.specs.Slots.{names_of, named_in, slot_in, changed_at, let_go_at, each_changed, held, holds, names_child, is_empty_link, pointed, with_val, forgotten_in}
 
--- its type, its slots by name in the order of adding, and how often it is held from outside the tree
+-- its type, its slots by name in the order of adding, how often it is held from outside the tree, its body, and of a device
+-- its id and the path that is kept for its end
 pub record Content : Type 0 where
   pub kind : TypeId
   pub slots : List (List ℕ × Slot)
@@ -27,9 +28,17 @@ pub record IsObject (c : Content) : Type 0 where
   pub few_slots : length c.slots ≤ 2 ^ 32
   pub few_pins : c.pins ≤ 2 ^ 32
 
+-- an object as it was made, but for its slots and its pins
+abbrev pub as_made : TypeId → List (List ℕ × Slot) → ℕ → Content
+as_made kind slots pins = record { kind = kind; slots = slots; pins = pins; body = body_of kind; device_id = None; kept_path = None }
+
 -- a new object: no slots, held once from outside
 abbrev pub fresh : TypeId → Content
-fresh kind = record { kind = kind; slots = []; pins = 1; body = body_of kind; device_id = None; kept_path = None }
+fresh kind = as_made kind [] 1
+
+-- it keeps no claim: neither its body does, nor has it an id
+abbrev pub HasNoClaim : Content → Type 0
+HasNoClaim c = IsBare c.body × (c.device_id ≡ None)
 
 -- a slot more, behind the others
 abbrev pub with_slot : List ℕ → Slot → Content → Content
@@ -81,3 +90,10 @@ held_count c = count_by (λ (s : List ℕ × Slot). is_some (held s.1)) c.slots
 -- its body acts
 abbrev pub acted_at : Act → ℕ → ℕ → Content → Content
 acted_at act time period c = record c { body = acted act time period c.body }
+
+-- it has an id, and a path is kept for its end
+abbrev pub with_id : List ℕ → Content → Content
+with_id id c = record c { device_id = Some id }
+
+abbrev pub with_path : List ℕ → Content → Content
+with_path path c = record c { kept_path = Some path }

@@ -1,5 +1,5 @@
 -- An object by itself, as one of the board's.
-use Rattle.std.specs.Prelude.{ℕ, true, false, List, map, Option, None, option_map}
+use Rattle.std.specs.Prelude.{ℕ, true, false, List, map, Option, option_map}
 use Rattle.qo_kinds.specs.Bodies.{registers_of}
 use Rattle.qo_slots.specs.declared.keys.Key.{Key}
 use Rattle.qo_model.specs.Board as board
@@ -13,7 +13,7 @@ birth_of key = option_map (λ (k : Key). k.birth) key
 
 -- a slot, as the board has it: objects are named by their births
 abbrev pub shown_slot : Slot → board.Slot
-shown_slot (Plain ty val) = board.plain val
+shown_slot (Plain val) = board.plain val
 shown_slot (Child key) = board.child key.birth
 shown_slot (Link ty true target) = board.strong ty (birth_of target)
 shown_slot (Link ty false target) = board.weak ty (birth_of target)
@@ -22,7 +22,7 @@ shown_slot (Alias key name) = board.alias key.birth name
 abbrev pub shown_slots : List (List ℕ × Slot) → List (List ℕ × board.Slot)
 shown_slots slots = map (λ (s : List ℕ × Slot). (s.0, shown_slot s.1)) slots
 
--- the object of a birth; its body keeps what a new one does, and no device has an id or a path yet
+-- the object of a birth
 abbrev pub shown : ℕ → Content → board.Record
 shown birth c =
     record {
@@ -31,5 +31,5 @@ shown birth c =
       slots = shown_slots c.slots;
       registers = registers_of c.body;
       device_id = c.device_id;
-      kept_path = None;
+      kept_path = c.kept_path;
     }

@@ -27,6 +27,11 @@ held (Child key) = Some key
 held (Link ty true target) = target
 held _ = None
 
+-- whether it is a strong link
+abbrev pub is_strong : Slot → Bool
+is_strong (Link ty true target) = true
+is_strong _ = false
+
 -- whether the object named is that of a birth
 abbrev pub is_born : ℕ → Option Key → Bool
 is_born birth None = false
@@ -55,7 +60,7 @@ pointed key s = s
 
 -- a plain slot with a value; anything else stays
 abbrev pub with_val : Val → Slot → Slot
-with_val val (Plain ty old) = Plain ty val
+with_val val (Plain old) = Plain val
 with_val val s = s
 
 -- a target that is not of a birth

@@ -3,6 +3,7 @@
 //! named is there, is the table's to know, which keeps these objects.
 #![tactic(auto)]
 
+mod devices;
 mod errors;
 mod named;
 mod objects;
@@ -10,7 +11,8 @@ mod slots;
 #[cfg(test)]
 mod tests;
 
+pub use devices::DeviceId;
 pub use errors::AddError;
-pub use objects::Object;
+pub use objects::{Object, Remains};
 pub use qo_slots::Key as Oid;
 pub use slots::{Slot, SlotView};

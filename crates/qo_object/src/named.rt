@@ -191,6 +191,15 @@ impl SlotMap {
         self.map.values().any(|named| named.slot.names_child(birth))
     }
 
+    /// The first place of one that has the object of a birth as a child.
+    pub fn child_place(&self, birth: u64) -> Option<usize>
+        ensures { result ≡ position (λ s. names_child birth s.1) self.now }
+    {
+        self.map
+            .values()
+            .position(|named| named.slot.names_child(birth))
+    }
+
     /// Whether one holds an object.
     pub fn holds_any(&self) -> bool
         ensures { result ≡ list_any (λ s. is_some (held s.1)) self.now }

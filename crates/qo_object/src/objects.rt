@@ -1,5 +1,6 @@
 //! An object.
 
+use crate::devices::{DeviceId, no_id};
 use crate::errors::AddError;
 use crate::named::SlotMap;
 use crate::slots::{Slot, SlotView};
@@ -19,8 +20,21 @@ pub struct Object {
     slots: SlotMap,
     pins: u64,
     body: Body,
-    id: Option<Id>,
+    id: Option<DeviceId>,
     path: Option<Text>,
+}
+
+/// What has to be ended with an object: its claims, and the path that was kept for its end. It can't
+/// be let go.
+pub struct Remains {
+    /// Its type.
+    pub kind: TypeId,
+    /// The claims of its body.
+    pub kept: KeptSet,
+    /// The id of its device.
+    pub id: Option<DeviceId>,
+    /// The path that was kept.
+    pub path: Option<Text>,
 }
 
 impl Model for Object {
@@ -42,30 +56,31 @@ impl Model for Object {
 }
 
 impl Drop for Object {
-    ghost use Rattle.qo_kinds.specs.Bodies.{IsBare};
+    ghost use Rattle.qo_object.specs.Content.{HasNoClaim};
 
     fn drop(self)
-        requires { IsBare self.body }
+        requires { HasNoClaim self }
     {
         let Object {
             kind: _,
             slots: _,
             pins: _,
             body: _,
-            id: _,
+            id,
             path: _,
         } = self;
+        no_id(id);
     }
 }
 
 impl Object {
-    ghost use Rattle.std.specs.Prelude.{◌≡◌, ◌<◌, ◌≤◌, ◌^◌, ◌==◌, true, false, IfSome, OnOk, OnErr, length, position, slice_get, option_map};
+    ghost use Rattle.std.specs.Prelude.{◌≡◌, ◌<◌, ◌≤◌, ◌^◌, ◌==◌, true, false, None, IfSome, OnOk, OnErr, length, position, slice_get, option_map};
     ghost use Rattle.std.specs.Str.{bytes_eq};
     ghost use Rattle.std.specs.Borrow.{sem};
-    ghost use Rattle.qo_kinds.specs.Bodies.{MayAct, kept_of, none_kept, with_kept};
+    ghost use Rattle.qo_kinds.specs.Bodies.{MayAct, kept_of};
     ghost use Rattle.qo_object.specs.Lends.{lends_body};
-    ghost use Rattle.qo_object.specs.Slots.{has_name};
-    ghost use Rattle.qo_object.specs.Content.{IsObject, acted_at, fresh, with_slot, named_at, dropped_at, empty_link_at, pointed_at, set_at, cut_at, with_pin, without_pin, forgotten, holding, is_parent, held_count};
+    ghost use Rattle.qo_object.specs.Slots.{has_name, names_child};
+    ghost use Rattle.qo_object.specs.Content.{IsObject, acted_at, fresh, with_id, with_path, with_slot, named_at, dropped_at, empty_link_at, pointed_at, set_at, cut_at, with_pin, without_pin, forgotten, holding, is_parent, held_count};
     ghost use Rattle.qo_object.specs.declared.errors.AddError.TheVariants.{Duplicate, Memory};
 
     /// An object of a type, without slots, pinned once. It takes no memory.
@@ -111,6 +126,13 @@ impl Object {
         self.body.act(act, time, period);
     }
 
+    /// Its body. It takes no memory.
+    pub fn body(&self) -> &Body
+        ensures { result.now ≡ self.now.body }
+    {
+        &self.body
+    }
+
     /// Its body, for writing. It takes no memory.
     pub fn body_mut(&mut self) -> &mut Body
         ensures* writes_back { sem 𝓛 (lends_body self.entry result) }
@@ -119,12 +141,36 @@ impl Object {
         &mut self.body
     }
 
-    /// Takes the claims that its body holds out. It takes no memory.
-    pub fn take_claims(&mut self) -> KeptSet
-        ensures taken { result ≡ kept_of self.old.body }
-        ensures left { self.new ≡ record self.old { body = with_kept none_kept self.old.body } }
+    /// The id of its device, if it has one. It takes no memory.
+    pub fn id(&self) -> Option<&Id>
+        ensures { option_map (λ i. i.now) result ≡ self.now.device_id }
     {
-        self.body.take_claims()
+        match &self.id {
+            Some(device) => Some(device.id()),
+            None => None,
+        }
+    }
+
+    /// The path that is kept for its end, if there is one. It takes no memory.
+    pub fn path(&self) -> Option<&Text>
+        ensures { option_map (λ p. p.now) result ≡ self.now.kept_path }
+    {
+        self.path.as_ref()
+    }
+
+    /// Gives it the id of its device; it must have none. It takes no memory.
+    pub fn name_device(&mut self, id: DeviceId)
+        requires { self.old.device_id ≡ None }
+        ensures { self.new ≡ with_id id self.old }
+    {
+        no_id(self.id.replace(id));
+    }
+
+    /// Keeps a path for its end. It takes no memory.
+    pub fn keep_path(&mut self, path: Text)
+        ensures { self.new ≡ with_path path self.old }
+    {
+        self.path = Some(path);
     }
 
     /// How many slots it has. It takes no memory.
@@ -248,5 +294,33 @@ impl Object {
         ensures { result ≡ (held_count self.now == 0) }
     {
         !self.slots.holds_any()
+    }
+
+    /// The first place at which it has the object of a birth as a child. It takes no memory.
+    pub fn child_place(&self, birth: u64) -> Option<usize>
+        ensures { result ≡ position (λ s. names_child birth s.1) self.now.slots }
+    {
+        self.slots.child_place(birth)
+    }
+
+    /// Ends it, and answers what has to be ended with it. It takes no memory.
+    pub fn into_remains(self) -> Remains
+        ensures { result ≡ record { kind = self.kind; kept = kept_of self.body; id = self.device_id; path = self.kept_path } }
+    {
+        let Object {
+            kind,
+            slots: _,
+            pins: _,
+            mut body,
+            id,
+            path,
+        } = self;
+        let kept = body.take_claims();
+        Remains {
+            kind,
+            kept,
+            id,
+            path,
+        }
     }
 }

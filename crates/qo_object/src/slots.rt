@@ -1,14 +1,14 @@
 //! What stands in a slot of an object.
 
 use qo_slots::Key;
-use qo_values::{Name, PropType, TypeId, Val};
+use qo_values::{Name, TypeId, Val};
 
 /// What stands in a slot (docs/devel/qom.rst, "The QEMU Object Model": properties, children, links
 /// and aliases).
 #[derive(Debug, Drop)]
 pub enum Slot {
-    /// A plain property: which values it takes, and its value.
-    Plain(PropType, Val),
+    /// A plain property: its value.
+    Plain(Val),
     /// A child.
     Child(Key),
     /// A link to objects of a type, which may have no target, and which keeps its target alive where
@@ -38,7 +38,7 @@ pub struct SlotView<'a> {
 
 impl Slot {
     ghost use Rattle.std.specs.Prelude.{◌≡◌, is_some};
-    ghost use Rattle.qo_object.specs.Slots.{target_of, child_of, holds, names_child, held, unlinked, pointed, with_val, forgotten_in};
+    ghost use Rattle.qo_object.specs.Slots.{target_of, is_strong, child_of, holds, names_child, held, unlinked, pointed, with_val, forgotten_in};
 
     /// The child that stands in it.
     pub(crate) fn child(&self) -> Option<Key>
@@ -50,8 +50,26 @@ impl Slot {
         }
     }
 
-    /// The object that it holds, as a child or by a strong link.
-    fn held(&self) -> Option<Key>
+    /// The object that it names: a child, or the target of a link. It takes no memory.
+    pub fn target(&self) -> Option<Key>
+        ensures { result ≡ target_of self.now }
+    {
+        match self {
+            Slot::Child(child) => Some(*child),
+            Slot::Link { target, .. } => *target,
+            _ => None,
+        }
+    }
+
+    /// Whether it is a strong link. It takes no memory.
+    pub fn is_strong(&self) -> bool
+        ensures { result ≡ is_strong self.now }
+    {
+        matches!(self, Slot::Link { strong: true, .. })
+    }
+
+    /// The object that it holds, as a child or by a strong link. It takes no memory.
+    pub fn held(&self) -> Option<Key>
         ensures { result ≡ held self.now }
     {
         match self {
@@ -117,7 +135,7 @@ impl Slot {
     pub(crate) fn set(&mut self, val: Val)
         ensures { self.new ≡ with_val val self.old }
     {
-        if let Slot::Plain(_, old) = self {
+        if let Slot::Plain(old) = self {
             *old = val;
         }
     }

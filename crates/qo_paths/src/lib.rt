@@ -16,6 +16,5 @@ mod writing;
 
 pub use errors::PathError;
 pub use places::is_attached;
-pub use qo_heap::Memory;
 pub use resolving::resolve;
 pub use writing::canonical;

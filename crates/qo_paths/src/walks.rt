@@ -4,24 +4,12 @@ ghost use Rattle.std.specs.Prelude.{◌≡◌, IfSome};
 ghost use Rattle.qo_model.specs.Board.{Board};
 ghost use Rattle.qo_model.specs.Paths.{components, next_of, walk};
 ghost use Rattle.qo_object.specs.Shown.{birth_of};
-ghost use Rattle.qo_object.specs.Slots.{target_of};
 ghost use Rattle.qo_table.specs.Rows.{IsLive};
 ghost use Rattle.qo_heap.specs.Board.{Shows};
 
 use crate::parts::first_part;
-use qo_heap::{Heap, Oid, Slot, Steps};
+use qo_heap::{Heap, Oid, Steps};
 use std::sync::ledger::Ledger;
-
-/// The object that a slot names: a child, or the target of a link.
-fn target(what: &Slot) -> Option<Oid>
-    ensures { result ≡ target_of what.now }
-{
-    match what {
-        Slot::Child(child) => Some(*child),
-        Slot::Link { target, .. } => *target,
-        _ => None,
-    }
-}
 
 /// Where a component leads from an object: to the child or the target of the link of that name; an
 /// alias leads nowhere.
@@ -32,7 +20,7 @@ fn next_of<L: Ledger>(heap: &Heap, o: Oid, name: &str, steps: &mut Steps<L>) -> 
 {
     heap.facts();
     let slot = heap.slot(o, name, steps)?;
-    target(slot.what)
+    slot.what.target()
 }
 
 /// Where the components of a path lead from an object, one after another.

@@ -7,7 +7,7 @@ ghost use Rattle.qo_heap.specs.Board.{Shows};
 ghost use Rattle.qo_paths.specs.Parts.{path_up};
 
 use crate::places::place_of;
-use qo_heap::{Heap, Memory, Oid, Steps};
+use qo_heap::{Heap, Oid, Steps};
 use std::alloc::{AllocError, Global};
 use std::sync::ledger::Ledger;
 
@@ -60,7 +60,7 @@ pub fn canonical<L: Ledger>(
     o: Oid,
     alloc: Global,
     steps: &mut Steps<L>,
-) -> Result<Option<String>, Memory>
+) -> Result<Option<String>, AllocError>
     ensures { (b : Board) → Shows b heap.now → IfOk result (λ path. option_map string_bytes path ≡ canonical b o.birth) }
 {
     if o.birth == 1 {

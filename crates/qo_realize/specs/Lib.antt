@@ -1,11 +1,3 @@
-pub mod Adding
-pub mod At
-pub mod Changes
-pub mod Filling
-pub mod Fresh
-pub mod Given
-pub mod Listed
-pub mod Pinned
-pub mod Reads
-pub mod Start
-pub mod Writes
+pub mod Answers
+pub mod Parts
+pub mod Stands

@@ -1,49 +1,194 @@
 //! The board.
 
-use crate::errors::Memory;
-use crate::start::make_all;
 use qo_heap::{Heap, Steps};
+use qo_model::{Detached, Note};
+use qo_properties::{
+    Memory, Prop, Refusal, add_object, detached_list, get, list, make_all, remove, set, sever,
+};
+use qo_values::{Code, PropList, Val};
 use std::alloc::Global;
 use std::marker::Model;
 use std::sync::ledger::Ledger;
 
-/// The board: the objects of the machine. Between two calls nothing holds them from outside the
-/// tree but the one pin of the root.
+/// The board: the objects of the machine, and what stands beside them. Between two calls nothing
+/// holds the objects from outside the tree but the one pin of the root.
 #[derive(Drop)]
 pub struct Board {
-    pub(crate) heap: Heap,
+    heap: Heap,
+    anonymous: u64,
+    running: bool,
 }
 
 impl Model for Board {
-    ghost use Rattle.qo_heap.specs.Objects.{Objects};
-    ghost use Rattle.qo_realize.specs.Pinned.{OnlyRootPinned};
+    ghost use Rattle.std.specs.Prelude.{[]};
+    ghost use Rattle.qo_properties.specs.Pinned.{OnlyRootPinned};
+    ghost use Rattle.qo_realize.specs.Parts.{Parts};
 
-    ghost Value = { Objects };
+    ghost Value = { Parts };
 
-    ghost view = { λ b. b.heap };
+    ghost view = { λ b. record { objects = b.heap; anonymous = b.anonymous; running = b.running; holds = []; pending = []; notices = []; rings = [] } };
 
     ghost invariant = { λ b. OnlyRootPinned b.heap };
 }
 
 impl Board {
-    ghost use Rattle.std.specs.Prelude.{◌≡◌, IfOk};
+    ghost use Rattle.std.specs.Prelude.{◌≡◌, map, IfOk, OnErr};
+    ghost use Rattle.qo_model.specs.Access.{listing_at, read, write_at};
+    ghost use Rattle.qo_model.specs.Board as model;
+    ghost use Rattle.qo_model.specs.Detachment.{detached_told};
+    ghost use Rattle.qo_model.specs.NoteReplies.{first_from, given_from};
+    ghost use Rattle.qo_model.specs.Notes.{total_of};
+    ghost use Rattle.qo_model.specs.Objects as objects;
     ghost use Rattle.qo_model.specs.Opening.{opening_board};
-    ghost use Rattle.qo_heap.specs.Board.{Shows};
+    ghost use Rattle.qo_properties.specs.Listed.{prop_told};
+    ghost use Rattle.qo_properties.specs.Reads.{Answers};
+    ghost use Rattle.qo_realize.specs.Answers.{Adds, IsAnswered, Writes};
+    ghost use Rattle.qo_realize.specs.Stands.{Stands};
 
-    /// The opening board: the eight objects that every machine begins with. The error is want of
-    /// memory.
+    /// The opening board: the eight objects that every machine begins with; it runs. The error is
+    /// want of memory.
     pub fn start<L: Ledger>(alloc: Global, steps: &mut Steps<L>) -> Result<Board, Memory>
-        ensures { IfOk result (λ board. Shows opening_board board) }
+        ensures { IfOk result (Stands opening_board) }
     {
         let mut heap = Heap::new(alloc)?;
         make_all(&mut heap, alloc, steps)?;
-        Ok(Board { heap })
+        Ok(Board {
+            heap,
+            anonymous: 0,
+            running: true,
+        })
     }
 
-    /// The heap, to be read.
-    pub fn heap(&self) -> &Heap
-        ensures { result.now ≡ self.now }
+    /// Whether the machine runs.
+    pub fn running(&self) -> bool
+        ensures { (b : model.Board) → Stands b self.now → result ≡ b.running }
     {
-        &self.heap
+        self.running
+    }
+
+    /// The slots of the object at a path, in the order of adding (QEMU's QAPI, `qom-list`). Refused
+    /// with E15 where the path leads to no object, and E16 where to several.
+    pub fn qom_list<L: Ledger>(
+        &self,
+        path: &str,
+        alloc: Global,
+        steps: &mut Steps<L>,
+    ) -> Result<Vec<Prop>, Refusal>
+        ensures { (b : model.Board) → Stands b self.now → Answers (λ list. map prop_told list.items) result (listing_at b path.now) }
+    {
+        list(&self.heap, path, alloc, steps)
+    }
+
+    /// The value of the property of a name of the object at a path (QEMU's QAPI, `qom-get`). A
+    /// child and a link read as the text that names the object: its canonical path, or `detached:`
+    /// and its birth; a link without a target as the empty text; an alias as the property that it
+    /// passes on to. Refused with E15 where the path leads to no object, E16 where to several, and
+    /// E17 where the object has no such property.
+    pub fn qom_get<L: Ledger>(
+        &self,
+        path: &str,
+        name: &str,
+        alloc: Global,
+        steps: &mut Steps<L>,
+    ) -> Result<Val, Refusal>
+        ensures { (b : model.Board) → Stands b self.now → Answers (λ val. val) result (read b path.now name.now) }
+    {
+        get(&self.heap, path, name, alloc, steps)
+    }
+
+    /// The objects without a parent, other than `/`, in the order of births. The error is want of
+    /// memory.
+    pub fn detached<L: Ledger>(
+        &self,
+        alloc: Global,
+        steps: &mut Steps<L>,
+    ) -> Result<Vec<Detached>, Memory>
+        ensures { (b : model.Board) → Stands b self.now → IfOk result (λ list. list.items ≡ detached_told b) }
+    {
+        Ok(detached_list(&self.heap, alloc, steps)?)
+    }
+
+    /// How many notes there were; it stays at 2^64 - 1 once there.
+    pub fn notes_total(&self) -> u64
+        ensures { (b : model.Board) → Stands b self.now → result ≡ total_of b.notes }
+    {
+        self.heap.notes_total()
+    }
+
+    /// The number of the first note that a reading from a number gives.
+    pub fn notes_first(&self, from: u64) -> u64
+        ensures { (b : model.Board) → Stands b self.now → result ≡ first_from from b.notes }
+    {
+        self.heap.notes_first(from)
+    }
+
+    /// The notes that a reading from a number gives, at most `NOTES_PER_REPLY`. The error is want of memory.
+    pub fn notes(&self, from: u64, alloc: Global) -> Result<Vec<Note>, Memory>
+        ensures { (b : model.Board) → Stands b self.now → IfOk result (λ notes. notes.items ≡ given_from from b.notes) }
+    {
+        Ok(self.heap.notes(from, alloc)?)
+    }
+
+    /// Writes the property of a name of the object at a path (QEMU's QAPI, `qom-set`). A link takes
+    /// the path of its target, or the empty text for none; what it held is finalised where nothing
+    /// refers to it any more. Refused with E15 where a path leads to no object and E16 where to
+    /// several, E17 where the object has no such property, E18 where `qom-set` does not write it,
+    /// E19 where the value does not fit, and E31 where the target is not of the link's type. The
+    /// other error is want of memory, which comes only where a value is copied. An error leaves the
+    /// board as it was.
+    pub fn qom_set<L: Ledger>(
+        &mut self,
+        path: &str,
+        name: &str,
+        val: &Val,
+        alloc: Global,
+        steps: &mut Steps<L>,
+    ) -> Result<(), Refusal>
+        ensures written { (b : model.Board) → Stands b self.old → Writes self.new result (write_at b path.now name.now val.now) }
+        ensures err { OnErr result (self.new ≡ self.old) }
+    {
+        set(&mut self.heap, path, name, val, alloc, steps)
+    }
+
+    /// Makes a user's object of a type's name under an id, with values for its properties, as a
+    /// child of `/objects` that nothing else holds (QEMU's QAPI, `object-add`). Of two values for
+    /// one property the first counts. Refused, in this order, with `E20` where no type has the name,
+    /// `E21` where it is abstract, `E22` where users may not make it, `E23` where the id is malformed,
+    /// `E15` where `/objects` is not there, `E24` where it has such a slot, and `E43` at `LIVE_OBJECTS_MAX` objects;
+    /// the board is then as it was. A property that is refused, the first in the order given, is so
+    /// with `E17`, `E18`, `E19`, `E15`, `E16` or `E31` behind an attempt that is given up: the object
+    /// was made and ended. Where memory wants, the board is as it was, or an attempt was given up.
+    pub fn object_add<L: Ledger>(
+        &mut self,
+        driver: &str,
+        id: &str,
+        props: &PropList,
+        alloc: Global,
+        steps: &mut Steps<L>,
+    ) -> Result<(), Refusal>
+        ensures change { (b : model.Board) → Stands b self.old → Adds b driver.now id.now props.now result self.new }
+    {
+        add_object(&mut self.heap, driver, id, props, alloc, steps)
+    }
+
+    /// Removes the user's object of an id: its slot at `/objects` is let go, and it is finalised
+    /// where nothing else refers to it (QEMU's QAPI, `object-del`). `E15` comes exactly where there
+    /// is no such slot. An error leaves the board as it was.
+    pub fn object_del<L: Ledger>(&mut self, id: &str, steps: &mut Steps<L>) -> Result<(), Code>
+        ensures change { (b : model.Board) → Stands b self.old → IsAnswered (objects.object_del b id.now) result self.new }
+        ensures err { OnErr result (self.new ≡ self.old) }
+    {
+        remove(&mut self.heap, id, steps)
+    }
+
+    /// Cuts the strong links of a detached object, in order, which is held meanwhile and finalised
+    /// in the end where nothing refers to it (the profile's `x-sever`). `E33` comes exactly where no
+    /// object of that birth is live, else `E50` exactly where it is attached. An error leaves the
+    /// board as it was.
+    pub fn sever<L: Ledger>(&mut self, birth: u64, steps: &mut Steps<L>) -> Result<(), Code>
+        ensures change { (b : model.Board) → Stands b self.old → IsAnswered (objects.sever b birth) result self.new }
+        ensures err { OnErr result (self.new ≡ self.old) }
+    {
+        sever(&mut self.heap, birth, steps)
     }
 }

@@ -13,6 +13,7 @@ use std::alloc::AllocError;
 fn put_number<K: Sink>(sink: &mut K, number: u8) -> Result<(), Failed>
     ensures bytes { PutsAll (K.held sink.old) (K.held sink.new) result (decimal number ++ 32 ∷ []) }
     ensures cause { HasCause (K.faults sink.old) (K.faults sink.new) result }
+    ensures quiet { OnOk result (K.faults sink.new ≡ K.faults sink.old) }
 {
     let ones = b'0' + number % 10;
     if number < 10 {
@@ -29,6 +30,7 @@ fn put_number<K: Sink>(sink: &mut K, number: u8) -> Result<(), Failed>
 fn put_lane<K: Sink>(sink: &mut K, lane: Lane) -> Result<(), Failed>
     ensures bytes { PutsAll (K.held sink.old) (K.held sink.new) result (lane_text lane ++ 32 ∷ []) }
     ensures cause { HasCause (K.faults sink.old) (K.faults sink.new) result }
+    ensures quiet { OnOk result (K.faults sink.new ≡ K.faults sink.old) }
 {
     match lane {
         Lane::Session(number) => put_number(sink, number),
@@ -40,6 +42,7 @@ fn put_lane<K: Sink>(sink: &mut K, lane: Lane) -> Result<(), Failed>
 fn put_line<K: Sink>(sink: &mut K, lane: Lane, bytes: &[u8]) -> Result<(), Failed>
     ensures bytes { PutsAll (K.held sink.old) (K.held sink.new) result (line lane bytes.now) }
     ensures cause { HasCause (K.faults sink.old) (K.faults sink.new) result }
+    ensures quiet { OnOk result (K.faults sink.new ≡ K.faults sink.old) }
 {
     if let Err(Failed) = put_lane(sink, lane) {
         return Err(Failed);
@@ -85,6 +88,7 @@ pub(crate) fn put_message<K: Sink>(
 ) -> Result<(), Failed>
     ensures bytes { PutsAll (K.held sink.old) (K.held sink.new) result (line lane bytes.now) }
     ensures cause { HasCause (K.faults sink.old) (K.faults sink.new) result }
+    ensures quiet { OnOk result (K.faults sink.new ≡ K.faults sink.old) }
 {
     match spell_line(buffer, lane, bytes) {
         Ok(()) => match put_all(sink, buffer.as_slice()) {

@@ -75,7 +75,7 @@ fn push_escaped(text: &mut String, plain: &str) -> Result<(), AllocError>
 }
 
 /// A text in ASCII: as it is, or with the others escaped.
-fn push_ascii(text: &mut String, plain: &str) -> Result<(), AllocError>
+pub(crate) fn push_ascii(text: &mut String, plain: &str) -> Result<(), AllocError>
     ensures { OnOk result (string_bytes text.new ≡ string_bytes text.old ++ ascii plain.now) }
 {
     if plain.is_ascii() {

@@ -3,10 +3,12 @@
 
 mod ascii;
 mod events;
+mod properties;
 mod replies;
 #[cfg(test)]
 mod tests;
 
 pub use ascii::json_text;
 pub use events::{Event, event_text};
+pub use properties::PropertyList;
 pub use replies::{error_text, greeting, return_text, return_written, version};

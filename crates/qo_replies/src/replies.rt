@@ -99,7 +99,8 @@ pub fn return_text(alloc: Global, id: Option<&Text>, value: &Value) -> Result<Ch
 pub fn return_written(alloc: Global, id: Option<&Text>, written: &str) -> Result<Chars, AllocError>
     ensures { IfOk result (λ line. (value : Data) → written.now ≡ json value → line ≡ return_reply (option_map (λ id. id.now) id.entry) value) }
 {
-    let mut text = String::with_capacity(alloc, REPLY_BYTES)?;
+    let room = REPLY_BYTES.saturating_add(written.len());
+    let mut text = String::with_capacity(alloc, room)?;
     push_opening(&mut text, id)?;
     text.push_str(written)?;
     text.push_str("}\r\n")?;

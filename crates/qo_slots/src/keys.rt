@@ -1,6 +1,4 @@
-//! The names of values in a table, and the error of its calls.
-
-use thiserror::Error;
+//! The names of values in a table.
 
 /// The name of a value in a table: the index of its slot, which is used again once the value was
 /// taken, and its birth, which never is.
@@ -11,8 +9,3 @@ pub struct Key {
     /// The number of the `put` that made it, from 1.
     pub birth: u64,
 }
-
-/// There was not enough memory, or there were not enough births left.
-#[derive(Clone, Copy, Debug, PartialEq, Eq, Error)]
-#[error("not enough memory")]
-pub struct Memory;

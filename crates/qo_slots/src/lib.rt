@@ -12,6 +12,6 @@ mod tests;
 mod walk;
 
 pub use counting::Steps;
-pub use keys::{Key, Memory};
+pub use keys::Key;
 pub use table::Slots;
 pub use walk::Rest;

@@ -1,11 +1,11 @@
 //! The table.
 
 use crate::counting::Steps;
-use crate::keys::{Key, Memory};
+use crate::keys::Key;
 use crate::stored::Stored;
 use crate::walk::Rest;
 use slab::Slab;
-use std::alloc::Global;
+use std::alloc::{AllocError, Global};
 use std::marker::Model;
 use std::sync::ledger::Ledger;
 
@@ -37,25 +37,25 @@ impl<T> Model for Slots<T> {
 }
 
 impl<T> Slots<T> {
-    ghost use Rattle.std.specs.Prelude.{◌≡◌, ℕ, ◌+◌, ◌≤◌, ◌<◌, ◌^◌, [], IfSome, IsOkAnd, IsOk, IsErr, OnOk, Some, None, slice_set};
+    ghost use Rattle.std.specs.Prelude.{◌≡◌, ℕ, ◌+◌, ◌≤◌, ◌<◌, ◌^◌, [], IfSome, IsOk, IsErr, OnOk, Some, None, slice_set};
     ghost use Rattle.std.specs.Borrow.{sem};
     ghost use Rattle.qo_slots.specs.Table.{find, live_count, values_in, HasSpare, IsLive, Updates};
     ghost use Rattle.qo_slots.specs.Lends.{lends_value};
 
     /// A table without values. It takes memory only by `reserve`.
-    pub fn new(alloc: Global) -> Result<Slots<T>, Memory>
-        ensures { IsOkAnd result (λ s. s ≡ record { slots = []; born = 0; capacity = 0 }) }
+    pub fn new(alloc: Global) -> Slots<T>
+        ensures { result ≡ record { slots = []; born = 0; capacity = 0 } }
     {
-        Ok(Slots {
+        Slots {
             table: Slab::new(alloc),
             born: 0,
-        })
+        }
     }
 
     /// Makes room for at least `n` more values, so that as many calls of `put` need no memory.
-    /// `Memory` comes where memory runs out, or where fewer than `n` births are left below 2^64;
+    /// The error comes where memory runs out, or where fewer than `n` births are left below 2^64;
     /// the values and the births are then as before, and the room is no less.
-    pub fn reserve(&mut self, n: usize) -> Result<(), Memory>
+    pub fn reserve(&mut self, n: usize) -> Result<(), AllocError>
         ensures spare { OnOk result (HasSpare self.new n) }
         ensures births { 2 ^ 64 ≤ self.old.born + n → IsErr result }
         ensures succeeds { HasSpare self.old n → IsOk result }
@@ -63,7 +63,7 @@ impl<T> Slots<T> {
         ensures grows { self.old.capacity ≤ self.new.capacity }
     {
         if n as u64 > u64::MAX - self.born || self.table.reserve(n).is_err() {
-            return Err(Memory);
+            return Err(AllocError);
         }
         Ok(())
     }

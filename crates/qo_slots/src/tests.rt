@@ -2,8 +2,8 @@
 //! at values that may not.
 ghost use Rattle.std.specs.Prelude.{◌≡◌, ◌+◌, ◌<◌, OnOk};
 
-use crate::{Key, Memory, Slots, Steps};
-use std::alloc::Global;
+use crate::{Key, Slots, Steps};
+use std::alloc::{AllocError, Global};
 use std::marker::Brand;
 use std::sync::ledger::{Blank, Ledger};
 use std::test::Fail;
@@ -20,7 +20,7 @@ struct Seen {
 }
 
 /// Puts two numbers, changes the second, takes the first and puts a third in its place.
-fn walk_numbers<L: Ledger>(slots: &mut Slots<u64>, steps: &mut Steps<L>) -> Result<Seen, Memory>
+fn walk_numbers<L: Ledger>(slots: &mut Slots<u64>, steps: &mut Steps<L>) -> Result<Seen, AllocError>
     ensures { OnOk result (steps.new ≡ steps.old + 6) }
 {
     slots.reserve(2)?;
@@ -52,13 +52,13 @@ fn digits_left(slots: Slots<u64>) -> u64 {
     left
 }
 
-fn seen_numbers<L: Ledger>(alloc: Global, blank: Blank) -> Result<Seen, Memory>
+fn seen_numbers<L: Ledger>(alloc: Global, blank: Blank) -> Result<Seen, AllocError>
     requires name { blank.name ≡ L.name }
     requires parts { blank.parts ≡ L.parts }
     requires some { 0 < blank.parts }
 {
     let mut steps = Steps::<L>::from_blank(blank);
-    let mut slots = Slots::new(alloc)?;
+    let mut slots = Slots::new(alloc);
     let walked = walk_numbers(&mut slots, &mut steps);
     let left = digits_left(slots);
     Ok(Seen { left, ..walked? })
@@ -88,16 +88,16 @@ fn spend(token: Token) -> u64 {
 }
 
 /// Puts a token, changes it and takes it back.
-fn walk_tokens<L: Ledger>(alloc: Global, blank: Blank) -> Result<u64, Memory>
+fn walk_tokens<L: Ledger>(alloc: Global, blank: Blank) -> Result<u64, AllocError>
     requires name { blank.name ≡ L.name }
     requires parts { blank.parts ≡ L.parts }
     requires some { 0 < blank.parts }
 {
     let mut steps = Steps::<L>::from_blank(blank);
-    let mut slots = Slots::new(alloc)?;
+    let mut slots = Slots::new(alloc);
     if slots.reserve(1).is_err() {
         slots.destroy_empty();
-        return Err(Memory);
+        return Err(AllocError);
     }
     let key = slots.put(Token { number: 7 }, &mut steps);
     slots.change(key, &mut steps).number = 8;

@@ -21,7 +21,6 @@ pub mod PlugLemmas
 pub mod RecordLemmas
 pub mod SeverLemmas
 pub mod SlotLemmas
-pub mod StaysLemmas
 pub mod StepsLemmas
 pub mod TargetLemmas
 pub mod ViewLemmas

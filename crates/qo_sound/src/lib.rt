@@ -2,8 +2,8 @@
 //! contracts say so. The definitions of the tree and of its changes stand in `qo_model`.
 #![tactic(auto)]
 
+ghost use Rattle.qo_model.specs.Stays.{StaysLaw};
 ghost use Rattle.qo_sound.specs.Kept.{SoundKeptLaw};
-ghost use Rattle.qo_sound.specs.Stays.{StaysLaw};
 
 /// Where the tree is sound, and no alias outlasts the child that it passes on to, so it is behind
 /// each command on objects, taken or refused, behind a device that is added, refused at any stage
@@ -15,7 +15,6 @@ pub fn law_sound_kept()
 {}
 
 /// A command on objects leaves of a board all but its objects, births, pins, notes and events.
-#[tactic(auto, using(crate::proofs::StaysLemmas::stays_lem))]
 pub fn law_stays()
     ensures { StaysLaw }
 {}

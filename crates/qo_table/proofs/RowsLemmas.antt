@@ -4,6 +4,7 @@ use Rattle.std.specs.List.{AllByRecursion}
 use Rattle.std.proofs.lemmas.Bool.{eqb-true, eq-eqb}
 use Rattle.std.proofs.lemmas.Bool.Decides.{nat_tests}
 use Rattle.std.proofs.lemmas.Option.{slice_get-map}
+use Rattle.std.proofs.lemmas.List.{length_push}
 use Rattle.std.proofs.lemmas.List.Elements.{filter_map-append}
 use Rattle.std.specs.Option.{option_map_or}
 use Rattle.qo_slots.specs.declared.keys.Key.{Key}
@@ -39,11 +40,11 @@ module _ {T : Type 0} where
   abbrev pub Stored : Table T → List Key → Type 0
   Stored t order = AllByRecursion (λ (k : Key). slots.IsLive t k) order
 
-  same-births : (a b : ℕ) (v w : T) → ◌≡◌ {A = Option (ℕ × T)} (Some (a, v)) (Some (b, w)) → a ≡ b
+  pub same-births : (a b : ℕ) (v w : T) → ◌≡◌ {A = Option (ℕ × T)} (Some (a, v)) (Some (b, w)) → a ≡ b
   same-births a b v w same = ap (λ (o : Option (ℕ × T)). option_map_or (λ (e : ℕ × T). e.0) o 0) same
 
   -- the rows of names, of which the first has this value
-  rows-cons : (t : Table T) (k : Key) (ks : List Key) (v : T) → slots.find t k.index ≡ Some (k.birth, v) → rows_in t (k ∷ ks) ≡ (k, v) ∷ rows_in t ks
+  pub rows-cons : (t : Table T) (k : Key) (ks : List Key) (v : T) → slots.find t k.index ≡ Some (k.birth, v) → rows_in t (k ∷ ks) ≡ (k, v) ∷ rows_in t ks
   rows-cons t k ks v e = rw e refl
 
   -- the names of the rows are those of the list
@@ -312,8 +313,8 @@ module _ {T : Type 0} where
     pub born : u.born ≡ t.born + 1
     pub rows : rows_in u left ≡ rows_in t order ++ (key, v) ∷ []
 
-  pub added : (t r u : Table T) (key : Key) (v : T) (order left : List Key) → IsOrdered t order → r ≡ record t { capacity = r.capacity } → key.birth ≡ r.born + 1 → slots.find r key.index ≡ None → Updates r u key.index (Some (key.birth, v)) → u.born ≡ key.birth → left ≡ order ++ key ∷ [] → Added t u key v order left
-  added t r u key v order left good kept birth vacant updates born is =
+  pub added : (t r u : Table T) (key : Key) (v : T) (order left : List Key) → IsOrdered t order → r ≡ record t { capacity = r.capacity } → key.birth ≡ r.born + 1 → slots.find r key.index ≡ None → Updates r u key.index (Some (key.birth, v)) → u.born ≡ key.birth → left ≡ order ++ key ∷ [] → slots.live_count u ≡ slots.live_count r + 1 → Added t u key v order left
+  added t r u key v order left good kept birth vacant updates born is count =
       let stored : Stored r order = subst (λ (x : Table T). Stored x order) (sym kept) good.stored in
       let same : rows_in r order ≡ rows_in t order = ap (λ (x : Table T). rows_in x order) kept in
       let same_born : r.born ≡ t.born = ap (λ (x : Table T). x.born) kept in
@@ -321,6 +322,7 @@ module _ {T : Type 0} where
         good = record {
           stored = stored-added r u key v vacant updates order stored;
           rising = subst (λ n. Rises 0 (births_of (order ++ key ∷ [])) n) (sym (born ∙ birth ∙ ap (λ n. n + 1) same_born)) (rises-added 0 t.born key order (birth ∙ ap (λ n. n + 1) same_born) good.rising);
+          all = count ∙ ap (λ (x : Table T). slots.live_count x + 1) kept ∙ ap (λ n. n + 1) good.all ∙ sym (length_push order key);
         };
         birth = birth ∙ ap (λ n. n + 1) same_born;
         born = born ∙ birth ∙ ap (λ n. n + 1) same_born;

@@ -1,8 +1,8 @@
 -- The rows that a table of slots has, in the order of a list of names.
-use Rattle.std.specs.Prelude.{ℕ, suc, Bool, if◌then◌else◌, List, [], ◌∷◌, map, filter_map, option_map}
+use Rattle.std.specs.Prelude.{ℕ, suc, Bool, if◌then◌else◌, ◌≡◌, List, [], ◌∷◌, length, map, filter_map, option_map}
 use Rattle.std.specs.List.{AllByRecursion}
 use Rattle.qo_slots.specs.declared.keys.Key.{Key}
-use Rattle.qo_slots.specs.Table.{Table, find}
+use Rattle.qo_slots.specs.Table.{Table, find, live_count}
 use Rattle.qo_slots.specs.Table as slots
 use Rattle.qo_table.specs.Rows.{Rises}
 
@@ -20,7 +20,8 @@ module _ {T : Type 0} where
   abbrev pub rows_in : Table T → List Key → List (Key × T)
   rows_in t order = filter_map (λ (k : Key). option_map (λ (e : ℕ × T). (k, e.1)) (find t k.index)) order
 
-  -- each name of the list is live in the table, and births rise along it
+  -- each name of the list is live in the table, births rise along it, and no other name is live
   pub record IsOrdered (t : Table T) (order : List Key) : Type 0 where
     pub stored : AllByRecursion (λ (k : Key). slots.IsLive t k) order
     pub rising : Rises 0 (births_of order) t.born
+    pub all : live_count t ≡ length order

@@ -8,5 +8,5 @@ mod table;
 #[cfg(test)]
 mod tests;
 
-pub use qo_slots::{Key, Memory, Steps};
+pub use qo_slots::{Key, Steps};
 pub use table::ObjectTable;

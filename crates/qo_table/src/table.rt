@@ -4,7 +4,7 @@ ghost use Rattle.std.specs.Prelude.{◌≡◌, ℕ, ◌<◌, nat_lt, length, sli
 ghost use Rattle.qo_table.specs.Ordered.{births_of, front};
 ghost use Rattle.qo_table.specs.Rows.{Rises};
 
-use qo_slots::{Key, Memory, Rest, Slots, Steps};
+use qo_slots::{Key, Rest, Slots, Steps};
 use std::alloc::Global;
 use std::marker::Model;
 use std::sync::ledger::Ledger;
@@ -46,20 +46,19 @@ fn key_in(order: &[Key], place: usize) -> Option<Key>
 }
 
 impl<T> ObjectTable<T> {
-    ghost use Rattle.std.specs.Prelude.{◌≡◌, ◌+◌, ◌≤◌, [], ◌∷◌, ◌++◌, map, Some, None, IfOk, IfErr, IsOkAnd, option_map, find, leb};
+    ghost use Rattle.std.specs.Prelude.{◌≡◌, ◌+◌, ◌≤◌, Bool, count_by, [], ◌∷◌, ◌++◌, map, Some, None, IfOk, IfErr, OnOk, option_map, find, leb};
     ghost use Rattle.std.specs.Borrow.{sem};
     ghost use Rattle.qo_table.specs.Rows.{IsLive, births, edit, object_at, without};
     ghost use Rattle.qo_table.specs.Lends.{lends_object};
 
-    /// A table without objects. The error is want of memory.
-    pub fn new(alloc: Global) -> Result<ObjectTable<T>, Memory>
-        ensures { IsOkAnd result (λ t. t ≡ record { rows = []; born = 0 }) }
+    /// A table without objects. It takes no memory.
+    pub fn new(alloc: Global) -> ObjectTable<T>
+        ensures { result ≡ record { rows = []; born = 0 } }
     {
-        let slots = Slots::new(alloc)?;
-        Ok(ObjectTable {
-            slots,
+        ObjectTable {
+            slots: Slots::new(alloc),
             order: Vec::new(alloc),
-        })
+        }
     }
 
     /// How many objects there are. It takes no memory.
@@ -74,6 +73,7 @@ impl<T> ObjectTable<T> {
     pub fn add<L: Ledger>(&mut self, object: T, steps: &mut Steps<L>) -> Result<Key, T>
         ensures added { IfOk result (λ key. (key.birth ≡ self.old.born + 1) × (self.new ≡ record { rows = self.old.rows ++ (key, object) ∷ []; born = self.old.born + 1 })) }
         ensures refused { IfErr result (λ back. (back ≡ object) × (self.new ≡ self.old)) }
+        ensures cost { OnOk result (steps.new ≡ steps.old + 1) }
     {
         if self.slots.reserve(1).is_err() {
             return Err(object);
@@ -142,8 +142,10 @@ impl<T> ObjectTable<T> {
         let _order = &self.order;
     }
 
-    /// Gives the table up, for the objects that it still holds. It takes no memory.
-    pub fn into_rest(self) -> Rest<T> {
+    /// Gives the table up, for the objects that it still holds, each once. It takes no memory.
+    pub fn into_rest(self) -> Rest<T>
+        ensures { (p : T → Bool) → count_by p result ≡ count_by (λ row. p row.1) self.rows }
+    {
         let ObjectTable { slots, order: _ } = self;
         slots.into_rest()
     }

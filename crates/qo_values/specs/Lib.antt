@@ -12,4 +12,5 @@ pub mod Properties
 pub mod Registers
 pub mod Rings
 pub mod Timer
+pub mod TypeTexts
 pub mod Uart

@@ -14,6 +14,7 @@ mod properties;
 mod ranges;
 #[cfg(test)]
 mod tests;
+mod type_texts;
 
 pub use births::{
     ANONYMOUS_BIRTH, MACHINE_BIRTH, MEMORY_BUS_BIRTH, OBJECTS_BIRTH, OPENING_OBJECTS,
@@ -33,3 +34,4 @@ pub use names::{Chars, Name, Text, TextList};
 pub use plain::{FromJson, from_json, to_json};
 pub use properties::{Misfit, PropList, PropType, PushError, Val};
 pub use ranges::Range;
+pub use type_texts::TypeText;

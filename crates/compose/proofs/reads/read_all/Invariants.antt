@@ -11,7 +11,7 @@ invariant-loop-count g l =
       short : length l.bytes.items ≤ 16777216;
       size : length l.bytes.items ≡ vec_len l.bytes;
       room : vec_len l.buffer ≡ 65536;
-      count : source.faults l.fn.source ≤ source.faults l.source;
+      count : source.faults l.source ≡ source.faults l.fn.source;
     }
 
 abbrev pub decreases-loop-count : goal.decreases-loop-count

@@ -12,5 +12,5 @@ loop-at-preserved g c =
     record {
       within = omega arith;
       held = rw take-add (bytes ∙ (rw c.loop-at.invariant.held twice));
-      kept = omega arith;
+      kept = c.in_ok-count.ensures.quiet.0 (omega arith) ∙ c.loop-at.invariant.kept;
     }

@@ -7,7 +7,7 @@ invariant-loop-at g l =
     record {
       within : l.at ≤ length l.bytes;
       held : g.K.Sink.held l.sink ≡ append_known (g.K.Sink.held l.fn.sink) (take l.at l.bytes);
-      kept : g.K.Sink.faults l.fn.sink ≤ g.K.Sink.faults l.sink;
+      kept : g.K.Sink.faults l.sink ≡ g.K.Sink.faults l.fn.sink;
     }
 
 abbrev pub decreases-loop-at : goal.decreases-loop-at

@@ -3,4 +3,4 @@ use Rattle.qo_commands.proofs.changes.add.Goals as goal
 
 pub returns : goal.returns
 returns g c = λ b s.
-    add-changes b c.args.board.now c.object_add.new.self c.args.driver.now c.args.id.now c.args.props.now c.object_add.result s (c.object_add.ensures.change b s.shows)
+    add-changes b c.object_add.new.self c.args.driver.now c.args.id.now c.args.props.now c.object_add.result (c.object_add.ensures.change b s)

@@ -1,4 +1,4 @@
--- Each command tells what is defined; the board runs.
+-- Each command tells what is defined.
 use Rattle.std.proofs.Common.{◌∙◌, ap, sym, rules, Bool}
 use Rattle.serde_json.specs.Data.{Data}
 use Rattle.qo_commands.specs.Commands.{perform, returned, status_data}
@@ -23,7 +23,7 @@ returns-in_ok-commands-in-QueryCommands g c = λ b s.
 pub returns-in-QueryStatus : goal.returns-in-QueryStatus
 unfolding perform
 returns-in-QueryStatus g c = λ b s.
-    c.returned-in-QueryStatus.ensures b ∙ ap (λ (running : Bool). returned b (status_data running)) (sym s.running) ∙ ap (perform b) (sym c.in-QueryStatus.is)
+    c.returned-in-QueryStatus.ensures b ∙ ap (λ (running : Bool). returned b (status_data running)) (c.running.ensures b s) ∙ ap (perform b) (sym c.in-QueryStatus.is)
 
 pub returns-in_default : goal.returns-in_default
 returns-in_default g c = λ b s.

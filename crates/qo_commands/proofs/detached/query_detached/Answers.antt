@@ -2,7 +2,7 @@
 use Rattle.std.proofs.Common.{◌∙◌, ap, map, List}
 use Rattle.serde_json.specs.Data.{Data, array}
 use Rattle.serde_json.specs.View.{items_of}
-use Rattle.qo_realize.specs.declared.reads.Detached.{Detached}
+use Rattle.qo_model.specs.declared.detached.Detached.{Detached}
 use Rattle.qo_commands.specs.Commands.{detached_data, returned}
 use Rattle.qo_commands.proofs.detached.query_detached.Goals as goal
 

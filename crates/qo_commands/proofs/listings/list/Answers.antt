@@ -1,9 +1,9 @@
 -- What the board lists is told, or what refuses it.
 use Rattle.std.proofs.Common.{◌≡◌, Err, ◌∙◌, ap, sym, map, List}
 use Rattle.serde_json.specs.Data.{Data}
-use Rattle.qo_realize.specs.Listed.{prop_told}
-use Rattle.qo_realize.specs.declared.listed.Prop.{Prop}
-use Rattle.qo_realize.specs.At.{listing_at}
+use Rattle.qo_properties.specs.Listed.{prop_told}
+use Rattle.qo_properties.specs.declared.reading.listing.Prop.{Prop}
+use Rattle.qo_model.specs.Access.{listing_at}
 use Rattle.qo_commands.specs.Commands.{answered, properties_data, returned}
 use Rattle.qo_commands.proofs.listings.list.Goals as goal
 

@@ -1,7 +1,7 @@
 -- The properties passed over stand in the list.
 use Rattle.std.proofs.Common.{◌≡◌, map, take}
 use Rattle.serde_json.specs.View.{view}
-use Rattle.qo_realize.specs.Listed.{prop_told}
+use Rattle.qo_properties.specs.Listed.{prop_told}
 use Rattle.qo_commands.specs.Commands.{property_data}
 use Rattle.qo_commands.proofs.listings.listing.Given as goal
 

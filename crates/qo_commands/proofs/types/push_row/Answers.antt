@@ -1,9 +1,10 @@
 use Rattle.std.proofs.Common.{◌∙◌, ◌++◌, ◌∷◌, [], ap, sym, map, List, ℕ}
 use Rattle.qo_commands.specs.Commands.{property_data}
+use Rattle.std.proofs.lemmas.List.{map-append}
 use Rattle.serde_json.specs.Data.{Data}
 use Rattle.serde_json.specs.View.{view}
 use Rattle.qo_types.specs.Rows.{kind_told, mark_told}
-use Rattle.qo_commands.proofs.ListingLemmas.{row-pushed, map-append}
+use Rattle.qo_commands.proofs.ListingLemmas.{row-pushed}
 use Rattle.qo_commands.proofs.types.push_row.Goals as goal
 
 pub returns : goal.returns

@@ -10,19 +10,19 @@ use Rattle.qo_life.proofs.release.drop_pin.Goals as goal
 
 pub end_unheld-requires : goal.end_unheld-requires
 end_unheld-requires g c =
-    rw c.unpin.ensures (live-edit c.args.o.birth without_pin c.args.heap.now.rows c.args.o c.requires.live)
+    rw c.unpin.ensures.now (live-edit c.args.o.birth without_pin c.args.heap.now.rows c.args.o c.requires.live)
 
 pub returns-clause-release : goal.returns-clause-release
 returns-clause-release g c =
-    let behind = subst (λ (x : Objects). Goes (λ b. after finalise b (Some c.args.o.birth)) x c.end_unheld.new.heap) c.unpin.ensures c.end_unheld.ensures in
+    let behind = subst (λ (x : Objects). Goes (λ b. after finalise b (Some c.args.o.birth)) x c.end_unheld.new.heap) c.unpin.ensures.now c.end_unheld.ensures in
     goes-shows (λ b. unpin b c.args.o.birth) c.args.heap.now c.end_unheld.new.heap (goes-drop_pin c.args.heap.now c.end_unheld.new.heap c.facts.ensures c.args.o.birth c.requires.pinned behind)
 
 pub returns-clause-names : goal.returns-clause-names
 returns-clause-names g c =
-    let behind = subst (λ (x : Objects). Goes (λ b. after finalise b (Some c.args.o.birth)) x c.end_unheld.new.heap) c.unpin.ensures c.end_unheld.ensures in
+    let behind = subst (λ (x : Objects). Goes (λ b. after finalise b (Some c.args.o.birth)) x c.end_unheld.new.heap) c.unpin.ensures.now c.end_unheld.ensures in
     goes-names (λ b. unpin b c.args.o.birth) c.args.heap.now c.end_unheld.new.heap (goes-drop_pin c.args.heap.now c.end_unheld.new.heap c.facts.ensures c.args.o.birth c.requires.pinned behind)
 
 pub returns-clause-goes : goal.returns-clause-goes
 returns-clause-goes g c =
-    let behind = subst (λ (x : Objects). Goes (λ b. after finalise b (Some c.args.o.birth)) x c.end_unheld.new.heap) c.unpin.ensures c.end_unheld.ensures in
+    let behind = subst (λ (x : Objects). Goes (λ b. after finalise b (Some c.args.o.birth)) x c.end_unheld.new.heap) c.unpin.ensures.now c.end_unheld.ensures in
     goes-drop_pin c.args.heap.now c.end_unheld.new.heap c.facts.ensures c.args.o.birth c.requires.pinned behind

@@ -12,8 +12,8 @@ loop-init g c =
       gone = gone_none _ _ _ _ _ c.in-Ok.ensures.state.0;
       bad = refl;
       asked = refl;
-      next_count = omega arith;
-      send_count = omega arith;
+      next_count = refl;
+      send_count = refl;
       later = g.met.H.Hub.now c.args.hub.now;
     }
 
@@ -27,7 +27,7 @@ loop-preserved g c =
       gone = going_on _ _ _ c.loop.machine c.turn.new.machine c.loop.counter (g.H.Hub.bad c.loop.hub) c.loop.invariant.gone c.in_default-turn.ensures.meets (sym c.if-ended.ensures);
       bad = c.turn.ensures.bad ∙ c.loop.invariant.bad;
       asked = c.turn.ensures.asked ∙ c.loop.invariant.asked;
-      next_count = omega arith;
-      send_count = omega arith;
+      next_count = c.in_default-turn.ensures.next_quiet (λ e. cc) ∙ c.loop.invariant.next_count;
+      send_count = c.in_default-turn.ensures.send_quiet (λ e. cc) ∙ c.loop.invariant.send_count;
       later = g.met.H.Hub.after _ _ _ c.loop.invariant.later c.turn.ensures.later;
     }

@@ -1,5 +1,5 @@
 -- The turns so far lead from the opening to here.
-use Rattle.std.proofs.Common.{◌≡◌, ◌≤◌, List}
+use Rattle.std.proofs.Common.{◌≡◌, List}
 use Rattle.qo_machine.specs.Runs.{Turn, told}
 use Rattle.qo_machine.proofs.RunLemmas.{GoneOn}
 use Rattle.qo_machine.proofs.running.run.Given as goal
@@ -11,7 +11,7 @@ invariant-loop g l =
       gone : (turns : List Turn) × GoneOn (told (hub.inputs l.fn.hub) (hub.sent l.fn.hub) (hub.got l.fn.hub) (hub.losses l.fn.hub)) (told (hub.inputs l.hub) (hub.sent l.hub) (hub.got l.hub) (hub.losses l.hub)) l.machine l.counter turns;
       bad : hub.bad l.hub ≡ hub.bad l.fn.hub;
       asked : hub.asked l.hub ≡ hub.asked l.fn.hub;
-      next_count : hub.next_faults l.fn.hub ≤ hub.next_faults l.hub;
-      send_count : hub.send_faults l.fn.hub ≤ hub.send_faults l.hub;
+      next_count : hub.next_faults l.hub ≡ hub.next_faults l.fn.hub;
+      send_count : hub.send_faults l.hub ≡ hub.send_faults l.fn.hub;
       later : hub.later l.fn.hub l.hub;
     }

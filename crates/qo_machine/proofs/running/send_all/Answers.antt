@@ -11,8 +11,8 @@ loop-out-init g c =
       sent = sent_none _ _ _ _;
       bad = refl;
       asked = refl;
-      send_count = omega arith;
-      next_count = omega arith;
+      send_count = refl;
+      next_count = refl;
       later = g.met.H.Hub.now c.args.hub.now;
     }
 
@@ -33,7 +33,7 @@ loop-out-preserved g c =
           (sym (one_further c.args.outs.now c.loop-out.out-index c.out-item.result (omega arith) c.out-item.is)) (c.in_default.ensures.ok _ _ c.loop-out.invariant.sent);
       bad = c.send_one.ensures.bad ∙ c.loop-out.invariant.bad;
       asked = c.send_one.ensures.asked ∙ c.loop-out.invariant.asked;
-      send_count = omega (arith, c.send_one.ensures.cause.later);
-      next_count = omega arith;
+      send_count = c.in_default.ensures.quiet ∙ c.loop-out.invariant.send_count;
+      next_count = c.send_one.ensures.next_count ∙ c.loop-out.invariant.next_count;
       later = g.met.H.Hub.after _ _ _ c.loop-out.invariant.later c.send_one.ensures.later;
     }

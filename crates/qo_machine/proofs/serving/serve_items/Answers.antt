@@ -2,9 +2,10 @@
 use Rattle.std.proofs.Common.{sym, ◌∙◌, subst, List, [], ◌∷◌, ◌++◌, ◌+◌, take, arith}
 use Rattle.qo_framing.specs.declared.items.Item.{Item}
 use Rattle.qo_machine.proofs.LaneLemmas.{more_lanes}
-use Rattle.qo_machine.proofs.MachineLemmas.{serves_on, take_one}
+use Rattle.qo_machine.proofs.LeftLemmas.{front_of_all, front_on}
+use Rattle.qo_machine.proofs.MachineLemmas.{on_err, serves_on, take_one}
 use Rattle.qo_machine.specs.Machine.{Message}
-use Rattle.qo_machine.specs.Serving.{ServesTo}
+use Rattle.qo_machine.specs.Serving.{ServesFront, ServesTo}
 use Rattle.qo_machine.proofs.serving.serve_items.Goals as goal
 
 pub loop-item-preserved : goal.loop-item-preserved
@@ -21,3 +22,11 @@ loop-item-preserved g c =
 
 pub returns-clause-lanes : goal.returns-clause-lanes
 returns-clause-lanes g c = c.loop-item.invariant.lanes
+
+pub returns-in_err-serve_item-clause-left : goal.returns-in_err-serve_item-clause-left
+returns-in_err-serve_item-clause-left g c =
+    on_err c.from_residual.result
+    (λ s here.
+    front_of_all c.args.at c.args.session s c.serve_item.new.machine c.args.items.now (c.loop-item.item-index + 1)
+    (subst (λ (items : List Item). ServesFront c.args.at c.args.session s items c.serve_item.new.machine) (sym (take_one c.args.items.now c.loop-item.item-index c.item-item.result (omega arith) c.item-item.is))
+    (front_on c.args.at c.args.session s c.loop-item.machine c.serve_item.new.machine (take c.loop-item.item-index c.args.items.now) (c.item-item.result ∷ []) c.loop-item.outs (c.loop-item.invariant.served s here) c.in_err-serve_item.ensures.left)))

@@ -1,8 +1,10 @@
 -- An input does what it does by itself, while the run goes on.
-use Rattle.std.proofs.Common.{[], ◌∙◌, ap, sym, refl, List}
+use Rattle.std.proofs.Common.{[], ◌∙◌, ap, sym, refl, subst, List, OnErr}
 use Rattle.qo_causes.specs.declared.inputs.What.TheVariants.{Bytes}
-use Rattle.qo_machine.specs.Machine.{Message, State, state_at, unchanged}
-use Rattle.qo_machine.proofs.MachineLemmas.{answers_ended, answers_moved, answers_still, leaves, seen_ended, served_beside, served_bytes}
+use Rattle.qo_causes.specs.declared.inputs.What.{What}
+use Rattle.qo_machine.specs.Machine.{BreaksOff, Message, State, state_at, unchanged}
+use Rattle.qo_machine.proofs.LeftLemmas.{breaks_before}
+use Rattle.qo_machine.proofs.MachineLemmas.{answers_ended, answers_moved, answers_still, leaves, on_err, seen_ended, served_beside, served_bytes}
 use Rattle.qo_machine.proofs.machines.Machine.serve.Goals as goal
 
 pub returns-then-self-clause-answered : goal.returns-then-self-clause-answered
@@ -11,7 +13,7 @@ returns-then-self-clause-answered g c = λ s here.
 
 pub returns-in-Open-clause-answered : goal.returns-in-Open-clause-answered
 returns-in-Open-clause-answered g c =
-    served_beside c.open.result c.args.input.now _ c.args.self.now c.open.new.self (sym (seen_ended c.self.view_is) ∙ c.if-self.false) c.in-Open.is c.open.ensures.answered c.open.ensures.objects
+    served_beside c.open.result c.args.input.now _ c.args.self.now c.open.new.self (sym (seen_ended c.self.view_is) ∙ c.if-self.false) c.in-Open.is c.open.ensures.answered c.open.ensures.board
 
 pub returns-in-Bytes-clause-answered : goal.returns-in-Bytes-clause-answered
 returns-in-Bytes-clause-answered g c =
@@ -20,12 +22,12 @@ returns-in-Bytes-clause-answered g c =
 pub returns-in-Shut-clause-answered : goal.returns-in-Shut-clause-answered
 returns-in-Shut-clause-answered g c =
     answers_moved c.args.input.now _ _ c.args.self.now c.shut.new.self (sym (seen_ended c.self.view_is) ∙ c.if-self.false) c.in-Shut.is
-    (λ b. c.shut.ensures.answered b c.args.input.now.at ∙ ap (λ (outs : List Message). record { outs = outs; state = state_at b c.shut.new.self; rest = [] }) (sym c.none-in-Shut.ensures)) c.shut.ensures.objects
+    (λ b. c.shut.ensures.answered b c.args.input.now.at ∙ ap (λ (outs : List Message). record { outs = outs; state = state_at b c.shut.new.self; rest = [] }) (sym c.none-in-Shut.ensures)) c.shut.ensures.board
 
 pub returns-in-End-clause-answered : goal.returns-in-End-clause-answered
 returns-in-End-clause-answered g c =
     answers_moved c.args.input.now _ _ c.args.self.now c.finish.new.self (sym (seen_ended c.self.view_is) ∙ c.if-self.false) c.in-End.is
-    (λ b. ap (λ (s : State). unchanged s []) (sym (c.finish.ensures.done b)) ∙ leaves (state_at b c.finish.new.self) _ c.none-in-End.ensures) c.finish.ensures.objects
+    (λ b. ap (λ (s : State). unchanged s []) (sym (c.finish.ensures.done b)) ∙ leaves (state_at b c.finish.new.self) _ c.none-in-End.ensures) c.finish.ensures.board
 
 pub returns-in-Guest-clause-answered : goal.returns-in-Guest-clause-answered
 returns-in-Guest-clause-answered g c =
@@ -34,3 +36,11 @@ returns-in-Guest-clause-answered g c =
 pub returns-in-Step-clause-answered : goal.returns-in-Step-clause-answered
 returns-in-Step-clause-answered g c =
     answers_still c.args.input.now _ _ c.args.self.now c.args.self.now (sym (seen_ended c.self.view_is) ∙ c.if-self.false) c.in-Step.is c.none-in-Step.ensures refl (λ s. refl)
+
+pub returns-in-Open-clause-breaks : goal.returns-in-Open-clause-breaks
+returns-in-Open-clause-breaks g c = λ s here.
+    on_err c.open.result (breaks_before s c.args.input.now c.args.self.now c.open.new.self c.open.ensures.board here)
+
+pub returns-in-Bytes-clause-breaks : goal.returns-in-Bytes-clause-breaks
+returns-in-Bytes-clause-breaks g c = λ s here.
+    subst (λ (w : What). OnErr c.take.result (BreaksOff s (record { at = c.args.input.now.at; what = w }) c.take.new.self)) (sym (c.in-Bytes.is ∙ ap (Bytes c.in-Bytes.session) (sym c.as_slice.ensures.value))) (c.take.ensures.breaks s here)

@@ -1,12 +1,24 @@
 -- The items of the bytes are served.
 use Rattle.std.proofs.Common.{arith, [], ◌∙◌}
-use Rattle.qo_machine.proofs.MachineLemmas.{beyond, served_items}
+use Rattle.qo_causes.specs.declared.inputs.What.TheVariants.{Bytes}
+use Rattle.qo_machine.proofs.LeftLemmas.{breaks_before, breaks_in, err_more}
+use Rattle.qo_machine.proofs.MachineLemmas.{beyond, on_err, served_items}
 use Rattle.qo_machine.proofs.machines.Machine.take.Goals as goal
 
 pub returns-clause-answered : goal.returns-clause-answered
 returns-clause-answered g c =
-    served_items c.serve_items.result c.args.at c.args.session c.args.self.now c.feed.new.self c.serve_items.new.machine c.args.bytes.now c.deref.result.now (omega arith) (λ b. c.deref.ensures.value ∙ c.in_ok-items.ensures.items b) c.in_ok-items.ensures.state c.feed.ensures.objects c.serve_items.ensures.served
+    served_items c.serve_items.result c.args.at c.args.session c.args.self.now c.feed.new.self c.serve_items.new.machine c.args.bytes.now c.deref.result.now (omega arith) (λ b. c.deref.ensures.value ∙ c.in_ok-items.ensures.items b) c.in_ok-items.ensures.state c.feed.ensures.board c.serve_items.ensures.served
 
 pub returns-then-session-ge-SESSIONS-clause-answered : goal.returns-then-session-ge-SESSIONS-clause-answered
 returns-then-session-ge-SESSIONS-clause-answered g c = λ s here.
     ([], s, here, beyond c.args.at c.args.session c.args.bytes.now s _ (omega arith) c.none.ensures)
+
+pub returns-in_err-items-clause-breaks : goal.returns-in_err-items-clause-breaks
+returns-in_err-items-clause-breaks g c = λ s here.
+    on_err c.from_residual.result (breaks_before s (record { at = c.args.at; what = Bytes c.args.session c.args.bytes.now }) c.args.self.now c.feed.new.self c.feed.ensures.board here)
+
+pub returns-clause-breaks : goal.returns-clause-breaks
+returns-clause-breaks g c = λ s here.
+    err_more c.serve_items.result
+    (λ left.
+    breaks_in c.args.at c.args.session c.args.self.now c.feed.new.self c.serve_items.new.machine c.args.bytes.now c.deref.result.now (omega arith) (λ b. c.deref.ensures.value ∙ c.in_ok-items.ensures.items b) c.in_ok-items.ensures.state c.feed.ensures.board left s here) c.serve_items.ensures.left

@@ -1,7 +1,8 @@
-use Rattle.std.proofs.Common.{ap, refl, List}
+use Rattle.std.proofs.Common.{ap, refl, List, ◌∙◌}
 use Rattle.qo_slots.specs.declared.keys.Key.{Key}
 use Rattle.qo_slots.proofs.TableLemmas.{Updates-with_value}
 use Rattle.qo_table.proofs.RowsLemmas.{live-stored, object-found, stored-changed, rows-changed, agrees}
+use Rattle.qo_table.proofs.GivenLemmas.{written-count}
 use Rattle.qo_table.proofs.table.ObjectTable.change.Goals as goal
 
 pub change-requires : goal.change-requires
@@ -14,6 +15,7 @@ invariant_of-self-lent g c w =
     record {
       stored = stored-changed c.self.inside.slots _ c.args.key c.change.result.now w c.change.ensures.value (Updates-with_value c.self.inside.slots c.args.key w live) c.self.inside.order.items c.self.invariant.stored;
       rising = c.self.invariant.rising;
+      all = written-count c.self.inside.slots c.args.key c.change.result.now w c.change.ensures.value live ∙ c.self.invariant.all;
     }
 
 pub returns : goal.returns

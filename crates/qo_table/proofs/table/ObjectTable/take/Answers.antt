@@ -1,8 +1,10 @@
-use Rattle.std.proofs.Common.{◌∙◌, sym, ap, subst, ap₂, ◌<◌, length, vec_len, List, ℕ, nat_lt}
+use Rattle.std.proofs.Common.{◌∙◌, sym, ap, subst, ap₂, ◌<◌, length, vec_len, List, ℕ, nat_lt, ◌≡◌, ◌+◌, arith}
 use Rattle.std.specs.List.{remove}
 use Rattle.qo_slots.specs.declared.keys.Key.{Key}
 use Rattle.qo_table.specs.Ordered.{front, rows_in}
 use Rattle.qo_table.proofs.RowsLemmas.{live-stored, object-found, taken, front-within}
+use Rattle.qo_table.proofs.GivenLemmas.{remove-length}
+use Rattle.qo_slots.specs.Table.{live_count}
 use Rattle.qo_table.proofs.table.ObjectTable.take.Goals as goal
 
 pub remove-requires : goal.remove-requires
@@ -25,7 +27,8 @@ invariant_of-self g c =
     let gone = taken c.self.inside.slots c.take.new.self c.args.key c.take.result c.take.ensures.value c.take.ensures.updates c.self.inside.order.items c.self.invariant.stored 0 c.self.inside.slots.born c.self.invariant.rising (rw (← c.self.view_is) at c.requires) in
     let place = c.place_of-place.ensures ∙ ap (λ (l : List Key). front (λ (k : Key). nat_lt k.birth c.args.key.birth) l) c.as_slice.ensures.value in
     let left = c.remove.ensures.items ∙ ap (λ (n : ℕ). remove c.self.inside.order.items n) place in
-    rw left (record { stored = gone.stored; rising = rw c.take.ensures.born gone.rising })
+    let size : length c.self.inside.order.items ≡ length c.remove.new.self.items + 1 = rw left (remove-length c.self.inside.slots c.self.inside.order.items c.self.invariant.stored c.args.key (rw (← c.self.view_is) at c.requires)) in
+    rw left (record { stored = gone.stored; rising = rw c.take.ensures.born gone.rising; all = rw left at (let less : live_count c.take.new.self ≡ length c.remove.new.self.items = omega (arith, c.take.ensures.count, c.self.invariant.all, size) in less) })
 
 pub returns-clause-rest : goal.returns-clause-rest
 returns-clause-rest g c =

@@ -1,0 +1,14 @@
+-- The objects without a parent, as they are told (the profile's `x-query-detached`).
+use Rattle.std.specs.Prelude.{List, map}
+use Rattle.qo_model.specs.Board.{Board, Record}
+use Rattle.qo_model.specs.Objects.{detached}
+use Rattle.qo_model.specs.References.{refs}
+use Rattle.qo_model.specs.declared.detached.Detached.{Detached}
+
+-- an object, by its birth, its references and its type
+abbrev pub told : Board → Record → Detached
+told b r = record { birth = r.birth; refs = refs b r.birth; kind = r.kind }
+
+-- those without a parent, in the order of births
+abbrev pub detached_told : Board → List Detached
+detached_told b = map (told b) (detached b)

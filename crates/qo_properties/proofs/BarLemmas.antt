@@ -1,0 +1,179 @@
+-- The row of a type that a name gives, and what it refuses.
+use Rattle.std.proofs.Common.{◌≡◌, refl, ap, sym, subst, ◌∙◌, ap₂, ◌<◌, ◌≤◌, leb, nat_le, cond, Bool, true, false, ◌||◌, List, [], ◌∷◌, length, ℕ, codes, find, Option, Some, None, is_some, option_map, arith}
+use Rattle.std.specs.List.{AllByRecursion, list_all, list_any}
+use Rattle.qo_values.specs.Ids.{is_id, is_id_byte, is_letter}
+use Rattle.qo_values.specs.Names.{IsName, is_name_byte}
+use Rattle.std.proofs.lemmas.Bool.Decides.{nat_tests}
+use Rattle.std.proofs.lemmas.Cmp.{nat_list_eq_equiv}
+use Rattle.std.specs.Option.{option_map_or}
+use Rattle.std.specs.Str.{bytes_eq}
+use Rattle.std.proofs.lemmas.Option.{same_Some}
+use Rattle.std.proofs.lemmas.List.{length-map}
+use Rattle.qo_values.specs.Kinds.{type_name}
+use Rattle.qo_values.specs.declared.codes.Code.TheVariants.{E15, E20, E21, E22, E23, E24, E43}
+use Rattle.qo_values.specs.declared.codes.Code.{Code}
+use Rattle.qo_values.specs.declared.kinds.TypeId.{TypeId}
+use Rattle.qo_values.specs.declared.limits.TheConstants.{LIVE_OBJECTS_MAX}
+use Rattle.qo_model.specs.Types.{TypeRow, is_a, row_named, row_of, types}
+use Rattle.qo_types.specs.Rows.{Told, type_told, type_told_of}
+use Rattle.qo_types.specs.declared.rows.TypeRow as code
+use Rattle.qo_model.specs.Board.{Board, is_live}
+use Rattle.qo_model.specs.Board as board
+use Rattle.qo_model.specs.Objects.{barred, barred_by, has_slot, objects_birth}
+use Rattle.qo_slots.specs.declared.keys.Key.{Key}
+use Rattle.qo_table.specs.Rows.{IsLive}
+use Rattle.qo_object.specs.Content.{Content}
+use Rattle.qo_object.specs.Shown.{shown_slots}
+use Rattle.qo_object.specs.Slots.{Named}
+use Rattle.qo_heap.specs.Board.{Shows, record_of}
+use Rattle.qo_heap.specs.Objects.{Objects, content_of, slots_of}
+use Rattle.qo_heap.proofs.HeapLemmas.{is_some-find}
+use Rattle.qo_heap.proofs.ShowsReads.{shows-live, shows-live_key, shows-slots}
+use Rattle.qo_properties.specs.Changes.{place_refusal, row_refusal, type_refusal}
+
+-- each row is that of its own type
+rows-own : AllByRecursion (λ (r : TypeRow). row_of r.id ≡ Some r) types
+unfolding types
+rows-own = (refl, (refl, (refl, (refl, (refl, (refl, (refl, (refl, (refl, (refl, (refl, (refl, (refl, (refl, (refl, (refl, tt))))))))))))))))
+
+found-has : (P : TypeRow → Type 0) (p : TypeRow → Bool) (rows : List TypeRow) (row : TypeRow) → AllByRecursion P rows → find p rows ≡ Some row → P row
+found-has P p [] row all e = cc
+found-has P p (r ∷ rows) row all e = go (p r) refl (found-has P p rows row all.1)
+  where
+    go : (b : Bool) → p r ≡ b → (find p rows ≡ Some row → P row) → P row
+    go true is rest = let same : r ≡ row = same_Some r row (rw is at e) in subst P same all.0
+    go false is rest = rest (rw is at e)
+
+pub row-own : (name : List ℕ) (row : TypeRow) → row_named name ≡ Some row → row_of row.id ≡ Some row
+row-own name row e = found-has (λ (r : TypeRow). row_of r.id ≡ Some r) (λ (r : TypeRow). bytes_eq (type_name r.id) name) types row rows-own e
+
+-- what the code's row of the type says, where a name gives the type
+module _ (name : List ℕ) (t : TypeId) (r : code.TypeRow) (is : Some t ≡ option_map (λ (x : TypeRow). x.id) (row_named name)) (told : Some (type_told r) ≡ option_map type_told_of (row_of t)) where
+  by_row : (P : Option TypeRow → Type 0) → ((row : TypeRow) → row_named name ≡ Some row → row.id ≡ t → r.is_abstract ≡ row.is_abstract → P (Some row)) → P (row_named name)
+  by_row P given = go (row_named name) refl
+    where
+      go : (o : Option TypeRow) → row_named name ≡ o → P o
+      go None e = absurd (let clash : Some t ≡ None = is ∙ ap (option_map (λ (x : TypeRow). x.id)) e in cc)
+      go (Some row) e =
+          let same : t ≡ row.id = same_Some t row.id (is ∙ ap (option_map (λ (x : TypeRow). x.id)) e) in
+          let tells : type_told r ≡ type_told_of row = same_Some (type_told r) (type_told_of row) (told ∙ ap (λ (k : TypeId). option_map type_told_of (row_of k)) same ∙ ap (option_map type_told_of) (row-own name row e)) in
+          given row e (sym same) (ap (λ (x : Told). x.is_abstract) tells)
+
+  pub refused-abstract : r.is_abstract ≡ true → Some E21 ≡ type_refusal name
+  refused-abstract is_so = by_row (λ o. Some E21 ≡ option_map_or row_refusal o (Some E20)) (λ row e same tells. let so : row.is_abstract ≡ true = sym tells ∙ is_so in rw (row_refusal, so) refl)
+
+  pub refused-use : r.is_abstract ≡ false → is_a t (codes "user-creatable") ≡ false → Some E22 ≡ type_refusal name
+  refused-use so_not use_not = by_row (λ o. Some E22 ≡ option_map_or row_refusal o (Some E20)) (λ row e same tells. let so : row.is_abstract ≡ false = sym tells ∙ so_not in let not_so : is_a row.id (codes "user-creatable") ≡ false = ap (λ (k : TypeId). is_a k (codes "user-creatable")) same ∙ use_not in rw (row_refusal, so, not_so) refl)
+
+  pub allowed : r.is_abstract ≡ false → is_a t (codes "user-creatable") ≡ true → None ≡ type_refusal name
+  allowed so_not use_yes = by_row (λ o. None ≡ option_map_or row_refusal o (Some E20)) (λ row e same tells. let so : row.is_abstract ≡ false = sym tells ∙ so_not in let its : is_a row.id (codes "user-creatable") ≡ true = ap (λ (k : TypeId). is_a k (codes "user-creatable")) same ∙ use_yes in rw (row_refusal, so, its) refl)
+
+-- the slots of `/objects`, and the objects
+
+taken-shown : (b : Board) (v : Objects) → Shows b v → (n : ℕ) (id : List ℕ) → n ≡ objects_birth → has_slot b objects_birth id ≡ list_any (λ (s : Named). bytes_eq id s.0) (slots_of v n)
+taken-shown b v s n id is =
+    ap (λ (m : ℕ). has_slot b m id) (sym is) ∙ ap (list_any (λ (t : List ℕ × board.Slot). bytes_eq t.0 id)) (shows-slots b v s n) ∙ go (slots_of v n)
+  where
+    go : (slots : List Named) → list_any (λ (t : List ℕ × board.Slot). bytes_eq t.0 id) (shown_slots slots) ≡ list_any (λ (t : Named). bytes_eq id t.0) slots
+    go [] = refl
+    go (t ∷ slots) = ap₂ (λ (x y : Bool). x || y) (nat_list_eq_equiv.symm t.0 id) (go slots)
+
+found-told : {A : Type 0} (f : A → Named) (o : Option A) (x : Option Named) (t : Bool) → option_map f o ≡ x → is_some o ≡ t → is_some x ≡ t
+found-told f None x t e is = ap is_some (sym e) ∙ is
+found-told f (Some a) x t e is = ap is_some (sym e) ∙ is
+
+pub taken-is : {A : Type 0} (f : A → Named) (o : Option A) (b : Board) (v : Objects) → Shows b v → (n : ℕ) (id : List ℕ) (t : Bool) → n ≡ objects_birth → option_map f o ≡ find (λ (s : Named). bytes_eq id s.0) (slots_of v n) → is_some o ≡ t → has_slot b objects_birth id ≡ t
+taken-is f o b v s n id t is e some =
+    taken-shown b v s n id is ∙ sym (is_some-find (λ (x : Named). bytes_eq id x.0) (slots_of v n)) ∙ found-told f o (find (λ (x : Named). bytes_eq id x.0) (slots_of v n)) t e some
+
+pub many-shown : (b : Board) (v : Objects) → Shows b v → length b.records ≡ length v.rows
+many-shown b v s = ap (λ (l : List board.Record). length l) s.records ∙ length-map v.rows record_of
+
+pub place-gone : (b : Board) (v : Objects) → Shows b v → (id : List ℕ) → content_of v 8 ≡ None → Some E15 ≡ place_refusal b id
+place-gone b v s id none =
+    let gone : is_live b objects_birth ≡ false = shows-live b v s objects_birth ∙ ap (λ (o : Option Content). is_some o) none in
+    rw (place_refusal, gone) refl
+
+-- `/objects`, by its name
+module _ (b : Board) (v : Objects) (s : Shows b v) (key : Key) (live : IsLive v.rows key) (is : key.birth ≡ objects_birth) (id : List ℕ) where
+  lives : is_live b objects_birth ≡ true
+  lives = ap (is_live b) (sym is) ∙ shows-live_key b v s key live
+
+  pub place-taken : has_slot b objects_birth id ≡ true → Some E24 ≡ place_refusal b id
+  place-taken taken = rw (place_refusal, lives, taken) refl
+
+  pub place-full : has_slot b objects_birth id ≡ false → LIVE_OBJECTS_MAX ≤ length v.rows → Some E43 ≡ place_refusal b id
+  place-full none many =
+      let so : leb LIVE_OBJECTS_MAX (length b.records) ≡ true = grind (arith, nat_tests, many-shown b v s, many) in
+      rw (place_refusal, lives, none, so) refl
+
+  pub place-vacant : has_slot b objects_birth id ≡ false → length v.rows < LIVE_OBJECTS_MAX → None ≡ place_refusal b id
+  place-vacant none few =
+      let so : leb LIVE_OBJECTS_MAX (length b.records) ≡ false = grind (arith, nat_tests, many-shown b v s, few) in
+      rw (place_refusal, lives, none, so) refl
+
+-- an id is a name
+
+id-byte : (b : ℕ) → is_id_byte b ≡ true → is_name_byte b ≡ true
+id-byte b e = grind (arith, nat_tests, e)
+
+id-first : (b : ℕ) → is_letter b ≡ true → is_name_byte b ≡ true
+id-first b e = id-byte b (rw e refl)
+
+ids-all : (bs : List ℕ) → list_all is_id_byte bs ≡ true → list_all is_name_byte bs ≡ true
+ids-all [] e = refl
+ids-all (b ∷ bs) e = go (is_id_byte b) refl (ids-all bs)
+  where
+    go : (t : Bool) → is_id_byte b ≡ t → (list_all is_id_byte bs ≡ true → list_all is_name_byte bs ≡ true) → list_all is_name_byte (b ∷ bs) ≡ true
+    go true p rest = rw (id-byte b p) (rest (rw p at e))
+    go false p rest = absurd (let clash : false ≡ true = rw p at e in cc)
+
+pub id-named : (id : List ℕ) → is_id id ≡ true → IsName id
+id-named [] e = cc
+id-named (b ∷ bs) e = go (is_letter b) refl (list_all is_id_byte bs) refl (nat_le (length bs) 127) refl
+  where
+    go : (t : Bool) → is_letter b ≡ t → (u : Bool) → list_all is_id_byte bs ≡ u → (w : Bool) → nat_le (length bs) 127 ≡ w → IsName (b ∷ bs)
+    go true p true q true r = record { some = omega arith; short = (let few : length bs ≤ 127 = grind (arith, nat_tests, r) in omega arith); printable = rw (id-first b p) (ids-all bs q) }
+    go true p true q false r = absurd (let clash : false ≡ true = rw (p, q, r) at e in cc)
+    go true p false q w r = absurd (let clash : false ≡ true = rw (p, q) at e in cc)
+    go false p u q w r = absurd (let clash : false ≡ true = rw p at e in cc)
+
+-- the refusals in order
+
+module _ (b : Board) (driver id : List ℕ) where
+  by_type : (row : TypeRow) (code : Code) → row_refusal row ≡ Some code → barred b row id ≡ Some code
+  by_type row code e = go row.is_abstract refl (is_a row.id (codes "user-creatable")) refl
+    where
+      go : (t : Bool) → row.is_abstract ≡ t → (u : Bool) → is_a row.id (codes "user-creatable") ≡ u → barred b row id ≡ Some code
+      go true p u q = let same : Some E21 ≡ Some code = rw (row_refusal, p) at e in rw (barred, p) same
+      go false p false q = let same : Some E22 ≡ Some code = rw (row_refusal, p, q) at e in rw (barred, p, q) same
+      go false p true q = absurd (let clash : None ≡ Some code = rw (row_refusal, p, q) at e in cc)
+
+  by_rest : (row : TypeRow) → row_refusal row ≡ None → barred b row id ≡ cond (is_id id) (place_refusal b id) (Some E23)
+  by_rest row e = go row.is_abstract refl (is_a row.id (codes "user-creatable")) refl (is_id id) refl
+    where
+      go : (t : Bool) → row.is_abstract ≡ t → (u : Bool) → is_a row.id (codes "user-creatable") ≡ u → (w : Bool) → is_id id ≡ w → barred b row id ≡ cond (is_id id) (place_refusal b id) (Some E23)
+      go true p u q w r = absurd (let clash : Some E21 ≡ None = rw (row_refusal, p) at e in cc)
+      go false p false q w r = absurd (let clash : Some E22 ≡ None = rw (row_refusal, p, q) at e in cc)
+      go false p true q true r = rw (barred, p, q, r) refl
+      go false p true q false r = rw (barred, p, q, r) refl
+
+  pub barred-type : (code : Code) → type_refusal driver ≡ Some code → barred_by b driver id ≡ Some code
+  barred-type code e = go (row_named driver) e
+    where
+      go : (o : Option TypeRow) → option_map_or row_refusal o (Some E20) ≡ Some code → option_map_or (λ (row : TypeRow). barred b row id) o (Some E20) ≡ Some code
+      go None same = same
+      go (Some row) same = by_type row code same
+
+  pub barred-rest : type_refusal driver ≡ None → barred_by b driver id ≡ cond (is_id id) (place_refusal b id) (Some E23)
+  barred-rest e = go (row_named driver) e
+    where
+      go : (o : Option TypeRow) → option_map_or row_refusal o (Some E20) ≡ None → option_map_or (λ (row : TypeRow). barred b row id) o (Some E20) ≡ cond (is_id id) (place_refusal b id) (Some E23)
+      go None clash = absurd (let other : Some E20 ≡ None = clash in cc)
+      go (Some row) same = by_rest row same
+
+  pub barred-id : type_refusal driver ≡ None → is_id id ≡ false → barred_by b driver id ≡ Some E23
+  barred-id e is = barred-rest e ∙ ap (λ (t : Bool). cond t (place_refusal b id) (Some E23)) is
+
+  pub barred-place : type_refusal driver ≡ None → is_id id ≡ true → barred_by b driver id ≡ place_refusal b id
+  barred-place e is = barred-rest e ∙ ap (λ (t : Bool). cond t (place_refusal b id) (Some E23)) is

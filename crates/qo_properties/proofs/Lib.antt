@@ -1,0 +1,14 @@
+pub mod AddLemmas
+pub mod AnswerLemmas
+pub mod BarLemmas
+pub mod ClaimLemmas
+pub mod FillingLemmas
+pub mod FreshLemmas
+pub mod GivenLemmas
+pub mod ListLemmas
+pub mod LookupLemmas
+pub mod PinLemmas
+pub mod ReadLemmas
+pub mod SeverLemmas
+pub mod StartLemmas
+pub mod WriteLemmas

@@ -1,0 +1,79 @@
+-- How the slots of an object are listed, by the heap.
+use Rattle.std.proofs.Common.{◌≡◌, refl, ap, sym, ◌∙◌, ℕ, zero, suc, ◌+◌, ◌<◌, List, [], ◌∷◌, map, length, drop, slice_get, Option, Some, None, IfSome, option_map, codes, arith}
+use Rattle.std.specs.Option.{option_and_then, option_map_or}
+use Rattle.qo_values.specs.declared.properties.Val.{Val}
+use Rattle.qo_values.specs.declared.kinds.TypeId.{TypeId}
+use Rattle.qo_slots.specs.declared.keys.Key.{Key}
+use Rattle.qo_table.specs.Rows.{IsLive}
+use Rattle.qo_object.specs.declared.slots.Slot.{Slot}
+use Rattle.qo_object.specs.declared.slots.Slot.TheVariants.{Plain, Child}
+use Rattle.qo_object.specs.Content.{Content}
+use Rattle.qo_object.specs.Shown.{shown_slot, shown_slots}
+use Rattle.qo_object.specs.Slots.{Named, slot_in, target_of}
+use Rattle.qo_model.specs.Board as board
+use Rattle.qo_model.specs.Listing.{around, listing, own_text, plain_word, type_text}
+use Rattle.qo_heap.specs.Objects.{IsHeap, Objects, content_of, slots_of}
+use Rattle.qo_heap.specs.Board.{Shows}
+use Rattle.qo_heap.proofs.ShowsLive.{live-content, named-live}
+use Rattle.qo_heap.proofs.ShowsReads.{shows-kind, shows-slots}
+
+-- a slot that is no alias
+
+pub own-plain : (b : board.Board) (v : Objects) → Shows b v → (n : ℕ) (name : List ℕ) (kind : TypeId) → option_map (λ (c : Content). c.kind) (content_of v n) ≡ Some kind → (what : Slot) (val : Val) → what ≡ Plain val → plain_word kind name ≡ own_text b n name (shown_slot what)
+own-plain b v s n name kind is what val e =
+    let shown : board.kind_of b n ≡ Some kind = shows-kind b v s n ∙ is in
+    rw e (sym (ap (λ (o : Option TypeId). option_map_or (λ (t : TypeId). plain_word t name) o []) shown))
+
+pub own-child : (b : board.Board) (v : Objects) → Shows b v → (n : ℕ) (name : List ℕ) (key : Key) (kind : TypeId) → option_map (λ (c : Content). c.kind) (content_of v key.birth) ≡ Some kind → (what : Slot) → what ≡ Child key → around (codes "child") kind ≡ own_text b n name (shown_slot what)
+own-child b v s n name key kind is what e =
+    let shown : board.kind_of b key.birth ≡ Some kind = shows-kind b v s key.birth ∙ is in
+    rw e (sym (ap (λ (o : Option TypeId). option_map_or (around (codes "child")) o []) shown))
+
+-- all slots
+
+abbrev pub line : board.Board → ℕ → Named → List ℕ × List ℕ
+line b n t = (t.0, type_text b n (t.0, shown_slot t.1))
+
+abbrev pub lines_behind : board.Board → Objects → ℕ → ℕ → List (List ℕ × List ℕ)
+lines_behind b v n at = map (line b n) (drop at (slots_of v n))
+
+lines-shown : (b : board.Board) (n : ℕ) (slots : List Named) → map (λ (s : List ℕ × board.Slot). (s.0, type_text b n s)) (shown_slots slots) ≡ map (line b n) slots
+lines-shown b n [] = refl
+lines-shown b n (t ∷ slots) = ap (λ (l : List (List ℕ × List ℕ)). line b n t ∷ l) (lines-shown b n slots)
+
+pub lines-all : (b : board.Board) (v : Objects) → Shows b v → (n : ℕ) → listing b n ≡ lines_behind b v n 0
+lines-all b v s n = ap (map (λ (t : List ℕ × board.Slot). (t.0, type_text b n t))) (shows-slots b v s n) ∙ lines-shown b n (slots_of v n)
+
+module _ {X Y : Type 0} (f : X → Y) where
+  next-first : (xs : List X) (i : ℕ) (x : X) → Some x ≡ slice_get xs i → map f (drop i xs) ≡ f x ∷ map f (drop (suc i) xs)
+  next-first [] i x e = cc
+  next-first (y ∷ xs) zero x e = let same : x ≡ y = cc e in ap (λ (z : X). f z ∷ map f xs) (sym same)
+  next-first (y ∷ xs) (suc i) x e = next-first xs i x e
+
+  pub line-next : (xs : List X) (i : ℕ) (x : X) → Some x ≡ slice_get xs i → map f (drop i xs) ≡ f x ∷ map f (drop (i + 1) xs)
+  line-next xs i x e = let next : suc i ≡ i + 1 = omega arith in next-first xs i x e ∙ ap (λ (k : ℕ). f x ∷ map f (drop k xs)) next
+
+  pub line-last : (xs : List X) (i : ℕ) → None ≡ slice_get xs i → map f (drop i xs) ≡ []
+  line-last [] zero e = refl
+  line-last [] (suc i) e = refl
+  line-last (y ∷ xs) zero e = cc
+  line-last (y ∷ xs) (suc i) e = line-last xs i e
+
+pub before-end : {X : Type 0} (xs : List X) (i : ℕ) (x : X) → Some x ≡ slice_get xs i → i < length xs
+before-end [] i x e = cc
+before-end (y ∷ xs) zero x e = omega arith
+before-end (y ∷ xs) (suc i) x e = let more = before-end xs i x e in omega arith
+
+-- what a slot at a place names is there
+pub target-at : (v : Objects) → IsHeap v → (o : Key) → IsLive v.rows o → (i : ℕ) (t : Named) → Some t ≡ slice_get (slots_of v o.birth) i → IfSome (target_of t.1) (IsLive v.rows)
+target-at v good o live i t e = go (target_of t.1) refl
+  where
+    its : option_and_then target_of (slot_in (slots_of v o.birth) i) ≡ target_of t.1
+    its = ap (λ (x : Option Named). option_and_then target_of (option_map (λ (s : Named). s.1) x)) (sym e)
+
+    go : (x : Option Key) → target_of t.1 ≡ x → IfSome x (IsLive v.rows)
+    go None is = tt
+    go (Some key) is =
+        let (c, there) = live-content v o live in
+        let slots : slots_of v o.birth ≡ c.slots = ap (λ (x : Option Content). option_map_or (λ (d : Content). d.slots) x []) there in
+        named-live v good o.birth i c there key (ap (λ (l : List Named). option_and_then target_of (slot_in l i)) (sym slots) ∙ its ∙ is)

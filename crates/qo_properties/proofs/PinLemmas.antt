@@ -1,0 +1,126 @@
+-- That birth 1 alone is pinned, once, before and after the calls on a board.
+use Rattle.std.proofs.Common.{◌≡◌, refl, ap, sym, ◌∙◌, ℕ, zero, suc, ◌+◌, ◌<◌, ◌≤◌, ◌^◌, Bool, true, false, ◌==◌, eqb, nat_eq, leb, List, [], ◌∷◌, ◌++◌, length, replicate, Option, Some, None, arith}
+use Rattle.std.specs.Option.{option_map_or}
+use Rattle.std.specs.List.{list_any}
+use Rattle.std.proofs.lemmas.Bool.{eqb-true, eq-eqb}
+use Rattle.qo_slots.specs.declared.keys.Key.{Key}
+use Rattle.qo_table.specs.Rows.{edit, object_at}
+use Rattle.qo_model.specs.Board.{Board, Slot, plain, child, strong, weak, alias, slot_at, slots_at}
+use Rattle.qo_model.specs.Opening.{opening_board}
+use Rattle.qo_model.specs.Objects.{severed_from}
+use Rattle.qo_model.specs.References.{refs}
+use Rattle.qo_model.specs.Release.{after, finalise, let_go, pin, put_in_order, unpin, without_first, without_pin}
+use Rattle.qo_model.proofs.ReleaseLeavesLemmas.{let_go-leaves, release_leaves}
+use Rattle.qo_notes.specs.Log.{empty_log}
+use Rattle.qo_object.specs.Content.{Content}
+use Rattle.qo_heap.specs.Board.{Shows, pins_in}
+use Rattle.qo_heap.specs.Objects.{Objects, pins_of, with_edit}
+use Rattle.qo_life.specs.Life.{Goes}
+use Rattle.qo_life.proofs.TreeLemmas.{tree, tree-shows}
+use Rattle.qo_properties.specs.Changes.{severed}
+use Rattle.qo_properties.proofs.SeverLemmas.{among-put}
+use Rattle.qo_properties.specs.Pinned.{OnlyRootPinned}
+
+length-more : (k m : ℕ) (xs : List ℕ) → length (replicate k m ++ xs) ≡ k + length xs
+length-more zero m xs = omega arith
+length-more (suc k) m xs = omega (arith, length-more k m xs)
+
+-- an object is pinned no more often than there are pins
+pins-within : (n : ℕ) (rows : List (Key × Content)) → option_map_or (λ (c : Content). c.pins) (object_at rows n) 0 ≤ length (pins_in rows)
+pins-within n [] = omega arith
+pins-within n (row ∷ rows) = go (eqb row.0.birth n) refl (pins-within n rows)
+  where
+    go : (b : Bool) → eqb row.0.birth n ≡ b → option_map_or (λ (c : Content). c.pins) (object_at rows n) 0 ≤ length (pins_in rows) → option_map_or (λ (c : Content). c.pins) (object_at (row ∷ rows) n) 0 ≤ length (pins_in (row ∷ rows))
+    go true p rest = rw p (omega (arith, length-more row.1.pins row.0.birth (pins_in rows)))
+    go false p rest = rw p (omega (arith, rest, length-more row.1.pins row.0.birth (pins_in rows)))
+
+pub pins-room : (v : Objects) → OnlyRootPinned v → (n : ℕ) → pins_of v n < 2 ^ 32
+pins-room v only n =
+    let one : length (pins_in v.rows) ≡ 1 = ap (λ (l : List ℕ). length l) only in
+    omega (arith, pins-within n v.rows, one)
+
+-- the same pins
+
+pub edit-pins : (n : ℕ) (f : Content → Content) → ((c : Content) → (f c).pins ≡ c.pins) → (rows : List (Key × Content)) → pins_in (edit n f rows) ≡ pins_in rows
+edit-pins n f same [] = refl
+edit-pins n f same (row ∷ rows) = go (eqb row.0.birth n) refl (edit-pins n f same rows)
+  where
+    go : (t : Bool) → eqb row.0.birth n ≡ t → pins_in (edit n f rows) ≡ pins_in rows → pins_in (edit n f (row ∷ rows)) ≡ pins_in (row ∷ rows)
+    go true p rest = rw p (λ j. replicate (same row.1 j) row.0.birth ++ rest j)
+    go false p rest = rw p (ap (λ (l : List ℕ). replicate row.1.pins row.0.birth ++ l) rest)
+
+-- an object of a heap was changed, but not its pins
+pub edited-pins : (v w : Objects) (n : ℕ) (f : Content → Content) → ((c : Content) → (f c).pins ≡ c.pins) → w ≡ with_edit n f v → pins_in w.rows ≡ pins_in v.rows
+edited-pins v w n f same is = ap (λ (x : Objects). pins_in x.rows) is ∙ edit-pins n f same v.rows
+
+-- what was held is let go
+pub hold-pins : (held : Option ℕ) (v w : Objects) → Goes (λ b. after finalise b held) v w → pins_in w.rows ≡ pins_in v.rows
+hold-pins held v w goes =
+    let s = goes.shown (tree v) empty_log (tree-shows v) in
+    sym s.pins ∙ go held
+  where
+    by : (n : ℕ) (t : Bool) → (refs (tree v) n == 0) ≡ t → (after finalise (tree v) (Some n)).pins ≡ pins_in v.rows
+    by n true p = rw (after, p) (release_leaves (tree v) n).pins
+    by n false p = rw (after, p) refl
+
+    go : (o : Option ℕ) → (after finalise (tree v) o).pins ≡ pins_in v.rows
+    go None = refl
+    go (Some n) = by n (refs (tree v) n == 0) refl
+
+-- the opening board
+pub opening-pinned : (v : Objects) → Shows opening_board v → OnlyRootPinned v
+unfolding opening_board
+opening-pinned v s = sym s.pins
+
+-- a step that keeps the pins of boards of which birth 1 alone is pinned
+pub goes-pins : (step : Board → Board) (v w : Objects) → Goes step v w → OnlyRootPinned v → ((b : Board) → b.pins ≡ 1 ∷ [] → (step b).pins ≡ 1 ∷ []) → OnlyRootPinned w
+goes-pins step v w goes only keeps =
+    let s = goes.shown (tree v) empty_log (tree-shows v) in
+    sym s.pins ∙ keeps (tree v) only
+
+-- letting a slot go keeps the pins
+pub let_go-same : (n i : ℕ) (v w : Objects) → Goes (λ b. let_go b n i) v w → pins_in w.rows ≡ pins_in v.rows
+let_go-same n i v w goes =
+    let s = goes.shown (tree v) empty_log (tree-shows v) in
+    sym s.pins ∙ (let_go-leaves (tree v) n i).pins
+
+-- severing: the pin of meanwhile goes again
+
+severed-pins : (places i n : ℕ) (b : Board) → (severed_from places i n b).pins ≡ b.pins
+severed-pins zero i n b = refl
+severed-pins (suc places) i n b = go (slot_at b n i) refl (severed-pins places (suc i) n)
+  where
+    go : (o : Option Slot) → slot_at b n i ≡ o → ((d : Board) → (severed_from places (suc i) n d).pins ≡ d.pins) → (severed_from (suc places) i n b).pins ≡ b.pins
+    go None p rest = rw (severed_from, p) (rest b)
+    go (Some (plain v)) p rest = rw (severed_from, p) (rest b)
+    go (Some (child m)) p rest = rw (severed_from, p) (rest b)
+    go (Some (strong t target)) p rest = rw (severed_from, p) (rest (let_go b n i) ∙ (let_go-leaves b n i).pins)
+    go (Some (weak t target)) p rest = rw (severed_from, p) (rest b)
+    go (Some (alias m property)) p rest = rw (severed_from, p) (rest b)
+
+-- a pin put in order and taken again
+pin-again : (n : ℕ) → without_first n (put_in_order n (1 ∷ [])) ≡ 1 ∷ []
+pin-again n = go (leb 1 n) refl
+  where
+    last : (t : Bool) → (1 == n) ≡ t → without_first n (1 ∷ n ∷ []) ≡ 1 ∷ []
+    last true p = rw p (ap (λ (m : ℕ). m ∷ []) (sym (eqb-true 1 n p)))
+    last false p = let here : (n == n) ≡ true = eq-eqb n n refl in rw (p, here) refl
+
+    go : (t : Bool) → leb 1 n ≡ t → without_first n (put_in_order n (1 ∷ [])) ≡ 1 ∷ []
+    go true p = rw p (last (1 == n) refl)
+    go false p = let here : (n == n) ≡ true = eq-eqb n n refl in rw (p, here) refl
+
+unpin-pins : (b : Board) (n : ℕ) → list_any (nat_eq n) b.pins ≡ true → (unpin b n).pins ≡ without_first n b.pins
+unfolding unpin
+unpin-pins b n pinned = rw (unpin, pinned) (go (refs (without_pin b n) n == 0) refl)
+  where
+    go : (t : Bool) → (refs (without_pin b n) n == 0) ≡ t → (after finalise (without_pin b n) (Some n)).pins ≡ without_first n b.pins
+    go true p = rw (after, p) (release_leaves (without_pin b n) n).pins
+    go false p = rw (after, p) refl
+
+pub severed-keeps : (n : ℕ) (b : Board) → b.pins ≡ 1 ∷ [] → (severed b n).pins ≡ 1 ∷ []
+unfolding pin
+severed-keeps n b only =
+    let c : Board = severed_from (length (slots_at b n)) 0 n (pin b n) in
+    let pins : c.pins ≡ put_in_order n (1 ∷ []) = severed-pins (length (slots_at b n)) 0 n (pin b n) ∙ ap (put_in_order n) only in
+    unpin-pins c n (ap (list_any (nat_eq n)) pins ∙ among-put n (1 ∷ [])) ∙ ap (without_first n) pins ∙ pin-again n

@@ -1,0 +1,233 @@
+-- What is written to the board, by its heap.
+use Rattle.std.proofs.Common.{◌≡◌, refl, ap, sym, ◌∙◌, ℕ, zero, suc, Bool, true, false, cond, nat_lt, List, [], ◌∷◌, find, Option, Some, None, is_some, IfSome, option_map}
+use Rattle.std.specs.Prelude.{position, if◌then◌else◌, Result, Ok, Err}
+use Rattle.std.specs.List.{position_or_len}
+use Rattle.std.specs.Option.{option_and_then, option_map_or}
+use Rattle.std.specs.Str.{bytes_eq}
+use Rattle.std.proofs.lemmas.Cmp.{nat_list_eq_equiv}
+use Rattle.qo_values.specs.declared.codes.Code.{Code}
+use Rattle.qo_values.specs.declared.codes.Code.TheVariants.{E17, E18, E19}
+use Rattle.qo_values.specs.declared.kinds.TypeId.{TypeId}
+use Rattle.qo_values.specs.declared.properties.Val.{Val}
+use Rattle.qo_values.specs.declared.properties.Val.TheVariants as val
+use Rattle.qo_values.specs.declared.properties.PropType.{PropType}
+use Rattle.qo_values.specs.Properties.{admits}
+use Rattle.qo_slots.specs.declared.keys.Key.{Key}
+use Rattle.qo_table.specs.Rows.{IsLive}
+use Rattle.qo_types.specs.Rows.{kind_told, mark_told, property_told}
+use Rattle.qo_types.specs.declared.rows.First.TheVariants as first
+use Rattle.qo_types.specs.declared.rows.Mark.{Mark}
+use Rattle.qo_types.specs.declared.rows.Mark.TheVariants as mark
+use Rattle.qo_types.specs.declared.rows.RowKind.{RowKind}
+use Rattle.qo_types.specs.declared.rows.RowKind.TheVariants as row
+use Rattle.qo_types.specs.declared.rows.SlotRow.{SlotRow}
+use Rattle.qo_object.specs.declared.slots.Slot.{Slot}
+use Rattle.qo_object.specs.declared.slots.Slot.TheVariants.{Plain, Child, Link, Alias}
+use Rattle.qo_object.specs.Content.{Content, dropped_at, empty_link_at}
+use Rattle.qo_object.specs.Shown.{birth_of, shown_slot, shown_slots}
+use Rattle.qo_object.specs.Slots.{Named, held, is_empty_link, let_go_at, slot_in, target_of}
+use Rattle.qo_object.proofs.ShownLemmas.{length-shown, shown-held}
+use Rattle.qo_model.specs.Board as board
+use Rattle.qo_model.specs.Changes.{set}
+use Rattle.qo_model.specs.Properties.{link_written, may_set, pointed_at, relinked, row_of_property, write, written, written_by}
+use Rattle.qo_model.specs.Release.{after, drop_slot, finalise}
+use Rattle.qo_model.specs.Types.{First, Kind, Property, property, slots_of, nothing, empty_text, own_name, truth, number}
+use Rattle.qo_heap.specs.Objects as heap
+use Rattle.qo_heap.specs.Objects.{IsHeap, Objects, content_of, with_edit}
+use Rattle.qo_heap.specs.Board.{Shows}
+use Rattle.qo_heap.proofs.ShowsLive.{content-edited, live-content, named-live_dropped}
+use Rattle.qo_heap.proofs.ShowsReads.{shows-kind, shows-slot_at, shows-slots}
+use Rattle.qo_properties.specs.Writes.{is_link_at, is_plain, is_plain_at, kind_written, link_type, link_type_at, mark_written, row_written, to_link, to_plain}
+
+pub some-live : (P Q : Key → Type 0) → ((key : Key) → P key → Q key) → (o : Option Key) → IfSome o P → IfSome o Q
+some-live P Q more None all = tt
+some-live P Q more (Some key) all = more key all
+
+-- the place of a name
+
+place-shown : (name : List ℕ) (slots : List Named) → position_or_len (λ (s : List ℕ × board.Slot). bytes_eq s.0 name) (shown_slots slots) ≡ position_or_len (λ (t : Named). bytes_eq name t.0) slots
+place-shown name [] = refl
+place-shown name (t ∷ slots) = rw (nat_list_eq_equiv.symm t.0 name, place-shown name slots) refl
+
+pub shows-place_of : (b : board.Board) (v : Objects) → Shows b v → (n : ℕ) (name : List ℕ) → position (λ (s : List ℕ × board.Slot). bytes_eq s.0 name) (board.slots_at b n) ≡ position (λ (t : Named). bytes_eq name t.0) (heap.slots_of v n)
+shows-place_of b v s n name =
+    ap (position (λ (t : List ℕ × board.Slot). bytes_eq t.0 name)) (shows-slots b v s n)
+    ∙ (λ j. cond (nat_lt (place-shown name (heap.slots_of v n) j) (length-shown (heap.slots_of v n) j)) (Some (place-shown name (heap.slots_of v n) j)) None)
+
+-- a write by the row of the property
+
+-- what a row of the code tells of a property is written so
+module _ (b : board.Board) (n i : ℕ) where
+  plain-same : (ty : PropType) (first : First) (s : Option board.Slot) (v : Val) → written b n i (Kind.plain ty first) s v ≡ to_plain b n i ty s v
+  plain-same ty first None v = refl
+  plain-same ty first (Some (board.plain old)) v = refl
+  plain-same ty first (Some (board.child m)) v = refl
+  plain-same ty first (Some (board.strong to target)) v = refl
+  plain-same ty first (Some (board.weak to target)) v = refl
+  plain-same ty first (Some (board.alias m property)) v = refl
+
+  link-same : (t : TypeId) (strong : Bool) (s : Option board.Slot) (v : Val) → written b n i (Kind.link t strong) s v ≡ to_link b n i s v
+  link-same t strong None v = refl
+  link-same t strong (Some (board.plain old)) v = refl
+  link-same t strong (Some (board.child m)) v = refl
+  link-same t strong (Some (board.strong to target)) v = refl
+  link-same t strong (Some (board.weak to target)) v = refl
+  link-same t strong (Some (board.alias m property)) v = refl
+
+  -- the row as it is told
+  as-told : (k : RowKind) (p q : Kind) (v : Val) → kind_told k ≡ Some p → kind_told k ≡ Some q → written b n i p (board.slot_at b n i) v ≡ kind_written b n i k v → written b n i q (board.slot_at b n i) v ≡ kind_written b n i k v
+  as-told k p q v tells e is = let same : p ≡ q = cc (tells, e) in ap (λ (x : Kind). written b n i x (board.slot_at b n i) v) (sym same) ∙ is
+
+  kind-same : (k : RowKind) (q : Kind) (v : Val) → kind_told k ≡ Some q → written b n i q (board.slot_at b n i) v ≡ kind_written b n i k v
+  kind-same (row.Plain ty first.TypeName) q v e = as-told (row.Plain ty first.TypeName) (Kind.plain ty own_name) q v refl e (plain-same ty own_name (board.slot_at b n i) v)
+  kind-same (row.Plain ty first.Nothing) q v e = as-told (row.Plain ty first.Nothing) (Kind.plain ty nothing) q v refl e (plain-same ty nothing (board.slot_at b n i) v)
+  kind-same (row.Plain ty (first.Bool x)) q v e = as-told (row.Plain ty (first.Bool x)) (Kind.plain ty (truth x)) q v refl e (plain-same ty (truth x) (board.slot_at b n i) v)
+  kind-same (row.Plain ty (first.Int x)) q v e = cc
+  kind-same (row.Plain ty (first.Uint x)) q v e = as-told (row.Plain ty (first.Uint x)) (Kind.plain ty (number x)) q v refl e (plain-same ty (number x) (board.slot_at b n i) v)
+  kind-same (row.Plain ty first.NoText) q v e = as-told (row.Plain ty first.NoText) (Kind.plain ty empty_text) q v refl e (plain-same ty empty_text (board.slot_at b n i) v)
+  kind-same (row.Child t) q v e = as-told (row.Child t) (Kind.child t) q v refl e (no-child t (board.slot_at b n i))
+    where
+      no-child : (t : TypeId) (s : Option board.Slot) → written b n i (Kind.child t) s v ≡ Err E18
+      no-child t s = refl
+  kind-same (row.Link t strong) q v e = as-told (row.Link t strong) (Kind.link t strong) q v refl e (link-same t strong (board.slot_at b n i) v)
+  kind-same (row.Alias child of) q v e = as-told (row.Alias child of) (Kind.alias child.now of.now) q v refl e refl
+
+mark-same : (m : Mark) (given : Result board.Board Code) → (if may_set (mark_told m) then given else Err E18) ≡ mark_written m given
+mark-same mark.Never given = refl
+mark-same mark.Add given = refl
+mark-same mark.Both given = refl
+mark-same mark.Set given = refl
+
+by-row : (b : board.Board) (n i : ℕ) (r : SlotRow) (p : Property) (v : Val) → property_told r ≡ Some p → written_by b n i (Some p) v ≡ row_written b n i r v
+by-row b n i r p v told = go (kind_told r.kind) refl told
+  where
+    go : (o : Option Kind) → kind_told r.kind ≡ o → option_map (λ (k : Kind). property r.name.now k (mark_told r.mark)) o ≡ Some p → written_by b n i (Some p) v ≡ row_written b n i r v
+    go None is e = cc
+    go (Some q) is e =
+        let same : property r.name.now q (mark_told r.mark) ≡ p = cc e in
+        ap (λ (x : Property). written_by b n i (Some x) v) (sym same)
+        ∙ mark-same r.mark (written b n i q (board.slot_at b n i) v)
+        ∙ ap (mark_written r.mark) (kind-same b n i r.kind q v is)
+
+module _ (b : board.Board) (v : Objects) (s : Shows b v) (n : ℕ) (name : List ℕ) (val : Val) where
+  pub write-none : None ≡ position (λ (t : Named). bytes_eq name t.0) (heap.slots_of v n) → Err E17 ≡ write b n name val
+  write-none none = sym (ap (λ (o : Option ℕ). elim o [ None ↦ Err E17 | Some i ↦ written_by b n i (option_and_then (λ t. row_of_property t name) (board.kind_of b n)) val ]) (shows-place_of b v s n name ∙ sym none))
+
+  by-place : (i : ℕ) (kind : TypeId) → Some i ≡ position (λ (t : Named). bytes_eq name t.0) (heap.slots_of v n) → option_map (λ (c : Content). c.kind) (content_of v n) ≡ Some kind → write b n name val ≡ written_by b n i (row_of_property kind name) val
+  by-place i kind there is =
+      ap (λ (o : Option ℕ). elim o [ None ↦ Err E17 | Some j ↦ written_by b n j (option_and_then (λ t. row_of_property t name) (board.kind_of b n)) val ]) (shows-place_of b v s n name ∙ sym there)
+      ∙ ap (λ (o : Option TypeId). written_by b n i (option_and_then (λ t. row_of_property t name) o) val) (shows-kind b v s n ∙ is)
+
+  pub write-no_row : (i : ℕ) (kind : TypeId) → Some i ≡ position (λ (t : Named). bytes_eq name t.0) (heap.slots_of v n) → option_map (λ (c : Content). c.kind) (content_of v n) ≡ Some kind → None ≡ option_map Some (find (λ (p : Property). bytes_eq p.name name) (slots_of kind)) → Err E18 ≡ write b n name val
+  write-no_row i kind there is none = sym (by-place i kind there is ∙ ap (λ (o : Option Property). written_by b n i o val) (no-row (row_of_property kind name) none))
+    where
+      no-row : (o : Option Property) → None ≡ option_map Some o → o ≡ None
+      no-row None e = refl
+      no-row (Some p) e = cc
+
+  pub write-row : (i : ℕ) (kind : TypeId) (r : SlotRow) → Some i ≡ position (λ (t : Named). bytes_eq name t.0) (heap.slots_of v n) → option_map (λ (c : Content). c.kind) (content_of v n) ≡ Some kind → Some (property_told r) ≡ option_map Some (find (λ (p : Property). bytes_eq p.name name) (slots_of kind)) → row_written b n i r val ≡ write b n name val
+  write-row i kind r there is told = go (row_of_property kind name) refl told
+    where
+      go : (o : Option Property) → row_of_property kind name ≡ o → Some (property_told r) ≡ option_map Some o → row_written b n i r val ≡ write b n name val
+      go None e q = cc
+      go (Some p) e q =
+          let its : property_told r ≡ Some p = cc q in
+          sym (by-place i kind there is ∙ ap (λ (o : Option Property). written_by b n i o val) e ∙ by-row b n i r p val its)
+
+-- what stands in the slot that is written
+
+to-plain-slot : (b : board.Board) (n i : ℕ) (ty : PropType) (val : Val) (o : Option Slot) → to_plain b n i ty (option_map shown_slot o) val ≡ cond (option_map_or is_plain o false) (cond (admits ty val) (Ok (set n i val b)) (Err E19)) (Err E18)
+to-plain-slot b n i ty val None = refl
+to-plain-slot b n i ty val (Some (Plain old)) = refl
+to-plain-slot b n i ty val (Some (Child key)) = refl
+to-plain-slot b n i ty val (Some (Link t true target)) = refl
+to-plain-slot b n i ty val (Some (Link t false target)) = refl
+to-plain-slot b n i ty val (Some (Alias key of)) = refl
+
+abbrev to_typed : board.Board → ℕ → ℕ → Val → Option TypeId → Result board.Board Code
+to_typed b n i val None = Err E18
+to_typed b n i val (Some t) = link_written b n i t val
+
+to-link-slot : (b : board.Board) (n i : ℕ) (val : Val) (o : Option Slot) → to_link b n i (option_map shown_slot o) val ≡ to_typed b n i val (option_and_then link_type o)
+to-link-slot b n i val None = refl
+to-link-slot b n i val (Some (Plain old)) = refl
+to-link-slot b n i val (Some (Child key)) = refl
+to-link-slot b n i val (Some (Link t true target)) = refl
+to-link-slot b n i val (Some (Link t false target)) = refl
+to-link-slot b n i val (Some (Alias key of)) = refl
+
+module _ (b : board.Board) (v : Objects) (s : Shows b v) (n i : ℕ) (val : Val) where
+  pub plain-is : (ty : PropType) (plain : Bool) → is_plain_at v n i ≡ plain → to_plain b n i ty (board.slot_at b n i) val ≡ cond plain (cond (admits ty val) (Ok (set n i val b)) (Err E19)) (Err E18)
+  plain-is ty plain is =
+      ap (λ (o : Option board.Slot). to_plain b n i ty o val) (shows-slot_at b v s n i)
+      ∙ to-plain-slot b n i ty val (slot_in (heap.slots_of v n) i)
+      ∙ ap (λ (t : Bool). cond t (cond (admits ty val) (Ok (set n i val b)) (Err E19)) (Err E18)) is
+
+  link-is : (o : Option TypeId) → link_type_at v n i ≡ o → to_link b n i (board.slot_at b n i) val ≡ to_typed b n i val o
+  link-is o is =
+      ap (λ (x : Option board.Slot). to_link b n i x val) (shows-slot_at b v s n i)
+      ∙ to-link-slot b n i val (slot_in (heap.slots_of v n) i)
+      ∙ ap (to_typed b n i val) is
+
+  pub no-link : None ≡ link_type_at v n i → to_link b n i (board.slot_at b n i) val ≡ Err E18
+  no-link none = link-is None (sym none)
+
+  pub a-link : (t : TypeId) → Some t ≡ link_type_at v n i → to_link b n i (board.slot_at b n i) val ≡ link_written b n i t val
+  a-link t some = link-is (Some t) (sym some)
+
+-- a link takes only texts
+pub no-text : (b : board.Board) (n i : ℕ) (t : TypeId) (v : Val) → ((path : List ℕ) → v ≡ val.Text path → ⊥) → link_written b n i t v ≡ Err E19
+no-text b n i t (val.Bool x) none = refl
+no-text b n i t (val.Int x) none = refl
+no-text b n i t (val.Uint x) none = refl
+no-text b n i t (val.Text path) none = absurd (none path refl)
+no-text b n i t val.Nothing none = refl
+
+pub link-there : (v : Objects) (n i : ℕ) (t : TypeId) → Some t ≡ link_type_at v n i → is_link_at v n i ≡ true
+link-there v n i t e = ap (λ (o : Option TypeId). is_some o) (sym e)
+
+-- links
+
+link-slot : (o : Option Slot) → is_some (option_and_then link_type o) ≡ true → (s : Slot) × (o ≡ Some s)
+link-slot None is = cc
+link-slot (Some s) is = (s, refl)
+
+pub relinked-is : (b : board.Board) (v : Objects) → Shows b v → (n i : ℕ) (target : Option ℕ) (was : Option Key) → is_link_at v n i ≡ true → was ≡ option_and_then held (slot_in (heap.slots_of v n) i) → after finalise (pointed_at target n i (drop_slot b n i)) (birth_of was) ≡ relinked b n i target
+relinked-is b v s n i target was link e =
+    let (t, there) = link-slot (slot_in (heap.slots_of v n) i) link in
+    let shown : board.slot_at b n i ≡ Some (shown_slot t) = shows-slot_at b v s n i ∙ ap (option_map shown_slot) there in
+    let its : board.held (shown_slot t) ≡ birth_of was = shown-held t ∙ ap birth_of (sym (e ∙ ap (option_and_then held) there)) in
+    ap (after finalise (pointed_at target n i (drop_slot b n i))) (sym its)
+    ∙ sym (ap (λ (o : Option board.Slot). elim o [ None ↦ b | Some x ↦ after finalise (pointed_at target n i (drop_slot b n i)) (board.held x) ]) shown)
+
+-- what is held is named, and stays there when it is let go
+held-named : (o : Option Slot) (key : Key) → option_and_then held o ≡ Some key → option_and_then target_of o ≡ Some key
+held-named None key e = cc
+held-named (Some (Plain val)) key e = cc
+held-named (Some (Child k)) key e = e
+held-named (Some (Link ty true target)) key e = e
+held-named (Some (Link ty false target)) key e = cc
+held-named (Some (Alias k of)) key e = cc
+
+pub held-live : (v : Objects) → IsHeap v → (o : Key) → IsLive v.rows o → (i : ℕ) (was : Option Key) → was ≡ option_and_then held (slot_in (heap.slots_of v o.birth) i) → IfSome was (IsLive (with_edit o.birth (dropped_at i) v).rows)
+held-live v good o live i None e = tt
+held-live v good o live i (Some key) e =
+    let (c, there) = live-content v o live in
+    let slots : heap.slots_of v o.birth ≡ c.slots = ap (λ (x : Option Content). option_map_or (λ (d : Content). d.slots) x []) there in
+    named-live_dropped v good o.birth i c there key (held-named (slot_in c.slots i) key (ap (λ (l : List Named). option_and_then held (slot_in l i)) (sym slots) ∙ sym e))
+
+-- a link that was let go has no target
+emptied : (slots : List Named) (i : ℕ) → is_some (option_and_then link_type (slot_in slots i)) ≡ true → option_map_or is_empty_link (slot_in (let_go_at i slots) i) false ≡ true
+emptied [] i is = cc
+emptied ((name, Plain val) ∷ slots) zero is = cc
+emptied ((name, Child key) ∷ slots) zero is = cc
+emptied ((name, Link ty strong target) ∷ slots) zero is = refl
+emptied ((name, Alias key of) ∷ slots) zero is = cc
+emptied (t ∷ slots) (suc i) is = emptied slots i is
+
+pub emptied-link : (v : Objects) (o : Key) (i : ℕ) → IsLive v.rows o → is_link_at v o.birth i ≡ true → option_map (λ (c : Content). empty_link_at c i) (content_of (with_edit o.birth (dropped_at i) v) o.birth) ≡ Some true
+emptied-link v o i live link =
+    let (c, there) = live-content v o live in
+    let its : is_some (option_and_then link_type (slot_in c.slots i)) ≡ true = ap (λ (x : Option Content). is_some (option_and_then link_type (slot_in (option_map_or (λ (d : Content). d.slots) x []) i))) (sym there) ∙ link in
+    ap (option_map (λ (d : Content). empty_link_at d i)) (content-edited v o.birth (dropped_at i) ∙ ap (option_map (dropped_at i)) there)
+    ∙ ap Some (emptied c.slots i its)

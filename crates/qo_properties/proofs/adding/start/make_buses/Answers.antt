@@ -1,0 +1,7 @@
+use Rattle.qo_properties.proofs.adding.start.make_buses.Goals as goal
+
+pub returns-clause-shown : goal.returns-clause-shown
+returns-clause-shown g c = λ b s. c.in_ok-make_child-2.ensures.shown _ (c.in_ok-make_child.ensures.shown b s)
+
+pub returns-clause-book : goal.returns-clause-book
+returns-clause-book g c = λ out h. c.in_ok-make_child-2.ensures.made.book out (c.in_ok-make_child.ensures.made.book out h)

@@ -1,0 +1,21 @@
+-- The slot of the id is let go, where there is one.
+use Rattle.qo_properties.proofs.AnswerLemmas.{del-absent, del-done, del-none}
+use Rattle.qo_properties.proofs.PinLemmas.{let_go-same}
+use Rattle.qo_properties.proofs.writing.removing.remove.Goals as goal
+
+pub returns-in_default-clause-change : goal.returns-in_default-clause-change
+returns-in_default-clause-change g c = λ b s. del-absent b c.args.heap.now s c.args.id.now c.in_default.ensures.none
+
+pub returns-in_default-child_place-clause-change : goal.returns-in_default-child_place-clause-change
+returns-in_default-child_place-clause-change g c = λ b s.
+    del-none b c.args.heap.now s c.args.id.now c.in-Some.objects.birth c.in-Some.ensures.born c.in_default-child_place.ensures
+
+pub returns-clause-change : goal.returns-clause-change
+returns-clause-change g c = λ b s.
+    del-done b c.args.heap.now c.let_go.new.heap s c.args.id.now c.in-Some.objects.birth c.in-Some-child_place.at c.in-Some.ensures.born c.in-Some-child_place.ensures (c.let_go.ensures.release b s)
+
+pub returns-clause-pins : goal.returns-clause-pins
+returns-clause-pins g c = let_go-same c.in-Some.objects.birth c.in-Some-child_place.at c.args.heap.now c.let_go.new.heap c.let_go.ensures.goes
+
+pub returns-clause-book : goal.returns-clause-book
+returns-clause-book g c = c.let_go.ensures.goes.book

@@ -1,0 +1,61 @@
+-- What the slots of a new object are filled with.
+use Rattle.std.specs.Prelude.{◌≡◌, ℕ, zero, suc, Bool, true, List, [], ◌∷◌, Option, Some, None}
+use Rattle.qo_values.specs.declared.properties.Val.{Val}
+use Rattle.qo_slots.specs.declared.keys.Key.{Key}
+use Rattle.qo_model.specs.Board.{Board}
+use Rattle.qo_model.specs.Objects.{Given, given_to, slot_given}
+use Rattle.qo_object.specs.declared.slots.Slot.{Slot}
+use Rattle.qo_object.specs.Content.{Content, empty_link_at}
+use Rattle.qo_object.specs.Shown.{shown_slot}
+use Rattle.qo_object.specs.Slots.{Named, changed_at, is_empty_link, pointed, with_val}
+use Rattle.qo_properties.specs.declared.adding.filling.Fill.{Fill}
+use Rattle.qo_properties.specs.declared.adding.filling.Fill.TheVariants as fill
+
+-- a slot with what it is filled with
+abbrev pub filled_with : Fill → Slot → Slot
+filled_with fill.Nothing s = s
+filled_with (fill.Value v) s = with_val v s
+filled_with (fill.Target key) s = pointed key s
+
+-- an object whose slot at a place is filled
+abbrev pub filled_at : Fill → ℕ → Content → Content
+filled_at f i c = record c { slots = changed_at (filled_with f) i c.slots }
+
+-- slots that are filled in order, and from a place on
+abbrev pub filled : List Fill → List Named → List Named
+filled [] slots = slots
+filled (f ∷ fs) [] = []
+filled (f ∷ fs) (s ∷ slots) = (s.0, filled_with f s.1) ∷ filled fs slots
+
+abbrev pub filled_from : ℕ → List Fill → List Named → List Named
+filled_from zero fs slots = filled fs slots
+filled_from (suc k) fs [] = []
+filled_from (suc k) fs (s ∷ slots) = s ∷ filled_from k fs slots
+
+-- an object whose slots are filled from a place on
+abbrev pub with_filled : ℕ → List Fill → Content → Content
+with_filled k fs c = record c { slots = filled_from k fs c.slots }
+
+-- what is to be the target of a link
+abbrev pub target_in : Fill → Option Key
+target_in (fill.Target key) = Some key
+target_in f = None
+
+-- a target is for a link without one
+abbrev pub fits : Fill → Slot → Bool
+fits (fill.Target key) s = is_empty_link s
+fits f s = true
+
+abbrev pub Fits : Fill → Named → Type 0
+Fits f s = fits f s.1 ≡ true
+
+abbrev pub fits_at : Fill → Content → ℕ → Bool
+fits_at (fill.Target key) c i = empty_link_at c i
+fits_at f c i = true
+
+-- a slot is filled with a value as it is given, and as the properties given say
+abbrev pub HasValue : Board → Val → Fill → Slot → Type 0
+HasValue b v f s = shown_slot (filled_with f s) ≡ given_to b (shown_slot s) v
+
+abbrev pub IsGiven : Board → List Given → Fill → Named → Type 0
+IsGiven b props f s = shown_slot (filled_with f s.1) ≡ (slot_given b props (s.0, shown_slot s.1)).1

@@ -1,0 +1,11 @@
+pub mod Adding
+pub mod Changes
+pub mod Claims
+pub mod Filling
+pub mod Fresh
+pub mod Given
+pub mod Listed
+pub mod Pinned
+pub mod Reads
+pub mod Start
+pub mod Writes

@@ -1,0 +1,164 @@
+//! Filling the slots of a new object with what was given. What is to stand in each slot is settled
+//! before the object is made, so that it takes no memory behind that.
+
+ghost use Rattle.std.specs.Prelude.{◌≡◌, Bool, true, Some, None, ◌++◌, is_some, option_map, option_to_list, IfOk, IfSome, OnOk, List};
+ghost use Rattle.std.specs.List.{AllByRecursion, AllZip};
+ghost use Rattle.qo_values.specs.declared.kinds.TypeId.{TypeId};
+ghost use Rattle.qo_model.specs.Board.{Board};
+ghost use Rattle.qo_object.specs.declared.slots.Slot.TheVariants.{Link};
+ghost use Rattle.qo_object.specs.Slots.{Named};
+ghost use Rattle.qo_table.specs.Rows.{IsLive};
+ghost use Rattle.qo_heap.specs.Board.{Shows};
+ghost use Rattle.qo_heap.specs.Objects.{content_of, slots_of, with_edit};
+ghost use Rattle.qo_properties.specs.Fresh.{begun_row, new_slots, slot_of_row};
+ghost use Rattle.qo_properties.specs.Filling.{Fits, HasValue, IsGiven, filled_at, fits, fits_at, target_in, with_filled};
+
+use crate::adding::given::{given_val, linked_to};
+use crate::errors::Memory;
+use crate::reading::values::copy_of;
+use qo_heap::{Heap, Oid, Steps};
+use qo_types::{RowKind, SlotRow, TypeTable};
+use qo_values::{PropList, TypeId, Val};
+use std::alloc::{AllocError, Global};
+use std::sync::ledger::Ledger;
+
+/// What a slot of a new object is filled with.
+#[derive(Drop)]
+pub enum Fill {
+    /// Nothing: it stays as it begins.
+    Nothing,
+    /// A value.
+    Value(Val),
+    /// A target.
+    Target(Oid),
+}
+
+/// What a link to objects of a type is filled with, by the value given.
+fn fill_link<L: Ledger>(heap: &Heap, ty: TypeId, val: &Val, steps: &mut Steps<L>) -> Fill
+    ensures told { (b : Board) → Shows b heap.now → (strong : Bool) → HasValue b val.now result (Link ty strong None) }
+    ensures fits { (strong : Bool) → fits result (Link ty strong None) ≡ true }
+    ensures live { IfSome (target_in result) (IsLive heap.now.rows) }
+{
+    match linked_to(heap, ty, val, steps) {
+        Some(target) => Fill::Target(target),
+        None => Fill::Nothing,
+    }
+}
+
+/// What the slot of a property with this row is filled with, by the value given.
+fn fill_kind<L: Ledger>(
+    heap: &Heap,
+    kind: RowKind,
+    val: &Val,
+    alloc: Global,
+    steps: &mut Steps<L>,
+) -> Result<Fill, AllocError>
+    ensures told { (b : Board) → Shows b heap.now → IfOk result (λ f. (t : TypeId) → IfSome (begun_row t kind) (HasValue b val.now f)) }
+    ensures fits { IfOk result (λ f. (t : TypeId) → IfSome (begun_row t kind) (λ s. fits f s ≡ true)) }
+    ensures live { IfOk result (λ f. IfSome (target_in f) (IsLive heap.now.rows)) }
+{
+    match kind {
+        RowKind::Plain(_, _) => Ok(Fill::Value(copy_of(val, alloc)?)),
+        RowKind::Link { ty, .. } => Ok(fill_link(heap, ty, val, steps)),
+        RowKind::Child(_) => Ok(Fill::Nothing),
+        RowKind::Alias { .. } => Ok(Fill::Nothing),
+    }
+}
+
+/// What the slot of the property that has this row is filled with, by the properties given.
+fn fill_row<L: Ledger>(
+    heap: &Heap,
+    row: SlotRow,
+    props: &PropList,
+    alloc: Global,
+    steps: &mut Steps<L>,
+) -> Result<Fill, AllocError>
+    ensures told { (b : Board) → Shows b heap.now → IfOk result (λ f. (t : TypeId) → IfSome (slot_of_row t row) (IsGiven b props.now f)) }
+    ensures fits { IfOk result (λ f. (t : TypeId) → IfSome (slot_of_row t row) (Fits f)) }
+    ensures live { IfOk result (λ f. IfSome (target_in f) (IsLive heap.now.rows)) }
+{
+    match given_val(props, row.name) {
+        Some(val) => fill_kind(heap, row.kind, val, alloc, steps),
+        None => Ok(Fill::Nothing),
+    }
+}
+
+/// Whether a new object has a slot for a property with this row.
+fn begins(kind: RowKind) -> bool
+    ensures { (t : TypeId) → result ≡ is_some (begun_row t kind) }
+{
+    match kind {
+        RowKind::Plain(_, _) => true,
+        RowKind::Link { .. } => true,
+        RowKind::Child(_) => false,
+        RowKind::Alias { .. } => false,
+    }
+}
+
+/// Plans the slot of the property that has this row, if a new object has one, behind the others.
+fn plan_row<L: Ledger>(
+    plan: &mut Vec<Fill>,
+    heap: &Heap,
+    row: SlotRow,
+    props: &PropList,
+    alloc: Global,
+    steps: &mut Steps<L>,
+) -> Result<(), AllocError>
+    ensures told { (b : Board) → Shows b heap.now → OnOk result ((t : TypeId) (slots : List Named) → AllZip (IsGiven b props.now) plan.old.items slots → AllZip (IsGiven b props.now) plan.new.items (slots ++ option_to_list (slot_of_row t row))) }
+    ensures fits { OnOk result ((t : TypeId) (slots : List Named) → AllZip Fits plan.old.items slots → AllZip Fits plan.new.items (slots ++ option_to_list (slot_of_row t row))) }
+    ensures live { OnOk result (AllByRecursion (λ f. IfSome (target_in f) (IsLive heap.now.rows)) plan.old.items → AllByRecursion (λ f. IfSome (target_in f) (IsLive heap.now.rows)) plan.new.items) }
+{
+    if begins(row.kind) {
+        let fill = fill_row(heap, row, props, alloc, steps)?;
+        plan.push(fill)?;
+    }
+    Ok(())
+}
+
+/// What each slot of a new object of a type is filled with, by the properties given; the first of
+/// a name counts. A property that would be refused fills nothing. The error is want of memory.
+pub fn plan_of<L: Ledger>(
+    heap: &Heap,
+    kind: TypeId,
+    props: &PropList,
+    alloc: Global,
+    steps: &mut Steps<L>,
+) -> Result<Vec<Fill>, AllocError>
+    ensures told { (b : Board) → Shows b heap.now → IfOk result (λ plan. AllZip (IsGiven b props.now) plan.items (new_slots kind)) }
+    ensures fits { IfOk result (λ plan. AllZip Fits plan.items (new_slots kind)) }
+    ensures live { IfOk result (λ plan. AllByRecursion (λ f. IfSome (target_in f) (IsLive heap.now.rows)) plan.items) }
+{
+    let mut plan = Vec::new(alloc);
+    let mut place = 0;
+    while let Some(row) = TypeTable::board().prop(kind, place) {
+        plan_row(&mut plan, heap, row, props, alloc, steps)?;
+        place += 1;
+    }
+    Ok(plan)
+}
+
+/// Fills the slot of an object at a place.
+fn fill_at<L: Ledger>(heap: &mut Heap, o: Oid, at: usize, fill: Fill, steps: &mut Steps<L>)
+    requires live { IsLive heap.old.rows o }
+    requires target { IfSome (target_in fill) (IsLive heap.old.rows) }
+    requires fits { option_map (λ c. fits_at fill c at) (content_of heap.old o.birth) ≡ Some true }
+    ensures { heap.new ≡ with_edit o.birth (filled_at fill at) heap.old }
+{
+    match fill {
+        Fill::Nothing => {}
+        Fill::Value(val) => heap.set(o, at, val, steps),
+        Fill::Target(target) => heap.point(o, at, target, steps),
+    }
+}
+
+/// Fills the slots of an object as they are planned. It takes no memory.
+pub fn settle<L: Ledger>(heap: &mut Heap, o: Oid, mut plan: Vec<Fill>, steps: &mut Steps<L>)
+    requires live { IsLive heap.old.rows o }
+    requires targets { AllByRecursion (λ f. IfSome (target_in f) (IsLive heap.old.rows)) plan.items }
+    requires fits { AllZip Fits plan.items (slots_of heap.old o.birth) }
+    ensures { heap.new ≡ with_edit o.birth (with_filled 0 plan.items) heap.old }
+{
+    while let Some(fill) = plan.pop() {
+        fill_at(heap, o, plan.len(), fill, steps);
+    }
+}

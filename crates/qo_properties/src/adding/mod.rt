@@ -1,0 +1,8 @@
+//! What makes objects.
+
+pub mod barring;
+pub mod filling;
+pub mod fresh;
+pub mod given;
+pub mod objects;
+pub mod start;

@@ -1,0 +1,158 @@
+//! Making users' objects.
+
+ghost use Rattle.std.specs.Prelude.{◌≡◌, ℕ, ◌+◌, Some, option_map, IfOk, OnOk, OnErr, List};
+ghost use Rattle.qo_table.specs.Rows.{IsLive};
+ghost use Rattle.qo_model.specs.Board.{Board};
+ghost use Rattle.qo_model.specs.Objects.{objects_birth, with_object};
+ghost use Rattle.qo_object.specs.Content.{held_count, with_slot, without_pin};
+ghost use Rattle.qo_object.specs.Slots.{Named};
+ghost use Rattle.qo_object.specs.declared.slots.Slot.TheVariants.{Child};
+ghost use Rattle.qo_heap.specs.Board.{Shows, pins_in};
+ghost use Rattle.qo_heap.specs.Objects.{content_of, ended, pins_of, refs_of, with_edit};
+ghost use Rattle.qo_properties.specs.Adding.{Adds, IsChild, IsTried, given_up};
+ghost use Rattle.qo_properties.specs.Claims.{KeepsBook};
+ghost use Rattle.qo_properties.specs.Fresh.{first_slots, new_slots, with_slots};
+
+use crate::adding::barring::{Admitted, admit};
+use crate::adding::filling::{plan_of, settle};
+use crate::adding::fresh::add_fresh_slots;
+use crate::adding::given::check_given;
+use crate::errors::Memory;
+use crate::refusals::Refusal;
+use qo_heap::{Heap, Oid, Steps};
+use qo_life::create;
+use qo_values::{Name, PropList, TypeId};
+use std::alloc::Global;
+use std::sync::ledger::Ledger;
+
+/// Ends an object that holds nothing, and that nothing holds but its one pin.
+fn give_up<L: Ledger>(heap: &mut Heap, o: Oid, steps: &mut Steps<L>)
+    requires live { IsLive heap.old.rows o }
+    requires pinned { pins_of heap.old o.birth ≡ 1 }
+    requires alone { refs_of heap.old o.birth ≡ 1 }
+    requires bare { option_map held_count (content_of heap.old o.birth) ≡ Some 0 }
+    ensures { option_map (λ c. ended o.birth c (with_edit o.birth without_pin heap.old)) (content_of heap.old o.birth) ≡ Some heap.new }
+{
+    heap.unpin(o, steps);
+    heap.finish(o, steps);
+}
+
+/// Makes an object of a type and ends it at once. An error leaves the heap as it was.
+pub fn attempt<L: Ledger>(
+    heap: &mut Heap,
+    kind: TypeId,
+    alloc: Global,
+    steps: &mut Steps<L>,
+) -> Result<(), Memory>
+    ensures ok { OnOk result (heap.new ≡ given_up kind heap.old) }
+    ensures err { OnErr result (heap.new ≡ heap.old) }
+{
+    heap.facts();
+    let o = create(heap, alloc, kind, steps)?;
+    give_up(heap, o, steps);
+    Ok(())
+}
+
+/// Gives a new object its first slots, and makes it the child of another. An error leaves the
+/// object with the slots of its first properties alone.
+fn furnish<L: Ledger>(
+    heap: &mut Heap,
+    parent: Oid,
+    name: Name,
+    o: Oid,
+    kind: TypeId,
+    alloc: Global,
+    steps: &mut Steps<L>,
+) -> Result<(), Memory>
+    requires parent { IsLive heap.old.rows parent }
+    requires live { IsLive heap.old.rows o }
+    ensures ok { OnOk result (heap.new ≡ with_edit parent.birth (with_slot name (Child o)) (with_edit o.birth (with_slots (new_slots kind)) heap.old)) }
+    ensures err { OnErr result ((k : ℕ) × (heap.new ≡ with_edit o.birth (with_slots (first_slots k kind)) heap.old)) }
+{
+    add_fresh_slots(heap, o, kind, alloc, steps)?;
+    heap.add_child(parent, name, o, steps)?;
+    Ok(())
+}
+
+/// Makes an object of a type with its first slots, as a child of another. Where memory wants, the
+/// heap is as it was, or the object was made and ended.
+pub fn make_child<L: Ledger>(
+    heap: &mut Heap,
+    parent: Oid,
+    name: Name,
+    kind: TypeId,
+    alloc: Global,
+    steps: &mut Steps<L>,
+) -> Result<Oid, Memory>
+    requires { IsLive heap.old.rows parent }
+    ensures made { IfOk result (λ o. IsChild heap.old heap.new o parent name kind) }
+    ensures err { OnErr result (IsTried kind heap.old heap.new) }
+{
+    heap.facts();
+    let o = create(heap, alloc, kind, steps)?;
+    match furnish(heap, parent, name, o, kind, alloc, steps) {
+        Ok(()) => Ok(o),
+        Err(error) => {
+            give_up(heap, o, steps);
+            Err(error)
+        }
+    }
+}
+
+/// Makes an object of a type with the values given, as a child of `/objects`, which alone holds it
+/// then. Where memory wants, the heap is as it was, or the object was made and ended.
+pub fn add_filled<L: Ledger>(
+    heap: &mut Heap,
+    admitted: Admitted,
+    props: &PropList,
+    alloc: Global,
+    steps: &mut Steps<L>,
+) -> Result<(), Memory>
+    requires live { IsLive heap.old.rows admitted.objects }
+    requires objects { admitted.objects.birth ≡ objects_birth }
+    ensures ok { OnOk result ((b : Board) → Shows b heap.old → Shows (with_object b admitted.kind admitted.name props.now) heap.new) }
+    ensures err { OnErr result (IsTried admitted.kind heap.old heap.new) }
+    ensures pins { pins_in heap.new.rows ≡ pins_in heap.old.rows }
+    ensures book { KeepsBook heap.old heap.new }
+{
+    let Admitted {
+        objects,
+        name,
+        kind,
+    } = admitted;
+    heap.facts();
+    let plan = plan_of(heap, kind, props, alloc, steps)?;
+    let made = make_child(heap, objects, name, kind, alloc, steps)?;
+    settle(heap, made, plan, steps);
+    heap.unpin(made, steps);
+    Ok(())
+}
+
+/// Makes a user's object of a type's name under an id, with values for its properties, as a child of
+/// `/objects` that nothing else holds (QEMU's QAPI, `object-add`). Of two values for one property the
+/// first counts. Refused, in this order, with `E20` where no type has the name, `E21` where it is
+/// abstract, `E22` where users may not make it, `E23` where the id is malformed, `E15` where
+/// `/objects` is not there, `E24` where it has such a slot, and `E43` at `LIVE_OBJECTS_MAX` objects; the heap is
+/// then as it was. A property that is refused, the first in the order given, is so with `E17`, `E18`,
+/// `E19`, `E15`, `E16` or `E31` behind an attempt that is given up: the object was made and ended.
+/// Where memory wants, the heap is as it was, or an attempt was given up.
+pub fn add_object<L: Ledger>(
+    heap: &mut Heap,
+    driver: &str,
+    id: &str,
+    props: &PropList,
+    alloc: Global,
+    steps: &mut Steps<L>,
+) -> Result<(), Refusal>
+    ensures change { (b : Board) → Shows b heap.old → Adds b driver.now id.now props.now result heap.new }
+    ensures pins { pins_in heap.new.rows ≡ pins_in heap.old.rows }
+    ensures book { KeepsBook heap.old heap.new }
+{
+    let admitted = admit(heap, driver, id, alloc, steps)?;
+    if let Err(code) = check_given(heap, admitted.kind, props, steps) {
+        attempt(heap, admitted.kind, alloc, steps)?;
+        return Err(Refusal::Refused(code));
+    }
+    add_filled(heap, admitted, props, alloc, steps)?;
+    Ok(())
+}

@@ -1,0 +1,29 @@
+//! Objects of the heap by path and by birth, their properties, and users' objects
+//! (docs/devel/qom.rst, "The QEMU Object Model"; QEMU's QAPI, `qom-list`, `qom-get`, `qom-set`,
+//! `object-add`, `object-del`).
+#![tactic(auto)]
+
+mod adding;
+mod errors;
+mod reading;
+mod refusals;
+#[cfg(test)]
+mod tests;
+mod writing;
+
+pub use adding::barring::{Admitted, admit};
+pub use adding::filling::{Fill, plan_of, settle};
+pub use adding::fresh::{add_fresh_slots, name_of};
+pub use adding::given::{check_given, given_val, linked_to};
+pub use adding::objects::{add_filled, add_object, attempt, make_child};
+pub use adding::start::make_all;
+pub use errors::Memory;
+pub use reading::detached::detached_list;
+pub use reading::listing::{Prop, around, list, value_word};
+pub use reading::lookup::{OBJECTS_BIRTH, ROOT_BIRTH, child_place, object_of, place_named};
+pub use reading::naming::{object_at, path_text, target_text};
+pub use reading::values::{copy_of, get};
+pub use refusals::Refusal;
+pub use writing::removing::remove;
+pub use writing::severing::sever;
+pub use writing::writes::{link_target, set};

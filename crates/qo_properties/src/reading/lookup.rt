@@ -1,0 +1,66 @@
+//! Finding objects of the heap, and the slots of users' objects.
+
+ghost use Rattle.std.specs.Prelude.{◌≡◌, IfSome, IfNone, None, position};
+ghost use Rattle.std.specs.Str.{bytes_eq};
+ghost use Rattle.qo_model.specs.Objects.{is_object_named, place_from};
+ghost use Rattle.qo_object.specs.Shown.{shown_slot, shown_slots};
+ghost use Rattle.qo_table.specs.Rows.{IsLive};
+ghost use Rattle.qo_heap.specs.Objects.{content_of, slots_of};
+
+use qo_heap::{Heap, Oid, Slot, Steps};
+use qo_values::Name;
+use std::sync::ledger::Ledger;
+
+/// The birth of `/`.
+pub const ROOT_BIRTH: u64 = 1;
+
+/// The birth of `/objects`, under which users' objects stand.
+pub const OBJECTS_BIRTH: u64 = 8;
+
+/// The live object of a birth; `None` exactly where there is none.
+pub fn object_of(heap: &Heap, birth: u64) -> Option<Oid>
+    ensures born { IfSome result (λ o. o.birth ≡ birth) }
+    ensures live { IfSome result (IsLive heap.now.rows) }
+    ensures none { IfNone result (content_of heap.now birth ≡ None) }
+{
+    heap.by_birth(birth)
+}
+
+/// The place of the slot of a name of an object; `None` where it has none.
+pub fn place_named<L: Ledger>(
+    heap: &Heap,
+    o: Oid,
+    name: &str,
+    steps: &mut Steps<L>,
+) -> Option<usize>
+    requires { IsLive heap.now.rows o }
+    ensures { result ≡ position (λ s. bytes_eq name.now s.0) (slots_of heap.now o.birth) }
+{
+    let slot = heap.slot(o, name, steps)?;
+    Some(slot.at)
+}
+
+/// Whether a slot has a child under a name.
+fn is_child_named(name: &Name, what: &Slot, id: &str) -> bool
+    ensures { result ≡ is_object_named id.now (name.now, shown_slot what.now) }
+{
+    match what {
+        Slot::Child(_) => name.as_str() == id,
+        _ => false,
+    }
+}
+
+/// The first place at which an object has a child under a name; `None` where it has none.
+pub fn child_place<L: Ledger>(heap: &Heap, o: Oid, id: &str, steps: &mut Steps<L>) -> Option<usize>
+    requires { IsLive heap.now.rows o }
+    ensures { result ≡ place_from (is_object_named id.now) 0 (shown_slots (slots_of heap.now o.birth)) }
+{
+    let mut at = 0;
+    while let Some(view) = heap.slot_at(o, at, steps) {
+        if is_child_named(view.name, view.what, id) {
+            return Some(at);
+        }
+        at += 1;
+    }
+    None
+}

@@ -1,0 +1,117 @@
+//! Reading the properties of objects (docs/devel/qom.rst, "The QEMU Object Model": properties, child
+//! and link; QEMU's QAPI, `qom-get`).
+
+ghost use Rattle.std.specs.Prelude.{◌≡◌, ℕ, List, string_bytes, IfOk, option_map};
+ghost use Rattle.qo_values.specs.declared.properties.Val.TheVariants.{Text as OfText};
+ghost use Rattle.qo_model.specs.Board.{Board as Tree, slot_named};
+ghost use Rattle.qo_model.specs.Properties.{own_value, value_of};
+ghost use Rattle.qo_model.specs.Access.{read};
+ghost use Rattle.qo_object.specs.Shown.{shown_slot};
+ghost use Rattle.qo_table.specs.Rows.{IsLive};
+ghost use Rattle.qo_heap.specs.Board.{Shows};
+ghost use Rattle.qo_properties.specs.Reads.{Answers};
+
+use crate::errors::Memory;
+use crate::reading::lookup::object_of;
+use crate::reading::naming::{object_at, path_text, target_text};
+use crate::refusals::Refusal;
+use qo_heap::{Heap, Oid, Slot, Steps};
+use qo_values::{Code, Text, Val};
+use std::alloc::{AllocError, Global};
+use std::sync::ledger::Ledger;
+
+/// A value once more.
+pub fn copy_of(val: &Val, alloc: Global) -> Result<Val, AllocError>
+    ensures { IfOk result (λ copy. copy ≡ val.now) }
+{
+    Ok(match val {
+        Val::Bool(truth) => Val::Bool(*truth),
+        Val::Int(number) => Val::Int(*number),
+        Val::Uint(number) => Val::Uint(*number),
+        Val::Text(text) => Val::Text(Text::from_string(String::from_str(alloc, text.as_str())?)),
+        Val::Nothing => Val::Nothing,
+    })
+}
+
+/// The value that is read of a slot that is no alias.
+fn own_value<L: Ledger>(
+    heap: &Heap,
+    what: &Slot,
+    alloc: Global,
+    steps: &mut Steps<L>,
+) -> Result<Val, Memory>
+    ensures { (b : Tree) (n : ℕ) (name : List ℕ) → Shows b heap.now → IfOk result (λ val. val ≡ own_value b n name (shown_slot what.now)) }
+{
+    match what {
+        Slot::Plain(val) => Ok(copy_of(val, alloc)?),
+        Slot::Child(child) => {
+            let text = path_text(heap, *child, alloc, steps)?;
+            Ok(Val::Text(Text::from_string(text)))
+        }
+        Slot::Link { target, .. } => {
+            let text = target_text(heap, *target, alloc, steps)?;
+            Ok(Val::Text(Text::from_string(text)))
+        }
+        Slot::Alias(_, _) => Ok(Val::Nothing),
+    }
+}
+
+/// The value of the property of a name of the object of a birth, which an alias reads as.
+fn passed_on<L: Ledger>(
+    heap: &Heap,
+    birth: u64,
+    of: &str,
+    alloc: Global,
+    steps: &mut Steps<L>,
+) -> Result<Option<Val>, Memory>
+    ensures { (b : Tree) → Shows b heap.now → IfOk result (λ val. val ≡ option_map (own_value b birth of.now) (slot_named b birth of.now)) }
+{
+    let Some(o) = object_of(heap, birth) else {
+        return Ok(None);
+    };
+    let Some(slot) = heap.slot(o, of, steps) else {
+        return Ok(None);
+    };
+    Ok(Some(own_value(heap, slot.what, alloc, steps)?))
+}
+
+/// The value of the property of a name of an object; `None` exactly where it has no such property.
+fn value_of<L: Ledger>(
+    heap: &Heap,
+    o: Oid,
+    name: &str,
+    alloc: Global,
+    steps: &mut Steps<L>,
+) -> Result<Option<Val>, Memory>
+    requires { IsLive heap.now.rows o }
+    ensures { (b : Tree) → Shows b heap.now → IfOk result (λ val. val ≡ value_of b o.birth name.now) }
+{
+    let Some(slot) = heap.slot(o, name, steps) else {
+        return Ok(None);
+    };
+    if let Slot::Alias(target, of) = slot.what {
+        return passed_on(heap, target.birth, of.as_str(), alloc, steps);
+    }
+    Ok(Some(own_value(heap, slot.what, alloc, steps)?))
+}
+
+/// The value of the property of a name of the object at a path (QEMU's QAPI, `qom-get`). A child and
+/// a link read as the text that names the object: its canonical path, or `detached:` and its birth; a
+/// link without a target as the empty text; an alias as the property that it passes on to. Refused
+/// with E15 where the path leads to no object, E16 where to several, and E17 where the object has no
+/// such property.
+pub fn get<L: Ledger>(
+    heap: &Heap,
+    path: &str,
+    name: &str,
+    alloc: Global,
+    steps: &mut Steps<L>,
+) -> Result<Val, Refusal>
+    ensures { (b : Tree) → Shows b heap.now → Answers (λ val. val) result (read b path.now name.now) }
+{
+    let o = object_at(heap, path, steps)?;
+    match value_of(heap, o, name, alloc, steps)? {
+        Some(val) => Ok(val),
+        None => Err(Refusal::Refused(Code::E17)),
+    }
+}

@@ -1,0 +1,5 @@
+//! What changes the objects that are there.
+
+pub mod removing;
+pub mod severing;
+pub mod writes;

@@ -1,0 +1,110 @@
+-- What stands beside the objects stays with each call on them.
+use Rattle.std.proofs.Common.{◌≡◌, refl, ap, sym, subst, ◌∙◌, ap₂, ℕ, Bool, List, [], Some, None, Result, Ok, Err, OnErr, inl, inr, map, true}
+use Rattle.qo_values.specs.declared.codes.Code.{Code}
+use Rattle.qo_values.specs.declared.properties.Val.{Val}
+use Rattle.qo_model.specs.declared.notes.Note.{Note}
+use Rattle.qo_model.specs.Access.{write_at}
+use Rattle.qo_model.specs.Board.{Board}
+use Rattle.qo_model.specs.FinalNotesRuns.{added, behind_write, deleted, severed, wrote}
+use Rattle.qo_model.specs.NoteReplies.{first_from, given_from}
+use Rattle.qo_model.specs.Notes.{kept_of, total_of}
+use Rattle.qo_model.specs.Objects.{Given, attempted_as, object_add, object_del, sever}
+use Rattle.qo_model.specs.Opening.{opening_board}
+use Rattle.qo_model.specs.Properties.{object_at, write}
+use Rattle.qo_model.specs.Stays.{Stays}
+use Rattle.qo_model.proofs.StaysLemmas.{attempted_as-stays, stays-none, stays_lem}
+use Rattle.qo_notes.specs.Log as log
+use Rattle.qo_notes.specs.Log.{IsLogOf, Log}
+use Rattle.qo_heap.specs.Board.{Shows}
+use Rattle.qo_heap.specs.Book.{IsBook}
+use Rattle.qo_heap.specs.Objects.{Objects}
+use Rattle.qo_properties.specs.Adding as properties
+use Rattle.qo_properties.specs.Changes as changes
+use Rattle.qo_properties.specs.Claims.{KeepsBook}
+use Rattle.qo_properties.specs.Writes as writes
+use Rattle.qo_properties.specs.declared.refusals.Refusal.{Refusal}
+use Rattle.qo_properties.specs.declared.refusals.Refusal.TheVariants.{Refused, Memory}
+use Rattle.qo_realize.specs.Answers.{Adds, IsAnswered, Writes}
+use Rattle.qo_realize.specs.Parts.{Parts, ring_claim}
+use Rattle.qo_realize.specs.Stands.{IsQuiet, Stands}
+use Rattle.qo_realize.proofs.QuietLemmas.{attempted_as-quiet, object_add-quiet, object_del-quiet, sever-quiet, write_at-quiet}
+
+-- other objects, beside the same
+abbrev pub with_objects : Objects → Parts → Parts
+with_objects v p = record p { objects = v }
+
+-- another board stands with other objects, where all but objects, births, pins, notes and events is as before
+stands-by : (b c : Board) (p : Parts) (v : Objects) → Stands b p → Stays b c → Shows c v → KeepsBook p.objects v → IsQuiet c → Stands c (with_objects v p)
+stands-by b c p v s stays shows keeps quiet =
+    record {
+      shows = shows;
+      anonymous = stays.anonymous ∙ s.anonymous;
+      running = stays.running ∙ s.running;
+      holds = stays.holds ∙ s.holds;
+      pending = stays.pending ∙ s.pending;
+      notices = stays.notices ∙ s.notices;
+      rings = stays.rings ∙ s.rings;
+      book = keeps (map ring_claim p.rings) s.book;
+      quiet = quiet;
+    }
+
+-- a write
+wrote-stays : (b c : Board) (path name : List ℕ) (val : Val) → write_at b path name val ≡ Ok c → Stays b c
+wrote-stays b c path name val is = go (object_at b path) refl
+  where
+    go : (o : Result ℕ Code) → object_at b path ≡ o → Stays b c
+    go (Ok n) e =
+        let its : write b n name val ≡ Ok c = rw (write_at, e) at is in
+        subst (λ (d : Board). Stays b d) (ap (behind_write b) its) (stays_lem.change b (wrote n name val))
+    go (Err code) e = absurd (let clash : Err code ≡ Ok c = rw (write_at, e) at is in cc)
+
+pub write-stands : (b : Board) (p : Parts) (v : Objects) (path name : List ℕ) (val : Val) (result : Result (Unit {0}) Refusal) → Stands b p → writes.Writes v result (write_at b path name val) → KeepsBook p.objects v → Writes (with_objects v p) result (write_at b path name val)
+write-stands b p v path name val (Ok u) s (c, is, shows) keeps = (c, is, stands-by b c p v s (wrote-stays b c path name val is) shows keeps (write_at-quiet b c path name val is s.quiet))
+write-stands b p v path name val (Err (Refused code)) s is keeps = is
+write-stands b p v path name val (Err Memory) s is keeps = tt
+
+-- changes of objects
+pub del-stands : (b : Board) (p : Parts) (v : Objects) (id : List ℕ) (result : Result (Unit {0}) Code) → Stands b p → changes.IsAnswered (object_del b id) result v → KeepsBook p.objects v → IsAnswered (object_del b id) result (with_objects v p)
+del-stands b p v id result s h keeps =
+    record { refusal = h.refusal; board = stands-by b (object_del b id).board p v s (stays_lem.change b (deleted id)) h.board keeps (object_del-quiet b id s.quiet) }
+
+pub sever-stands : (b : Board) (p : Parts) (v : Objects) (n : ℕ) (result : Result (Unit {0}) Code) → Stands b p → changes.IsAnswered (sever b n) result v → KeepsBook p.objects v → IsAnswered (sever b n) result (with_objects v p)
+sever-stands b p v n result s h keeps =
+    record { refusal = h.refusal; board = stands-by b (sever b n).board p v s (stays_lem.change b (severed n)) h.board keeps (sever-quiet b n s.quiet) }
+
+pub add-stands : (b : Board) (p : Parts) (v : Objects) (driver id : List ℕ) (props : List Given) (result : Result (Unit {0}) Refusal) → Stands b p → properties.Adds b driver id props result v → KeepsBook p.objects v → Adds b driver id props result (with_objects v p)
+add-stands b p v driver id props (Ok u) s (none, shows) keeps =
+    (none, stands-by b (object_add b driver id props).board p v s (stays_lem.change b (added driver id props)) shows keeps (object_add-quiet b driver id props s.quiet))
+add-stands b p v driver id props (Err (Refused code)) s (some, shows) keeps =
+    (some, stands-by b (object_add b driver id props).board p v s (stays_lem.change b (added driver id props)) shows keeps (object_add-quiet b driver id props s.quiet))
+add-stands b p v driver id props (Err Memory) s (inl shows) keeps = inl (stands-by b b p v s (stays-none b) shows keeps s.quiet)
+add-stands b p v driver id props (Err Memory) s (inr shows) keeps =
+    inr (stands-by b (attempted_as b driver id) p v s (attempted_as-stays b driver id) shows keeps (attempted_as-quiet b driver id s.quiet))
+
+-- what is seen of a board with these objects
+abbrev pub seen : ℕ → Bool → Objects → Parts
+seen anonymous running v = record { objects = v; anonymous = anonymous; running = running; holds = []; pending = []; notices = []; rings = [] }
+
+-- an error leaves the objects
+pub err-stays : {T E : Type 0} (r : Result T E) (anonymous : ℕ) (running : Bool) (v w : Objects) (p : Parts) → seen anonymous running v ≡ p → OnErr r (w ≡ v) → OnErr r (seen anonymous running w ≡ p)
+err-stays (Ok t) anonymous running v w p is same = tt
+err-stays (Err e) anonymous running v w p is same = ap (seen anonymous running) same ∙ is
+
+-- the beginning
+pub opening-stands : (v : Objects) → Shows opening_board v → IsBook [] v → Stands opening_board (seen 0 true v)
+unfolding opening_board
+opening-stands v shows book =
+    record { shows = shows; anonymous = refl; running = refl; holds = refl; pending = refl; notices = refl; rings = refl; book = book; quiet = record { events = refl; pathless = (refl, (refl, (refl, (refl, (refl, (refl, (refl, (refl, tt)))))))) } }
+
+-- the notes that the log tells are those of the board
+log-of : (notes : List Note) (l : Log) → IsLogOf notes l → l ≡ record { total = total_of notes; kept = kept_of notes }
+log-of notes l h = ap₂ (λ (total : ℕ) (kept : List Note). the Log (record { total = total; kept = kept })) h.total h.kept
+  where
+    the : (T : Type 0) → T → T
+    the T x = x
+
+pub first-told : (notes : List Note) (l : Log) → IsLogOf notes l → (start : ℕ) → log.first_from start l ≡ first_from start notes
+first-told notes l h start = ap (log.first_from start) (log-of notes l h)
+
+pub notes-told : (notes : List Note) (l : Log) → IsLogOf notes l → (start : ℕ) → log.given_from start l ≡ given_from start notes
+notes-told notes l h start = ap (log.given_from start) (log-of notes l h)

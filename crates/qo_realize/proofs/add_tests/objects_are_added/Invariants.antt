@@ -1,4 +1,0 @@
-use Rattle.qo_realize.proofs.add_tests.objects_are_added.Given as goal
-
-abbrev pub ghosts-add_all : goal.ghosts-add_all
-ghosts-add_all g a = record { name = a.blank.name; parts = a.blank.parts }

@@ -1,0 +1,13 @@
+use Rattle.std.proofs.Common.{sym, subst}
+use Rattle.qo_realize.specs.Parts.{Parts}
+use Rattle.qo_realize.specs.Stands.{Stands}
+use Rattle.qo_realize.proofs.StandsLemmas.{add-stands}
+use Rattle.qo_realize.proofs.board.Board.object_add.Goals as goal
+
+pub returns : goal.returns
+returns g c =
+    record {
+      change = λ b s.
+          let seen = subst (λ (p : Parts). Stands b p) (sym c.self.view_is) s in
+          add-stands b _ c.add_object.new.heap c.args.driver.now c.args.id.now c.args.props.now c.add_object.result seen (c.add_object.ensures.change b seen.shows) c.add_object.ensures.book;
+    }

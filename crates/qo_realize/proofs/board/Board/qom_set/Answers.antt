@@ -1,0 +1,13 @@
+use Rattle.std.proofs.Common.{sym, subst}
+use Rattle.qo_realize.specs.Parts.{Parts}
+use Rattle.qo_realize.specs.Stands.{Stands}
+use Rattle.qo_realize.proofs.StandsLemmas.{err-stays, write-stands}
+use Rattle.qo_realize.proofs.board.Board.qom_set.Goals as goal
+
+pub returns-clause-written : goal.returns-clause-written
+returns-clause-written g c = λ b s.
+    let seen = subst (λ (p : Parts). Stands b p) (sym c.self.view_is) s in
+    write-stands b _ c.set.new.heap c.args.path.now c.args.name.now c.args.val.now c.set.result seen (c.set.ensures.written b seen.shows) c.set.ensures.book
+
+pub returns-clause-err : goal.returns-clause-err
+returns-clause-err g c = err-stays c.set.result c.self.inside.anonymous c.self.inside.running c.self.inside.heap c.set.new.heap _ c.self.view_is c.set.ensures.err

@@ -1,4 +1,0 @@
-use Rattle.qo_realize.proofs.start.make_buses.Goals as goal
-
-pub returns-clause-shown : goal.returns-clause-shown
-returns-clause-shown g c = λ b s. c.in_ok-make_child-2.ensures.shown _ (c.in_ok-make_child.ensures.shown b s)

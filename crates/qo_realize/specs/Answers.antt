@@ -1,0 +1,27 @@
+-- What the calls that change a board answer and leave.
+use Rattle.std.specs.Prelude.{◌≡◌, ℕ, List, ◌⊎◌, Some, None, Result, Ok, Err, ⊤}
+use Rattle.qo_values.specs.declared.codes.Code.{Code}
+use Rattle.qo_model.specs.Board.{Board}
+use Rattle.qo_model.specs.Objects.{Changed, Given, attempted_as, object_add}
+use Rattle.qo_properties.specs.Changes.{refusal_in}
+use Rattle.qo_properties.specs.declared.refusals.Refusal.{Refusal}
+use Rattle.qo_properties.specs.declared.refusals.Refusal.TheVariants.{Refused, Memory}
+use Rattle.qo_realize.specs.Parts.{Parts}
+use Rattle.qo_realize.specs.Stands.{Stands}
+
+-- a write that a definition gives: the board that is given, or refused as it is given, or there was not enough memory
+abbrev pub Writes : Parts → Result (Unit {0}) Refusal → Result Board Code → Type 0
+Writes p (Ok done) given = (b : Board) × (given ≡ Ok b) × Stands b p
+Writes p (Err (Refused code)) given = given ≡ Err code
+Writes p (Err Memory) given = ⊤
+
+-- a change: it is refused by the same code, or neither is refused, and the change's board stands
+pub record IsAnswered (change : Changed) (result : Result (Unit {0}) Code) (p : Parts) : Type 0 where
+  pub refusal : change.refusal ≡ refusal_in result
+  pub board : Stands change.board p
+
+-- `object-add`: the definition's refusal and board; for want of memory the board as it was, or, where nothing bars it, that of an attempt that was given up
+abbrev pub Adds : Board → List ℕ → List ℕ → List Given → Result (Unit {0}) Refusal → Parts → Type 0
+Adds b driver id props (Ok done) p = ((object_add b driver id props).refusal ≡ None) × Stands (object_add b driver id props).board p
+Adds b driver id props (Err (Refused code)) p = ((object_add b driver id props).refusal ≡ Some code) × Stands (object_add b driver id props).board p
+Adds b driver id props (Err Memory) p = Stands b p ⊎ Stands (attempted_as b driver id) p

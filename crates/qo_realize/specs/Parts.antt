@@ -1,0 +1,22 @@
+-- What contracts see of a board: its objects, and what stands beside them.
+use Rattle.std.specs.Prelude.{ℕ, Bool, List}
+use Rattle.qo_claims.specs.declared.claims.Claimed.{Claimed}
+use Rattle.qo_claims.specs.declared.claims.Claimed.TheVariants as on
+use Rattle.qo_model.specs.Board.{Notice, Ring}
+use Rattle.qo_heap.specs.Objects.{Objects}
+
+pub record Parts : Type 0 where
+  -- the objects, with their births, notes and claims
+  pub objects : Objects
+  -- the accepted adds of devices without an id, and whether the machine runs
+  pub anonymous : ℕ
+  pub running : Bool
+  -- by their births: the objects that are held in reset, with repeats, and the devices whose removal is asked for; and the notices for the guest, in order
+  pub holds : List ℕ
+  pub pending : List ℕ
+  pub notices : List Notice
+  pub rings : List Ring
+
+-- the claim that a ring keeps: that on its id
+abbrev pub ring_claim : Ring → Claimed
+ring_claim r = on.RingId r.id

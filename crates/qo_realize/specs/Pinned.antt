@@ -1,8 +1,0 @@
--- What is held from outside the tree of a board, between two calls.
-use Rattle.std.specs.Prelude.{◌≡◌, [], ◌∷◌}
-use Rattle.qo_heap.specs.Board.{pins_in}
-use Rattle.qo_heap.specs.Objects.{Objects}
-
--- birth 1 alone is pinned, once
-abbrev pub OnlyRootPinned : Objects → Type 0
-OnlyRootPinned v = pins_in v.rows ≡ 1 ∷ []

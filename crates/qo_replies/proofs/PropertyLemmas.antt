@@ -1,0 +1,239 @@
+-- Lists of properties, property by property.
+use Rattle.std.proofs.Common.{◌≡◌, ◌≤◌, ℕ, Bool, true, false, List, [], ◌∷◌, ◌++◌, map, refl, sym, ◌∙◌, ap, append_assoc, append-nil, IsUtf8, arith, suc, zero}
+use Rattle.std.specs.Prelude.{codes, ◌&&◌, not, ◌==◌, nat_le}
+use Rattle.std.specs.List.{list_all}
+use Rattle.std.specs.Str.{IsAscii, chars}
+use Rattle.std.proofs.lemmas.Grind.{flat_map-append}
+use Rattle.std.proofs.lemmas.Bool.{and_parts, le-ltb, leb-true, ne_eqb, not-true}
+use Rattle.std.proofs.lemmas.List.Folds.{list_all-append}
+use Rattle.std.proofs.lemmas.Str.{chars-append, IsUtf8-append, IsUtf8-from_ascii, IsAscii-append}
+use Rattle.json.specs.Print.{escape, escape_byte, quoted}
+use Rattle.serde_json.proofs.OnLiterals.{serde_json_on_literals}
+use Rattle.serde_json.specs.View.{items_of}
+use Rattle.serde_json.specs.Written.{comma_if, compact_text, items_text}
+use Rattle.qo_values.specs.Kinds.{type_name}
+use Rattle.qo_values.specs.TypeTexts.{around, text_of, value_word}
+use Rattle.qo_values.specs.declared.kinds.TypeId.{TypeId}
+use Rattle.qo_values.specs.declared.kinds.TypeId.TheVariants as kind
+use Rattle.qo_values.specs.declared.properties.PropType.{PropType}
+use Rattle.qo_values.specs.declared.properties.PropType.TheVariants as ty
+use Rattle.qo_values.specs.declared.type_texts.TypeText.{TypeText}
+use Rattle.qo_values.specs.declared.type_texts.TypeText.TheVariants as text
+use Rattle.qo_replies.specs.Json.{ascii, character_text, json}
+use Rattle.qo_replies.specs.Plain.{is_plain_byte}
+use Rattle.qo_replies.specs.Properties.{Begun, HasWritten, are_any, before_name, before_type, behind_type, opened, properties_data, property_data, rows_text}
+use Rattle.qo_replies.proofs.AsciiLemmas.{ascii-plain}
+
+-- a text and another behind it
+pub ascii-append : (a b : List ℕ) → IsUtf8 a → ascii (a ++ b) ≡ ascii a ++ ascii b
+unfolding ascii
+ascii-append a b h = rw (chars-append a b h) (flat_map-append character_text (chars a) (chars b))
+
+pub ascii-before : (a b : List ℕ) → IsAscii a → ascii (a ++ b) ≡ a ++ ascii b
+ascii-before a b h = ascii-append a b (IsUtf8-from_ascii a h) ∙ rw (ascii-plain a h) refl
+
+-- a byte from 32 on has no short escape but as a quote or a backslash
+no-escape : (b : ℕ) → 32 ≤ b → (b == 34) ≡ false → (b == 92) ≡ false → escape_byte b ≡ b ∷ []
+unfolding escape_byte
+no-escape b above quote slash =
+    rw (quote, slash, ne_eqb b 8 (λ e. omega (arith, above, e)), ne_eqb b 12 (λ e. omega (arith, above, e)), ne_eqb b 10 (λ e. omega (arith, above, e)), ne_eqb b 13 (λ e. omega (arith, above, e)), ne_eqb b 9 (λ e. omega (arith, above, e)), le-ltb b 32 above) refl
+
+-- what a plain byte is
+record IsPlain (b : ℕ) : Type 0 where
+  above : 32 ≤ b
+  below : b ≤ 126
+  quote : (b == 34) ≡ false
+  slash : (b == 92) ≡ false
+
+is-plain : (b : ℕ) → is_plain_byte b ≡ true → IsPlain b
+is-plain b h =
+    let all = and_parts (nat_le 32 b && nat_le b 126 && not (b == 34)) (not (b == 92)) h in
+    let three = and_parts (nat_le 32 b && nat_le b 126) (not (b == 34)) all.0 in
+    let two = and_parts (nat_le 32 b) (nat_le b 126) three.0 in
+    record { above = leb-true 32 b two.0; below = leb-true b 126 two.1; quote = not-true _ three.1; slash = not-true _ all.1 }
+
+plain-byte : (b : ℕ) → IsPlain b → escape_byte b ≡ b ∷ []
+plain-byte b p = no-escape b p.above p.quote p.slash
+
+parts : (b : ℕ) (bs : List ℕ) → list_all is_plain_byte (b ∷ bs) ≡ true → (is_plain_byte b ≡ true) × (list_all is_plain_byte bs ≡ true)
+parts b bs h = and_parts (is_plain_byte b) (list_all is_plain_byte bs) h
+
+pub escape-plain : (bs : List ℕ) → list_all is_plain_byte bs ≡ true → escape bs ≡ bs
+escape-plain [] h = refl
+escape-plain (b ∷ bs) h = let p = parts b bs h in rw (plain-byte b (is-plain b p.0), escape-plain bs p.1) refl
+
+pub plain-ascii : (bs : List ℕ) → list_all is_plain_byte bs ≡ true → IsAscii bs
+plain-ascii [] h i = omega arith
+plain-ascii (b ∷ bs) h zero = omega (arith, (is-plain b (parts b bs h).0).below)
+plain-ascii (b ∷ bs) h (suc i) = plain-ascii bs (parts b bs h).1 i
+
+abbrev quote : List ℕ
+quote = 34 ∷ []
+
+quoted-parts : (bs : List ℕ) → quoted bs ≡ quote ++ (escape bs ++ quote)
+quoted-parts bs = refl
+
+quote-ascii : IsAscii quote
+quote-ascii zero = omega arith
+quote-ascii (suc i) = omega arith
+
+quoted-ascii : (bs : List ℕ) → list_all is_plain_byte bs ≡ true → IsAscii (quote ++ (bs ++ quote))
+quoted-ascii bs h = IsAscii-append quote (bs ++ quote) quote-ascii (IsAscii-append bs quote (plain-ascii bs h) quote-ascii)
+
+-- a plain text in quotes
+pub quoted-plain : (bs : List ℕ) → list_all is_plain_byte bs ≡ true → ascii (quoted bs) ≡ quote ++ (bs ++ quote)
+quoted-plain bs h = rw (escape-plain bs h) (ascii-plain (quote ++ (bs ++ quote)) (quoted-ascii bs h))
+
+pub quoted-spelled : (bs : List ℕ) → list_all is_plain_byte bs ≡ true → IsUtf8 (quoted bs)
+quoted-spelled bs h = rw (escape-plain bs h) (IsUtf8-from_ascii (quote ++ (bs ++ quote)) (quoted-ascii bs h))
+
+-- what is told of types stands for itself
+plain-name : (t : TypeId) → list_all is_plain_byte (type_name t) ≡ true
+plain-name kind.Object = refl
+plain-name kind.Container = refl
+plain-name kind.Machine = refl
+plain-name kind.Device = refl
+plain-name kind.SlotDevice = refl
+plain-name kind.SlotUart = refl
+plain-name kind.SlotTimer = refl
+plain-name kind.SlotBridge = refl
+plain-name kind.MemDimm = refl
+plain-name kind.Bus = refl
+plain-name kind.SlotBus = refl
+plain-name kind.MemBus = refl
+plain-name kind.Clock = refl
+plain-name kind.MemoryBackend = refl
+plain-name kind.MemoryBackendRam = refl
+plain-name kind.Tag = refl
+
+both-plain : (a b : List ℕ) → list_all is_plain_byte a ≡ true → list_all is_plain_byte b ≡ true → list_all is_plain_byte (a ++ b) ≡ true
+both-plain a b ea eb = list_all-append is_plain_byte a b ∙ rw (ea, eb) refl
+
+pub plain-around : (word : List ℕ) (t : TypeId) → list_all is_plain_byte word ≡ true → list_all is_plain_byte (around word t) ≡ true
+plain-around word t e =
+    both-plain ((word ++ codes "<") ++ type_name t) (codes ">") (both-plain (word ++ codes "<") (type_name t) (both-plain word (codes "<") e refl) (plain-name t)) refl
+
+plain-value : (t : PropType) → list_all is_plain_byte (value_word t) ≡ true
+plain-value ty.Bool = refl
+plain-value (ty.Int lo hi) = refl
+plain-value (ty.Uint lo hi step) = refl
+plain-value ty.Text = refl
+
+pub plain-type : (t : TypeText) → list_all is_plain_byte (text_of t) ≡ true
+plain-type (text.Value t) = plain-value t
+plain-type (text.Child t) = plain-around (codes "child") t refl
+plain-type (text.Link t) = plain-around (codes "link") t refl
+plain-type text.Nothing = refl
+
+-- one property more in a list
+rows_more : (rows : List (List ℕ × List ℕ)) (row : List ℕ × List ℕ) → rows_text true (rows ++ row ∷ []) ≡ rows_text true rows ++ (44 ∷ compact_text (property_data row))
+rows_more [] row = rw (append-nil (compact_text (property_data row))) refl
+rows_more (first ∷ rows) row = ap (λ t. 44 ∷ t) (rw (rows_more rows row) (sym (append_assoc (compact_text (property_data first)) (rows_text true rows) (44 ∷ compact_text (property_data row)))))
+
+pub opened_more : (rows : List (List ℕ × List ℕ)) (row : List ℕ × List ℕ) → opened (rows ++ row ∷ []) ≡ opened rows ++ (comma_if (are_any rows) ++ compact_text (property_data row))
+opened_more [] row = rw (append-nil (compact_text (property_data row))) refl
+opened_more (first ∷ rows) row = ap (λ t. 91 ∷ t) (rw (rows_more rows row) (sym (append_assoc (compact_text (property_data first)) (rows_text true rows) (44 ∷ compact_text (property_data row)))))
+
+-- the closing bracket
+items_rows : (later : Bool) (rows : List (List ℕ × List ℕ)) → items_text later (items_of (map property_data rows)) ≡ rows_text later rows ++ 93 ∷ []
+items_rows later [] = refl
+items_rows later (row ∷ rows) =
+    rw (items_rows true rows, append_assoc (comma_if later) (compact_text (property_data row) ++ rows_text true rows) (93 ∷ []), append_assoc (compact_text (property_data row)) (rows_text true rows) (93 ∷ [])) refl
+
+bracket-ascii : IsAscii (93 ∷ [])
+bracket-ascii zero = omega arith
+bracket-ascii (suc i) = omega arith
+
+pub closed : (rows : List (List ℕ × List ℕ)) → IsUtf8 (opened rows) → json (properties_data rows) ≡ ascii (opened rows) ++ 93 ∷ []
+unfolding json
+closed rows spelled =
+    rw (items_rows false rows) (ascii-append (opened rows) (93 ∷ []) spelled ∙ rw (ascii-plain (93 ∷ []) bracket-ascii) refl)
+
+-- a property as it is written
+pub property-text : (some : Bool) (row : List ℕ × List ℕ) → comma_if some ++ compact_text (property_data row) ≡ before_name some ++ (quoted row.0 ++ (before_type ++ (quoted row.1 ++ behind_type)))
+unfolding serde_json_on_literals
+property-text true row = refl
+property-text false row = refl
+
+-- the list without properties
+pub none-ascii : ascii (opened []) ≡ 91 ∷ []
+none-ascii = ascii-plain (91 ∷ []) at
+  where
+    at : IsAscii (91 ∷ [])
+    at zero = omega arith
+    at (suc i) = omega arith
+
+pub none-spelled : IsUtf8 (opened [])
+none-spelled = IsUtf8-from_ascii (91 ∷ []) at
+  where
+    at : IsAscii (91 ∷ [])
+    at zero = omega arith
+    at (suc i) = omega arith
+
+-- the texts between are ASCII
+abbrev small : List ℕ → Bool
+small bs = list_all (λ b. nat_le b 126) bs
+
+small-ascii : (bs : List ℕ) → small bs ≡ true → IsAscii bs
+small-ascii [] h i = omega arith
+small-ascii (b ∷ bs) h zero = let p = and_parts (nat_le b 126) (small bs) h in omega (arith, leb-true b 126 p.0)
+small-ascii (b ∷ bs) h (suc i) = small-ascii bs (and_parts (nat_le b 126) (small bs) h).1 i
+
+before_name-ascii : (some : Bool) → IsAscii (before_name some)
+before_name-ascii true = small-ascii (before_name true) refl
+before_name-ascii false = small-ascii (before_name false) refl
+
+before_type-ascii : IsAscii before_type
+before_type-ascii = small-ascii before_type refl
+
+behind_type-ascii : IsAscii behind_type
+behind_type-ascii = small-ascii behind_type refl
+
+-- a property more, as it is written
+pub property-ascii : (some : Bool) (row : List ℕ × List ℕ) → IsUtf8 (quoted row.0) → IsUtf8 (quoted row.1)
+    → ascii (comma_if some ++ compact_text (property_data row)) ≡ before_name some ++ (ascii (quoted row.0) ++ (before_type ++ (ascii (quoted row.1) ++ behind_type)))
+property-ascii some row name type =
+    rw (
+      property-text some row,
+      ascii-before (before_name some) (quoted row.0 ++ (before_type ++ (quoted row.1 ++ behind_type))) (before_name-ascii some),
+      ascii-append (quoted row.0) (before_type ++ (quoted row.1 ++ behind_type)) name,
+      ascii-before before_type (quoted row.1 ++ behind_type) before_type-ascii,
+      ascii-append (quoted row.1) behind_type type,
+      ascii-plain behind_type behind_type-ascii,
+    ) refl
+
+pub property-spelled : (some : Bool) (row : List ℕ × List ℕ) → IsUtf8 (quoted row.0) → IsUtf8 (quoted row.1) → IsUtf8 (comma_if some ++ compact_text (property_data row))
+property-spelled some row name type =
+    rw (property-text some row)
+    (IsUtf8-append (before_name some) _ (IsUtf8-from_ascii _ (before_name-ascii some))
+    (IsUtf8-append (quoted row.0) _ name
+    (IsUtf8-append before_type _ (IsUtf8-from_ascii before_type before_type-ascii)
+    (IsUtf8-append (quoted row.1) behind_type type (IsUtf8-from_ascii behind_type behind_type-ascii)))))
+
+-- a list with a property more
+pub written_more : (rows : List (List ℕ × List ℕ)) (row : List ℕ × List ℕ) (old new : Begun) → HasWritten rows old
+    → new.text ≡ old.text ++ ascii (comma_if old.some ++ compact_text (property_data row)) → IsUtf8 (comma_if old.some ++ compact_text (property_data row)) → new.some ≡ true → HasWritten (rows ++ row ∷ []) new
+written_more rows row old new h text spelled some =
+    let more = opened_more rows row in
+    record {
+      text = text ∙ rw (h.text, h.some, more) (sym (ascii-append (opened rows) (comma_if (are_any rows) ++ compact_text (property_data row)) h.spelled));
+      some = some ∙ sym (any-more rows);
+      spelled = rw more (IsUtf8-append (opened rows) (comma_if (are_any rows) ++ compact_text (property_data row)) h.spelled (rw h.some at spelled));
+    }
+  where
+    any-more : (rows : List (List ℕ × List ℕ)) → are_any (rows ++ row ∷ []) ≡ true
+    any-more [] = refl
+    any-more (first ∷ rows) = refl
+
+-- pieces, one after another
+pub three_more : (a b c d : List ℕ) → ((a ++ b) ++ c) ++ d ≡ a ++ (b ++ (c ++ d))
+three_more a b c d = append_assoc (a ++ b) c d ∙ append_assoc a b (c ++ d)
+
+pub five_more : (a b c d e f : List ℕ) → ((((a ++ b) ++ c) ++ d) ++ e) ++ f ≡ a ++ (b ++ (c ++ (d ++ (e ++ f))))
+five_more a b c d e f = three_more ((a ++ b) ++ c) d e f ∙ three_more a b c (d ++ (e ++ f))
+
+-- a word around a type's name, piece by piece
+pub around-pieces : (a word name : List ℕ) → ((((a ++ 34 ∷ []) ++ word) ++ codes "<") ++ name) ++ (codes ">" ++ 34 ∷ []) ≡ a ++ (34 ∷ ((((word ++ codes "<") ++ name) ++ codes ">") ++ 34 ∷ []))
+around-pieces a word name =
+    five_more a (34 ∷ []) word (codes "<") name (codes ">" ++ 34 ∷ [])
+    ∙ ap (λ t. a ++ 34 ∷ t) (sym (append_assoc ((word ++ codes "<") ++ name) (codes ">") (34 ∷ []) ∙ three_more word (codes "<") name (codes ">" ++ 34 ∷ [])))

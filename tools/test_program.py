@@ -1,0 +1,41 @@
+#!/usr/bin/env python3
+"""Runs the proved program with words and input of several kinds, and holds its exit status, what it prints and what it
+complains to what they must be. It prints nothing where all is well. The program is built by `rt ci`, or by `rt run` in
+crates/compose_program, whose stored run ends in a bad place."""
+import pathlib
+import subprocess
+import sys
+
+TOP = pathlib.Path(__file__).resolve().parent.parent
+HOME = TOP / "crates" / "compose_program"
+PROGRAM = HOME / "out" / "compose_program"
+USAGE = b"usage: compose replay | serve --socket PATH --connections N | demo --seed N --steps K | types\n"
+
+
+def differs(name, words, given, status, printed, complained):
+    """Whether a run is not as it must be; says how."""
+    ran = subprocess.run([PROGRAM, *words], input=given, capture_output=True, timeout=60)
+    wanted = (status, printed, complained)
+    got = (ran.returncode, ran.stdout, ran.stderr)
+    if got == wanted:
+        return False
+    print(f"{name}: wanted {wanted}, got {got}", file=sys.stderr)
+    return True
+
+
+def main():
+    cycle = (TOP / "examples" / "cycle.qrec").read_bytes()
+    transcript = (HOME / "stdout").read_bytes()
+    bad = f"compose: bad record at byte {len(cycle)}\n".encode()
+    runs = [
+        ("no words", [], b"", 2, b"", USAGE),
+        ("another word", ["frobnicate"], cycle, 2, b"", USAGE),
+        ("a word too many", ["replay", "replay"], cycle, 2, b"", USAGE),
+        ("a whole stream", ["replay"], cycle, 0, transcript, b""),
+        ("a bad place behind it", ["replay"], cycle + b"shut 0.000000\n", 3, transcript, bad),
+        ("no stream", ["replay"], b"", 3, b"", b"compose: bad record at byte 0\n"),
+    ]
+    return any([differs(*run) for run in runs])
+
+
+sys.exit(main())
