@@ -1,5 +1,6 @@
 -- What a front of an object says, and how an object ends. A front is listed backwards: its last byte first.
 use Rattle.std.specs.Prelude.{ℕ, ◌+◌, ◌-◌, ◌%◌, Bool, false, not, ◌&&◌, ◌==◌, if◌then◌else◌, List, [], ◌∷◌, length, count_by, Option, Some, None, option_map}
+use Rattle.qo_values.specs.declared.limits.TheConstants.{MESSAGE_MAX, NESTING_MAX}
 use Rattle.qo_framing.specs.Classes.{is_reset, is_opening, is_closing}
 use Rattle.qo_framing.specs.declared.scanner.Ending.{Ending}
 use Rattle.qo_framing.specs.declared.scanner.Ending.TheVariants.{Whole, Broken, TooLong, TooDeep}
@@ -23,13 +24,13 @@ outside (b ∷ before) = if in_string before then outside before else b ∷ outs
 abbrev pub depth : List ℕ → ℕ
 depth front = count_by is_opening (outside front) - count_by is_closing (outside front)
 
--- how an object ends with the last byte of a front, if it does: it is broken off by a reset byte, has 262,145 bytes, opens depth 65, or is back at depth 0
+-- how an object ends with the last byte of a front, if it does: it is broken off by a reset byte, has a byte more than MESSAGE_MAX, opens a depth above NESTING_MAX, or is back at depth 0
 abbrev pub ending : List ℕ → Option Ending
 ending [] = None
 ending (b ∷ before) =
     if is_reset b then Some Broken
-    else (if length (b ∷ before) == 262145 then Some TooLong
-    else (if not (in_string before) && is_opening b && depth (b ∷ before) == 65 then Some TooDeep
+    else (if length (b ∷ before) == MESSAGE_MAX + 1 then Some TooLong
+    else (if not (in_string before) && is_opening b && depth (b ∷ before) == NESTING_MAX + 1 then Some TooDeep
     else (if not (in_string before) && depth (b ∷ before) == 0 then Some Whole
     else None)))
 

@@ -1,5 +1,6 @@
 -- How what the code finds in a stream stands to the definition of the cut.
 use Rattle.std.specs.Prelude.{◌≡◌, ℕ, ◌≤◌, List, [], ◌∷◌, length, reverse, None, ⊤}
+use Rattle.qo_values.specs.declared.limits.TheConstants.{MESSAGE_MAX}
 use Rattle.qo_framing.specs.Cut.{Cut, Framing, Part, between, inside, skipping, stops, goes_on}
 use Rattle.qo_framing.specs.Fronts.{end_behind}
 use Rattle.qo_framing.specs.Scanning.{IsBehind}
@@ -32,7 +33,7 @@ pub record IsUnfinished (bytes : List ℕ) (s : Scanner) : Type 0 where
   pub brace : bytes ≡ 123 ∷ begins
   pub unended : end_behind [] bytes ≡ None
   pub scanned : IsBehind (reverse bytes) s
-  pub size : length bytes ≤ 262144
+  pub size : length bytes ≤ MESSAGE_MAX
 
 -- where a stream stops inside an object, its scanner is known
 abbrev pub ScansStop : Stop → Type 0

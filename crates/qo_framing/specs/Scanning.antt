@@ -1,5 +1,6 @@
 -- How the scanner of an object stands to the definitions on fronts.
 use Rattle.std.specs.Prelude.{◌≡◌, ℕ, ◌+◌, ◌-◌, ◌%◌, ◌<◌, ◌≤◌, ◌==◌, Bool, ◌||◌, not, if◌then◌else◌, List, ◌++◌, length, reverse, take, Some, None, nat_le, ⊤}
+use Rattle.qo_values.specs.declared.limits.TheConstants.{NESTING_MAX}
 use Rattle.qo_framing.specs.Classes.{is_opening, is_closing, is_reset}
 use Rattle.qo_framing.specs.Fronts.{backslashes, in_string, depth, end_behind}
 use Rattle.qo_framing.specs.declared.scanner.Ending.{Ending}
@@ -22,7 +23,7 @@ pub record IsBehind (front : List ℕ) (s : Scanner) : Type 0 where
   pub depth : s.depth ≡ depth front
   pub place : s.place ≡ place_behind front
   pub some : 0 < s.depth
-  pub most : s.depth ≤ 64
+  pub most : s.depth ≤ NESTING_MAX
 
 -- a scanner in another place
 abbrev pub moved : Scanner → Place → Step
@@ -30,7 +31,7 @@ moved s place = step.Goes (record { depth = s.depth; place = place })
 
 -- one bracket more is open, or it is one too many
 abbrev pub opened : Scanner → Step
-opened s = if nat_le 64 s.depth then step.Ends ending.TooDeep else step.Goes (record { depth = s.depth + 1; place = s.place })
+opened s = if nat_le NESTING_MAX s.depth then step.Ends ending.TooDeep else step.Goes (record { depth = s.depth + 1; place = s.place })
 
 -- one bracket less is open, or none is left
 abbrev pub closed : Scanner → Step

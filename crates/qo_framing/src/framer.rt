@@ -1,9 +1,9 @@
 //! The framer: what a stream's state is, and what more bytes give.
 
-use crate::items::{Item, Memory};
+use crate::items::Item;
 use crate::parts::{Gap, Stop, add_items, item_of, push_some, rest_of};
 use crate::scanner::{Scanned, Scanner, scan};
-use std::alloc::Global;
+use std::alloc::{AllocError, Global};
 use std::marker::Model;
 
 /// Where a stream stands.
@@ -43,7 +43,7 @@ impl Framer {
     ghost use Rattle.qo_framing.specs.Parts.{state_of};
 
     /// A framer of a stream that begins. It takes no memory yet.
-    pub fn new(alloc: Global) -> Result<Framer, Memory>
+    pub fn new(alloc: Global) -> Result<Framer, AllocError>
         ensures { IsOkAnd result (λ framer. framer ≡ between) }
     {
         Ok(Framer {
@@ -60,8 +60,8 @@ impl Framer {
         self.partial.clear();
     }
 
-    /// The items that more bytes complete, in order. `Memory` leaves the framer as it was.
-    pub fn feed(&mut self, alloc: Global, bytes: &[u8]) -> Result<Vec<Item>, Memory>
+    /// The items that more bytes complete, in order. An error leaves the framer as it was.
+    pub fn feed(&mut self, alloc: Global, bytes: &[u8]) -> Result<Vec<Item>, AllocError>
         ensures items { IfOk result (λ items. cut self.old bytes.now
             ≡ record { items = items.items; state = self.new }) }
         ensures kept { OnErr result (self.new ≡ self.old) }
@@ -93,7 +93,7 @@ impl Framer {
         gap: Gap,
         bytes: &[u8],
         items: Vec<Item>,
-    ) -> Result<Vec<Item>, Memory>
+    ) -> Result<Vec<Item>, AllocError>
         ensures items { IfOk result (λ all. followed items.items (cut (state_of gap) bytes.now)
             ≡ record { items = all.items; state = self.new }) }
         ensures kept { OnErr result (self.new ≡ self.old) }

@@ -1,10 +1,6 @@
-//! Items of a stream, and the error of a framer.
-
-ghost use Rattle.std.specs.Prelude.{◌≡◌};
+//! Items of a stream.
 
 use qo_values::Chars;
-use std::alloc::AllocError;
-use thiserror::Error;
 
 /// What a stretch of a stream is.
 #[derive(Debug, Drop)]
@@ -19,15 +15,4 @@ pub enum Item {
     TooLong,
     /// An object nested deeper than `NESTING_MAX`; the rest of the line is passed over.
     TooDeep,
-}
-
-/// There was not enough memory.
-#[derive(Clone, Copy, Debug, PartialEq, Eq, Error)]
-#[error("not enough memory")]
-pub struct Memory;
-
-impl From<AllocError> for Memory {
-    fn from(_error: AllocError) -> Memory {
-        Memory
-    }
 }

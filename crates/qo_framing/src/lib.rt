@@ -12,7 +12,7 @@ mod parts;
 mod scanner;
 
 pub use framer::Framer;
-pub use items::{Item, Memory};
+pub use items::Item;
 
 #[cfg(test)]
 mod tests;

@@ -1,6 +1,7 @@
 //! The parts of a stream: what comes first, and the rest.
 
 ghost use Rattle.std.specs.Prelude.{◌≡◌, ◌+◌, ◌<◌, ◌≤◌, [], ◌∷◌, ◌++◌, IfOk, OnOk, length, option_copied, option_to_list, take};
+ghost use Rattle.qo_values.specs.declared.limits.TheConstants.{MESSAGE_MAX};
 ghost use Rattle.qo_framing.specs.Cut.{behind_skipping, between_part, cut, first_part, followed, item_of, left_behind, object_part, skipping_part, state_behind};
 ghost use Rattle.qo_framing.specs.Fronts.{end_behind};
 ghost use Rattle.qo_framing.specs.Parts.{cut_to, part_view, state_of, ScansPart, ScansStop};
@@ -69,7 +70,7 @@ pub(crate) fn item_of(
     front: &[u8],
     back: &[u8],
 ) -> Result<Item, AllocError>
-    requires { length front.now ≤ 262144 }
+    requires { length front.now ≤ MESSAGE_MAX }
     ensures { IfOk result (λ item. item ≡ item_of ending (front.now ++ back.now)) }
 {
     Ok(match ending {

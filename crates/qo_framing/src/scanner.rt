@@ -130,7 +130,7 @@ impl Scanner {
         requires { at ≤ length bytes.now }
         ensures least { at ≤ result }
         ensures most { result ≤ length bytes.now }
-        ensures scanned { (front : List ℕ) → length front + length bytes.now ≤ 262144
+        ensures scanned { (front : List ℕ) → length front + length bytes.now ≤ MESSAGE_MAX
             → HasScanned front bytes.now at self → HasScanned front bytes.now result self }
     {
         match self.place {
@@ -142,7 +142,7 @@ impl Scanner {
 
 /// Scans bytes of which none is one too many.
 fn scan_all(scanner: Scanner, bytes: &[u8]) -> Scanned
-    ensures found { (front : List ℕ) → IsBehind front scanner → length front + length bytes.now ≤ 262144
+    ensures found { (front : List ℕ) → IsBehind front scanner → length front + length bytes.now ≤ MESSAGE_MAX
         → Scans front bytes.now result }
     ensures count { CountsWithin bytes.now result }
 {
@@ -177,11 +177,11 @@ fn one_too_many(byte: u8) -> Ending
 
 /// Scans bytes of an object that has so many already.
 pub(crate) fn scan(scanner: Scanner, so_far: usize, bytes: &[u8]) -> Scanned
-    requires { so_far ≤ 262144 }
+    requires { so_far ≤ MESSAGE_MAX }
     ensures found { (front : List ℕ) → IsBehind front scanner → length front ≡ so_far
         → Scans front bytes.now result }
     ensures count { CountsWithin bytes.now result }
-    ensures open { OpenWithin (262144 - so_far) bytes.now result }
+    ensures open { OpenWithin (MESSAGE_MAX - so_far) bytes.now result }
 {
     let room = MESSAGE_MAX as usize - so_far;
     let count = room.min(bytes.len());

@@ -1,5 +1,6 @@
+//! What no clause says: streams written by hand, cut where there is enough memory.
 use crate::{Framer, Item};
-use std::alloc::{AllocError, Global};
+use std::alloc::Global;
 use std::process::Abort;
 use std::test::Fail;
 
@@ -36,24 +37,6 @@ fn cuts(rt: &impl Abort, alloc: Global, bytes: &[u8], texts: &[&[u8]]) -> Result
     gives(rt, alloc, &mut framer, bytes, texts)
 }
 
-/// A brace, so many spaces, and further bytes.
-fn padded(alloc: Global, spaces: usize, end: &[u8]) -> Result<Vec<u8>, AllocError> {
-    let mut bytes = Vec::new(alloc);
-    bytes.push(b'{')?;
-    bytes.resize(spaces, b' ')?;
-    bytes.extend_from_slice(end)?;
-    Ok(bytes)
-}
-
-/// A command with so many brackets open behind its brace.
-fn nested(alloc: Global, brackets: usize, end: &[u8]) -> Result<Vec<u8>, AllocError> {
-    let mut bytes = Vec::from_slice(alloc, b"{\"execute\":")?;
-    let len = bytes.len();
-    bytes.resize(len.saturating_add(brackets), b'[')?;
-    bytes.extend_from_slice(end)?;
-    Ok(bytes)
-}
-
 #[test]
 fn cuts_messages_anywhere(rt: HostRuntime) -> Result<(), Fail> {
     let message = b"{\"execute\":\"query-status\"}";
@@ -78,24 +61,6 @@ fn cuts_messages_anywhere(rt: HostRuntime) -> Result<(), Fail> {
         &[b"{\"b\":{}}", b"{\"c\":1}"],
     )?;
     gives(&rt, rt.alloc(), &mut framer, b"}", &[b"{}"])
-}
-
-#[test]
-fn cuts_three_in_one_piece(rt: HostRuntime) -> Result<(), Fail> {
-    let message = b"{\"execute\":\"query-status\"}";
-    cuts(
-        &rt,
-        rt.alloc(),
-        b"{\"execute\":\"query-status\"}{\"execute\":\"query-status\"}{\"execute\":\"query-status\"}",
-        &[message, message, message],
-    )
-}
-
-#[test]
-fn passes_over_what_stands_between(rt: HostRuntime) -> Result<(), Fail> {
-    cuts(&rt, rt.alloc(), b"", &[])?;
-    cuts(&rt, rt.alloc(), b"\xff", &[])?;
-    cuts(&rt, rt.alloc(), b"\x01\t\r\n \xff{}\x00", &[b"{}"])
 }
 
 #[test]
@@ -127,60 +92,4 @@ fn breaks_objects_off(rt: HostRuntime) -> Result<(), Fail> {
     gives(&rt, rt.alloc(), &mut framer, b"{\"a\":", &[])?;
     gives(&rt, rt.alloc(), &mut framer, b"\xff{}", &[b"broken", b"{}"])?;
     cuts(&rt, rt.alloc(), b"{\t\r\n}{\x1f", &[b"{\t\r\n}", b"broken"])
-}
-
-#[test]
-fn knows_strings(rt: HostRuntime) -> Result<(), Fail> {
-    cuts(&rt, rt.alloc(), b"{\"]}\"}", &[b"{\"]}\"}"])?;
-    cuts(&rt, rt.alloc(), b"{\"\\\"}\"}", &[b"{\"\\\"}\"}"])?;
-    cuts(&rt, rt.alloc(), b"{\"\\\\\"}\"}", &[b"{\"\\\\\"}", b"junk"])?;
-    cuts(&rt, rt.alloc(), b"{\\\"}\"}", &[b"{\\\"}\"}"])?;
-    let mut framer = Framer::new(rt.alloc())?;
-    gives(&rt, rt.alloc(), &mut framer, b"{\"\\", &[])?;
-    gives(&rt, rt.alloc(), &mut framer, b"\"}", &[])?;
-    gives(&rt, rt.alloc(), &mut framer, b"\"}", &[b"{\"\\\"}\"}"])
-}
-
-#[test]
-fn bounds_the_depth(rt: HostRuntime) -> Result<(), Fail> {
-    let closed = &[b']'; 63];
-    let mut deepest = nested(rt.alloc(), 63, closed)?;
-    deepest.push(b'}')?;
-    cuts(&rt, rt.alloc(), &deepest, &[&deepest])?;
-    let deeper = nested(rt.alloc(), 64, b"\n{}")?;
-    cuts(&rt, rt.alloc(), &deeper, &[b"too deep", b"{}"])?;
-    let skipped = nested(rt.alloc(), 64, b"]}{}")?;
-    cuts(&rt, rt.alloc(), &skipped, &[b"too deep"])
-}
-
-#[test]
-fn bounds_the_length(rt: HostRuntime) -> Result<(), Fail> {
-    let longest = padded(rt.alloc(), 262_143, b"}")?;
-    cuts(&rt, rt.alloc(), &longest, &[&longest])?;
-    let longer = padded(rt.alloc(), 262_144, b"}{}")?;
-    cuts(&rt, rt.alloc(), &longer, &[b"too long"])?;
-    let line = padded(rt.alloc(), 262_144, b"\n{}")?;
-    cuts(&rt, rt.alloc(), &line, &[b"too long", b"{}"])?;
-    let broken = padded(rt.alloc(), 262_144, b"\xff{}")?;
-    cuts(&rt, rt.alloc(), &broken, &[b"broken", b"{}"])?;
-    let mut framer = Framer::new(rt.alloc())?;
-    let full = padded(rt.alloc(), 262_144, b"")?;
-    gives(&rt, rt.alloc(), &mut framer, &full, &[])?;
-    gives(
-        &rt,
-        rt.alloc(),
-        &mut framer,
-        b"}{}\n{}",
-        &[b"too long", b"{}"],
-    )
-}
-
-#[test]
-fn forgets_what_is_unfinished(rt: HostRuntime) -> Result<(), Fail> {
-    let mut framer = Framer::new(rt.alloc())?;
-    gives(&rt, rt.alloc(), &mut framer, b"{\"a\":", &[])?;
-    framer.reset();
-    gives(&rt, rt.alloc(), &mut framer, b"{}x", &[b"{}", b"junk"])?;
-    framer.reset();
-    gives(&rt, rt.alloc(), &mut framer, b"{}", &[b"{}"])
 }

@@ -9,4 +9,4 @@ mod tests;
 
 pub use acts::SessionAct;
 pub use modes::Mode;
-pub use sessions::{Memory, Session};
+pub use sessions::Session;

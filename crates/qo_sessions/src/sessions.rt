@@ -12,12 +12,6 @@ use qo_requests::{ReadError, read};
 use qo_values::{Chars, Code};
 use std::alloc::{AllocError, Global};
 use std::marker::Model;
-use thiserror::Error;
-
-/// There was not enough memory.
-#[derive(Clone, Copy, Debug, PartialEq, Eq, Error)]
-#[error("not enough memory")]
-pub struct Memory;
 
 /// A session: its mode, and what is unfinished of its bytes.
 #[derive(Drop)]
@@ -42,29 +36,25 @@ impl Session {
     ghost use Rattle.qo_sessions.specs.declared.modes.Mode.TheVariants as Mode;
 
     /// A session that opens: it has to negotiate.
-    pub fn begin(alloc: Global) -> Result<Session, Memory>
+    pub fn begin(alloc: Global) -> Result<Session, AllocError>
         ensures { IfOk result (λ s. s ≡ begun) }
     {
-        match Framer::new(alloc) {
-            Ok(framer) => Ok(Session {
-                mode: Mode::Negotiating,
-                framer,
-            }),
-            Err(_) => Err(Memory),
-        }
+        let framer = Framer::new(alloc)?;
+        Ok(Session {
+            mode: Mode::Negotiating,
+            framer,
+        })
     }
 
     /// A session that is not open.
-    pub fn closed(alloc: Global) -> Result<Session, Memory>
+    pub fn closed(alloc: Global) -> Result<Session, AllocError>
         ensures { IfOk result (λ s. s ≡ closed) }
     {
-        match Framer::new(alloc) {
-            Ok(framer) => Ok(Session {
-                mode: Mode::Closed,
-                framer,
-            }),
-            Err(_) => Err(Memory),
-        }
+        let framer = Framer::new(alloc)?;
+        Ok(Session {
+            mode: Mode::Closed,
+            framer,
+        })
     }
 
     /// Its mode. It takes no memory.
@@ -82,22 +72,19 @@ impl Session {
     }
 
     /// The items of further bytes, behind those that came before. A closed session takes none. After
-    /// `Memory` the session is as before.
-    pub fn feed(&mut self, alloc: Global, bytes: &[u8]) -> Result<Vec<Item>, Memory>
+    /// an error the session is as before.
+    pub fn feed(&mut self, alloc: Global, bytes: &[u8]) -> Result<Vec<Item>, AllocError>
         ensures items { IfOk result (λ items. fed self.old bytes.now ≡ record { items = items.items; session = self.new }) }
         ensures kept { OnErr result (self.new ≡ self.old) }
     {
         if self.mode == Mode::Closed {
             return Ok(Vec::new(alloc));
         }
-        match self.framer.feed(alloc, bytes) {
-            Ok(items) => Ok(items),
-            Err(_) => Err(Memory),
-        }
+        self.framer.feed(alloc, bytes)
     }
 
-    /// What an item comes to, and the mode behind it. After `Memory` the session is as before.
-    pub fn act(&mut self, alloc: Global, item: &Item) -> Result<SessionAct, Memory>
+    /// What an item comes to, and the mode behind it. After an error the session is as before.
+    pub fn act(&mut self, alloc: Global, item: &Item) -> Result<SessionAct, AllocError>
         ensures act { IfOk result (λ what. what ≡ act self.old.mode item.now) }
         ensures mode { IfOk result (λ what. self.new ≡ in_mode (mode_behind self.old.mode what) self.old) }
         ensures kept { OnErr result (self.new ≡ self.old) }
@@ -119,7 +106,7 @@ impl Session {
 }
 
 /// What a message comes to.
-fn judged(alloc: Global, mode: Mode, bytes: &[u8]) -> Result<SessionAct, Memory>
+fn judged(alloc: Global, mode: Mode, bytes: &[u8]) -> Result<SessionAct, AllocError>
     ensures { IfOk result (λ what. what ≡ judged mode (command bytes.now)) }
 {
     match read(alloc, bytes) {
@@ -131,13 +118,13 @@ fn judged(alloc: Global, mode: Mode, bytes: &[u8]) -> Result<SessionAct, Memory>
                 negotiates,
             },
         ) => Ok(SessionAct::Answer(refusal_code(mode, negotiates, code), id)),
-        Err(ReadError::Memory) => Err(Memory),
+        Err(ReadError::Memory) => Err(AllocError),
     }
 }
 
 #[tactic(auto, unfolding(crate::specs::Acts::act))]
 /// What an item comes to.
-fn act_in(alloc: Global, mode: Mode, item: &Item) -> Result<SessionAct, Memory>
+fn act_in(alloc: Global, mode: Mode, item: &Item) -> Result<SessionAct, AllocError>
     ensures { IfOk result (λ what. what ≡ act mode item.now) }
 {
     match item {

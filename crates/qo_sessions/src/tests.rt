@@ -81,20 +81,6 @@ fn negotiation_comes_first(rt: HostRuntime) -> Result<(), Fail> {
 }
 
 #[test]
-fn refusals_of_a_negotiation(rt: HostRuntime) -> Result<(), Fail> {
-    let alloc = rt.alloc();
-    let mut session = Session::begin(alloc)?;
-    let refused = acts(
-        alloc,
-        &mut session,
-        b"{\"execute\":\"qmp_capabilities\",\"arguments\":{\"enable\":[\"oob\"],\"x\":1}}{\"execute\":\"qmp_capabilities\",\"arguments\":{\"enable\":7}}{\"execute\":\"stop\",\"x\":1}{\"execute\":\"stop\",\"id\":1.5}{nope}",
-    )?;
-    assert_eq!(rt; refused.as_str(), "E13 E14 E6 E7 E1 ");
-    assert_eq!(rt; session.mode(), Mode::Negotiating);
-    Ok(())
-}
-
-#[test]
 fn bad_items_have_their_codes_in_both_modes(rt: HostRuntime) -> Result<(), Fail> {
     let alloc = rt.alloc();
     let mut session = Session::begin(alloc)?;
@@ -104,19 +90,5 @@ fn bad_items_have_their_codes_in_both_modes(rt: HostRuntime) -> Result<(), Fail>
         b"x\n{\x01{\"execute\":\"qmp_capabilities\"}x\n{\x01",
     )?;
     assert_eq!(rt; bad.as_str(), "E2 E3 negotiated E2 E3 ");
-    Ok(())
-}
-
-#[test]
-fn a_closed_session_has_no_items(rt: HostRuntime) -> Result<(), Fail> {
-    let alloc = rt.alloc();
-    let mut closed = Session::closed(alloc)?;
-    assert_eq!(rt; closed.feed(alloc, b"{\"execute\":\"stop\"}")?.len(), 0);
-    let mut session = Session::begin(alloc)?;
-    assert_eq!(rt; acts(alloc, &mut session, b"{\"execute\":")?.as_str(), "");
-    session.close();
-    assert_eq!(rt; session.mode(), Mode::Closed);
-    let mut again = Session::begin(alloc)?;
-    assert_eq!(rt; acts(alloc, &mut again, b"\"stop\"}\n")?.as_str(), "E2 ");
     Ok(())
 }
