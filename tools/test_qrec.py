@@ -34,6 +34,13 @@ def test_sessions():
         assert run("read", record) == (0, text.encode(), b""), text
 
 
+def test_expected():
+    """What a session expects is its transcript, and is no input."""
+    text = 'open 0\n<- {"a":1}\n1<- {}\ng<- ok\n'
+    assert run("expected", text.encode()) == (0, b'0 {"a":1}\r\n1 {}\r\ng ok\n', b"")
+    assert run("write", text.encode()) == run("write", b"open 0\n")
+
+
 def test_refusals():
     """What is no input and what is no entry is told, with its place."""
     for text in NO_INPUTS:
