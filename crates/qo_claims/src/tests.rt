@@ -24,7 +24,8 @@ fn takes_names(claims: &mut Claims, id: &Id) -> bool {
     let ring = claims.take_ring(id);
     let ring = ended(claims, ring);
     let backend = claims.take_backend(9);
-    device && ring_id && ring && ended(claims, backend)
+    let backend = ended(claims, backend);
+    device && ring_id && ring && backend
 }
 
 /// Takes a slot and a range, keeps the slot, and ends the claims on them.

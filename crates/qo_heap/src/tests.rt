@@ -66,7 +66,8 @@ fn made<L: Ledger>(alloc: Global, blank: Blank) -> Option<usize>
 {
     let mut steps = Steps::<L>::from_blank(blank);
     let mut heap = Heap::new(alloc).ok()?;
-    let first = heap.make(alloc, TypeId::Container, &mut steps).ok()?;
+    heap.make(alloc, TypeId::Container, &mut steps).ok()?;
+    let first = heap.by_birth(1)?;
     heap.init(first, TypeId::Container);
     heap.make(alloc, TypeId::Device, &mut steps).ok()?;
     add_first(&mut heap, alloc, &mut steps)?;
