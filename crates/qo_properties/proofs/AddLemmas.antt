@@ -6,7 +6,7 @@ use Rattle.std.proofs.lemmas.Bool.{eqb-true, eq-eqb}
 use Rattle.std.proofs.lemmas.List.Sums.{sum_by-cons, sum_by-append}
 use Rattle.qo_values.specs.declared.kinds.TypeId.{TypeId}
 use Rattle.qo_kinds.specs.Bodies.{body_of, kept_of, none_kept}
-use Rattle.qo_kinds.proofs.BodyLemmas.{fresh-bare, fresh-registers}
+use Rattle.qo_kinds.proofs.BodyLemmas.{fresh-registers}
 use Rattle.qo_heap.specs.Objects.{without_kept}
 use Rattle.qo_slots.specs.declared.keys.Key.{Key}
 use Rattle.qo_table.specs.Rows.{IsLive, Rises, births, edit, object_at, row_at, without}
