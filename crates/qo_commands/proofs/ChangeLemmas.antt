@@ -1,5 +1,5 @@
 -- What the board's calls leave is what the commands define.
-use Rattle.std.proofs.Common.{◌≡◌, refl, ap, sym, subst, ◌∙◌, ℕ, List, true, Some, None, Result, Ok, Err, OnErr, inl, inr}
+use Rattle.std.proofs.Common.{◌≡◌, refl, ap, sym, subst, ◌∙◌, ℕ, List, true, Some, None, Result, Ok, Err, OnErr, inl}
 use Rattle.qo_values.specs.declared.codes.Code.{Code}
 use Rattle.qo_values.specs.declared.properties.Val.{Val}
 use Rattle.qo_model.specs.Board.{Board}

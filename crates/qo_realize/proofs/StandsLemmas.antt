@@ -1,5 +1,5 @@
 -- What stands beside the objects stays with each call on them.
-use Rattle.std.proofs.Common.{◌≡◌, refl, ap, sym, subst, ◌∙◌, ap₂, ℕ, Bool, List, [], Some, None, Result, Ok, Err, OnErr, inl, inr, map, true}
+use Rattle.std.proofs.Common.{◌≡◌, refl, ap, subst, ◌∙◌, ap₂, ℕ, Bool, List, [], Result, Ok, Err, OnErr, inl, inr, map, true}
 use Rattle.qo_values.specs.declared.codes.Code.{Code}
 use Rattle.qo_values.specs.declared.properties.Val.{Val}
 use Rattle.qo_model.specs.declared.notes.Note.{Note}
