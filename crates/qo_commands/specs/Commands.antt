@@ -18,6 +18,7 @@ use Rattle.qo_model.specs.Detachment.{detached_told}
 use Rattle.qo_model.specs.declared.detached.Detached.{Detached}
 use Rattle.qo_model.specs.Types.{Kind, Property, TypeRow, is_a, row_named, row_of, slots_of}
 use Rattle.qo_types.specs.Rows.{listed as listed_types}
+pub use Rattle.qo_replies.specs.Properties.{properties_data, property_data}
 use Rattle.qo_replies.specs.Replies.{version_data}
 use Rattle.qo_replies.specs.declared.events.Event.{Event}
 use Rattle.qo_replies.specs.declared.events.Event.TheVariants.{Shutdown}
@@ -42,18 +43,10 @@ refused_with b code = record { result = Err code; board = b; events = []; ends =
 abbrev pub empty : Data
 empty = object no_members
 
--- a property, by its name and type text
-abbrev pub property_data : List ℕ × List ℕ → Data
-property_data p = object (member (codes "name") (string p.0) (member (codes "type") (string p.1) no_members))
-
 -- what a command returns that reads the board, or the code that refuses it; the board stays
 abbrev pub answered : {T : Type 0} → Board → (T → Data) → Result T Code → Done
 answered b f (Ok found) = returned b (f found)
 answered b f (Err code) = refused_with b code
-
--- the properties of an object, each by its name and type text
-abbrev pub properties_data : List (List ℕ × List ℕ) → Data
-properties_data rows = array (items_of (map property_data rows))
 
 -- a write that makes another board, or the code that refuses it
 abbrev pub wrote : Board → Result Board Code → Done

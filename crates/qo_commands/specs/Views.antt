@@ -1,20 +1,23 @@
 -- What the code's outcomes of commands are.
-use Rattle.std.specs.Prelude.{ℕ, Bool, false, if◌then◌else◌, List, [], ◌∷◌, Result, Ok, Err}
+use Rattle.std.specs.Prelude.{ℕ, Bool, false, if◌then◌else◌, List, [], ◌∷◌, map, Result, Ok, Err}
 use Rattle.serde_json.specs.Data.{Data}
 use Rattle.serde_json.specs.View.{view}
 use Rattle.serde_json.specs.Written.{has_float}
 use Rattle.qo_values.specs.declared.codes.Code.{Code}
 use Rattle.qo_model.specs.Board.{Board}
 use Rattle.qo_model.specs.Types.{Property}
+use Rattle.qo_properties.specs.Listed.{prop_told}
+use Rattle.qo_replies.specs.Properties.{properties_data}
 use Rattle.qo_commands.specs.Commands as defined
 use Rattle.qo_commands.specs.declared.commands.Body.{Body}
-use Rattle.qo_commands.specs.declared.commands.Body.TheVariants.{Empty, Status, Value}
+use Rattle.qo_commands.specs.declared.commands.Body.TheVariants.{Empty, Status, Properties, Value}
 use Rattle.qo_commands.specs.declared.commands.Done.{Done}
 
 -- what is returned, as data
 abbrev pub body_data : Body → Data
 body_data Empty = defined.empty
 body_data (Status running) = defined.status_data running
+body_data (Properties props) = properties_data (map prop_told props.items)
 body_data (Value value) = view value
 
 abbrev pub data_of : Result Body Code → Result Data Code

@@ -15,6 +15,7 @@ use crate::notes::query_notes;
 use crate::types::{list_properties, list_types};
 use crate::values::get;
 use qo_heap::Steps;
+use qo_properties::Prop;
 use qo_realize::Board;
 use qo_replies::{Event, version};
 use qo_requests::Request;
@@ -30,6 +31,8 @@ pub enum Body {
     Empty,
     /// Whether the machine runs.
     Status(bool),
+    /// The properties of an object.
+    Properties(Vec<Prop>),
     /// A value of its own.
     Value(Value),
 }

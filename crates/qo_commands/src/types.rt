@@ -4,6 +4,7 @@ ghost use Rattle.std.specs.Prelude.{◌≡◌, ◌++◌, [], ◌∷◌, codes, m
 ghost use Rattle.std.specs.Option.{option_map_or};
 ghost use Rattle.serde_json.specs.Data.{array};
 ghost use Rattle.serde_json.specs.View.{items_of, view};
+ghost use Rattle.qo_values.specs.TypeTexts.{around};
 ghost use Rattle.qo_model.specs.Board.{Board as Tree};
 ghost use Rattle.qo_model.specs.Objects.{may_add};
 ghost use Rattle.qo_model.specs.Types.{row_named, row_of};
@@ -12,8 +13,6 @@ ghost use Rattle.qo_commands.specs.Commands.{adding_properties, device_propertie
 ghost use Rattle.qo_commands.specs.Views.{done_of, words_for_adding};
 
 use crate::commands::{Body, Done, refused, returned};
-use crate::listings::property_value;
-use qo_properties::{around, value_word};
 use qo_types::{Mark, RowKind, SlotRow, TypeTable};
 use qo_values::{Code, Text, TypeId};
 use serde_json::{Value, json};
@@ -78,15 +77,33 @@ pub(crate) fn list_types(
     type_listing(alloc, &types)
 }
 
+/// A property, by its name and type text.
+fn property_value(alloc: Global, name: &str, text: &str) -> Result<Value, AllocError>
+    ensures { IfOk result (λ v. view v ≡ property_data (name.now, text.now)) }
+{
+    json!(in alloc; {"name": name, "type": text})
+}
+
+/// A word around a type's name, as `child<clock>`.
+fn around(alloc: Global, word: &str, kind: TypeId) -> Result<String, AllocError>
+    ensures { IfOk result (λ text. string_bytes text ≡ around word.now kind) }
+{
+    let mut text = String::from_str(alloc, word)?;
+    text.push_str("<")?;
+    text.push_str(kind.name())?;
+    text.push_str(">")?;
+    Ok(text)
+}
+
 /// The type text of a property with a row; that of an alias is the text of what it passes on to,
 /// and is empty here.
 fn kind_text(alloc: Global, kind: &RowKind) -> Result<String, AllocError>
     ensures { IfOk result (λ text. IfSome (kind_told kind.now) (λ k. string_bytes text ≡ kind_word k)) }
 {
     match kind {
-        RowKind::Plain(ty, _) => String::from_str(alloc, value_word(*ty)),
-        RowKind::Child(ty) => around("child", *ty, alloc),
-        RowKind::Link { ty, .. } => around("link", *ty, alloc),
+        RowKind::Plain(ty, _) => String::from_str(alloc, ty.word()),
+        RowKind::Child(ty) => around(alloc, "child", *ty),
+        RowKind::Link { ty, .. } => around(alloc, "link", *ty),
         RowKind::Alias { .. } => Ok(String::new(alloc)),
     }
 }

@@ -1,13 +1,17 @@
 //! The texts of replies.
 
-ghost use Rattle.std.specs.Prelude.{◌≡◌, false, option_map, IfOk};
+ghost use Rattle.std.specs.Prelude.{◌≡◌, false, map, option_map, IfOk};
 ghost use Rattle.serde_json.specs.Written.{has_float};
 ghost use Rattle.qo_commands.specs.Views.{body_data, data_of, has_float_in};
 ghost use Rattle.qo_machine.specs.Machine.{reply};
+ghost use Rattle.qo_properties.specs.Listed.{prop_told};
+ghost use Rattle.qo_replies.specs.Json.{json};
+ghost use Rattle.qo_replies.specs.Properties.{properties_data};
 ghost use Rattle.qo_replies.specs.Replies.{return_reply};
 
 use qo_commands::Body;
-use qo_replies::{error_text, return_text, return_written};
+use qo_properties::Prop;
+use qo_replies::{PropertyList, error_text, return_text, return_written};
 use qo_values::{Chars, Code, Text};
 use std::alloc::{AllocError, Global};
 
@@ -18,6 +22,17 @@ const RUNNING: &str = "{\"running\":true,\"status\":\"running\"}";
 
 const PAUSED: &str = "{\"running\":false,\"status\":\"paused\"}";
 
+/// The text of a list of properties.
+fn properties_text(alloc: Global, props: &[Prop]) -> Result<Text, AllocError>
+    ensures { IfOk result (λ text. text ≡ json (properties_data (map prop_told props.now))) }
+{
+    let mut list = PropertyList::new(alloc)?;
+    for prop in props {
+        list.push(alloc, prop.name.as_str(), prop.ty)?;
+    }
+    list.into_text()
+}
+
 /// The reply to a command that was done. No number of what it returns has a fraction.
 #[tactic(auto, using(qo_commands::proofs::CommandLemmas::empty_written, qo_commands::proofs::CommandLemmas::running_written, qo_commands::proofs::CommandLemmas::paused_written))]
 fn done_text(alloc: Global, id: Option<&Text>, body: &Body) -> Result<Chars, AllocError>
@@ -27,6 +42,10 @@ fn done_text(alloc: Global, id: Option<&Text>, body: &Body) -> Result<Chars, All
         Body::Empty => return_written(alloc, id, EMPTY),
         Body::Status(true) => return_written(alloc, id, RUNNING),
         Body::Status(false) => return_written(alloc, id, PAUSED),
+        Body::Properties(props) => {
+            let text = properties_text(alloc, props)?;
+            return_written(alloc, id, text.as_str())
+        }
         Body::Value(value) => return_text(alloc, id, value),
     }
 }

@@ -1,8 +1,9 @@
 -- The row of a type that a name gives, and what it refuses.
-use Rattle.std.proofs.Common.{◌≡◌, refl, ap, sym, subst, ◌∙◌, ap₂, ◌<◌, ◌≤◌, leb, nat_le, cond, Bool, true, false, ◌||◌, List, [], ◌∷◌, length, ℕ, codes, find, Option, Some, None, is_some, option_map, arith}
+use Rattle.std.proofs.Common.{◌≡◌, refl, ap, sym, subst, ◌∙◌, ap₂, ◌<◌, ◌≤◌, leb, nat_le, nat_lt, cond, Bool, true, false, ◌||◌, List, [], ◌∷◌, length, ℕ, codes, find, Option, Some, None, is_some, option_map, arith}
 use Rattle.std.specs.List.{AllByRecursion, list_all, list_any}
 use Rattle.qo_values.specs.Ids.{is_id, is_id_byte, is_letter}
 use Rattle.qo_values.specs.Names.{IsName, is_name_byte}
+use Rattle.std.proofs.lemmas.Bool.{ltb-true}
 use Rattle.std.proofs.lemmas.Bool.Decides.{nat_tests}
 use Rattle.std.proofs.lemmas.Cmp.{nat_list_eq_equiv}
 use Rattle.std.specs.Option.{option_map_or}
@@ -13,7 +14,7 @@ use Rattle.qo_values.specs.Kinds.{type_name}
 use Rattle.qo_values.specs.declared.codes.Code.TheVariants.{E15, E20, E21, E22, E23, E24, E43}
 use Rattle.qo_values.specs.declared.codes.Code.{Code}
 use Rattle.qo_values.specs.declared.kinds.TypeId.{TypeId}
-use Rattle.qo_values.specs.declared.limits.TheConstants.{LIVE_OBJECTS_MAX}
+use Rattle.qo_values.specs.declared.limits.TheConstants.{ID_MAX, LIVE_OBJECTS_MAX}
 use Rattle.qo_model.specs.Types.{TypeRow, is_a, row_named, row_of, types}
 use Rattle.qo_types.specs.Rows.{Told, type_told, type_told_of}
 use Rattle.qo_types.specs.declared.rows.TypeRow as code
@@ -130,10 +131,10 @@ ids-all (b ∷ bs) e = go (is_id_byte b) refl (ids-all bs)
 
 pub id-named : (id : List ℕ) → is_id id ≡ true → IsName id
 id-named [] e = cc
-id-named (b ∷ bs) e = go (is_letter b) refl (list_all is_id_byte bs) refl (nat_le (length bs) 127) refl
+id-named (b ∷ bs) e = go (is_letter b) refl (list_all is_id_byte bs) refl (nat_lt (length bs) ID_MAX) refl
   where
-    go : (t : Bool) → is_letter b ≡ t → (u : Bool) → list_all is_id_byte bs ≡ u → (w : Bool) → nat_le (length bs) 127 ≡ w → IsName (b ∷ bs)
-    go true p true q true r = record { some = omega arith; short = (let few : length bs ≤ 127 = grind (arith, nat_tests, r) in omega arith); printable = rw (id-first b p) (ids-all bs q) }
+    go : (t : Bool) → is_letter b ≡ t → (u : Bool) → list_all is_id_byte bs ≡ u → (w : Bool) → nat_lt (length bs) ID_MAX ≡ w → IsName (b ∷ bs)
+    go true p true q true r = record { some = omega arith; short = (let few : length bs < ID_MAX = ltb-true (length bs) ID_MAX r in omega arith); printable = rw (id-first b p) (ids-all bs q) }
     go true p true q false r = absurd (let clash : false ≡ true = rw (p, q, r) at e in cc)
     go true p false q w r = absurd (let clash : false ≡ true = rw (p, q) at e in cc)
     go false p u q w r = absurd (let clash : false ≡ true = rw p at e in cc)

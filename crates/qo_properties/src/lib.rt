@@ -19,7 +19,7 @@ pub use adding::objects::{add_filled, add_object, attempt, make_child};
 pub use adding::start::make_all;
 pub use errors::Memory;
 pub use reading::detached::detached_list;
-pub use reading::listing::{Prop, around, list, value_word};
+pub use reading::listing::{Prop, list};
 pub use reading::lookup::{OBJECTS_BIRTH, ROOT_BIRTH, child_place, object_of, place_named};
 pub use reading::naming::{object_at, path_text, target_text};
 pub use reading::values::{copy_of, get};

@@ -1,10 +1,11 @@
 //! Listing the slots of objects (QEMU's QAPI, `qom-list`; the type texts are the profile's).
 
-ghost use Rattle.std.specs.Prelude.{◌≡◌, [], ◌∷◌, ◌++◌, string_bytes, map, OnOk, IfOk, IfSome};
+ghost use Rattle.std.specs.Prelude.{◌≡◌, [], ◌∷◌, ◌++◌, map, OnOk, IfOk, IfSome};
 ghost use Rattle.std.specs.Option.{option_map_or};
 ghost use Rattle.qo_model.specs.Board.{Board as Tree, slot_named};
-ghost use Rattle.qo_model.specs.Listing.{around, listing, own_text, plain_word, type_text, value_word};
+ghost use Rattle.qo_model.specs.Listing.{listing, own_text, plain_word, type_text};
 ghost use Rattle.qo_model.specs.Access.{listing_at};
+ghost use Rattle.qo_values.specs.TypeTexts.{text_of};
 ghost use Rattle.qo_object.specs.Shown.{shown_slot};
 ghost use Rattle.qo_object.specs.Slots.{target_of};
 ghost use Rattle.qo_table.specs.Rows.{IsLive};
@@ -18,7 +19,7 @@ use crate::reading::naming::object_at;
 use crate::refusals::Refusal;
 use qo_heap::{Heap, Oid, Slot, Steps};
 use qo_types::{RowKind, TypeTable};
-use qo_values::{PropType, Text, TypeId};
+use qo_values::{Text, TypeId, TypeText};
 use std::alloc::{AllocError, Global};
 use std::sync::ledger::Ledger;
 
@@ -27,118 +28,81 @@ use std::sync::ledger::Ledger;
 pub struct Prop {
     /// Its name.
     pub name: Text,
-    /// What it is: `bool`, `int64`, `uint64` or `string`, or `child<..>` or `link<..>` around the
-    /// name of a type.
-    pub ty: Text,
+    /// What is told of its type.
+    pub ty: TypeText,
 }
 
-/// The word for the values of a type.
-pub fn value_word(ty: PropType) -> &'static str
-    ensures { result.now ≡ value_word ty }
-{
-    match ty {
-        PropType::Bool => "bool",
-        PropType::Int { .. } => "int64",
-        PropType::Uint { .. } => "uint64",
-        PropType::Text => "string",
-    }
-}
-
-/// The word of a property's row; only plain rows have one.
-fn row_word(kind: RowKind) -> &'static str
-    ensures { result.now ≡ word_of kind }
+/// What is told of the type of a property, by its row; only plain rows have a word.
+fn row_text(kind: RowKind) -> TypeText
+    ensures { text_of result ≡ word_of kind }
 {
     match kind {
-        RowKind::Plain(ty, _) => value_word(ty),
-        _ => "",
+        RowKind::Plain(ty, _) => TypeText::Value(ty),
+        _ => TypeText::Nothing,
     }
 }
 
-/// The word of the plain property of a name, of an object of a type.
-fn plain_word(kind: TypeId, name: &str) -> &'static str
-    ensures { result.now ≡ plain_word kind name.now }
+/// What is told of the type of the plain property of a name, of an object of a type.
+fn plain_text(kind: TypeId, name: &str) -> TypeText
+    ensures { text_of result ≡ plain_word kind name.now }
 {
     match TypeTable::board().property(kind, name) {
-        Some(row) => row_word(row.kind),
-        None => "",
+        Some(row) => row_text(row.kind),
+        None => TypeText::Nothing,
     }
 }
 
-/// A word around a type's name, as `child<clock>`.
-pub fn around(word: &str, kind: TypeId, alloc: Global) -> Result<String, AllocError>
-    ensures { IfOk result (λ text. string_bytes text ≡ around word.now kind) }
-{
-    let mut text = String::from_str(alloc, word)?;
-    text.push_str("<")?;
-    text.push_str(kind.name())?;
-    text.push_str(">")?;
-    Ok(text)
-}
-
-/// The type text of a slot that is no alias.
+/// What is told of the type of a slot that is no alias.
 fn own_text<L: Ledger>(
     heap: &Heap,
     o: Oid,
     name: &str,
     what: &Slot,
-    alloc: Global,
     steps: &mut Steps<L>,
-) -> Result<String, Memory>
+) -> TypeText
     requires live { IsLive heap.now.rows o }
     requires target { IfSome (target_of what.now) (IsLive heap.now.rows) }
-    ensures { (b : Tree) → Shows b heap.now → IfOk result (λ text. string_bytes text ≡ own_text b o.birth name.now (shown_slot what.now)) }
+    ensures { (b : Tree) → Shows b heap.now → text_of result ≡ own_text b o.birth name.now (shown_slot what.now) }
 {
     match what {
-        Slot::Plain(_) => {
-            let kind = heap.kind(o, steps);
-            Ok(String::from_str(alloc, plain_word(kind, name))?)
-        }
-        Slot::Child(child) => {
-            let kind = heap.kind(*child, steps);
-            Ok(around("child", kind, alloc)?)
-        }
-        Slot::Link { ty, .. } => Ok(around("link", *ty, alloc)?),
-        Slot::Alias(_, _) => Ok(String::new(alloc)),
+        Slot::Plain(_) => plain_text(heap.kind(o, steps), name),
+        Slot::Child(child) => TypeText::Child(heap.kind(*child, steps)),
+        Slot::Link { ty, .. } => TypeText::Link(*ty),
+        Slot::Alias(_, _) => TypeText::Nothing,
     }
 }
 
-/// The type text of the property of a name of the object of a birth, which an alias has too.
-fn passed_text<L: Ledger>(
-    heap: &Heap,
-    birth: u64,
-    of: &str,
-    alloc: Global,
-    steps: &mut Steps<L>,
-) -> Result<String, Memory>
-    ensures { (b : Tree) → Shows b heap.now → IfOk result (λ text. string_bytes text ≡ option_map_or (own_text b birth of.now) (slot_named b birth of.now) []) }
+/// What is told of the type of the property of a name of the object of a birth, which an alias has
+/// too.
+fn passed_text<L: Ledger>(heap: &Heap, birth: u64, of: &str, steps: &mut Steps<L>) -> TypeText
+    ensures { (b : Tree) → Shows b heap.now → text_of result ≡ option_map_or (own_text b birth of.now) (slot_named b birth of.now) [] }
 {
     heap.facts();
     let Some(o) = object_of(heap, birth) else {
-        return Ok(String::new(alloc));
+        return TypeText::Nothing;
     };
     let Some(slot) = heap.slot(o, of, steps) else {
-        return Ok(String::new(alloc));
+        return TypeText::Nothing;
     };
-    own_text(heap, o, of, slot.what, alloc, steps)
+    own_text(heap, o, of, slot.what, steps)
 }
 
-/// The type text of a slot of an object.
+/// What is told of the type of a slot of an object.
 fn type_text<L: Ledger>(
     heap: &Heap,
     o: Oid,
     name: &str,
     what: &Slot,
-    alloc: Global,
     steps: &mut Steps<L>,
-) -> Result<String, Memory>
+) -> TypeText
     requires live { IsLive heap.now.rows o }
     requires target { IfSome (target_of what.now) (IsLive heap.now.rows) }
-    ensures { (b : Tree) → Shows b heap.now → IfOk result (λ text. string_bytes text ≡ type_text b o.birth (name.now, shown_slot what.now)) }
+    ensures { (b : Tree) → Shows b heap.now → text_of result ≡ type_text b o.birth (name.now, shown_slot what.now) }
 {
     if let Slot::Alias(target, of) = what {
-        return passed_text(heap, target.birth, of.as_str(), alloc, steps);
+        return passed_text(heap, target.birth, of.as_str(), steps);
     }
-    own_text(heap, o, name, what, alloc, steps)
+    own_text(heap, o, name, what, steps)
 }
 
 /// A slot of an object, as it is listed.
@@ -154,10 +118,11 @@ fn prop_of<L: Ledger>(
     requires target { IfSome (target_of what.now) (IsLive heap.now.rows) }
     ensures { (b : Tree) → Shows b heap.now → IfOk result (λ prop. prop_told prop ≡ (name.now, type_text b o.birth (name.now, shown_slot what.now))) }
 {
-    let ty = type_text(heap, o, name, what, alloc, steps)?;
+    let ty = type_text(heap, o, name, what, steps);
+    let name = String::from_str(alloc, name)?;
     Ok(Prop {
-        name: Text::from_string(String::from_str(alloc, name)?),
-        ty: Text::from_string(ty),
+        name: Text::from_string(name),
+        ty,
     })
 }
 

@@ -10,7 +10,7 @@ loop-pair-init g c = λ b s. refl
 
 pub returns-in_err-check_one : goal.returns-in_err-check_one
 returns-in_err-check_one g c = λ b s.
-    let all : c.as_slice-pair-items.result.now ≡ c.args.props.now = c.as_slice-pair-items.ensures in
+    let all : c.as_slice-pair-items.result.now ≡ c.args.props.now = c.as_slice-pair-items.ensures.value in
     let told : refusal_of b c.args.kind c.args.props.now ≡ Some c.in_err-check_one.field-0.0 =
     ap (refusal_of b c.args.kind) (sym all)
     ∙ c.loop-pair.invariant b s
@@ -26,7 +26,7 @@ loop-pair-preserved g c = λ b s.
 
 pub returns : goal.returns
 returns g c = λ b s.
-    let all : c.as_slice-pair-items.result.now ≡ c.args.props.now = c.as_slice-pair-items.ensures in
+    let all : c.as_slice-pair-items.result.now ≡ c.args.props.now = c.as_slice-pair-items.ensures.value in
     sym (
     ap (refusal_of b c.args.kind) (sym all)
     ∙ c.loop-pair.invariant b s

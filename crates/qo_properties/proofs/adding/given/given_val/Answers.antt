@@ -13,7 +13,7 @@ loop-pair-init c = refl
 
 pub returns-then-eq : goal.returns-then-eq
 returns-then-eq c =
-    let all : c.as_slice-pair-items.result.now ≡ c.args.props.now = c.as_slice-pair-items.ensures in
+    let all : c.as_slice-pair-items.result.now ≡ c.args.props.now = c.as_slice-pair-items.ensures.value in
     let is : bytes_eq c.pair-item.result.0 c.args.name.now ≡ true = ap (λ (t : List ℕ). bytes_eq t c.args.name.now) (sym c.as_str.ensures) ∙ sym c.eq.ensures ∙ c.if-eq.true in
     let found : find (named c.args.name.now) c.args.props.now ≡ Some c.pair-item.result =
     ap (find (named c.args.name.now)) (sym all)
@@ -31,7 +31,7 @@ loop-pair-preserved c =
 
 pub returns : goal.returns
 returns c =
-    let all : c.as_slice-pair-items.result.now ≡ c.args.props.now = c.as_slice-pair-items.ensures in
+    let all : c.as_slice-pair-items.result.now ≡ c.args.props.now = c.as_slice-pair-items.ensures.value in
     let found : find (named c.args.name.now) c.args.props.now ≡ None =
     ap (find (named c.args.name.now)) (sym all)
     ∙ c.loop-pair.invariant

@@ -1,5 +1,5 @@
 -- What is found by name has its own text, and an object that is not there has no slot.
-use Rattle.std.proofs.Common.{◌≡◌, ℕ, List, [], IfOk, Some, None, string_bytes, ap, sym, subst, ◌∙◌, Option}
+use Rattle.std.proofs.Common.{◌≡◌, ℕ, List, [], Some, None, ap, sym, ◌∙◌, Option}
 use Rattle.std.specs.Option.{option_map_or}
 use Rattle.std.specs.Str.{bytes_eq}
 use Rattle.qo_object.specs.Slots.{Named}
@@ -12,13 +12,13 @@ use Rattle.qo_properties.proofs.reading.listing.passed_text.Goals as goal
 
 pub returns-in_default : goal.returns-in_default
 returns-in_default g c = λ b s.
-    c.new.ensures.bytes ∙ sym (ap (λ (o : Option board.Slot). option_map_or (own_text b c.args.birth c.args.of.now) o []) (named-gone b c.args.heap.now s c.args.birth c.args.of.now c.in_default.ensures.none))
+    sym (ap (λ (o : Option board.Slot). option_map_or (own_text b c.args.birth c.args.of.now) o []) (named-gone b c.args.heap.now s c.args.birth c.args.of.now c.in_default.ensures.none))
 
 pub returns-in_default-slot : goal.returns-in_default-slot
 returns-in_default-slot g c = λ b s.
     let none : board.slot_named b c.args.birth c.args.of.now ≡ None =
     ap (λ (n : ℕ). board.slot_named b n c.args.of.now) (sym c.in-Some.ensures.born) ∙ named-is b c.args.heap.now s c.in-Some.o.birth c.args.of.now None c.in_default-slot.ensures.slot in
-    c.new-in_default-slot.ensures.bytes ∙ sym (ap (λ (o : Option board.Slot). option_map_or (own_text b c.args.birth c.args.of.now) o []) none)
+    sym (ap (λ (o : Option board.Slot). option_map_or (own_text b c.args.birth c.args.of.now) o []) none)
 
 pub own_text-requires-clause-target : goal.own_text-requires-clause-target
 own_text-requires-clause-target g c =
@@ -32,4 +32,4 @@ returns g c = λ b s.
     let text : own_text b c.in-Some.o.birth c.args.of.now (shown_slot c.in-Some-slot.slot.what.now) ≡ option_map_or (own_text b c.args.birth c.args.of.now) (board.slot_named b c.args.birth c.args.of.now) [] =
     ap (λ (n : ℕ). own_text b n c.args.of.now (shown_slot c.in-Some-slot.slot.what.now)) c.in-Some.ensures.born
     ∙ sym (ap (λ (o : Option board.Slot). option_map_or (own_text b c.args.birth c.args.of.now) o []) there) in
-    subst (λ (x : List ℕ). IfOk c.own_text.result (λ text. string_bytes text ≡ x)) text (c.own_text.ensures b s)
+    c.own_text.ensures b s ∙ text
