@@ -1,7 +1,8 @@
 -- No event waits and no path is kept: the changes of objects leave it so.
-use Rattle.std.proofs.Common.{◌≡◌, refl, ap, ◌∙◌, ℕ, zero, suc, Bool, true, false, not, cond, ◌==◌, nat_eq, List, [], ◌∷◌, ◌++◌, map, filter, find, length, position, Option, Some, None, option_map, Result, Ok, Err, codes}
+use Rattle.std.proofs.Common.{◌≡◌, refl, ap, subst, ◌∙◌, ℕ, zero, suc, Bool, true, false, not, cond, ◌==◌, nat_eq, List, [], ◌∷◌, ◌++◌, map, filter, find, length, position, Option, Some, None, option_map, Result, Ok, Err, codes}
 use Rattle.std.specs.Prelude.{option_and_then, option_to_list}
 use Rattle.std.specs.List.{AllByRecursion, list_any}
+use Rattle.std.specs.Option.{option_map_or}
 use Rattle.std.specs.Str.{bytes_eq}
 use Rattle.qo_values.specs.Properties.{admits}
 use Rattle.qo_values.specs.declared.codes.Code.{Code}
@@ -11,7 +12,7 @@ use Rattle.qo_values.specs.declared.properties.Val.TheVariants as val
 use Rattle.qo_model.specs.Board.{Board, DeviceEvent, Record, Slot, plain, child, strong, weak, alias, is_live, kind_of, slot_at, slots_at, held}
 use Rattle.qo_model.specs.Changes.{point, pointed, set, with_changed, with_val}
 use Rattle.qo_model.specs.FinalNotesRuns.{behind_write}
-use Rattle.qo_model.specs.Objects.{Changed, Given, added_as, added_by, barred, is_object_named, object_add, object_del, objects_birth, place_from, refusal_of, sever, severed_from, with_attempt}
+use Rattle.qo_model.specs.Objects.{Changed, Given, added_as, added_by, attempted_as, barred, barred_by, is_object_named, object_add, object_del, objects_birth, place_from, refusal_of, sever, severed_from, with_attempt}
 use Rattle.qo_model.specs.Paths.{attached}
 use Rattle.qo_model.specs.Properties.{link_target, link_written, linked, may_set, object_at, pointed_at, relinked, row_of_property, write, written, written_by}
 use Rattle.qo_model.specs.References.{refs}

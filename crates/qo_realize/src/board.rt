@@ -151,8 +151,8 @@ impl Board {
     }
 
     /// Makes a user's object of a type's name under an id, with values for its properties, as a
-    /// child of `/objects` that nothing else holds (QEMU's QAPI, `object-add`). Of two values for
-    /// one property the first counts. Refused, in this order, with `E20` where no type has the name,
+    /// child of `/objects` that nothing else holds (QEMU's QAPI, `object-add`).
+    /// Refused, in this order, with `E20` where no type has the name,
     /// `E21` where it is abstract, `E22` where users may not make it, `E23` where the id is malformed,
     /// `E15` where `/objects` is not there, `E24` where it has such a slot, and `E43` at `LIVE_OBJECTS_MAX` objects;
     /// the board is then as it was. A property that is refused, the first in the order given, is so
