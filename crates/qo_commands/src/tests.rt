@@ -8,7 +8,7 @@ use qo_heap::Steps;
 use qo_properties::{Memory, Refusal};
 use qo_realize::Board;
 use qo_requests::Request;
-use qo_values::{Code, PropList, Text, Val};
+use qo_values::{Code, PropList, PropType, Text, TypeText, Val};
 use std::alloc::{AllocError, Global};
 use std::marker::Brand;
 use std::sync::ledger::{Blank, Ledger};
@@ -40,6 +40,30 @@ fn tells<L: Ledger>(
     }
 }
 
+/// Whether a listing has one property, the text `type`.
+fn lists_type<L: Ledger>(
+    alloc: Global,
+    board: &Board,
+    request: &Request,
+    steps: &mut Steps<L>,
+) -> Result<bool, Memory>
+    requires { is_change request.now ≡ false }
+{
+    let Done {
+        result,
+        events: _,
+        ends: _,
+    } = ask(alloc, board, request, steps)?;
+    let Ok(Body::Properties(props)) = result else {
+        return Ok(false);
+    };
+    let [prop] = props.as_slice() else {
+        return Ok(false);
+    };
+    let is_text = matches!(prop.ty, TypeText::Value(PropType::Text));
+    Ok(is_text && prop.name.as_str() == "type")
+}
+
 /// Whether the opening board is read.
 fn reads<L: Ledger>(alloc: Global, blank: Blank) -> Result<bool, Memory>
     requires name { blank.name ≡ L.name }
@@ -55,13 +79,8 @@ fn reads<L: Ledger>(alloc: Global, blank: Blank) -> Result<bool, Memory>
     let period = Request::QomGet { path, property };
     let noted = Request::XQueryNotes { from: 7 };
     Ok(
-        tells(
-            alloc,
-            &board,
-            &listed,
-            "[{\"name\":\"type\",\"type\":\"string\"}]",
-            &mut steps,
-        )? && tells(alloc, &board, &period, "42949672960", &mut steps)?
+        lists_type(alloc, &board, &listed, &mut steps)?
+            && tells(alloc, &board, &period, "42949672960", &mut steps)?
             && tells(
                 alloc,
                 &board,
