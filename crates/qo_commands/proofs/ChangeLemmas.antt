@@ -12,57 +12,70 @@ use Rattle.qo_realize.specs.Parts.{Parts}
 use Rattle.qo_realize.specs.Stands.{Stands}
 use Rattle.qo_requests.specs.declared.requests.Request.{Request}
 use Rattle.qo_requests.specs.declared.requests.Request.TheVariants.{QmpCapabilities, QueryVersion, QueryCommands, QueryStatus, Stop, Cont, SystemReset, Quit, QomList, QomGet, QomSet, QomListTypes, DeviceListProperties, ObjectAdd, ObjectDel, DeviceAdd, DeviceDel, ChardevAdd, ChardevRemove, RingbufRead, RingbufWrite, XResetHold, XResetRelease, XSever, XQueryNotes, XQueryDetached, XGuest, XStep}
-use Rattle.qo_commands.specs.Changes.{Changes, is_change}
-use Rattle.qo_commands.specs.Commands.{Done, changed, empty, perform, refused_with, returned, wrote}
+use Rattle.qo_commands.specs.Changes.{Came, Changes, ComesTo, is_change}
+use Rattle.qo_commands.specs.Views.{done_of}
+use Rattle.qo_commands.specs.declared.commands.Done as outcome
+use Rattle.qo_commands.specs.Commands.{Done, changed, empty, performed, refused_with, returned, wrote}
 
 -- a command that came to something, by what it came to
-done-ok : (b c : Board) (r : Request) (p : Parts) → perform b r ≡ returned c empty → Stands c p → Changes b r (Ok tt) p
-done-ok b c r p is now =
-    let board : (perform b r).board ≡ c = ap (λ (d : Done). d.board) is in
-    (subst (λ (x : Board). Stands x p) (sym board) now, is ∙ ap (λ (x : Board). returned x empty) (sym board))
+came-ok : (b c : Board) (r : Request) (d : outcome.Done) (p : Parts) → performed b r ≡ returned c empty → Stands c p → ((x : Board) → done_of x d ≡ returned x empty) → Came b r d p
+came-ok b c r d p is now so =
+    let board : (performed b r).board ≡ c = ap (λ (d : Done). d.board) is in
+    (subst (λ (x : Board). Stands x p) (sym board) now, so (performed b r).board ∙ ap (λ (x : Board). returned x empty) board ∙ sym is)
 
-done-err : (b c : Board) (r : Request) (code : Code) (p : Parts) → perform b r ≡ refused_with c code → Stands c p → Changes b r (Err (Refused code)) p
-done-err b c r code p is now =
-    let board : (perform b r).board ≡ c = ap (λ (d : Done). d.board) is in
-    (subst (λ (x : Board). Stands x p) (sym board) now, is ∙ ap (λ (x : Board). refused_with x code) (sym board))
+came-err : (b c : Board) (r : Request) (code : Code) (d : outcome.Done) (p : Parts) → performed b r ≡ refused_with c code → Stands c p → ((x : Board) → done_of x d ≡ refused_with x code) → Came b r d p
+came-err b c r code d p is now so =
+    let board : (performed b r).board ≡ c = ap (λ (d : Done). d.board) is in
+    (subst (λ (x : Board). Stands x p) (sym board) now, so (performed b r).board ∙ ap (λ (x : Board). refused_with x code) board ∙ sym is)
 
 -- a property was written, or not
-pub set-changes : (b : Board) (p q : Parts) (path name : List ℕ) (val : Val) (result : Result Unit Refusal) → Stands b p → Writes q result (write_at b path name val) → OnErr result (q ≡ p) → Changes b (QomSet path name val) result q
-unfolding perform
-set-changes b p q path name val (Ok u) s (c, is, now) same = done-ok b c (QomSet path name val) q (ap (wrote b) is) now
-set-changes b p q path name val (Err (Refused code)) s is same =
-    done-err b b (QomSet path name val) code q (ap (wrote b) is) (subst (λ (x : Parts). Stands b x) (sym same) s)
-set-changes b p q path name val (Err Memory) s is same = inl (subst (λ (x : Parts). Stands b x) (sym same) s)
+pub set-changes : {E : Type 0} (b : Board) (p q : Parts) (path name : List ℕ) (val : Val) (answer : Result Unit Refusal) (result : Result outcome.Done E)
+    → Stands b p → Writes q answer (write_at b path name val) → OnErr answer (q ≡ p) → ComesTo answer result → Changes b (QomSet path name val) result q
+unfolding performed
+set-changes b p q path name val (Ok u) (Ok d) s (c, is, now) same so = came-ok b c (QomSet path name val) d q (ap (wrote b) is) now so
+set-changes b p q path name val (Ok u) (Err e) s is same so = absurd so
+set-changes b p q path name val (Err (Refused code)) (Ok d) s is same so =
+    came-err b b (QomSet path name val) code d q (ap (wrote b) is) (subst (λ (x : Parts). Stands b x) (sym same) s) so
+set-changes b p q path name val (Err (Refused code)) (Err e) s is same so = absurd so
+set-changes b p q path name val (Err Memory) (Ok d) s is same so = absurd so
+set-changes b p q path name val (Err Memory) (Err e) s is same so = inl (subst (λ (x : Parts). Stands b x) (sym same) s)
 
 -- a change was made, or refused
-changed-ok : (b : Board) (r : Request) (change : Changed) (p : Parts) → perform b r ≡ changed change → change.refusal ≡ None → Stands change.board p → Changes b r (Ok tt) p
-changed-ok b r change p is none now = done-ok b change.board r p (is ∙ rw (changed, none) refl) now
+changed-ok : (b : Board) (r : Request) (change : Changed) (d : outcome.Done) (p : Parts)
+    → performed b r ≡ changed change → change.refusal ≡ None → Stands change.board p → ((x : Board) → done_of x d ≡ returned x empty) → Came b r d p
+changed-ok b r change d p is none now so = came-ok b change.board r d p (is ∙ rw (changed, none) refl) now so
 
-changed-err : (b : Board) (r : Request) (change : Changed) (code : Code) (p : Parts) → perform b r ≡ changed change → change.refusal ≡ Some code → Stands change.board p → Changes b r (Err (Refused code)) p
-changed-err b r change code p is some now = done-err b change.board r code p (is ∙ rw (changed, some) refl) now
+changed-err : (b : Board) (r : Request) (change : Changed) (code : Code) (d : outcome.Done) (p : Parts)
+    → performed b r ≡ changed change → change.refusal ≡ Some code → Stands change.board p → ((x : Board) → done_of x d ≡ refused_with x code) → Came b r d p
+changed-err b r change code d p is some now so = came-err b change.board r code d p (is ∙ rw (changed, some) refl) now so
 
-pub del-ok : (b : Board) (p : Parts) (id : List ℕ) → IsAnswered (object_del b id) (Ok tt) p → Changes b (ObjectDel id) (Ok tt) p
-unfolding perform
-del-ok b p id h = changed-ok b (ObjectDel id) (object_del b id) p refl h.refusal h.board
+pub del-ok : (b : Board) (p : Parts) (id : List ℕ) (d : outcome.Done) → IsAnswered (object_del b id) (Ok tt) p → ((x : Board) → done_of x d ≡ returned x empty) → Came b (ObjectDel id) d p
+unfolding performed
+del-ok b p id d h so = changed-ok b (ObjectDel id) (object_del b id) d p refl h.refusal h.board so
 
-pub del-err : (b : Board) (p : Parts) (id : List ℕ) (code : Code) → IsAnswered (object_del b id) (Err code) p → Changes b (ObjectDel id) (Err (Refused code)) p
-unfolding perform
-del-err b p id code h = changed-err b (ObjectDel id) (object_del b id) code p refl h.refusal h.board
+pub del-err : (b : Board) (p : Parts) (id : List ℕ) (code : Code) (d : outcome.Done) → IsAnswered (object_del b id) (Err code) p → ((x : Board) → done_of x d ≡ refused_with x code) → Came b (ObjectDel id) d p
+unfolding performed
+del-err b p id code d h so = changed-err b (ObjectDel id) (object_del b id) code d p refl h.refusal h.board so
 
-pub sever-ok : (b : Board) (p : Parts) (n : ℕ) → IsAnswered (sever b n) (Ok tt) p → Changes b (XSever n) (Ok tt) p
-unfolding perform
-sever-ok b p n h = changed-ok b (XSever n) (sever b n) p refl h.refusal h.board
+pub sever-ok : (b : Board) (p : Parts) (n : ℕ) (d : outcome.Done) → IsAnswered (sever b n) (Ok tt) p → ((x : Board) → done_of x d ≡ returned x empty) → Came b (XSever n) d p
+unfolding performed
+sever-ok b p n d h so = changed-ok b (XSever n) (sever b n) d p refl h.refusal h.board so
 
-pub sever-err : (b : Board) (p : Parts) (n : ℕ) (code : Code) → IsAnswered (sever b n) (Err code) p → Changes b (XSever n) (Err (Refused code)) p
-unfolding perform
-sever-err b p n code h = changed-err b (XSever n) (sever b n) code p refl h.refusal h.board
+pub sever-err : (b : Board) (p : Parts) (n : ℕ) (code : Code) (d : outcome.Done) → IsAnswered (sever b n) (Err code) p → ((x : Board) → done_of x d ≡ refused_with x code) → Came b (XSever n) d p
+unfolding performed
+sever-err b p n code d h so = changed-err b (XSever n) (sever b n) code d p refl h.refusal h.board so
 
 -- an object was added, or not; for want of memory the board is as it was, or an attempt was given up
-pub add-changes : (b : Board) (p : Parts) (driver id : List ℕ) (props : List Given) (result : Result Unit Refusal) → Adds b driver id props result p → Changes b (ObjectAdd driver id props) result p
-unfolding perform
-add-changes b p driver id props (Ok u) (none, now) = changed-ok b (ObjectAdd driver id props) (object_add b driver id props) p refl none now
-add-changes b p driver id props (Err (Refused code)) (some, now) = changed-err b (ObjectAdd driver id props) (object_add b driver id props) code p refl some now
-add-changes b p driver id props (Err Memory) stands = stands
+pub add-changes : {E : Type 0} (b : Board) (p : Parts) (driver id : List ℕ) (props : List Given) (answer : Result Unit Refusal) (result : Result outcome.Done E)
+    → Adds b driver id props answer p → ComesTo answer result → Changes b (ObjectAdd driver id props) result p
+unfolding performed
+add-changes b p driver id props (Ok u) (Ok d) (none, now) so = changed-ok b (ObjectAdd driver id props) (object_add b driver id props) d p refl none now so
+add-changes b p driver id props (Ok u) (Err e) h so = absurd so
+add-changes b p driver id props (Err (Refused code)) (Ok d) (some, now) so =
+    changed-err b (ObjectAdd driver id props) (object_add b driver id props) code d p refl some now so
+add-changes b p driver id props (Err (Refused code)) (Err e) h so = absurd so
+add-changes b p driver id props (Err Memory) (Ok d) h so = absurd so
+add-changes b p driver id props (Err Memory) (Err e) stands so = stands
 
 -- there is no other change
 pub no-other : (r : Request) → is_change r ≡ true → ((path name : List ℕ) (val : Val) → r ≡ QomSet path name val → ⊥) → ((driver id : List ℕ) (props : List Given) → r ≡ ObjectAdd driver id props → ⊥) → ((id : List ℕ) → r ≡ ObjectDel id → ⊥) → ((birth : ℕ) → r ≡ XSever birth → ⊥) → ⊥

@@ -22,7 +22,7 @@ use Rattle.qo_requests.specs.declared.requests.Request.TheVariants.{QmpCapabilit
 use Rattle.std.specs.Str.{chars}
 use Rattle.serde_json.proofs.OnLiterals.{serde_json_on_literals}
 use Rattle.qo_replies.specs.Json.{ascii, json}
-use Rattle.qo_commands.specs.Commands.{adding_properties, answered, changed, detached_data, device_properties, empty, note_data, perform, properties_data, property_data, refused_with, returned, status_data, type_data, types_of, wrote}
+use Rattle.qo_commands.specs.Commands.{adding_properties, answered, changed, detached_data, device_properties, empty, note_data, performed, properties_data, property_data, refused_with, returned, status_data, type_data, types_of, wrote}
 use Rattle.qo_commands.specs.Changes.{is_change}
 use Rattle.qo_commands.specs.Views.{has_float_in}
 
@@ -79,8 +79,8 @@ device_no_float b (Some row) = by (is_a row.id (codes "device"))
     by true = rows_no_float (adding_properties row.id)
     by false = refl
 
-pub no_float : (b : Board) (r : Request) → has_float_in (perform b r).result ≡ false
-unfolding perform
+pub no_float : (b : Board) (r : Request) → has_float_in (performed b r).result ≡ false
+unfolding performed
 no_float b (QmpCapabilities enable) = refl
 no_float b QueryVersion = refl
 no_float b QueryCommands = refl
@@ -125,8 +125,8 @@ unfolding json ascii chars serde_json_on_literals
 paused_written = refl
 
 -- a command that is not built is unknown
-pub unbuilt : (b : Board) (r : Request) → is_change r ≡ false → ((path : List ℕ) → r ≡ QomList path → ⊥) → ((path property : List ℕ) → r ≡ QomGet path property → ⊥) → ((implements : Option (List ℕ)) (with_abstract : Option Bool) → r ≡ QomListTypes implements with_abstract → ⊥) → ((typename : List ℕ) → r ≡ DeviceListProperties typename → ⊥) → ((start : ℕ) → r ≡ XQueryNotes start → ⊥) → (r ≡ XQueryDetached → ⊥) → (r ≡ QueryVersion → ⊥) → (r ≡ QueryCommands → ⊥) → (r ≡ QueryStatus → ⊥) → (r ≡ Quit → ⊥) → refused_with b E10 ≡ perform b r
-unfolding perform
+pub unbuilt : (b : Board) (r : Request) → is_change r ≡ false → ((path : List ℕ) → r ≡ QomList path → ⊥) → ((path property : List ℕ) → r ≡ QomGet path property → ⊥) → ((implements : Option (List ℕ)) (with_abstract : Option Bool) → r ≡ QomListTypes implements with_abstract → ⊥) → ((typename : List ℕ) → r ≡ DeviceListProperties typename → ⊥) → ((start : ℕ) → r ≡ XQueryNotes start → ⊥) → (r ≡ XQueryDetached → ⊥) → (r ≡ QueryVersion → ⊥) → (r ≡ QueryCommands → ⊥) → (r ≡ QueryStatus → ⊥) → (r ≡ Quit → ⊥) → refused_with b E10 ≡ performed b r
+unfolding performed
 unbuilt b (QmpCapabilities enable) stays list get types declared told detached version commands status quit = refl
 unbuilt b QueryVersion stays list get types declared told detached version commands status quit = absurd (version refl)
 unbuilt b QueryCommands stays list get types declared told detached version commands status quit = absurd (commands refl)

@@ -1,12 +1,12 @@
 -- What each command returns, or the code that refuses it (docs/PROFILE.md, commands).
-use Rattle.std.specs.Prelude.{ℕ, Bool, true, false, if◌then◌else◌, List, [], ◌∷◌, map, filter, filter_map, codes, Option, Some, None, unwrap_or, Result, Ok, Err}
+use Rattle.std.specs.Prelude.{ℕ, Bool, true, false, if◌then◌else◌, List, [], ◌∷◌, ◌++◌, map, filter, filter_map, codes, Option, Some, None, unwrap_or, Result, Ok, Err}
 use Rattle.serde_json.specs.Data.{Data, Members, array, boolean, member, no_members, number, object, string, unsigned}
 use Rattle.serde_json.specs.View.{items_of}
 use Rattle.qo_values.specs.declared.codes.Code.{Code}
 use Rattle.qo_values.specs.declared.codes.Code.TheVariants.{E10, E20, E22}
 use Rattle.qo_values.specs.Kinds.{type_name}
 use Rattle.qo_values.specs.declared.kinds.TypeId.{TypeId}
-use Rattle.qo_model.specs.Board.{Board}
+use Rattle.qo_model.specs.Board.{Board, DeviceEvent}
 use Rattle.qo_values.specs.Plain.{data_of}
 use Rattle.qo_model.specs.Listing.{around, value_word}
 use Rattle.qo_model.specs.NoteReplies.{first_from, given_from}
@@ -21,7 +21,7 @@ use Rattle.qo_types.specs.Rows.{listed as listed_types}
 pub use Rattle.qo_replies.specs.Properties.{properties_data, property_data}
 use Rattle.qo_replies.specs.Replies.{version_data}
 use Rattle.qo_replies.specs.declared.events.Event.{Event}
-use Rattle.qo_replies.specs.declared.events.Event.TheVariants.{Shutdown}
+use Rattle.qo_replies.specs.declared.events.Event.TheVariants.{DeviceDeleted, DeviceUnplugGuestError, Shutdown}
 use Rattle.qo_requests.specs.declared.requests.Request.{Request}
 use Rattle.qo_requests.specs.declared.requests.Request.TheVariants.{DeviceListProperties, ObjectAdd, ObjectDel, QomGet, QomList, QomListTypes, QomSet, QueryCommands, QueryStatus, QueryVersion, Quit, XQueryDetached, XQueryNotes, XSever}
 
@@ -158,21 +158,36 @@ abbrev pub status_data : Bool → Data
 status_data running =
     object (member (codes "running") (boolean running) (member (codes "status") (string (status_word running)) no_members))
 
--- a command of a session that has negotiated; those that are not built are unknown
-unfoldable pub perform : Board → Request → Done
-perform b (QomList path) = answered b properties_data (listing_at b path)
-perform b (QomGet path property) = answered b data_of (read b path property)
-perform b (QomSet path property value) = wrote b (write_at b path property value)
-perform b (QomListTypes implements with_abstract) =
+-- what a command of a session that has negotiated comes to by itself; those that are not built are unknown
+unfoldable pub performed : Board → Request → Done
+performed b (QomList path) = answered b properties_data (listing_at b path)
+performed b (QomGet path property) = answered b data_of (read b path property)
+performed b (QomSet path property value) = wrote b (write_at b path property value)
+performed b (QomListTypes implements with_abstract) =
     returned b (array (items_of (map type_data (types_of (unwrap_or implements (codes "object")) (unwrap_or with_abstract false)))))
-perform b (DeviceListProperties typename) = device_properties b (row_named typename)
-perform b (ObjectAdd driver id props) = changed (object_add b driver id props)
-perform b (ObjectDel id) = changed (object_del b id)
-perform b (XSever birth) = changed (sever b birth)
-perform b (XQueryNotes from) = returned b (notes_data from b.notes)
-perform b XQueryDetached = returned b (array (items_of (map detached_data (detached_told b))))
-perform b QueryVersion = returned b version_data
-perform b QueryCommands = returned b (array (items_of (map command_data built)))
-perform b QueryStatus = returned b (status_data b.running)
-perform b Quit = record { result = Ok empty; board = b; events = Shutdown false ∷ []; ends = true }
-perform b request = refused_with b E10
+performed b (DeviceListProperties typename) = device_properties b (row_named typename)
+performed b (ObjectAdd driver id props) = changed (object_add b driver id props)
+performed b (ObjectDel id) = changed (object_del b id)
+performed b (XSever birth) = changed (sever b birth)
+performed b (XQueryNotes from) = returned b (notes_data from b.notes)
+performed b XQueryDetached = returned b (array (items_of (map detached_data (detached_told b))))
+performed b QueryVersion = returned b version_data
+performed b QueryCommands = returned b (array (items_of (map command_data built)))
+performed b QueryStatus = returned b (status_data b.running)
+performed b Quit = record { result = Ok empty; board = b; events = Shutdown false ∷ []; ends = true }
+performed b request = refused_with b E10
+
+-- an event on a device, as sessions are told of it (qapi/qdev.json, DEVICE_DELETED and DEVICE_UNPLUG_GUEST_ERROR)
+abbrev pub event_of : DeviceEvent → Event
+event_of e = if e.deleted then DeviceDeleted e.id e.path else DeviceUnplugGuestError e.id e.path
+
+-- the events on devices that wait on the board go first, and then none waits
+abbrev pub without_events : Board → Board
+without_events b = record b { events = [] }
+
+abbrev pub drained : Done → Done
+drained d = record d { board = without_events d.board; events = map event_of d.board.events ++ d.events }
+
+-- a command, and the events that wait behind it
+abbrev pub perform : Board → Request → Done
+perform b request = drained (performed b request)

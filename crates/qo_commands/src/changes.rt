@@ -3,15 +3,16 @@
 ghost use Rattle.std.specs.Prelude.{◌≡◌, true};
 ghost use Rattle.qo_model.specs.Board.{Board as Tree};
 ghost use Rattle.qo_requests.specs.declared.requests.Request.TheVariants as request;
-ghost use Rattle.qo_commands.specs.Changes.{Changes, is_change};
+ghost use Rattle.qo_commands.specs.Changes.{Came, Changes, ComesTo, is_change};
 ghost use Rattle.qo_realize.specs.Stands.{Stands};
 
+use crate::commands::{Body, Done, refused, returned};
 use qo_heap::Steps;
 use qo_properties::Refusal;
 use qo_realize::Board;
 use qo_requests::Request;
 use qo_values::{PropList, Val};
-use std::alloc::Global;
+use std::alloc::{AllocError, Global};
 use std::sync::ledger::Ledger;
 
 /// Whether a command changes the board where it is not refused.
@@ -27,6 +28,17 @@ pub fn is_change(request: &Request) -> bool
     }
 }
 
+/// What a change comes to that returns nothing.
+fn outcome_of(alloc: Global, answer: Result<(), Refusal>) -> Result<Done, AllocError>
+    ensures { ComesTo answer result }
+{
+    match answer {
+        Ok(()) => Ok(returned(alloc, Body::Empty)),
+        Err(Refusal::Refused(code)) => Ok(refused(alloc, code)),
+        Err(Refusal::Memory) => Err(AllocError),
+    }
+}
+
 /// Writes the property of a name of the object at a path.
 fn set<L: Ledger>(
     alloc: Global,
@@ -35,18 +47,20 @@ fn set<L: Ledger>(
     name: &str,
     val: &Val,
     steps: &mut Steps<L>,
-) -> Result<(), Refusal>
+) -> Result<Done, AllocError>
     ensures { (b : Tree) → Stands b board.old → Changes b (request.QomSet path.now name.now val.now) result board.new }
 {
-    board.qom_set(path, name, val, alloc, steps)
+    outcome_of(alloc, board.qom_set(path, name, val, alloc, steps))
 }
 
 /// Removes the object of an id.
-fn remove<L: Ledger>(board: &mut Board, id: &str, steps: &mut Steps<L>) -> Result<(), Refusal>
-    ensures { (b : Tree) → Stands b board.old → Changes b (request.ObjectDel id.now) result board.new }
+fn remove<L: Ledger>(alloc: Global, board: &mut Board, id: &str, steps: &mut Steps<L>) -> Done
+    ensures { (b : Tree) → Stands b board.old → Came b (request.ObjectDel id.now) result board.new }
 {
-    board.object_del(id, steps)?;
-    Ok(())
+    match board.object_del(id, steps) {
+        Ok(()) => returned(alloc, Body::Empty),
+        Err(code) => refused(alloc, code),
+    }
 }
 
 /// Adds an object of a type's name under an id, with properties.
@@ -57,28 +71,31 @@ fn add<L: Ledger>(
     id: &str,
     props: &PropList,
     steps: &mut Steps<L>,
-) -> Result<(), Refusal>
+) -> Result<Done, AllocError>
     ensures { (b : Tree) → Stands b board.old → Changes b (request.ObjectAdd driver.now id.now props.now) result board.new }
 {
-    board.object_add(driver, id, props, alloc, steps)
+    outcome_of(alloc, board.object_add(driver, id, props, alloc, steps))
 }
 
 /// Cuts the strong links of the detached object of a birth.
-fn sever<L: Ledger>(board: &mut Board, birth: u64, steps: &mut Steps<L>) -> Result<(), Refusal>
-    ensures { (b : Tree) → Stands b board.old → Changes b (request.XSever birth) result board.new }
+fn sever<L: Ledger>(alloc: Global, board: &mut Board, birth: u64, steps: &mut Steps<L>) -> Done
+    ensures { (b : Tree) → Stands b board.old → Came b (request.XSever birth) result board.new }
 {
-    board.sever(birth, steps)?;
-    Ok(())
+    match board.sever(birth, steps) {
+        Ok(()) => returned(alloc, Body::Empty),
+        Err(code) => refused(alloc, code),
+    }
 }
 
-/// A command that changes the board, or is refused. Where it is refused the board is as it was, but
-/// for an attempt of `object-add` that was given up.
+/// A command that changes the board, or is refused. Events on devices wait on the board behind it.
+/// Where it is refused the board is as it was, but for an attempt of `object-add` that was given
+/// up. The error is want of memory; the board is then as it was, or behind such an attempt.
 pub fn change<L: Ledger>(
     alloc: Global,
     board: &mut Board,
     request: &Request,
     steps: &mut Steps<L>,
-) -> Result<(), Refusal>
+) -> Result<Done, AllocError>
     requires { is_change request.now ≡ true }
     ensures { (b : Tree) → Stands b board.old → Changes b request.now result board.new }
 {
@@ -91,8 +108,8 @@ pub fn change<L: Ledger>(
         Request::ObjectAdd { driver, id, props } => {
             add(alloc, board, driver.as_str(), id.as_str(), props, steps)
         }
-        Request::ObjectDel { id } => remove(board, id.as_str(), steps),
-        Request::XSever { birth } => sever(board, *birth, steps),
+        Request::ObjectDel { id } => Ok(remove(alloc, board, id.as_str(), steps)),
+        Request::XSever { birth } => Ok(sever(alloc, board, *birth, steps)),
         _ => unreachable!(),
     }
 }

@@ -4,7 +4,7 @@ ghost use Rattle.std.specs.Prelude.{◌≡◌, [], ◌∷◌, false, true, Ok, I
 ghost use Rattle.qo_model.specs.Board.{Board as Tree};
 ghost use Rattle.qo_replies.specs.declared.events.Event.TheVariants as event;
 ghost use Rattle.qo_commands.specs.Changes.{is_change};
-ghost use Rattle.qo_commands.specs.Commands.{empty, perform, refused_with, returned};
+ghost use Rattle.qo_commands.specs.Commands.{empty, performed, refused_with, returned};
 ghost use Rattle.qo_realize.specs.Stands.{Stands};
 ghost use Rattle.qo_commands.specs.Views.{body_data, done_of};
 
@@ -84,7 +84,7 @@ fn quit(alloc: Global) -> Result<Done, AllocError>
 }
 
 /// A command that leaves the board. The error is want of memory.
-#[tactic(auto, unfolding(crate::specs::Commands::perform))]
+#[tactic(auto, unfolding(crate::specs::Commands::performed))]
 pub fn ask<L: Ledger>(
     alloc: Global,
     board: &Board,
@@ -92,7 +92,7 @@ pub fn ask<L: Ledger>(
     steps: &mut Steps<L>,
 ) -> Result<Done, AllocError>
     requires { is_change request.now ≡ false }
-    ensures { (b : Tree) → Stands b board.now → IfOk result (λ d. done_of b d ≡ perform b request.now) }
+    ensures { (b : Tree) → Stands b board.now → IfOk result (λ d. done_of b d ≡ performed b request.now) }
 {
     match request {
         Request::QomList { path } => list(alloc, board, path.as_str(), steps),

@@ -5,6 +5,7 @@ mod built;
 mod changes;
 mod commands;
 mod detached;
+mod events;
 mod listings;
 mod notes;
 #[cfg(test)]
@@ -14,3 +15,4 @@ mod values;
 
 pub use changes::{change, is_change};
 pub use commands::{Body, Done, ask};
+pub use events::drain;

@@ -5,7 +5,7 @@ ghost use Rattle.qo_commands.specs.Changes.{is_change};
 
 use crate::{Body, Done, ask, change};
 use qo_heap::Steps;
-use qo_properties::{Memory, Refusal};
+use qo_properties::Memory;
 use qo_realize::Board;
 use qo_requests::Request;
 use qo_values::{Code, PropList, PropType, Text, TypeText, Val};
@@ -98,28 +98,33 @@ fn the_opening_board_is_read(rt: HostRuntime) -> Result<(), Fail> {
     Ok(())
 }
 
-/// Whether a change is refused with this code.
-fn bars<L: Ledger>(
+/// What a change is refused with, or nothing.
+fn answer<L: Ledger>(
     alloc: Global,
     board: &mut Board,
     request: &Request,
-    code: Code,
     steps: &mut Steps<L>,
-) -> bool
+) -> Result<Option<Code>, AllocError>
     requires { is_change request.now ≡ true }
 {
-    match change(alloc, board, request, steps) {
-        Err(Refusal::Refused(given)) => given == code,
-        _ => false,
-    }
+    let Done {
+        result,
+        events: _,
+        ends: _,
+    } = change(alloc, board, request, steps)?;
+    Ok(result.err())
 }
 
 /// Adds a tag `t`.
-fn adds<L: Ledger>(alloc: Global, board: &mut Board, steps: &mut Steps<L>) -> Result<(), Refusal> {
+fn adds<L: Ledger>(
+    alloc: Global,
+    board: &mut Board,
+    steps: &mut Steps<L>,
+) -> Result<Option<Code>, AllocError> {
     let driver = text(alloc, "tag")?;
     let id = text(alloc, "t")?;
     let props = PropList::new(alloc);
-    change(
+    answer(
         alloc,
         board,
         &Request::ObjectAdd { driver, id, props },
@@ -132,7 +137,7 @@ fn writes<L: Ledger>(
     alloc: Global,
     board: &mut Board,
     steps: &mut Steps<L>,
-) -> Result<(), Refusal> {
+) -> Result<Option<Code>, AllocError> {
     let path = text(alloc, "/objects/t")?;
     let property = text(alloc, "text")?;
     let value = Val::Text(text(alloc, "seen")?);
@@ -141,7 +146,7 @@ fn writes<L: Ledger>(
         property,
         value,
     };
-    change(alloc, board, &written, steps)
+    answer(alloc, board, &written, steps)
 }
 
 /// Whether the text of the tag is read.
@@ -161,9 +166,9 @@ fn removes<L: Ledger>(
     alloc: Global,
     board: &mut Board,
     steps: &mut Steps<L>,
-) -> Result<(), Refusal> {
+) -> Result<Option<Code>, AllocError> {
     let id = text(alloc, "t")?;
-    change(alloc, board, &Request::ObjectDel { id }, steps)
+    answer(alloc, board, &Request::ObjectDel { id }, steps)
 }
 
 /// Whether the last note on the tag is told.
@@ -182,20 +187,21 @@ fn tells_end<L: Ledger>(
 }
 
 /// Whether a tag is added, written, read and removed, and is not there to be severed.
-fn changes<L: Ledger>(alloc: Global, blank: Blank) -> Result<bool, Refusal>
+fn changes<L: Ledger>(alloc: Global, blank: Blank) -> Result<bool, Memory>
     requires name { blank.name ≡ L.name }
     requires parts { blank.parts ≡ L.parts }
     requires some { 0 < blank.parts }
 {
     let mut steps = Steps::<L>::from_blank(blank);
     let mut board = Board::start(alloc, &mut steps)?;
-    adds(alloc, &mut board, &mut steps)?;
-    writes(alloc, &mut board, &mut steps)?;
+    let is_added = adds(alloc, &mut board, &mut steps)?.is_none();
+    let is_written = writes(alloc, &mut board, &mut steps)?.is_none();
     let is_read = reads_text(alloc, &board, &mut steps)?;
-    removes(alloc, &mut board, &mut steps)?;
+    let is_removed = removes(alloc, &mut board, &mut steps)?.is_none();
     let is_noted = tells_end(alloc, &board, &mut steps)?;
     let severed = Request::XSever { birth: 9 };
-    Ok(is_read && is_noted && bars(alloc, &mut board, &severed, Code::E33, &mut steps))
+    let is_gone = answer(alloc, &mut board, &severed, &mut steps)? == Some(Code::E33);
+    Ok(is_added && is_written && is_read && is_removed && is_noted && is_gone)
 }
 
 #[test]

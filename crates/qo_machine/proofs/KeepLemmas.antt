@@ -28,7 +28,7 @@ use Rattle.qo_sessions.specs.declared.acts.SessionAct.TheVariants.{Answer, Negot
 use Rattle.qo_sessions.specs.declared.modes.Mode.{Mode}
 use Rattle.qo_sessions.specs.declared.modes.Mode.TheVariants.{Closed, Negotiating, Commanding}
 use Rattle.qo_commands.specs.Changes.{attempted}
-use Rattle.qo_commands.specs.Commands.{answered, device_properties, perform}
+use Rattle.qo_commands.specs.Commands.{answered, device_properties, perform, performed, without_events}
 use Rattle.qo_commands.specs.Commands as commands
 use Rattle.qo_machine.specs.Machine.{Choice, State, Stepped, behind, behind_command, defined, first, input_step, item_step, made_by, mode_of, opened, others, refused, serve, serve_unless, session_of, step, taken, unchanged, with_board, with_session}
 use Rattle.qo_machine.specs.Runs.{Turn, after, state_after}
@@ -36,6 +36,11 @@ use Rattle.qo_machine.specs.Runs.{Turn, after, state_after}
 -- what each change of the board keeps, and each attempt
 pub record KeepsBoard (P : Board → Type 0) : Type 0 where
   pub change : (b : Board) (change : Change) → P b → P (changed b change)
+  pub attempt : (b : Board) (t : TypeId) → P b → P (with_attempt b t)
+
+-- what each command keeps of the board, and each attempt
+pub record KeepsCommands (P : Board → Type 0) : Type 0 where
+  pub command : (b : Board) (r : Request) → P b → P (perform b r).board
   pub attempt : (b : Board) (t : TypeId) → P b → P (with_attempt b t)
 
 -- Commands.
@@ -73,38 +78,43 @@ set_board P k b path name v p = by (object_at b path) refl
     by (Ok n) is = rw (write_at, is) (wrote_board P k b n name v p)
     by (Err code) is = rw (write_at, is) p
 
-pub perform_keeps : (P : Board → Type 0) → KeepsBoard P → (b : Board) (r : Request) → P b → P (perform b r).board
-unfolding perform
-perform_keeps P k b (QmpCapabilities enable) p = p
-perform_keeps P k b QueryVersion p = p
-perform_keeps P k b QueryCommands p = p
-perform_keeps P k b QueryStatus p = p
-perform_keeps P k b Stop p = p
-perform_keeps P k b Cont p = p
-perform_keeps P k b SystemReset p = p
-perform_keeps P k b Quit p = p
-perform_keeps P k b (QomList path) p = answered_board P b commands.properties_data (listing_at b path) p
-perform_keeps P k b (QomGet path property) p = answered_board P b data_of (read b path property) p
-perform_keeps P k b (QomSet path property value) p = set_board P k b path property value p
-perform_keeps P k b (QomListTypes implements with_abstract) p = p
-perform_keeps P k b (DeviceListProperties typename) p = device_board P b (row_named typename) p
-perform_keeps P k b (ObjectAdd driver id props) p = changed_board P (object_add b driver id props) (k.change b (added driver id props) p)
-perform_keeps P k b (ObjectDel id) p = changed_board P (object_del b id) (k.change b (deleted id) p)
-perform_keeps P k b (DeviceAdd driver id bus props) p = p
-perform_keeps P k b (DeviceDel id) p = p
-perform_keeps P k b (ChardevAdd id kind size) p = p
-perform_keeps P k b (ChardevRemove id) p = p
-perform_keeps P k b (RingbufRead device size format) p = p
-perform_keeps P k b (RingbufWrite device payload format) p = p
-perform_keeps P k b (XResetHold path) p = p
-perform_keeps P k b (XResetRelease path) p = p
-perform_keeps P k b (XSever birth) p = changed_board P (sever b birth) (k.change b (severed birth) p)
-perform_keeps P k b (XQueryNotes start) p = p
-perform_keeps P k b XQueryDetached p = p
-perform_keeps P k b (XGuest line) p = p
-perform_keeps P k b (XStep ns) p = p
+performed_keeps : (P : Board → Type 0) → KeepsBoard P → (b : Board) (r : Request) → P b → P (performed b r).board
+unfolding performed
+performed_keeps P k b (QmpCapabilities enable) p = p
+performed_keeps P k b QueryVersion p = p
+performed_keeps P k b QueryCommands p = p
+performed_keeps P k b QueryStatus p = p
+performed_keeps P k b Stop p = p
+performed_keeps P k b Cont p = p
+performed_keeps P k b SystemReset p = p
+performed_keeps P k b Quit p = p
+performed_keeps P k b (QomList path) p = answered_board P b commands.properties_data (listing_at b path) p
+performed_keeps P k b (QomGet path property) p = answered_board P b data_of (read b path property) p
+performed_keeps P k b (QomSet path property value) p = set_board P k b path property value p
+performed_keeps P k b (QomListTypes implements with_abstract) p = p
+performed_keeps P k b (DeviceListProperties typename) p = device_board P b (row_named typename) p
+performed_keeps P k b (ObjectAdd driver id props) p = changed_board P (object_add b driver id props) (k.change b (added driver id props) p)
+performed_keeps P k b (ObjectDel id) p = changed_board P (object_del b id) (k.change b (deleted id) p)
+performed_keeps P k b (DeviceAdd driver id bus props) p = p
+performed_keeps P k b (DeviceDel id) p = p
+performed_keeps P k b (ChardevAdd id kind size) p = p
+performed_keeps P k b (ChardevRemove id) p = p
+performed_keeps P k b (RingbufRead device size format) p = p
+performed_keeps P k b (RingbufWrite device payload format) p = p
+performed_keeps P k b (XResetHold path) p = p
+performed_keeps P k b (XResetRelease path) p = p
+performed_keeps P k b (XSever birth) p = changed_board P (sever b birth) (k.change b (severed birth) p)
+performed_keeps P k b (XQueryNotes start) p = p
+performed_keeps P k b XQueryDetached p = p
+performed_keeps P k b (XGuest line) p = p
+performed_keeps P k b (XStep ns) p = p
 
-pub attempted_keeps : (P : Board → Type 0) → KeepsBoard P → (b : Board) (r : Request) → P b → P (attempted b r)
+-- so does each command, where the events that wait are no matter
+pub keeps_commands : (P : Board → Type 0) → KeepsBoard P → ((b : Board) → P b → P (without_events b)) → KeepsCommands P
+keeps_commands P k free =
+    record { command = λ b r p. free (performed b r).board (performed_keeps P k b r p); attempt = k.attempt }
+
+pub attempted_keeps : (P : Board → Type 0) → KeepsCommands P → (b : Board) (r : Request) → P b → P (attempted b r)
 attempted_keeps P k b (ObjectAdd driver id props) p = by (barred_by b driver id) (row_named driver)
   where
     by : (bar : Option Code) (row : Option TypeRow) → P (elim bar as (λ o. Board) [ Some code ↦ b | None ↦ option_map_or (λ (row : TypeRow). with_attempt b row.id) row b ])
@@ -145,19 +155,19 @@ ends_board : (P : Board → Type 0) (e : Bool) (s : State) → P s.board → P (
 ends_board P true s p = p
 ends_board P false s p = p
 
-given_up_board : (P : Board → Type 0) → KeepsBoard P → (b : Board) (request : Request) (made : Bool) → P b → P (if made then attempted b request else b)
+given_up_board : (P : Board → Type 0) → KeepsCommands P → (b : Board) (request : Request) (made : Bool) → P b → P (if made then attempted b request else b)
 given_up_board P k b request true p = attempted_keeps P k b request p
 given_up_board P k b request false p = p
 
-made_board : (P : Board → Type 0) → KeepsBoard P → (choice : Choice) (at : Moment) (n : ℕ) (s : State) (what : SessionAct) → P s.board → P (made_by choice at n s what).state.board
+made_board : (P : Board → Type 0) → KeepsCommands P → (choice : Choice) (at : Moment) (n : ℕ) (s : State) (what : SessionAct) → P s.board → P (made_by choice at n s what).state.board
 made_board P k (refused i joined) at n s (Answer code id) p = p
 made_board P k (refused i joined) at n s (Negotiated id) p = p
 made_board P k (refused i joined) at n s (Do request id) p = given_up_board P k s.board request (i == 1) p
 made_board P k defined at n s (Answer code id) p = p
 made_board P k defined at n s (Negotiated id) p = p
-made_board P k defined at n s (Do request id) p = ends_board P (perform s.board request).ends (with_board s (perform s.board request).board) (perform_keeps P k s.board request p)
+made_board P k defined at n s (Do request id) p = ends_board P (perform s.board request).ends (with_board s (perform s.board request).board) (k.command s.board request p)
 
-item_board : (P : Board → Type 0) → KeepsBoard P → (choice : Choice) (at : Moment) (n : ℕ) (s : State) (item : Item) → P s.board → P (item_step choice at n s item).state.board
+item_board : (P : Board → Type 0) → KeepsCommands P → (choice : Choice) (at : Moment) (n : ℕ) (s : State) (item : Item) → P s.board → P (item_step choice at n s item).state.board
 unfolding item_step
 item_board P k choice at n s item p = made_board P k choice at n s (act (mode_of s n) item) p
 
@@ -165,12 +175,12 @@ unless_board : (P : Board → Type 0) (e : Bool) (a b : Stepped) → P a.state.b
 unless_board P true a b p q = p
 unless_board P false a b p q = q
 
-pub serve_board : (P : Board → Type 0) → KeepsBoard P → (items : List Item) (at : Moment) (n : ℕ) (s : State) (cs : List Choice) → P s.board → P (serve at n items s cs).state.board
+pub serve_board : (P : Board → Type 0) → KeepsCommands P → (items : List Item) (at : Moment) (n : ℕ) (s : State) (cs : List Choice) → P s.board → P (serve at n items s cs).state.board
 serve_board P k [] at n s cs p = p
 serve_board P k (item ∷ items) at n s cs p =
     unless_board P s.ended (unchanged s cs) (behind (item_step (first cs) at n s item).outs (serve at n items (item_step (first cs) at n s item).state (others cs))) p (serve_board P k items at n (item_step (first cs) at n s item).state (others cs) (item_board P k (first cs) at n s item p))
 
-pub step_keeps : (P : Board → Type 0) → KeepsBoard P → (s : State) (i : Input) (cs : List Choice) → P s.board → P (step s i cs).state.board
+pub step_keeps : (P : Board → Type 0) → KeepsCommands P → (s : State) (i : Input) (cs : List Choice) → P s.board → P (step s i cs).state.board
 unfolding step
 step_keeps P k s i cs p = unless_board P s.ended (unchanged s cs) (input_step s i.at i.what cs) p (by i.what)
   where
@@ -196,6 +206,6 @@ step_keeps P k s i cs p = unless_board P s.ended (unchanged s cs) (input_step s 
     by (Step ns) = p
     by End = p
 
-pub run_keeps : (P : Board → Type 0) → KeepsBoard P → (s : State) (turns : List Turn) → P s.board → P (state_after s turns).board
+pub run_keeps : (P : Board → Type 0) → KeepsCommands P → (s : State) (turns : List Turn) → P s.board → P (state_after s turns).board
 run_keeps P k s [] p = p
 run_keeps P k s (t ∷ ts) p = run_keeps P k (after s t) ts (step_keeps P k s t.input t.choices p)

@@ -1,6 +1,7 @@
 -- The messages of a step go to lanes of the sixteen sessions.
-use Rattle.std.proofs.Common.{◌≡◌, ℕ, zero, suc, ◌<◌, ◌≤◌, Bool, true, false, if◌then◌else◌, List, [], ◌∷◌, ◌++◌, refl, subst, sym, arith, nat_lt}
+use Rattle.std.proofs.Common.{◌≡◌, ℕ, zero, suc, ◌<◌, ◌≤◌, Bool, true, false, if◌then◌else◌, List, [], ◌∷◌, ◌++◌, map, Ok, ap, ◌∙◌, append_assoc, refl, subst, sym, arith, nat_lt}
 use Rattle.std.proofs.lemmas.Bool.{ltb-true}
+use Rattle.std.proofs.lemmas.Grind.{flat_map-append}
 use Rattle.qo_causes.specs.declared.hubs.Lane.TheVariants.{Session}
 use Rattle.qo_causes.specs.declared.inputs.Moment.{Moment}
 use Rattle.qo_causes.specs.declared.inputs.What.{What}
@@ -14,8 +15,13 @@ use Rattle.qo_sessions.specs.declared.acts.SessionAct.TheVariants.{Answer, Negot
 use Rattle.qo_sessions.specs.declared.modes.Mode.{Mode}
 use Rattle.qo_sessions.specs.declared.modes.Mode.TheVariants.{Closed, Negotiating, Commanding}
 use Rattle.qo_machine.proofs.MachineLemmas.{told_more}
-use Rattle.qo_commands.specs.Commands.{perform}
-use Rattle.qo_machine.specs.Machine.{Choice, Message, State, Stepped, behind, defined, refused, event_outs, first, input_step, is_commanding, item_step, made_by, mode_of, numbers_below, opened, others, serve, serve_unless, session_of, taken, those_commanding, told_of, unchanged, with_session}
+use Rattle.qo_commands.specs.Commands.{event_of, perform}
+use Rattle.qo_model.specs.Board.{Board}
+use Rattle.qo_model.specs.Opening.{opening_board}
+use Rattle.qo_realize.specs.Stands.{Stands}
+use Rattle.qo_machine.specs.Serving.{Tells}
+use Rattle.qo_machine.specs.declared.machines.Replied.{Replied}
+use Rattle.qo_machine.specs.Machine.{Choice, Message, Seen, State, Stepped, behind, beside, commanding, defined, refused, event_outs, first, input_step, is_commanding, item_step, made_by, mode_of, numbers_below, opened, others, serve, serve_unless, session_of, state_at, taken, those_commanding, told_of, unchanged, with_session}
 use Rattle.qo_machine.specs.Sending.{AreToLanes}
 
 lanes_more : (a b : List Message) → AreToLanes a → AreToLanes b → AreToLanes (a ++ b)
@@ -97,3 +103,30 @@ told_lanes es s at n text told front tells is below =
 
 pub more_lanes : (a front b : List Message) → b ≡ a ++ front → AreToLanes a → AreToLanes front → AreToLanes b
 more_lanes a front b is p q = subst AreToLanes (sym is) (lanes_more a front p q)
+
+-- the messages that tell of what waited, of a command's own events, and its reply
+pub reply_sent : (at : Moment) (n : ℕ) (m mid : Seen) (r : Replied) (start told both outs : List Message) (waiting seen own : List Event) (text : List ℕ)
+    → n < 16 → ((b : Board) → state_at b mid ≡ state_at b m) → ((b : Board) → Stands b m.board → waiting ≡ map event_of b.events)
+    → told ≡ start ++ event_outs at (beside mid) seen → seen ≡ waiting → both ≡ told ++ event_outs at (beside mid) own → own ≡ r.events.items
+    → r.text ≡ Ok text → outs ≡ both ++ (Session n, text) ∷ []
+    → (front : List Message) × (outs ≡ start ++ front) × AreToLanes front × Tells at n m r front
+reply_sent at n m mid r start told both outs waiting seen own text below still waits tells sees adds owns has ends =
+    let last : List Message = (Session n, text) ∷ [] in
+    let es : List Event = r.events.items in
+    let one : List Message = event_outs at (beside m) waiting in
+    let two : List Message = event_outs at (beside m) es in
+    let first : told ≡ start ++ one =
+    tells ∙ ap (λ (l : List Event). start ++ event_outs at (beside mid) l) sees
+    ∙ ap (λ (s : State). start ++ event_outs at s waiting) (still opening_board) in
+    let second : both ≡ told ++ two =
+    adds ∙ ap (λ (l : List Event). told ++ event_outs at (beside mid) l) owns
+    ∙ ap (λ (s : State). told ++ event_outs at s es) (still opening_board) in
+    let joined : one ++ two ≡ event_outs at (beside m) (waiting ++ es) =
+    sym (flat_map-append (λ (event : Event). told_of event at (commanding (beside m))) waiting es) in
+    let front : List Message = event_outs at (beside m) (waiting ++ es) ++ last in (
+      front,
+      ends ∙ ap (λ (l : List Message). l ++ last) (second ∙ ap (λ (l : List Message). l ++ two) first ∙ append_assoc start one two)
+          ∙ append_assoc start (one ++ two) last ∙ ap (λ (l : List Message). start ++ (l ++ last)) joined,
+      told_lanes (waiting ++ es) (beside m) at n text (event_outs at (beside m) (waiting ++ es)) front refl refl below,
+      (text, has, λ b stands. ap (λ (l : List Event). event_outs at (state_at b m) (l ++ es) ++ last) (waits b stands)),
+    )

@@ -1,5 +1,5 @@
 -- What is left where memory ran out.
-use Rattle.std.proofs.Common.{◌≡◌, ◌<◌, ◌+◌, ℕ, Bool, true, false, List, [], ◌∷◌, ◌++◌, take, drop, refl, sym, subst, ◌∙◌, ap, append_assoc, append-nil, Option, Result, Ok, Err, ◌⊎◌, inl, inr, OnErr, OnOk, IfOk, nat_lt, if◌then◌else◌}
+use Rattle.std.proofs.Common.{◌≡◌, ◌<◌, ℕ, Bool, true, false, List, [], ◌∷◌, ◌++◌, take, drop, refl, sym, subst, ◌∙◌, ap, append_assoc, Option, Result, Ok, Err, inl, inr, OnErr, nat_lt, if◌then◌else◌}
 use Rattle.std.proofs.lemmas.Bool.{lt-ltb}
 use Rattle.std.proofs.lemmas.List.{take-append-drop}
 use Rattle.qo_causes.specs.declared.inputs.Input.{Input}
@@ -15,8 +15,8 @@ use Rattle.qo_sessions.specs.declared.acts.SessionAct.TheVariants.{Answer, Negot
 use Rattle.qo_values.specs.declared.codes.Code.{Code}
 use Rattle.qo_model.specs.Board.{Board}
 use Rattle.qo_realize.specs.Stands.{Stands}
-use Rattle.qo_machine.proofs.MachineLemmas.{by_board, in_at, serve_all, serve_on}
-use Rattle.qo_machine.specs.Machine.{BreaksOff, Choice, IsIn, Made, Message, Seen, State, Stepped, behind, defined, fed_at, item_step, items_at, made_by, mode_of, number_of, serve, session_of, state_at, unchanged, with_session}
+use Rattle.qo_machine.proofs.MachineLemmas.{by_board, in_at, serve_on}
+use Rattle.qo_machine.specs.Machine.{BreaksOff, Choice, IsIn, Message, Seen, State, Stepped, defined, fed_at, item_step, items_at, made_by, mode_of, session_of, state_at, with_session}
 use Rattle.qo_machine.specs.Serving.{CommandLeft, CommandServed, ServesFront, ServesTo, moved}
 
 -- what follows where memory ran out

@@ -1,4 +1,3 @@
-pub mod ChangeLemmas
 pub mod ChunkLemmas
 pub mod KeepLemmas
 pub mod LaneLemmas

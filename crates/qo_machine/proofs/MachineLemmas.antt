@@ -1,5 +1,5 @@
 -- One step of the machine.
-use Rattle.std.proofs.Common.{◌≡◌, ◌<◌, ◌+◌, ℕ, zero, suc, Bool, true, false, List, [], ◌∷◌, ◌++◌, length, refl, sym, subst, ◌∙◌, ap, append_assoc, Option, Result, Ok, Err, ◌⊎◌, inl, inr, IfOk, OnErr, OnOk, nat_lt, ◌≤◌, replicate, arith, slice_set, slice_index_or, take}
+use Rattle.std.proofs.Common.{◌≡◌, ◌<◌, ◌+◌, ℕ, zero, suc, Bool, true, false, List, [], ◌∷◌, ◌++◌, length, map, refl, sym, subst, ◌∙◌, ap, append_assoc, Option, Result, Ok, Err, ◌⊎◌, inl, inr, IfOk, OnErr, OnOk, nat_lt, ◌≤◌, replicate, arith, slice_set, slice_index_or, take}
 use Rattle.std.proofs.lemmas.Bool.{lt-ltb, ltb-true}
 use Rattle.std.proofs.lemmas.List.Elements.{filter-append}
 use Rattle.std.proofs.lemmas.Grind.{flat_map-append}
@@ -23,13 +23,12 @@ use Rattle.qo_values.specs.declared.codes.Code.TheVariants.{E99}
 use Rattle.qo_model.specs.Board.{Board}
 use Rattle.qo_model.specs.Opening.{opening_board}
 use Rattle.qo_commands.specs.Changes.{attempted}
-use Rattle.qo_commands.specs.Commands.{Done, empty, perform}
-use Rattle.qo_commands.specs.Views.{done_of}
-use Rattle.qo_commands.specs.declared.commands.Done as code
+use Rattle.qo_commands.specs.Commands.{Done, empty, event_of, perform, performed, without_events}
+use Rattle.qo_machine.specs.declared.machines.Replied.{Replied}
 use Rattle.qo_realize.specs.Parts.{Parts}
 use Rattle.qo_realize.specs.Stands.{Stands}
 use Rattle.qo_machine.specs.Machine.{Choice, IsIn, Made, Message, Seen, State, Stepped, Answers, opening, behind, behind_command, commanding, defined, refused, event_outs, first, input_step, item_step, made_by, mode_of, others, reply, serve, serve_unless, session_of, state_at, step, those_commanding, told_of, unchanged, with_board, with_session}
-use Rattle.qo_machine.specs.Serving.{Changed, CommandServed, Serves, ServesTo, moved}
+use Rattle.qo_machine.specs.Serving.{Came, CommandLeft, CommandServed, Serves, ServesTo, Tells, moved}
 
 -- behind the end nothing is served
 pub step_ended : (s : State) (i : Input) (cs : List Choice) → s.ended ≡ true → step s i cs ≡ unchanged s cs
@@ -261,32 +260,51 @@ serves_over at n m to item over same s here =
 
 -- Commands.
 
--- one that leaves the board
-pub served_ask : (at : Moment) (n : ℕ) (m to : Seen) (request : Request) (id : Option (List ℕ)) (d : code.Done) (text : List ℕ) (told front : List Message) → ((b : Board) → Stands b m.board → (done_of b d ≡ perform b request) × (text ≡ reply id (perform b request).result)) → ((b : Board) → told ≡ event_outs at (state_at b m) d.events.items) → front ≡ told ++ (to_session n, text) ∷ [] → ((b : Board) → state_at b to ≡ behind_command d.ends (state_at b m)) → to.board ≡ m.board → (s : State) → IsIn s m → CommandServed at n s request id front to
-served_ask at n m to request id d text told front done tells is move same s here =
+-- one that was done, and then nothing waits: the state that the machine is in
+done_in : (n : ℕ) (m mid drained to : Seen) (request : Request) (id : Option (List ℕ)) (r : Replied)
+    → ((b : Board) → Stands b m.board → Came b request id r mid.board) → ((b : Board) → state_at b mid ≡ state_at b m)
+    → ((b : Board) → Stands b mid.board → Stands (without_events b) drained.board) → ((b : Board) → state_at b drained ≡ state_at b mid)
+    → ((b : Board) → state_at b to ≡ behind_command r.ends (state_at b drained)) → to.board ≡ drained.board
+    → (b : Board) → Stands b m.board → IsIn (behind_command (perform b request).ends (with_board (state_at b m) (perform b request).board)) to
+done_in n m mid drained to request id r came still empties stays move same b stands =
+    let p = came b stands in
+    let x : Board = (perform b request).board in
+    subst (λ (y : State). IsIn y to)
+    (move x ∙ ap (behind_command r.ends) (stays x ∙ still x)
+    ∙ ap (λ (e : Bool). behind_command e (with_board (state_at b m) x)) p.ends)
+    (in_at x to (subst (Stands x) (sym same) (empties (performed b request).board p.stands)))
+
+pub served_command : (at : Moment) (n : ℕ) (m mid drained to : Seen) (request : Request) (id : Option (List ℕ)) (r : Replied) (front : List Message)
+    → ((b : Board) → Stands b m.board → Came b request id r mid.board) → ((b : Board) → state_at b mid ≡ state_at b m)
+    → Tells at n mid r front
+    → ((b : Board) → Stands b mid.board → Stands (without_events b) drained.board) → ((b : Board) → state_at b drained ≡ state_at b mid)
+    → ((b : Board) → state_at b to ≡ behind_command r.ends (state_at b drained)) → to.board ≡ drained.board
+    → (s : State) → IsIn s m → CommandServed at n s request id front to
+served_command at n m mid drained to request id r front came still tells empties stays move same s here =
     by_board (λ (x : State). CommandServed at n x request id front to) m
     (λ b stands.
-    let does = done b stands in
+    let p = came b stands in
+    let d : Done = performed b request in
+    let waited : List Event = map event_of d.board.events in
+    let is : tells.0 ≡ reply id d.result = rw tells.1 at p.replied in
     command_done at n (state_at b m) request id front to
-    (ap (λ (x : Done). event_outs at (state_at b m) x.events ++ (to_session n, reply id x.result) ∷ []) (sym does.0)
-    ∙ ap (λ (outs : List Message). outs ++ (to_session n, reply id (done_of b d).result) ∷ []) (sym (tells b))
-    ∙ ap (λ (bytes : List ℕ). told ++ (to_session n, bytes) ∷ []) (ap (λ (x : Done). reply id x.result) does.0 ∙ sym does.1)
-    ∙ sym is)
-    (subst (λ (x : State). IsIn x to) (move b ∙ ap (λ (x : Done). behind_command x.ends (with_board (state_at b m) x.board)) does.0)
-    (in_at b to (subst (Stands b) (sym same) stands)))) s here
+    (ap (λ (es : List Event). event_outs at (state_at b m) (waited ++ es) ++ (to_session n, reply id d.result) ∷ []) (sym p.events)
+    ∙ ap (λ (x : State). event_outs at x (waited ++ r.events.items) ++ (to_session n, reply id d.result) ∷ []) (sym (still b))
+    ∙ ap (λ (bytes : List ℕ). event_outs at (state_at b mid) (waited ++ r.events.items) ++ (to_session n, bytes) ∷ []) (sym is)
+    ∙ sym (tells.2 d.board p.stands))
+    (done_in n m mid drained to request id r came still empties stays move same b stands)) s here
 
--- one that changes the board: done, or refused for want of memory
-pub served_change : (at : Moment) (n : ℕ) (m to : Seen) (request : Request) (id : Option (List ℕ)) (text : List ℕ) → ((b : Board) → Stands b m.board → Changed b request id text to.board) → ((b : Board) → state_at b to ≡ state_at b m) → (s : State) → IsIn s m → CommandServed at n s request id ((to_session n, text) ∷ []) to
-served_change at n m to request id text done move s here =
-    by_board (λ (x : State). CommandServed at n x request id ((to_session n, text) ∷ []) to) m
-    (λ b stands.
-    let d = done b stands in
-    command_done at n (state_at b m) request id ((to_session n, text) ∷ []) to
-    (ap (λ (es : List Event). event_outs at (state_at b m) es ++ (to_session n, reply id (perform b request).result) ∷ []) d.quiet
-    ∙ ap (λ (bytes : List ℕ). (to_session n, bytes) ∷ []) (sym d.replied))
-    (subst (λ (x : State). IsIn x to) (move (perform b request).board ∙ ap (λ (e : Bool). behind_command e (with_board (state_at b m) (perform b request).board)) (sym d.going))
-    (in_at (perform b request).board to d.stands))) s here
+-- the same where memory ran out for its messages
+pub left_done : (at : Moment) (n : ℕ) (m mid drained to : Seen) (request : Request) (id : Option (List ℕ)) (r : Replied)
+    → ((b : Board) → Stands b m.board → Came b request id r mid.board) → ((b : Board) → state_at b mid ≡ state_at b m)
+    → ((b : Board) → Stands b mid.board → Stands (without_events b) drained.board) → ((b : Board) → state_at b drained ≡ state_at b mid)
+    → ((b : Board) → state_at b to ≡ behind_command r.ends (state_at b drained)) → to.board ≡ drained.board
+    → (s : State) → IsIn s m → CommandLeft at n s request id to
+left_done at n m mid drained to request id r came still empties stays move same s here =
+    by_board (λ (x : State). CommandLeft at n x request id to) m
+    (λ b stands. inr (defined, done_in n m mid drained to request id r came still empties stays move same b stands)) s here
 
+-- one that was refused for want of memory
 pub served_want : (at : Moment) (n : ℕ) (m to : Seen) (request : Request) (id : Option (List ℕ)) (text : List ℕ) → text ≡ error_reply id E99 → ((b : Board) → Stands b m.board → Stands b to.board ⊎ Stands (attempted b request) to.board) → ((b : Board) → state_at b to ≡ state_at b m) → (s : State) → IsIn s m → CommandServed at n s request id ((to_session n, text) ∷ []) to
 served_want at n m to request id text written kept move s here =
     by_board (λ (x : State). CommandServed at n x request id ((to_session n, text) ∷ []) to) m

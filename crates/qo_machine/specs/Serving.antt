@@ -1,5 +1,6 @@
 -- Items served one after another, whatever choices and whatever items come behind.
-use Rattle.std.specs.Prelude.{◌≡◌, ℕ, false, List, [], ◌++◌, Option, ◌⊎◌}
+use Rattle.std.specs.Prelude.{◌≡◌, ℕ, List, [], ◌∷◌, ◌++◌, map, Option, Ok, IfOk, ◌⊎◌}
+use Rattle.qo_causes.specs.declared.hubs.Lane.TheVariants.{Session as to_session}
 use Rattle.qo_causes.specs.declared.inputs.Moment.{Moment}
 use Rattle.qo_framing.specs.declared.items.Item.{Item}
 use Rattle.qo_requests.specs.declared.requests.Request.{Request}
@@ -8,10 +9,11 @@ use Rattle.qo_sessions.specs.declared.acts.SessionAct.{SessionAct}
 use Rattle.qo_sessions.specs.declared.acts.SessionAct.TheVariants.{Answer, Negotiated, Do}
 use Rattle.qo_sessions.specs.declared.modes.Mode.TheVariants.{Commanding}
 use Rattle.qo_model.specs.Board.{Board}
-use Rattle.qo_commands.specs.Commands.{perform}
+use Rattle.qo_commands.specs.Commands.{event_of, performed}
 use Rattle.qo_realize.specs.Parts.{Parts}
 use Rattle.qo_realize.specs.Stands.{Stands}
-use Rattle.qo_machine.specs.Machine.{Choice, IsIn, Message, Seen, State, behind, made_by, reply, serve, session_of, with_session}
+use Rattle.qo_machine.specs.Machine.{Choice, IsIn, Message, Seen, State, behind, event_outs, made_by, reply, serve, session_of, state_at, with_session}
+use Rattle.qo_machine.specs.declared.machines.Replied.{Replied}
 
 -- the state when it is known what an item comes to
 abbrev pub moved : State → ℕ → SessionAct → State
@@ -42,9 +44,15 @@ abbrev pub ServesFront : Moment → ℕ → State → List Item → Seen → Typ
 ServesFront at n s items m =
     (front : List Item) × (back : List Item) × (choices : List Choice) × (items ≡ front ++ back) × IsIn (serve at n front s choices).state m
 
--- a command that changes the board was done as it is defined: without events, and the run goes on; this is its reply, and its board stands
-pub record Changed (b : Board) (request : Request) (id : Option (List ℕ)) (text : List ℕ) (v : Parts) : Type 0 where
-  pub stands : Stands (perform b request).board v
-  pub quiet : (perform b request).events ≡ []
-  pub going : (perform b request).ends ≡ false
-  pub replied : text ≡ reply id (perform b request).result
+-- a command came to what is defined, but for the events that wait: this is its reply, if there was memory for it, and its board stands
+pub record Came (b : Board) (request : Request) (id : Option (List ℕ)) (r : Replied) (v : Parts) : Type 0 where
+  pub stands : Stands (performed b request).board v
+  pub events : r.events.items ≡ (performed b request).events
+  pub ends : r.ends ≡ (performed b request).ends
+  pub replied : IfOk r.text (λ text. text ≡ reply id (performed b request).result)
+
+-- these messages tell of the events that wait on the board, and of those of a command, and are then its reply
+abbrev pub Tells : Moment → ℕ → Seen → Replied → List Message → Type 0
+Tells at n m r front =
+    (text : List ℕ) × (r.text ≡ Ok text)
+    × ((b : Board) → Stands b m.board → front ≡ event_outs at (state_at b m) (map event_of b.events ++ r.events.items) ++ (to_session n, text) ∷ [])

@@ -1,22 +1,21 @@
 //! The machine: its board and its sessions, and what one input does.
 
-ghost use Rattle.std.specs.Prelude.{◌≡◌, ◌<◌, [], List, length, option_map, replicate, IfOk};
+ghost use Rattle.std.specs.Prelude.{◌≡◌, ◌<◌, [], List, length, map, option_map, replicate, IfOk};
 ghost use Rattle.qo_causes.specs.declared.inputs.Moment.{Moment};
 ghost use Rattle.qo_causes.specs.declared.inputs.What.TheVariants as What;
 ghost use Rattle.qo_sessions.specs.Sessions.{closed};
-ghost use Rattle.qo_machine.specs.Machine.{Choice, reply};
+ghost use Rattle.qo_machine.specs.Machine.{Choice};
 ghost use Rattle.qo_machine.specs.Runs.{closed_where};
 
 use crate::outs::Outs;
-use crate::replying::{EMPTY, reply_text};
+use crate::replying::{EMPTY, changed_text, reply_text};
 use crate::serving::serve_items;
 use qo_causes::{Input, Moment, What};
-use qo_commands::{Done, ask, change};
+use qo_commands::{ask, change, drain, is_change};
 use qo_framing::Item;
 use qo_heap::Steps;
-use qo_properties::Refusal;
 use qo_realize::Board;
-use qo_replies::{error_text, return_written};
+use qo_replies::{Event, return_written};
 use qo_requests::Request;
 use qo_sessions::{Mode, Session, SessionAct};
 use qo_values::{Chars, SESSIONS, Text};
@@ -51,6 +50,17 @@ fn close_where(sessions: &mut Vec<Session>, lost: &[bool; 16])
     }
 }
 
+/// What a command comes to, but for the events on devices that wait on the board.
+#[derive(Drop)]
+pub(crate) struct Replied {
+    /// The text of its reply; an error where there was no memory for it when the board was changed.
+    pub(crate) text: Result<Chars, AllocError>,
+    /// Its own events, in order.
+    pub(crate) events: Vec<Event>,
+    /// Whether it ends the run.
+    pub(crate) ends: bool,
+}
+
 /// The machine.
 ///
 /// It is driven by one input at a time. A step that runs out of memory ends it: every later one
@@ -82,13 +92,12 @@ impl Machine {
     ghost use Rattle.qo_sessions.specs.Acts.{act};
     ghost use Rattle.qo_sessions.specs.Sessions.{fed};
     ghost use Rattle.qo_commands.specs.Changes.{attempted, is_change};
-    ghost use Rattle.qo_commands.specs.Commands.{perform};
+    ghost use Rattle.qo_commands.specs.Commands.{event_of, without_events};
     ghost use Rattle.qo_realize.specs.Stands.{Stands};
-    ghost use Rattle.qo_commands.specs.Views.{done_of};
     ghost use Rattle.qo_machine.specs.Machine.{Answers, BreaksOff, IsIn, State, behind_command, beside, finished, input_step, mode_of, opening, session_of, state_at, with_session};
     ghost use Rattle.qo_machine.specs.Runs.{close_lost};
     ghost use Rattle.qo_machine.specs.Sending.{AreToLanes};
-    ghost use Rattle.qo_machine.specs.Serving.{Changed, moved};
+    ghost use Rattle.qo_machine.specs.Serving.{Came, moved};
 
     /// The machine at first: the opening board, and all sessions closed.
     pub fn start(alloc: Global) -> Result<Machine, AllocError>
@@ -309,44 +318,80 @@ impl Machine {
     }
 
     /// What a command comes to that leaves the board, and the text of its reply.
-    pub(crate) fn answer<L: Ledger>(
+    fn answer<L: Ledger>(
         &self,
         alloc: Global,
         request: &Request,
         id: Option<&Text>,
         steps: &mut Steps<L>,
-    ) -> Result<(Done, Chars), AllocError>
+    ) -> Result<Replied, AllocError>
         requires { is_change request.now ≡ false }
-        ensures done { (b : Tree) → Stands b self.now.board → IfOk result (λ a. done_of b a.0 ≡ perform b request.now) }
-        ensures text { (b : Tree) → Stands b self.now.board → IfOk result (λ a. a.1 ≡ reply (option_map (λ id. id.now) id.entry) (perform b request.now).result) }
+        ensures came { (b : Tree) → Stands b self.now.board → IfOk result (λ r. Came b request.now (option_map (λ id. id.now) id.entry) r self.now.board) }
     {
         let done = ask(alloc, &self.board, request, steps)?;
         let text = reply_text(alloc, id, &done.result)?;
-        Ok((done, text))
+        Ok(Replied {
+            text: Ok(text),
+            events: done.events,
+            ends: done.ends,
+        })
     }
 
     /// Does a command that changes the board, and gives the text of its reply. The text that says that
     /// it was done is made first, so that nothing is done that could not be answered. Where memory
     /// runs out the board is as it was, or an attempt was given up.
-    pub(crate) fn change<L: Ledger>(
+    fn change<L: Ledger>(
         &mut self,
         alloc: Global,
         request: &Request,
         id: Option<&Text>,
         steps: &mut Steps<L>,
-    ) -> Result<Chars, AllocError>
+    ) -> Result<Replied, AllocError>
         requires { is_change request.now ≡ true }
-        ensures changed { (b : Tree) → Stands b self.old.board → IfOk result (λ text. Changed b request.now (option_map (λ id. id.now) id.entry) text self.new.board) }
+        ensures came { (b : Tree) → Stands b self.old.board → IfOk result (λ r. Came b request.now (option_map (λ id. id.now) id.entry) r self.new.board) }
         ensures kept { (b : Tree) → Stands b self.old.board → OnErr result (Stands b self.new.board ⊎ Stands (attempted b request.now) self.new.board) }
         ensures rest { (b : Tree) → state_at b self.new ≡ state_at b self.old }
         ensures lasts { self.new.spent ≡ self.old.spent }
     {
-        let text = return_written(alloc, id, EMPTY)?;
-        match change(alloc, &mut self.board, request, steps) {
-            Ok(()) => Ok(text),
-            Err(Refusal::Refused(code)) => error_text(alloc, id, code),
-            Err(Refusal::Memory) => Err(AllocError),
+        let empty = return_written(alloc, id, EMPTY)?;
+        let done = change(alloc, &mut self.board, request, steps)?;
+        Ok(Replied {
+            text: changed_text(alloc, id, empty, &done.result),
+            events: done.events,
+            ends: done.ends,
+        })
+    }
+
+    /// What a command comes to, and the text of its reply. Where memory runs out the board is as it
+    /// was, or an attempt was given up.
+    pub(crate) fn perform<L: Ledger>(
+        &mut self,
+        alloc: Global,
+        request: &Request,
+        id: Option<&Text>,
+        steps: &mut Steps<L>,
+    ) -> Result<Replied, AllocError>
+        ensures came { (b : Tree) → Stands b self.old.board → IfOk result (λ r. Came b request.now (option_map (λ id. id.now) id.entry) r self.new.board) }
+        ensures kept { (b : Tree) → Stands b self.old.board → OnErr result (Stands b self.new.board ⊎ Stands (attempted b request.now) self.new.board) }
+        ensures rest { (b : Tree) → state_at b self.new ≡ state_at b self.old }
+        ensures lasts { self.new.spent ≡ self.old.spent }
+    {
+        if is_change(request) {
+            self.change(alloc, request, id, steps)
+        } else {
+            self.answer(alloc, request, id, steps)
         }
+    }
+
+    /// Takes the events on devices that wait on the board. The error is want of memory for the list;
+    /// no event waits then either.
+    pub(crate) fn drain(&mut self, alloc: Global) -> Result<Vec<Event>, AllocError>
+        ensures events { (b : Tree) → Stands b self.old.board → IfOk result (λ events. events.items ≡ map event_of b.events) }
+        ensures board { (b : Tree) → Stands b self.old.board → Stands (without_events b) self.new.board }
+        ensures rest { (b : Tree) → state_at b self.new ≡ state_at b self.old }
+        ensures lasts { self.new.spent ≡ self.old.spent }
+    {
+        drain(alloc, &mut self.board)
     }
 
     /// The run ends where a command ends it. It takes no memory.

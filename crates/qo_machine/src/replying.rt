@@ -2,6 +2,7 @@
 
 ghost use Rattle.std.specs.Prelude.{◌≡◌, false, map, option_map, IfOk};
 ghost use Rattle.serde_json.specs.Written.{has_float};
+ghost use Rattle.qo_commands.specs.Commands.{empty as nothing};
 ghost use Rattle.qo_commands.specs.Views.{body_data, data_of, has_float_in};
 ghost use Rattle.qo_machine.specs.Machine.{reply};
 ghost use Rattle.qo_properties.specs.Listed.{prop_told};
@@ -61,5 +62,22 @@ pub(crate) fn reply_text(
     match outcome {
         Ok(body) => done_text(alloc, id, body),
         Err(code) => error_text(alloc, id, *code),
+    }
+}
+
+/// The text of the reply to a command that changed the board, where that which says that nothing is
+/// returned was made before.
+pub(crate) fn changed_text(
+    alloc: Global,
+    id: Option<&Text>,
+    empty: Chars,
+    outcome: &Result<Body, Code>,
+) -> Result<Chars, AllocError>
+    requires { empty ≡ return_reply (option_map (λ id. id.now) id) nothing }
+    ensures { IfOk result (λ text. has_float_in (data_of outcome.now) ≡ false → text ≡ reply (option_map (λ id. id.now) id.entry) (data_of outcome.now)) }
+{
+    match outcome {
+        Ok(Body::Empty) => Ok(empty),
+        other => reply_text(alloc, id, other),
     }
 }

@@ -1,19 +1,20 @@
 //! Serving the items of a session: each makes exactly one reply, behind the events of its command.
 
-ghost use Rattle.std.specs.Prelude.{◌≡◌, ◌<◌, true, false, [], ◌∷◌, ◌++◌, List, option_map, IfOk, OnErr, OnOk};
+ghost use Rattle.std.specs.Prelude.{◌≡◌, ◌<◌, [], ◌∷◌, ◌++◌, List, option_map, IfOk, OnErr, OnOk};
 ghost use Rattle.qo_causes.specs.declared.hubs.Lane.TheVariants as Lane;
 ghost use Rattle.qo_replies.specs.Replies.{error_reply};
 ghost use Rattle.qo_values.specs.declared.codes.Code.TheVariants.{E99};
-ghost use Rattle.qo_commands.specs.Changes.{is_change};
-ghost use Rattle.qo_machine.specs.Machine.{IsIn, Message, State, beside, commanding, event_outs, those_commanding, told_of};
+ghost use Rattle.qo_model.specs.Board.{Board as Tree};
+ghost use Rattle.qo_realize.specs.Stands.{Stands};
+ghost use Rattle.qo_commands.specs.Commands.{without_events};
+ghost use Rattle.qo_machine.specs.Machine.{IsIn, Message, State, beside, commanding, event_outs, state_at, those_commanding, told_of};
 ghost use Rattle.qo_machine.specs.Sending.{AreToLanes};
-ghost use Rattle.qo_machine.specs.Serving.{CommandLeft, CommandServed, ServesFront, ServesTo};
+ghost use Rattle.qo_machine.specs.Serving.{CommandLeft, CommandServed, ServesFront, ServesTo, Tells};
 
-use crate::machines::Machine;
+use crate::machines::{Machine, Replied};
 use crate::outs::Outs;
 use crate::replying::EMPTY;
 use qo_causes::Moment;
-use qo_commands::is_change;
 use qo_framing::Item;
 use qo_heap::Steps;
 use qo_replies::{Event, error_text, event_text, return_written};
@@ -86,58 +87,27 @@ fn tell_want(
     Ok(())
 }
 
-/// A command that leaves the board is done, or refused for want of memory.
-fn serve_ask<L: Ledger>(
+/// Each session that commands is told of the events that wait on the board, which no longer wait then,
+/// and of those of a command; its reply goes to its session.
+fn send_reply(
     machine: &mut Machine,
     alloc: Global,
     at: Moment,
     session: u8,
-    request: &Request,
-    id: Option<&Text>,
+    reply: Replied,
     outs: &mut Outs,
-    steps: &mut Steps<L>,
 ) -> Result<(), AllocError>
-    requires session { session < 16 }
-    requires asks { is_change request.now ≡ false }
-    ensures served { OnOk result ((front : List Message) × (outs.new ≡ outs.old ++ front) × AreToLanes front × ((s : State) → IsIn s machine.old → CommandServed at session s request.now (option_map (λ id. id.now) id.entry) front machine.new)) }
-    ensures left { OnErr result ((s : State) → IsIn s machine.old → CommandLeft at session s request.now (option_map (λ id. id.now) id.entry) machine.new) }
+    requires { session < 16 }
+    ensures sent { OnOk result ((front : List Message) × (outs.new ≡ outs.old ++ front) × AreToLanes front × Tells at session machine.old reply front) }
+    ensures board { (b : Tree) → Stands b machine.old.board → Stands (without_events b) machine.new.board }
+    ensures rest { (b : Tree) → state_at b machine.new ≡ state_at b machine.old }
     ensures lasts { machine.new.spent ≡ machine.old.spent }
 {
-    match machine.answer(alloc, request, id, steps) {
-        Ok((done, text)) => {
-            tell_all(machine, alloc, at, &done.events, outs)?;
-            outs.push(session, text)?;
-            machine.conclude(done.ends);
-            Ok(())
-        }
-        Err(AllocError) => tell_want(alloc, session, id, outs),
-    }
-}
-
-/// A command that changes the board is done, or refused for want of memory.
-fn serve_change<L: Ledger>(
-    machine: &mut Machine,
-    alloc: Global,
-    at: Moment,
-    session: u8,
-    request: &Request,
-    id: Option<&Text>,
-    outs: &mut Outs,
-    steps: &mut Steps<L>,
-) -> Result<(), AllocError>
-    requires session { session < 16 }
-    requires changes { is_change request.now ≡ true }
-    ensures served { OnOk result ((front : List Message) × (outs.new ≡ outs.old ++ front) × AreToLanes front × ((s : State) → IsIn s machine.old → CommandServed at session s request.now (option_map (λ id. id.now) id.entry) front machine.new)) }
-    ensures left { OnErr result ((s : State) → IsIn s machine.old → CommandLeft at session s request.now (option_map (λ id. id.now) id.entry) machine.new) }
-    ensures lasts { machine.new.spent ≡ machine.old.spent }
-{
-    match machine.change(alloc, request, id, steps) {
-        Ok(reply) => {
-            outs.push(session, reply)?;
-            Ok(())
-        }
-        Err(AllocError) => tell_want(alloc, session, id, outs),
-    }
+    let waiting = machine.drain(alloc)?;
+    tell_all(machine, alloc, at, &waiting, outs)?;
+    tell_all(machine, alloc, at, &reply.events, outs)?;
+    outs.push(session, reply.text?)?;
+    Ok(())
 }
 
 /// A command is done, or refused for want of memory.
@@ -156,10 +126,14 @@ fn serve_command<L: Ledger>(
     ensures left { OnErr result ((s : State) → IsIn s machine.old → CommandLeft at session s request.now (option_map (λ id. id.now) id.entry) machine.new) }
     ensures lasts { machine.new.spent ≡ machine.old.spent }
 {
-    if is_change(request) {
-        serve_change(machine, alloc, at, session, request, id, outs, steps)
-    } else {
-        serve_ask(machine, alloc, at, session, request, id, outs, steps)
+    match machine.perform(alloc, request, id, steps) {
+        Ok(reply) => {
+            let ends = reply.ends;
+            let sent = send_reply(machine, alloc, at, session, reply, outs);
+            machine.conclude(ends);
+            sent
+        }
+        Err(AllocError) => tell_want(alloc, session, id, outs),
     }
 }
 

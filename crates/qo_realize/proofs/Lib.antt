@@ -1,2 +1,1 @@
-mod QuietLemmas
 pub mod StandsLemmas

@@ -26,16 +26,15 @@ use Rattle.qo_properties.specs.declared.refusals.Refusal.{Refusal}
 use Rattle.qo_properties.specs.declared.refusals.Refusal.TheVariants.{Refused, Memory}
 use Rattle.qo_realize.specs.Answers.{Adds, IsAnswered, Writes}
 use Rattle.qo_realize.specs.Parts.{Parts, ring_claim}
-use Rattle.qo_realize.specs.Stands.{IsQuiet, Stands}
-use Rattle.qo_realize.proofs.QuietLemmas.{attempted_as-quiet, object_add-quiet, object_del-quiet, sever-quiet, write_at-quiet}
+use Rattle.qo_realize.specs.Stands.{Stands}
 
 -- other objects, beside the same
 abbrev pub with_objects : Objects → Parts → Parts
 with_objects v p = record p { objects = v }
 
 -- another board stands with other objects, where all but objects, births, pins, notes and events is as before
-stands-by : (b c : Board) (p : Parts) (v : Objects) → Stands b p → Stays b c → Shows c v → KeepsBook p.objects v → IsQuiet c → Stands c (with_objects v p)
-stands-by b c p v s stays shows keeps quiet =
+stands-by : (b c : Board) (p : Parts) (v : Objects) → Stands b p → Stays b c → Shows c v → KeepsBook p.objects v → Stands c (with_objects v p)
+stands-by b c p v s stays shows keeps =
     record {
       shows = shows;
       anonymous = stays.anonymous ∙ s.anonymous;
@@ -45,7 +44,6 @@ stands-by b c p v s stays shows keeps quiet =
       notices = stays.notices ∙ s.notices;
       rings = stays.rings ∙ s.rings;
       book = keeps (map ring_claim p.rings) s.book;
-      quiet = quiet;
     }
 
 -- a write
@@ -59,27 +57,27 @@ wrote-stays b c path name val is = go (object_at b path) refl
     go (Err code) e = absurd (let clash : Err code ≡ Ok c = rw (write_at, e) at is in cc)
 
 pub write-stands : (b : Board) (p : Parts) (v : Objects) (path name : List ℕ) (val : Val) (result : Result (Unit {0}) Refusal) → Stands b p → writes.Writes v result (write_at b path name val) → KeepsBook p.objects v → Writes (with_objects v p) result (write_at b path name val)
-write-stands b p v path name val (Ok u) s (c, is, shows) keeps = (c, is, stands-by b c p v s (wrote-stays b c path name val is) shows keeps (write_at-quiet b c path name val is s.quiet))
+write-stands b p v path name val (Ok u) s (c, is, shows) keeps = (c, is, stands-by b c p v s (wrote-stays b c path name val is) shows keeps)
 write-stands b p v path name val (Err (Refused code)) s is keeps = is
 write-stands b p v path name val (Err Memory) s is keeps = tt
 
 -- changes of objects
 pub del-stands : (b : Board) (p : Parts) (v : Objects) (id : List ℕ) (result : Result (Unit {0}) Code) → Stands b p → changes.IsAnswered (object_del b id) result v → KeepsBook p.objects v → IsAnswered (object_del b id) result (with_objects v p)
 del-stands b p v id result s h keeps =
-    record { refusal = h.refusal; board = stands-by b (object_del b id).board p v s (stays_lem.change b (deleted id)) h.board keeps (object_del-quiet b id s.quiet) }
+    record { refusal = h.refusal; board = stands-by b (object_del b id).board p v s (stays_lem.change b (deleted id)) h.board keeps }
 
 pub sever-stands : (b : Board) (p : Parts) (v : Objects) (n : ℕ) (result : Result (Unit {0}) Code) → Stands b p → changes.IsAnswered (sever b n) result v → KeepsBook p.objects v → IsAnswered (sever b n) result (with_objects v p)
 sever-stands b p v n result s h keeps =
-    record { refusal = h.refusal; board = stands-by b (sever b n).board p v s (stays_lem.change b (severed n)) h.board keeps (sever-quiet b n s.quiet) }
+    record { refusal = h.refusal; board = stands-by b (sever b n).board p v s (stays_lem.change b (severed n)) h.board keeps }
 
 pub add-stands : (b : Board) (p : Parts) (v : Objects) (driver id : List ℕ) (props : List Given) (result : Result (Unit {0}) Refusal) → Stands b p → properties.Adds b driver id props result v → KeepsBook p.objects v → Adds b driver id props result (with_objects v p)
 add-stands b p v driver id props (Ok u) s (none, shows) keeps =
-    (none, stands-by b (object_add b driver id props).board p v s (stays_lem.change b (added driver id props)) shows keeps (object_add-quiet b driver id props s.quiet))
+    (none, stands-by b (object_add b driver id props).board p v s (stays_lem.change b (added driver id props)) shows keeps)
 add-stands b p v driver id props (Err (Refused code)) s (some, shows) keeps =
-    (some, stands-by b (object_add b driver id props).board p v s (stays_lem.change b (added driver id props)) shows keeps (object_add-quiet b driver id props s.quiet))
-add-stands b p v driver id props (Err Memory) s (inl shows) keeps = inl (stands-by b b p v s (stays-none b) shows keeps s.quiet)
+    (some, stands-by b (object_add b driver id props).board p v s (stays_lem.change b (added driver id props)) shows keeps)
+add-stands b p v driver id props (Err Memory) s (inl shows) keeps = inl (stands-by b b p v s (stays-none b) shows keeps)
 add-stands b p v driver id props (Err Memory) s (inr shows) keeps =
-    inr (stands-by b (attempted_as b driver id) p v s (attempted_as-stays b driver id) shows keeps (attempted_as-quiet b driver id s.quiet))
+    inr (stands-by b (attempted_as b driver id) p v s (attempted_as-stays b driver id) shows keeps)
 
 -- what is seen of a board with these objects
 abbrev pub seen : ℕ → Bool → Objects → Parts
@@ -94,7 +92,7 @@ err-stays (Err e) anonymous running v w p is same = ap (seen anonymous running) 
 pub opening-stands : (v : Objects) → Shows opening_board v → IsBook [] v → Stands opening_board (seen 0 true v)
 unfolding opening_board
 opening-stands v shows book =
-    record { shows = shows; anonymous = refl; running = refl; holds = refl; pending = refl; notices = refl; rings = refl; book = book; quiet = record { events = refl; pathless = (refl, (refl, (refl, (refl, (refl, (refl, (refl, (refl, tt)))))))) } }
+    record { shows = shows; anonymous = refl; running = refl; holds = refl; pending = refl; notices = refl; rings = refl; book = book }
 
 -- the notes that the log tells are those of the board
 log-of : (notes : List Note) (l : Log) → IsLogOf notes l → l ≡ record { total = total_of notes; kept = kept_of notes }

@@ -1,5 +1,6 @@
 //! The board.
 
+use qo_events::DeviceEvent;
 use qo_heap::{Heap, Steps};
 use qo_model::{Detached, Note};
 use qo_properties::{
@@ -32,7 +33,7 @@ impl Model for Board {
 }
 
 impl Board {
-    ghost use Rattle.std.specs.Prelude.{◌≡◌, map, IfOk, OnErr};
+    ghost use Rattle.std.specs.Prelude.{◌≡◌, [], map, IfOk, OnErr};
     ghost use Rattle.qo_model.specs.Access.{listing_at, read, write_at};
     ghost use Rattle.qo_model.specs.Board as model;
     ghost use Rattle.qo_model.specs.Detachment.{detached_told};
@@ -127,6 +128,20 @@ impl Board {
         ensures { (b : model.Board) → Stands b self.now → IfOk result (λ notes. notes.items ≡ given_from from b.notes) }
     {
         Ok(self.heap.notes(from, alloc)?)
+    }
+
+    /// The events on devices that wait, in the order of their coming. It takes no memory.
+    pub fn events(&self) -> &[DeviceEvent]
+        ensures { (b : model.Board) → Stands b self.now → result.now ≡ b.events }
+    {
+        self.heap.events()
+    }
+
+    /// Lets the events on devices that wait go, as they were told. It takes no memory.
+    pub fn clear_events(&mut self)
+        ensures { (b : model.Board) → Stands b self.old → Stands (record b { events = [] }) self.new }
+    {
+        self.heap.clear_events();
     }
 
     /// Writes the property of a name of the object at a path (QEMU's QAPI, `qom-set`). A link takes

@@ -1,20 +1,25 @@
--- What a command that changes the board does, by what it answers.
-use Rattle.std.proofs.Common.{Err, subst}
-use Rattle.qo_commands.proofs.CommandLemmas.{empty_written}
-use Rattle.qo_commands.specs.Changes.{Changes}
-use Rattle.qo_commands.specs.Commands.{empty}
-use Rattle.qo_properties.specs.declared.refusals.Refusal.{Refusal}
-use Rattle.qo_machine.proofs.ChangeLemmas.{changed_done, stands_still}
-use Rattle.qo_machine.proofs.MachineLemmas.{on_err, seen_board, stands_in}
+-- What a command that changes the board does, and the text of its reply.
+use Rattle.std.proofs.Common.{ap, ◌∙◌, option_map}
+use Rattle.qo_commands.proofs.CommandLemmas.{empty_written, no_float}
+use Rattle.qo_commands.specs.Commands.{Done, empty}
+use Rattle.qo_commands.specs.Views.{has_float_in}
+use Rattle.qo_machine.proofs.MachineLemmas.{if_ok, seen_board, stands_in}
+use Rattle.qo_machine.specs.Machine.{reply}
 use Rattle.qo_machine.proofs.machines.Machine.change.Goals as goal
 
-pub returns-in-Ok-clause-changed : goal.returns-in-Ok-clause-changed
-returns-in-Ok-clause-changed g c = λ b stands.
-    let did = c.in-Ok.ensures b (stands_in b c.self.inside.board c.args.self.now (seen_board c.self.view_is) stands) in
-    changed_done b c.args.request.now _ c.in_ok-text.text _ did.0 did.1 (c.in_ok-text.ensures empty empty_written)
+pub changed_text-requires : goal.changed_text-requires
+changed_text-requires g c = c.in_ok-empty.ensures empty empty_written
 
-pub returns-in-Err-Refused-clause-kept : goal.returns-in-Err-Refused-clause-kept
-returns-in-Err-Refused-clause-kept g c = λ b stands.
-    let answered = c.in-Err-Refused.ensures b (stands_in b c.self.inside.board c.args.self.now (seen_board c.self.view_is) stands) in
-    let did = subst (λ (refusal : Refusal). Changes b c.args.request.now (Err refusal) c.change.new.board) c.in-Err-Refused.field-0-is answered in
-    on_err c.error_text.result (stands_still b c.args.request.now c.in-Err-Refused.code _ c.requires did.0 did.1)
+pub returns-clause-came : goal.returns-clause-came
+returns-clause-came g c = λ b stands.
+    let did = c.in_ok-done.ensures b (stands_in b c.self.inside.board c.args.self.now (seen_board c.self.view_is) stands) in
+    record {
+      stands = did.0;
+      events = ap (λ (d : Done). d.events) did.1;
+      ends = ap (λ (d : Done). d.ends) did.1;
+      replied =
+          if_ok c.changed_text.result
+          (λ text written.
+          written (ap (λ (d : Done). has_float_in d.result) did.1 ∙ no_float b c.args.request.now)
+          ∙ ap (λ (d : Done). reply (option_map (λ id. id.now) c.args.id) d.result) did.1) c.changed_text.ensures;
+    }
