@@ -1,4 +1,5 @@
 pub mod Joining
-pub mod Members
+pub mod KeysLemmas
+pub mod MemberLemmas
 pub mod Readings
 pub mod Rising

@@ -2,5 +2,6 @@ pub mod Arguments
 pub mod Building
 pub mod Commands
 pub mod Fields
+pub mod Members
 pub mod Messages
 pub mod Values

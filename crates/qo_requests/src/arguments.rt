@@ -143,7 +143,7 @@ fn all_named(rows: &[Argument], members: &Map<String, Value>) -> bool
 }
 
 /// Whether no other member than these stands in an object.
-#[tactic(auto, using(crate::proofs::Members::all_named_keys))]
+#[tactic(auto, using(crate::proofs::KeysLemmas::all_named_keys))]
 pub(crate) fn has_only(rows: &[Argument], place: &Value) -> bool
     ensures { result ≡ has_only rows.now (view place.now) }
 {

@@ -4,16 +4,16 @@ ghost use Rattle.std.specs.Prelude.{◌≡◌, option_map, unwrap_or, IfOk};
 ghost use Rattle.serde_json.specs.Data.{null};
 ghost use Rattle.serde_json.specs.View.{view, items_view, members_view};
 ghost use Rattle.serde_json.specs.Written.{has_float, items_have_float, members_have_float};
-ghost use Rattle.qo_requests.specs.declared.fields.Field.TheVariants.{Execute};
-ghost use Rattle.qo_requests.specs.Messages.{message_members, backend_members, payload_members, is_message, backend_complete, backend_closed, backend_fits, backend_of, is_complete, is_closed, is_fitting, call_of, request_in, id_text, negotiates, with_id, command, Reads, GivesCode};
-ghost use Rattle.qo_requests.specs.Values.{text_at};
+ghost use Rattle.qo_requests.specs.Members.{AreOf};
+ghost use Rattle.qo_requests.specs.Messages.{backend_members, payload_members, backend_complete, backend_closed, backend_fits, backend_of, is_complete, is_closed, is_fitting, call_of, request_in, id_text, with_id, command, Reads, GivesCode};
 
 use crate::arguments::Argument::{self, Needed, Optional};
-use crate::arguments::ArgumentKind::{Any, Number, Object, Text};
+use crate::arguments::ArgumentKind::{Number, Object, Text};
 use crate::arguments::{all_fit, all_stand, has_only, plain_beside};
 use crate::building::request_of;
 use crate::commands::Command;
 use crate::fields::{Field, argument};
+use crate::members::Members;
 use crate::requests::{Parsed, ReadError, Request};
 use qo_replies::json_text;
 use qo_values::Code;
@@ -64,32 +64,6 @@ fn members_have_float(members: &Map<String, Value>) -> bool
         }
     }
     false
-}
-
-/// The text of `execute`, where it is one.
-fn name_of(value: &Value) -> Option<&str>
-    ensures { option_map (λ s. s.now) result ≡ text_at Execute (view value.now) }
-{
-    argument(value, Field::Execute).and_then(Value::as_str)
-}
-
-/// The members of a message.
-fn message_members() -> &'static [Argument]
-    ensures { result.now ≡ message_members }
-{
-    &[
-        Needed(Field::Execute, Text),
-        Optional(Field::Arguments, Object),
-        Optional(Field::Id, Any),
-    ]
-}
-
-/// Whether a value has the members of a message.
-fn is_message(value: &Value) -> bool
-    ensures { result ≡ is_message (view value.now) }
-{
-    let members = message_members();
-    has_only(members, value) && all_stand(members, value) && all_fit(members, value)
 }
 
 /// The members of `backend` of `chardev-add`.
@@ -215,18 +189,18 @@ fn call_in(
     }
 }
 
-/// The request that a value is.
-fn request_in(alloc: Global, value: &Value) -> Result<Request, Refusal>
+/// The request that a value is, which has these members.
+fn request_in(alloc: Global, value: &Value, members: Members<'_>) -> Result<Request, Refusal>
+    requires { AreOf members (view value.now) }
     ensures { GivesCode result (request_in (view value.now)) }
 {
     if has_float(value) {
         return Err(Refusal::Code(Code::E7));
     }
-    if !is_message(value) {
+    if !members.is_message() {
         return Err(Refusal::Code(Code::E6));
     }
-    let command = name_of(value).and_then(Command::named);
-    call_in(alloc, command, argument(value, Field::Arguments))
+    call_in(alloc, members.command(), members.arguments)
 }
 
 /// An id as its text in a reply, where no number of it is refused.
@@ -239,24 +213,18 @@ fn id_text(alloc: Global, id: Option<&Value>) -> Result<Option<qo_values::Text>,
     }
 }
 
-/// Whether `execute` is `qmp_capabilities`.
-fn negotiates(value: &Value) -> bool
-    ensures { result ≡ negotiates (view value.now) }
-{
-    name_of(value) == Some("qmp_capabilities")
-}
-
 /// What the value of a message is read into.
 fn read_value(alloc: Global, value: &Value) -> Result<Parsed, ReadError>
     ensures { Reads result (with_id (view value.now) (request_in (view value.now))) }
 {
-    let id = id_text(alloc, argument(value, Field::Id))?;
-    match request_in(alloc, value) {
+    let members = Members::of(value);
+    let id = id_text(alloc, members.id)?;
+    match request_in(alloc, value, members) {
         Ok(request) => Ok(Parsed { id, request }),
         Err(Refusal::Code(code)) => Err(ReadError::Refused {
             code,
             id,
-            negotiates: negotiates(value),
+            negotiates: members.name() == Some("qmp_capabilities"),
         }),
         Err(Refusal::Memory) => Err(ReadError::Memory),
     }

@@ -1,0 +1,90 @@
+-- The members of a message that were read in one pass.
+use Rattle.std.proofs.Common.{◌≡◌, ℕ, Bool, true, false, not, List, [], ◌∷◌, string_bytes, refl, sym, ◌∙◌, ap, Option, None, Some, is_some, unwrap_or, option_and_then, if◌then◌else◌}
+use Rattle.std.specs.Prelude.{◌&&◌, ◌||◌}
+use Rattle.std.specs.Option.{option_map_or, option_or}
+use Rattle.std.specs.Str.{bytes_eq}
+use Rattle.std.proofs.lemmas.Bool.{true≢false}
+use Rattle.std.proofs.lemmas.Slice.Eq.{bytes_eq-Decides}
+use Rattle.serde_json.proofs.Views.{Entry, member_here, member_later}
+use Rattle.serde_json.specs.Data.{Data, null}
+use Rattle.serde_json.specs.Find.{as_object, as_str, get_member}
+use Rattle.serde_json.specs.View.{members_view, view}
+use Rattle.serde_json.specs.Written.{has_float}
+use Rattle.qo_requests.specs.Arguments.{all_named, fits, has_only, is_named}
+use Rattle.qo_requests.specs.declared.arguments.ArgumentKind.TheVariants as kind
+use Rattle.qo_requests.specs.declared.commands.Command.{Command}
+use Rattle.qo_requests.specs.Commands.{command_of}
+use Rattle.qo_requests.specs.Values.{text_at}
+use Rattle.qo_requests.specs.Fields.{argument}
+use Rattle.qo_requests.specs.Members.{is_whole}
+use Rattle.qo_requests.specs.Messages.{call_of, is_message, message_members, request_in}
+use Rattle.qo_requests.specs.declared.fields.Field.TheVariants.{Arguments, Execute, Id}
+
+-- the first of a name is among those read, or else among those left
+pub first_on : (key : List ℕ) (before : Option Data) (e : Entry) (es : List Entry)
+    → option_or before (get_member key (members_view (e ∷ es)))
+      ≡ option_or (if bytes_eq key (string_bytes e.0) then option_or before (Some (view e.1)) else before) (get_member key (members_view es))
+first_on key before e es = by (bytes_eq key (string_bytes e.0)) refl before
+  where
+    by : (t : Bool) → bytes_eq key (string_bytes e.0) ≡ t → (o : Option Data)
+        → option_or o (get_member key (members_view (e ∷ es))) ≡ option_or (if t then option_or o (Some (view e.1)) else o) (get_member key (members_view es))
+    by true is None = member_here key e es ((bytes_eq-Decides key (string_bytes e.0)).0 is)
+    by true is (Some d) = refl
+    by false is None = member_later key e es (λ same. true≢false (sym ((bytes_eq-Decides key (string_bytes e.0)).1 same) ∙ is))
+    by false is (Some d) = refl
+
+pub found_on : (key : List ℕ) (whole before now : Option Data) (name : List ℕ) (left : List Entry) (e : Entry) (es : List Entry)
+    → whole ≡ option_or before (get_member key (members_view left)) → left ≡ e ∷ es → name ≡ string_bytes e.0
+    → now ≡ (if bytes_eq key name then option_or before (Some (view e.1)) else before)
+    → whole ≡ option_or now (get_member key (members_view es))
+found_on key whole before now name left e es was steps same is =
+    was ∙ ap (λ (l : List Entry). option_or before (get_member key (members_view l))) steps ∙ first_on key before e es
+    ∙ ap (λ (n : List ℕ). option_or (if bytes_eq key n then option_or before (Some (view e.1)) else before) (get_member key (members_view es))) (sym same)
+    ∙ ap (λ (o : Option Data). option_or o (get_member key (members_view es))) (sym is)
+
+others_of : (others named left : Bool) → (not others && (named && left)) ≡ (not (others || not named) && left)
+others_of true named left = refl
+others_of false true left = refl
+others_of false false left = refl
+
+pub others_on : (whole before now : Bool) (name : List ℕ) (left : List Entry) (e : Entry) (es : List Entry)
+    → whole ≡ (not before && all_named message_members (members_view left)) → left ≡ e ∷ es → name ≡ string_bytes e.0
+    → now ≡ (before || not (is_named message_members name))
+    → whole ≡ (not now && all_named message_members (members_view es))
+others_on whole before now name left e es was steps same is =
+    let rest : Bool = all_named message_members (members_view es) in
+    was ∙ ap (λ (l : List Entry). not before && all_named message_members (members_view l)) steps
+    ∙ others_of before (is_named message_members (string_bytes e.0)) rest
+    ∙ ap (λ (n : List ℕ). not (before || not (is_named message_members n)) && rest) (sym same)
+    ∙ ap (λ (t : Bool). not t && rest) (sym is)
+
+-- What makes a message, by its members.
+
+both : (t u : Bool) → ((true && t) && u) ≡ (t && (u && (true && true)))
+both true true = refl
+both true false = refl
+both false u = refl
+
+-- each row of a message's members, by what stands there
+abbrev stood : Option Data → Bool
+stood execute = is_some execute && (true && (true && true))
+
+abbrev fitting : Option Data → Option Data → Option Data → Bool
+fitting execute arguments id =
+    option_map_or (fits kind.Text) execute true && (option_map_or (fits kind.Object) arguments true && (option_map_or (fits kind.Any) id true && true))
+
+rows_are : (others : Bool) (execute arguments id : Option Data) → is_whole others execute arguments ≡ (not others && stood execute && fitting execute arguments id)
+rows_are true x a i = refl
+rows_are false None a i = refl
+rows_are false (Some e) a None = both (is_some (as_str e)) (option_map_or (λ d. is_some (as_object d)) a true)
+rows_are false (Some e) a (Some i) = both (is_some (as_str e)) (option_map_or (λ d. is_some (as_object d)) a true)
+
+pub whole_is : (d : Data) (others : Bool) → not others ≡ has_only message_members d → is_whole others (argument Execute d) (argument Arguments d) ≡ is_message d
+whole_is d others same =
+    rows_are others (argument Execute d) (argument Arguments d) (argument Id d)
+    ∙ ap (λ (t : Bool). t && stood (argument Execute d) && fitting (argument Execute d) (argument Arguments d) (argument Id d)) same
+
+-- the request of a message, by its command and its arguments
+pub request_by : (d : Data) → has_float d ≡ false → is_message d ≡ true → (command : Option Command) (args : Option Data)
+    → command ≡ option_and_then command_of (text_at Execute d) → args ≡ argument Arguments d → call_of command (unwrap_or args null) ≡ request_in d
+request_by d whole is command args named given = rw (whole, is, named, given) refl
