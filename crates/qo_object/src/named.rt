@@ -7,18 +7,14 @@ use qo_values::{Name, Val};
 use std::alloc::{AllocError, Global};
 use std::marker::Model;
 
-/// A slot with its name.
-#[derive(Drop)]
-pub struct Named {
-    name: Name,
-    slot: Slot,
-}
+/// An object has about so many slots, so that the first one makes room for as many.
+const SLOTS_AT_FIRST: usize = 6;
 
 /// Slots by name, in the order of adding. The key of each is its name's text, so that one is found
 /// by a `&str` without memory.
 #[derive(Drop)]
 pub struct SlotMap {
-    map: IndexMap<String, Named>,
+    map: IndexMap<String, Slot>,
 }
 
 impl Model for SlotMap {
@@ -28,11 +24,9 @@ impl Model for SlotMap {
     ghost Value = { List (List ℕ × Slot) };
 
     ghost use Rattle.std.specs.Prelude.{string_bytes};
-    ghost use Rattle.qo_object.specs.Stored.{slots_of, HasNames};
+    ghost use Rattle.qo_object.specs.Stored.{slots_of};
 
-    ghost view = { λ m. slots_of m.map.entries };
-
-    ghost invariant = { λ m. HasNames string_bytes m.map.entries };
+    ghost view = { λ m. slots_of string_bytes m.map.entries };
 }
 
 impl SlotMap {
@@ -84,12 +78,19 @@ impl SlotMap {
         ensures slot { option_map (λ v. (v.name.now, v.what.now)) result ≡ slice_get self.now at }
         ensures at { IfSome result (λ v. v.at ≡ at) }
     {
-        let (_, named) = self.map.get_index(at)?;
-        Some(SlotView {
-            at,
-            name: &named.name,
-            what: &named.slot,
-        })
+        let (name, what) = self.map.get_index(at)?;
+        let name = name.as_str();
+        Some(SlotView { at, name, what })
+    }
+
+    /// Makes room for the first slots at once, where there is none yet. It adds nothing.
+    fn make_room(&mut self) -> Result<(), AllocError>
+        ensures { self.new ≡ self.old }
+    {
+        if self.map.is_empty() {
+            self.map.reserve(SLOTS_AT_FIRST)?;
+        }
+        Ok(())
     }
 
     /// Adds a slot under a new name, behind the others. An error adds nothing.
@@ -98,8 +99,8 @@ impl SlotMap {
         ensures ok { OnOk result (self.new ≡ self.old ++ (name, slot) ∷ []) }
         ensures err { OnErr result (self.new ≡ self.old) }
     {
-        let key = String::from_str(*self.map.allocator(), name.as_str())?;
-        self.map.insert(key, Named { name, slot })?;
+        self.make_room()?;
+        self.map.insert(name.into_string(), slot)?;
         Ok(())
     }
 
@@ -126,10 +127,10 @@ impl SlotMap {
         ensures now { self.new ≡ changed_at unlinked at self.old }
         ensures answer { result ≡ named_in self.old at }
     {
-        let Some(named) = self.map.get_index_mut(at) else {
+        let Some(slot) = self.map.get_index_mut(at) else {
             return None;
         };
-        named.slot.unlink()
+        slot.unlink()
     }
 
     /// Lets the slot at a place go, and answers what it named.
@@ -148,30 +149,30 @@ impl SlotMap {
     pub fn point(&mut self, at: usize, target: Key)
         ensures { self.new ≡ changed_at (pointed target) at self.old }
     {
-        let Some(named) = self.map.get_index_mut(at) else {
+        let Some(slot) = self.map.get_index_mut(at) else {
             return;
         };
-        named.slot.point(target);
+        slot.point(target);
     }
 
     /// Gives the plain slot at a place a value.
     pub fn set(&mut self, at: usize, val: Val)
         ensures { self.new ≡ changed_at (with_val val) at self.old }
     {
-        let Some(named) = self.map.get_index_mut(at) else {
+        let Some(slot) = self.map.get_index_mut(at) else {
             return;
         };
-        named.slot.set(val);
+        slot.set(val);
     }
 
     /// Empties the slot at a place, where it is a weak link to the object of a birth.
     pub fn forget(&mut self, at: usize, birth: u64)
         ensures { self.new ≡ changed_at (forgotten_in birth) at self.old }
     {
-        let Some(named) = self.map.get_index_mut(at) else {
+        let Some(slot) = self.map.get_index_mut(at) else {
             return;
         };
-        named.slot.forget(birth);
+        slot.forget(birth);
     }
 
     /// How many hold the object of a birth.
@@ -180,7 +181,7 @@ impl SlotMap {
     {
         self.map
             .values()
-            .filter(|named| named.slot.holds(birth))
+            .filter(|slot| slot.holds(birth))
             .count()
     }
 
@@ -188,7 +189,7 @@ impl SlotMap {
     pub fn is_parent(&self, birth: u64) -> bool
         ensures { result ≡ list_any (λ s. names_child birth s.1) self.now }
     {
-        self.map.values().any(|named| named.slot.names_child(birth))
+        self.map.values().any(|slot| slot.names_child(birth))
     }
 
     /// The first place of one that has the object of a birth as a child.
@@ -197,13 +198,13 @@ impl SlotMap {
     {
         self.map
             .values()
-            .position(|named| named.slot.names_child(birth))
+            .position(|slot| slot.names_child(birth))
     }
 
     /// Whether one holds an object.
     pub fn holds_any(&self) -> bool
         ensures { result ≡ list_any (λ s. is_some (held s.1)) self.now }
     {
-        self.map.values().any(|named| named.slot.holds_any())
+        self.map.values().any(|slot| slot.holds_any())
     }
 }

@@ -31,7 +31,7 @@ pub struct SlotView<'a> {
     /// Its place among the object's slots, from 0.
     pub at: usize,
     /// Its name.
-    pub name: &'a Name,
+    pub name: &'a str,
     /// What stands in it.
     pub what: &'a Slot,
 }

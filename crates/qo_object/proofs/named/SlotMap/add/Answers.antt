@@ -1,16 +1,19 @@
-use Rattle.std.proofs.Common.{◌≡◌, ◌∙◌, string_bytes}
+use Rattle.std.proofs.Common.{◌≡◌, ◌∙◌, ℕ, List, [], ◌∷◌, ◌++◌, ap, false, string_bytes, sym}
 use Rattle.std.proofs.lemmas.List.{map-append}
-use Rattle.qo_object.proofs.MapLemmas.{names-append, entry-added}
+use Rattle.qo_object.specs.declared.slots.Slot.{Slot}
+use Rattle.qo_object.specs.Slots.{has_name}
+use Rattle.qo_object.specs.Stored.{slots_of}
+use Rattle.qo_object.proofs.MapLemmas.{entry-added}
 use Rattle.qo_object.proofs.named.SlotMap.add.Goals as goal
-
-pub invariant_of-self-2 : goal.invariant_of-self-2
-invariant_of-self-2 c =
-    let es = c.self.inside.map.entries in
-    let text : string_bytes c.in_ok-key.key ≡ c.args.name = c.in_ok-key.ensures.ok ∙ c.as_str.ensures.value in
-    rw (c.in_ok-insert.ensures.entries ∙ entry-added string_bytes es c.in_ok-key.key (record { name = c.args.name; slot = c.args.slot }) text c.self.invariant (rw (← c.self.view_is) at c.requires)) (names-append string_bytes es (c.in_ok-key.key, record { name = c.args.name; slot = c.args.slot }) c.self.invariant text)
 
 pub returns-clause-ok : goal.returns-clause-ok
 returns-clause-ok c =
     let es = c.self.inside.map.entries in
-    let text : string_bytes c.in_ok-key.key ≡ c.args.name = c.in_ok-key.ensures.ok ∙ c.as_str.ensures.value in
-    rw (← c.self.view_is, c.in_ok-insert.ensures.entries ∙ entry-added string_bytes es c.in_ok-key.key (record { name = c.args.name; slot = c.args.slot }) text c.self.invariant (rw (← c.self.view_is) at c.requires)) (map-append _ es _)
+    let key = c.into_string.result in
+    let before : slots_of string_bytes es ≡ c.args.self.now = c.self.view_is ∙ c.make_room.ensures in
+    let text : string_bytes key ≡ c.args.name = c.into_string.ensures in
+    let free : has_name (string_bytes key) (slots_of string_bytes es) ≡ false =
+        ap (λ (n : List ℕ). has_name n (slots_of string_bytes es)) text ∙ ap (has_name c.args.name) before ∙ c.requires in
+    ap (slots_of string_bytes) (c.in_ok-insert.ensures.entries ∙ entry-added string_bytes es key c.args.slot free) ∙ map-append _ es _
+    ∙ ap (λ (ss : List (List ℕ × Slot)). ss ++ (string_bytes key, c.args.slot) ∷ []) before
+    ∙ ap (λ (n : List ℕ). c.args.self.now ++ (n, c.args.slot) ∷ []) text

@@ -1,8 +1,7 @@
-use Rattle.std.proofs.Common.{◌∙◌, Bool, rules, tests}
+use Rattle.std.proofs.Common.{string_bytes, ◌∙◌, Bool, rules, tests}
 use Rattle.std.proofs.lemmas.Iterator.Consumers.{YieldsList-from_rest}
 use Rattle.std.proofs.lemmas.Iterator.Search.{position_from_yields_List}
 use Rattle.std.specs.Map.{values_of}
-use Rattle.qo_object.specs.declared.named.Named.{Named}
 use Rattle.qo_object.specs.declared.slots.Slot.{Slot}
 use Rattle.qo_object.specs.Slots.{names_child}
 use Rattle.qo_object.proofs.MapLemmas.{position-slot}
@@ -12,6 +11,6 @@ pub returns : goal.returns
 returns c =
     let test : Slot → Bool = (names_child c.args.birth) in
     rw (← c.self.view_is) (
-    position_from_yields_List (λ (n : Named). test n.slot) _ _ _ c.position.ensures.ran (YieldsList-from_rest (values_of c.self.inside.map.entries) c.values.ensures.rest) (λ x b q k. search (rules, tests))
-    ∙ position-slot test c.self.inside.map.entries
+    position_from_yields_List test _ _ _ c.position.ensures.ran (YieldsList-from_rest (values_of c.self.inside.map.entries) c.values.ensures.rest) (λ x b q k. search (rules, tests))
+    ∙ position-slot string_bytes test c.self.inside.map.entries
     )

@@ -5,4 +5,4 @@ use Rattle.qo_object.proofs.named.SlotMap.find.Goals as goal
 
 pub returns : goal.returns
 returns c =
-    rw (← c.self.view_is) (c.get_index_of.ensures.index ∙ place-of_name string_bytes (bytes_eq c.args.name.now) c.self.inside.map.entries c.self.invariant)
+    rw (← c.self.view_is) (c.get_index_of.ensures.index ∙ place-of_name string_bytes (bytes_eq c.args.name.now) c.self.inside.map.entries)

@@ -1,8 +1,7 @@
-use Rattle.std.proofs.Common.{◌∙◌, Bool, is_some, rules, tests}
+use Rattle.std.proofs.Common.{string_bytes, ◌∙◌, Bool, is_some, rules, tests}
 use Rattle.std.proofs.lemmas.Iterator.Consumers.{YieldsList-from_rest}
 use Rattle.std.proofs.lemmas.Iterator.Search.{any_from_yields_List}
 use Rattle.std.specs.Map.{values_of}
-use Rattle.qo_object.specs.declared.named.Named.{Named}
 use Rattle.qo_object.specs.declared.slots.Slot.{Slot}
 use Rattle.qo_object.specs.Slots.{held}
 use Rattle.qo_object.proofs.MapLemmas.{any-slot}
@@ -12,6 +11,6 @@ pub returns : goal.returns
 returns c =
     let test : Slot → Bool = (λ (s : Slot). is_some (held s)) in
     rw (← c.self.view_is) (
-    any_from_yields_List (λ (n : Named). test n.slot) _ _ _ c.any.ensures.ran (YieldsList-from_rest (values_of c.self.inside.map.entries) c.values.ensures.rest) (λ x b q k. search (rules, tests))
-    ∙ any-slot test c.self.inside.map.entries
+    any_from_yields_List test _ _ _ c.any.ensures.ran (YieldsList-from_rest (values_of c.self.inside.map.entries) c.values.ensures.rest) (λ x b q k. search (rules, tests))
+    ∙ any-slot string_bytes test c.self.inside.map.entries
     )
