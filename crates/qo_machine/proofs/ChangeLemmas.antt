@@ -2,11 +2,12 @@
 use Rattle.std.proofs.Common.{◌≡◌, ℕ, Bool, true, false, List, refl, sym, ap, ◌∙◌, Option, None, Some, Result, Ok, Err, ◌⊎◌, inl, inr, subst}
 use Rattle.std.proofs.lemmas.Bool.{true≢false}
 use Rattle.std.specs.Option.{option_map_or}
+use Rattle.qo_values.specs.declared.births.TheConstants.{OBJECTS_BIRTH}
 use Rattle.qo_values.specs.declared.codes.Code.{Code}
 use Rattle.qo_values.specs.declared.codes.Code.TheVariants.{E20}
 use Rattle.qo_values.specs.declared.properties.Val.{Val}
 use Rattle.qo_model.specs.Board.{Board}
-use Rattle.qo_model.specs.Objects.{Given, added_as, added_by, attempted_as, barred, barred_by, is_object_named, object_add, object_del, objects_birth, place_from, refusal_of, sever, with_attempt}
+use Rattle.qo_model.specs.Objects.{Given, added_as, added_by, attempted_as, barred, barred_by, is_object_named, object_add, object_del, place_from, refusal_of, sever, with_attempt}
 use Rattle.qo_model.specs.Board.{slots_at, is_live}
 use Rattle.qo_model.specs.Paths.{attached}
 use Rattle.qo_model.specs.Types.{TypeRow, row_named}
@@ -72,9 +73,9 @@ added_stays b driver id props code is = by (row_named driver) refl is
     by (Some row) named e = rw (object_add, named) (by_bar row (barred b row id) named refl (rw (object_add, named) at e))
 
 deleted_stays : (b : Board) (id : List ℕ) (code : Code) → changed (object_del b id) ≡ refused_with (changed (object_del b id)).board code → (changed (object_del b id)).board ≡ b
-deleted_stays b id code is = by (place_from (is_object_named id) 0 (slots_at b objects_birth)) refl is
+deleted_stays b id code is = by (place_from (is_object_named id) 0 (slots_at b OBJECTS_BIRTH)) refl is
   where
-    by : (place : Option ℕ) → place_from (is_object_named id) 0 (slots_at b objects_birth) ≡ place → changed (object_del b id) ≡ refused_with (changed (object_del b id)).board code → (changed (object_del b id)).board ≡ b
+    by : (place : Option ℕ) → place_from (is_object_named id) 0 (slots_at b OBJECTS_BIRTH) ≡ place → changed (object_del b id) ≡ refused_with (changed (object_del b id)).board code → (changed (object_del b id)).board ≡ b
     by None at e = rw (object_del, at) refl
     by (Some i) at e = absurd (cc (ap (λ (d : Done). d.result) (rw (object_del, at) at e)))
 

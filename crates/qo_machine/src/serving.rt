@@ -4,6 +4,7 @@ ghost use Rattle.std.specs.Prelude.{◌≡◌, ◌<◌, true, false, [], ◌∷�
 ghost use Rattle.qo_causes.specs.declared.hubs.Lane.TheVariants as Lane;
 ghost use Rattle.qo_replies.specs.Replies.{error_reply};
 ghost use Rattle.qo_values.specs.declared.codes.Code.TheVariants.{E99};
+ghost use Rattle.qo_values.specs.declared.limits.TheConstants.{SESSIONS};
 ghost use Rattle.qo_commands.specs.Changes.{is_change};
 ghost use Rattle.qo_machine.specs.Machine.{IsIn, Message, State, beside, commanding, event_outs, those_commanding, told_of};
 ghost use Rattle.qo_machine.specs.Sending.{AreToLanes};
@@ -32,7 +33,7 @@ fn tell_one(
     event: &Event,
     outs: &mut Outs,
 ) -> Result<(), AllocError>
-    requires { session < 16 }
+    requires { session < SESSIONS }
     ensures { OnOk result (outs.new ≡ outs.old ++ told_of event.now at (those_commanding (beside machine.now) (session ∷ []))) }
 {
     if machine.mode(session) == Mode::Commanding {
@@ -97,7 +98,7 @@ fn serve_ask<L: Ledger>(
     outs: &mut Outs,
     steps: &mut Steps<L>,
 ) -> Result<(), AllocError>
-    requires session { session < 16 }
+    requires session { session < SESSIONS }
     requires asks { is_change request.now ≡ false }
     ensures served { OnOk result ((front : List Message) × (outs.new ≡ outs.old ++ front) × AreToLanes front × ((s : State) → IsIn s machine.old → CommandServed at session s request.now (option_map (λ id. id.now) id.entry) front machine.new)) }
     ensures left { OnErr result ((s : State) → IsIn s machine.old → CommandLeft at session s request.now (option_map (λ id. id.now) id.entry) machine.new) }
@@ -125,7 +126,7 @@ fn serve_change<L: Ledger>(
     outs: &mut Outs,
     steps: &mut Steps<L>,
 ) -> Result<(), AllocError>
-    requires session { session < 16 }
+    requires session { session < SESSIONS }
     requires changes { is_change request.now ≡ true }
     ensures served { OnOk result ((front : List Message) × (outs.new ≡ outs.old ++ front) × AreToLanes front × ((s : State) → IsIn s machine.old → CommandServed at session s request.now (option_map (λ id. id.now) id.entry) front machine.new)) }
     ensures left { OnErr result ((s : State) → IsIn s machine.old → CommandLeft at session s request.now (option_map (λ id. id.now) id.entry) machine.new) }
@@ -151,7 +152,7 @@ fn serve_command<L: Ledger>(
     outs: &mut Outs,
     steps: &mut Steps<L>,
 ) -> Result<(), AllocError>
-    requires { session < 16 }
+    requires { session < SESSIONS }
     ensures served { OnOk result ((front : List Message) × (outs.new ≡ outs.old ++ front) × AreToLanes front × ((s : State) → IsIn s machine.old → CommandServed at session s request.now (option_map (λ id. id.now) id.entry) front machine.new)) }
     ensures left { OnErr result ((s : State) → IsIn s machine.old → CommandLeft at session s request.now (option_map (λ id. id.now) id.entry) machine.new) }
     ensures lasts { machine.new.spent ≡ machine.old.spent }
@@ -173,7 +174,7 @@ fn serve_item<L: Ledger>(
     outs: &mut Outs,
     steps: &mut Steps<L>,
 ) -> Result<(), AllocError>
-    requires { session < 16 }
+    requires { session < SESSIONS }
     ensures served { OnOk result ((front : List Message) × (outs.new ≡ outs.old ++ front) × AreToLanes front × ((s : State) → IsIn s machine.old → ServesTo at session s (item.now ∷ []) front machine.new)) }
     ensures left { OnErr result ((s : State) → IsIn s machine.old → ServesFront at session s (item.now ∷ []) machine.new) }
     ensures lasts { machine.new.spent ≡ machine.old.spent }
@@ -213,7 +214,7 @@ pub(crate) fn serve_items<L: Ledger>(
     items: &[Item],
     steps: &mut Steps<L>,
 ) -> Result<Outs, AllocError>
-    requires { session < 16 }
+    requires { session < SESSIONS }
     ensures served { IfOk result (λ outs. (s : State) → IsIn s machine.old → ServesTo at session s items.now outs machine.new) }
     ensures left { OnErr result ((s : State) → IsIn s machine.old → ServesFront at session s items.now machine.new) }
     ensures lanes { IfOk result AreToLanes }

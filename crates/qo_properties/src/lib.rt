@@ -20,7 +20,7 @@ pub use adding::start::make_all;
 pub use errors::Memory;
 pub use reading::detached::detached_list;
 pub use reading::listing::{Prop, list};
-pub use reading::lookup::{OBJECTS_BIRTH, ROOT_BIRTH, child_place, object_of, place_named};
+pub use reading::lookup::{child_place, object_of, place_named};
 pub use reading::naming::{object_at, path_text, target_text};
 pub use reading::values::{copy_of, get};
 pub use refusals::Refusal;

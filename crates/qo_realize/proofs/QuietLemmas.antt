@@ -5,6 +5,7 @@ use Rattle.std.specs.List.{AllByRecursion, list_any}
 use Rattle.std.specs.Option.{option_map_or}
 use Rattle.std.specs.Str.{bytes_eq}
 use Rattle.qo_values.specs.Properties.{admits}
+use Rattle.qo_values.specs.declared.births.TheConstants.{OBJECTS_BIRTH}
 use Rattle.qo_values.specs.declared.codes.Code.{Code}
 use Rattle.qo_values.specs.declared.kinds.TypeId.{TypeId}
 use Rattle.qo_values.specs.declared.properties.Val.{Val}
@@ -12,7 +13,7 @@ use Rattle.qo_values.specs.declared.properties.Val.TheVariants as val
 use Rattle.qo_model.specs.Board.{Board, DeviceEvent, Record, Slot, plain, child, strong, weak, alias, is_live, kind_of, slot_at, slots_at, held}
 use Rattle.qo_model.specs.Changes.{point, pointed, set, with_changed, with_val}
 use Rattle.qo_model.specs.FinalNotesRuns.{behind_write}
-use Rattle.qo_model.specs.Objects.{Changed, Given, added_as, added_by, attempted_as, barred, barred_by, is_object_named, object_add, object_del, objects_birth, place_from, refusal_of, sever, severed_from, with_attempt}
+use Rattle.qo_model.specs.Objects.{Changed, Given, added_as, added_by, attempted_as, barred, barred_by, is_object_named, object_add, object_del, place_from, refusal_of, sever, severed_from, with_attempt}
 use Rattle.qo_model.specs.Paths.{attached}
 use Rattle.qo_model.specs.Properties.{link_target, link_written, linked, may_set, object_at, pointed_at, relinked, row_of_property, write, written, written_by}
 use Rattle.qo_model.specs.References.{refs}
@@ -110,7 +111,7 @@ added_as-quiet : (b : Board) (t : TypeId) (id : List ℕ) (props : List Given) (
 added_as-quiet b t id props None h =
     record {
       events = h.events;
-      pathless = append-pathless (map (edited objects_birth _) b.records) _ (edited-pathless objects_birth _ (λ r. refl) b.records h.pathless) refl;
+      pathless = append-pathless (map (edited OBJECTS_BIRTH _) b.records) _ (edited-pathless OBJECTS_BIRTH _ (λ r. refl) b.records h.pathless) refl;
     }
 added_as-quiet b t id props (Some code) h = quiet-attempt b t h
 
@@ -127,11 +128,11 @@ object_add-quiet b driver id props h = go (row_named driver) refl
 
 -- `object-del`
 pub object_del-quiet : (b : Board) (id : List ℕ) → IsQuiet b → IsQuiet (object_del b id).board
-object_del-quiet b id h = go (place_from (is_object_named id) 0 (slots_at b objects_birth)) refl
+object_del-quiet b id h = go (place_from (is_object_named id) 0 (slots_at b OBJECTS_BIRTH)) refl
   where
-    go : (place : Option ℕ) → place_from (is_object_named id) 0 (slots_at b objects_birth) ≡ place → IsQuiet (object_del b id).board
+    go : (place : Option ℕ) → place_from (is_object_named id) 0 (slots_at b OBJECTS_BIRTH) ≡ place → IsQuiet (object_del b id).board
     go None p = rw (object_del, p) h
-    go (Some i) p = rw (object_del, p) (quiet-let_go b objects_birth i h)
+    go (Some i) p = rw (object_del, p) (quiet-let_go b OBJECTS_BIRTH i h)
 
 -- `qom-set`
 set-quiet : (b : Board) (n i : ℕ) (v : Val) → IsQuiet b → IsQuiet (set n i v b)

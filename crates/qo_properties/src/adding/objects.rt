@@ -1,9 +1,10 @@
 //! Making users' objects.
 
 ghost use Rattle.std.specs.Prelude.{◌≡◌, ℕ, ◌+◌, Some, option_map, IfOk, OnOk, OnErr, List};
+ghost use Rattle.qo_values.specs.declared.births.TheConstants.{OBJECTS_BIRTH};
 ghost use Rattle.qo_table.specs.Rows.{IsLive};
 ghost use Rattle.qo_model.specs.Board.{Board};
-ghost use Rattle.qo_model.specs.Objects.{objects_birth, with_object};
+ghost use Rattle.qo_model.specs.Objects.{with_object};
 ghost use Rattle.qo_object.specs.Content.{held_count, with_slot, without_pin};
 ghost use Rattle.qo_object.specs.Slots.{Named};
 ghost use Rattle.qo_object.specs.declared.slots.Slot.TheVariants.{Child};
@@ -109,7 +110,7 @@ pub fn add_filled<L: Ledger>(
     steps: &mut Steps<L>,
 ) -> Result<(), Memory>
     requires live { IsLive heap.old.rows admitted.objects }
-    requires objects { admitted.objects.birth ≡ objects_birth }
+    requires objects { admitted.objects.birth ≡ OBJECTS_BIRTH }
     ensures ok { OnOk result ((b : Board) → Shows b heap.old → Shows (with_object b admitted.kind admitted.name props.now) heap.new) }
     ensures err { OnErr result (IsTried admitted.kind heap.old heap.new) }
     ensures pins { pins_in heap.new.rows ≡ pins_in heap.old.rows }

@@ -3,9 +3,9 @@
 ghost use Rattle.std.specs.Prelude.{◌≡◌, Some, None, IfOk, OnOk};
 ghost use Rattle.qo_values.specs.Names.{IsName};
 ghost use Rattle.qo_values.specs.declared.kinds.TypeId.TheVariants.{Clock};
+ghost use Rattle.qo_values.specs.declared.limits.TheConstants.{SYSTEM_PERIOD};
 ghost use Rattle.qo_values.specs.declared.properties.Val.TheVariants.{Uint};
 ghost use Rattle.qo_model.specs.Board.{Board};
-ghost use Rattle.qo_model.specs.Opening.{system_period};
 ghost use Rattle.qo_table.specs.Rows.{IsLive};
 ghost use Rattle.qo_object.specs.Content.{set_at, as_made};
 ghost use Rattle.qo_heap.specs.Board.{Shows};
@@ -18,13 +18,9 @@ use crate::adding::fresh::{add_fresh_slots, name_of};
 use crate::errors::Memory;
 use crate::reading::lookup::place_named;
 use qo_heap::{Heap, Oid, Steps};
-use qo_values::{TypeId, Val};
+use qo_values::{SYSTEM_PERIOD, TypeId, Val};
 use std::alloc::Global;
 use std::sync::ledger::Ledger;
-
-/// The period of the system clock: 10 ns, in units of 2^-32 ns (docs/devel/clocks.rst, "The clock
-/// state").
-const SYSTEM_PERIOD: u64 = 10 << 32;
 
 /// Makes an object of a type with its plain properties and its links.
 fn make_new<L: Ledger>(
@@ -69,7 +65,7 @@ fn make_child<L: Ledger>(
 fn set_period<L: Ledger>(heap: &mut Heap, clock: Oid, steps: &mut Steps<L>)
     requires live { IsLive heap.old.rows clock }
     requires content { content_of heap.old clock.birth ≡ Some (as_made Clock (new_slots Clock) 0) }
-    ensures { heap.new ≡ with_edit clock.birth (set_at (Uint system_period) 1) heap.old }
+    ensures { heap.new ≡ with_edit clock.birth (set_at (Uint SYSTEM_PERIOD) 1) heap.old }
 {
     if let Some(at) = place_named(heap, clock, "period", steps) {
         heap.set(clock, at, Val::Uint(SYSTEM_PERIOD), steps);
