@@ -31,10 +31,7 @@ fn closed_sessions(alloc: Global) -> Result<Vec<Session>, AllocError>
 {
     let mut sessions = Vec::with_capacity(alloc, usize::from(SESSIONS))?;
     for _ in 0..SESSIONS {
-        let Ok(session) = Session::closed(alloc) else {
-            return Err(AllocError);
-        };
-        sessions.push(session)?;
+        sessions.push(Session::closed(alloc)?)?;
     }
     Ok(sessions)
 }
@@ -108,11 +105,8 @@ impl Machine {
         ensures state { IfOk result (λ m. IsIn opening m × (m.spent ≡ false)) }
     {
         let mut steps = Steps::<L>::from_blank(blank);
-        let Ok(board) = Board::start(alloc, &mut steps) else {
-            return Err(AllocError);
-        };
         Ok(Machine {
-            board,
+            board: Board::start(alloc, &mut steps)?,
             sessions: closed_sessions(alloc)?,
             guest_line: Vec::new(alloc),
             ended: false,
@@ -228,9 +222,7 @@ impl Machine {
         if session >= SESSIONS || self.sessions[usize::from(session)].mode() != Mode::Closed {
             return Ok(outs);
         }
-        let Ok(begun) = Session::begin(alloc) else {
-            return Err(AllocError);
-        };
+        let begun = Session::begin(alloc)?;
         outs.push(session, begun.greet_text(alloc)?)?;
         self.sessions[usize::from(session)] = begun;
         Ok(outs)

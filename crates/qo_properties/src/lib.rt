@@ -4,7 +4,6 @@
 #![tactic(auto)]
 
 mod adding;
-mod errors;
 mod reading;
 mod refusals;
 #[cfg(test)]
@@ -17,7 +16,6 @@ pub use adding::fresh::{add_fresh_slots, name_of};
 pub use adding::given::{check_given, given_val, linked_to};
 pub use adding::objects::{add_filled, add_object, attempt, make_child};
 pub use adding::start::make_all;
-pub use errors::Memory;
 pub use reading::detached::detached_list;
 pub use reading::listing::{Prop, list};
 pub use reading::lookup::{child_place, object_of, place_named};

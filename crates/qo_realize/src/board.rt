@@ -3,10 +3,10 @@
 use qo_heap::{Heap, Steps};
 use qo_model::{Detached, Note};
 use qo_properties::{
-    Memory, Prop, Refusal, add_object, detached_list, get, list, make_all, remove, set, sever,
+    Prop, Refusal, add_object, detached_list, get, list, make_all, remove, set, sever,
 };
 use qo_values::{Code, PropList, Val};
-use std::alloc::Global;
+use std::alloc::{AllocError, Global};
 use std::marker::Model;
 use std::sync::ledger::Ledger;
 
@@ -47,7 +47,7 @@ impl Board {
 
     /// The opening board: the eight objects that every machine begins with; it runs. The error is
     /// want of memory.
-    pub fn start<L: Ledger>(alloc: Global, steps: &mut Steps<L>) -> Result<Board, Memory>
+    pub fn start<L: Ledger>(alloc: Global, steps: &mut Steps<L>) -> Result<Board, AllocError>
         ensures { IfOk result (Stands opening_board) }
     {
         let mut heap = Heap::new(alloc)?;
@@ -102,10 +102,10 @@ impl Board {
         &self,
         alloc: Global,
         steps: &mut Steps<L>,
-    ) -> Result<Vec<Detached>, Memory>
+    ) -> Result<Vec<Detached>, AllocError>
         ensures { (b : model.Board) → Stands b self.now → IfOk result (λ list. list.items ≡ detached_told b) }
     {
-        Ok(detached_list(&self.heap, alloc, steps)?)
+        detached_list(&self.heap, alloc, steps)
     }
 
     /// How many notes there were; it stays at 2^64 - 1 once there.
@@ -123,10 +123,10 @@ impl Board {
     }
 
     /// The notes that a reading from a number gives, at most `NOTES_PER_REPLY`. The error is want of memory.
-    pub fn notes(&self, from: u64, alloc: Global) -> Result<Vec<Note>, Memory>
+    pub fn notes(&self, from: u64, alloc: Global) -> Result<Vec<Note>, AllocError>
         ensures { (b : model.Board) → Stands b self.now → IfOk result (λ notes. notes.items ≡ given_from from b.notes) }
     {
-        Ok(self.heap.notes(from, alloc)?)
+        self.heap.notes(from, alloc)
     }
 
     /// Writes the property of a name of the object at a path (QEMU's QAPI, `qom-set`). A link takes

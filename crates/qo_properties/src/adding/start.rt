@@ -15,11 +15,10 @@ ghost use Rattle.qo_properties.specs.Fresh.{new_slots};
 ghost use Rattle.qo_properties.specs.Start.{IsMade, KeepsNames, with_new, with_new_child, with_clock, with_containers, with_buses, with_machine, with_all};
 
 use crate::adding::fresh::{add_fresh_slots, name_of};
-use crate::errors::Memory;
 use crate::reading::lookup::place_named;
 use qo_heap::{Heap, Oid, Steps};
 use qo_values::{SYSTEM_PERIOD, TypeId, Val};
-use std::alloc::Global;
+use std::alloc::{AllocError, Global};
 use std::sync::ledger::Ledger;
 
 /// Makes an object of a type with its plain properties and its links.
@@ -28,7 +27,7 @@ fn make_new<L: Ledger>(
     kind: TypeId,
     alloc: Global,
     steps: &mut Steps<L>,
-) -> Result<Oid, Memory>
+) -> Result<Oid, AllocError>
     ensures made { IfOk result (λ o. IsMade heap.old heap.new kind 1 o) }
     ensures shown { OnOk result ((b : Board) → Shows b heap.old → Shows (with_new kind b) heap.new) }
 {
@@ -46,7 +45,7 @@ fn make_child<L: Ledger>(
     kind: TypeId,
     alloc: Global,
     steps: &mut Steps<L>,
-) -> Result<Oid, Memory>
+) -> Result<Oid, AllocError>
     requires live { IsLive heap.old.rows parent }
     requires name { IsName name.now }
     ensures made { IfOk result (λ o. IsMade heap.old heap.new kind 0 o) }
@@ -78,7 +77,7 @@ fn make_clock<L: Ledger>(
     machine: Oid,
     alloc: Global,
     steps: &mut Steps<L>,
-) -> Result<(), Memory>
+) -> Result<(), AllocError>
     requires live { IsLive heap.old.rows machine }
     ensures names { OnOk result (KeepsNames heap.old heap.new) }
     ensures book { OnOk result (KeepsBook heap.old heap.new) }
@@ -95,7 +94,7 @@ fn make_containers<L: Ledger>(
     machine: Oid,
     alloc: Global,
     steps: &mut Steps<L>,
-) -> Result<(), Memory>
+) -> Result<(), AllocError>
     requires live { IsLive heap.old.rows machine }
     ensures names { OnOk result (KeepsNames heap.old heap.new) }
     ensures book { OnOk result (KeepsBook heap.old heap.new) }
@@ -119,7 +118,7 @@ fn make_buses<L: Ledger>(
     machine: Oid,
     alloc: Global,
     steps: &mut Steps<L>,
-) -> Result<(), Memory>
+) -> Result<(), AllocError>
     requires live { IsLive heap.old.rows machine }
     ensures names { OnOk result (KeepsNames heap.old heap.new) }
     ensures book { OnOk result (KeepsBook heap.old heap.new) }
@@ -136,7 +135,7 @@ fn make_machine<L: Ledger>(
     root: Oid,
     alloc: Global,
     steps: &mut Steps<L>,
-) -> Result<(), Memory>
+) -> Result<(), AllocError>
     requires live { IsLive heap.old.rows root }
     ensures names { OnOk result (KeepsNames heap.old heap.new) }
     ensures book { OnOk result (KeepsBook heap.old heap.new) }
@@ -154,7 +153,7 @@ pub fn make_all<L: Ledger>(
     heap: &mut Heap,
     alloc: Global,
     steps: &mut Steps<L>,
-) -> Result<(), Memory>
+) -> Result<(), AllocError>
     ensures shown { OnOk result ((b : Board) → Shows b heap.old → Shows (with_all b) heap.new) }
     ensures book { OnOk result (KeepsBook heap.old heap.new) }
 {
