@@ -22,3 +22,7 @@ pub record Stands (b : Board) (p : Parts) : Type 0 where
   pub rings : b.rings ≡ p.rings
   pub book : IsBook (map ring_claim p.rings) p.objects
   pub quiet : IsQuiet b
+
+-- there is a board that they stand for
+abbrev pub StandsForSome : Parts → Type 0
+StandsForSome p = (b : Board) × Stands b p

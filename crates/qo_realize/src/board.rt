@@ -23,12 +23,13 @@ impl Model for Board {
     ghost use Rattle.std.specs.Prelude.{[]};
     ghost use Rattle.qo_properties.specs.Pinned.{OnlyRootPinned};
     ghost use Rattle.qo_realize.specs.Parts.{Parts};
+    ghost use Rattle.qo_realize.specs.Stands.{StandsForSome};
 
     ghost Value = { Parts };
 
     ghost view = { λ b. record { objects = b.heap; anonymous = b.anonymous; running = b.running; holds = []; pending = []; notices = []; rings = [] } };
 
-    ghost invariant = { λ b. OnlyRootPinned b.heap };
+    ghost invariant = { λ b. OnlyRootPinned b.heap × StandsForSome (record { objects = b.heap; anonymous = b.anonymous; running = b.running; holds = []; pending = []; notices = []; rings = [] }) };
 }
 
 impl Board {
@@ -40,10 +41,11 @@ impl Board {
     ghost use Rattle.qo_model.specs.Notes.{total_of};
     ghost use Rattle.qo_model.specs.Objects as objects;
     ghost use Rattle.qo_model.specs.Opening.{opening_board};
+    ghost use Rattle.qo_notes.specs.Log as log;
     ghost use Rattle.qo_properties.specs.Listed.{prop_told};
     ghost use Rattle.qo_properties.specs.Reads.{Answers};
     ghost use Rattle.qo_realize.specs.Answers.{Adds, IsAnswered, Writes};
-    ghost use Rattle.qo_realize.specs.Stands.{Stands};
+    ghost use Rattle.qo_realize.specs.Stands.{Stands, StandsForSome};
 
     /// The opening board: the eight objects that every machine begins with; it runs. The error is
     /// want of memory.
@@ -57,6 +59,13 @@ impl Board {
             anonymous: 0,
             running: true,
         })
+    }
+
+    /// What it stands for: there is a board that stands at it.
+    pub fn shown(&self)
+        ensures { StandsForSome self.now }
+    {
+        let _heap = &self.heap;
     }
 
     /// Whether the machine runs.
@@ -110,21 +119,24 @@ impl Board {
 
     /// How many notes there were; it stays at 2^64 - 1 once there.
     pub fn notes_total(&self) -> u64
-        ensures { (b : model.Board) → Stands b self.now → result ≡ total_of b.notes }
+        ensures logged { result ≡ self.now.objects.log.total }
+        ensures told { (b : model.Board) → Stands b self.now → result ≡ total_of b.notes }
     {
         self.heap.notes_total()
     }
 
     /// The number of the first note that a reading from a number gives.
     pub fn notes_first(&self, from: u64) -> u64
-        ensures { (b : model.Board) → Stands b self.now → result ≡ first_from from b.notes }
+        ensures logged { result ≡ log.first_from from self.now.objects.log }
+        ensures told { (b : model.Board) → Stands b self.now → result ≡ first_from from b.notes }
     {
         self.heap.notes_first(from)
     }
 
     /// The notes that a reading from a number gives, at most `NOTES_PER_REPLY`. The error is want of memory.
     pub fn notes(&self, from: u64, alloc: Global) -> Result<Vec<Note>, AllocError>
-        ensures { (b : model.Board) → Stands b self.now → IfOk result (λ notes. notes.items ≡ given_from from b.notes) }
+        ensures logged { IfOk result (λ notes. notes.items ≡ log.given_from from self.now.objects.log) }
+        ensures told { (b : model.Board) → Stands b self.now → IfOk result (λ notes. notes.items ≡ given_from from b.notes) }
     {
         self.heap.notes(from, alloc)
     }
