@@ -12,7 +12,8 @@ use std::alloc::{AllocError, Global};
 use std::collections::VecDeque;
 use std::marker::Model;
 
-/// How many sessions have lanes.
+/// How many sessions have lanes. A hub knows nothing of the machine that runs over it, so the number is its
+/// own, and not the machine's.
 const SESSIONS: u8 = 16;
 
 /// The longest path that `begin` takes, in bytes.

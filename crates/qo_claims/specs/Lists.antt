@@ -6,7 +6,7 @@ use Rattle.std.specs.Set.{remove_key}
 use Rattle.std.specs.Str.{bytes_eq}
 use Rattle.std.specs.declared.result.Result.{Result}
 use Rattle.std.specs.declared.result.Result.TheVariants.{Ok, Err}
-use Rattle.qo_values.specs.declared.limits.TheConstants.{BUS_SLOTS}
+use Rattle.qo_values.specs.declared.limits.TheConstants.{BUS_SLOTS, DIMM_ALIGN}
 use Rattle.qo_values.specs.declared.ranges.Range.{Range}
 use Rattle.qo_values.specs.Placing.{range_at, is_in_window, overlaps_any, least, place_of}
 use Rattle.qo_claims.specs.declared.errors.ClaimError.{ClaimError}
@@ -94,10 +94,10 @@ abbrev pub without_range : Range → List Range → List Range
 without_range r ranges = remove_key (range_eq r) ranges
 
 -- the range that is named: Range where it leaves the window, Held where it overlaps one that is held; else where there
--- is place for it at a multiple of 4,096, and Full where there is none
+-- is place for it at a multiple of `DIMM_ALIGN`, and Full where there is none
 abbrev pub range_answer : Option ℕ → ℕ → List Range → Result Range ClaimError
 range_answer (Some at) size ranges =
     if is_in_window (range_at at size)
     then unless_held (overlaps_any (range_at at size) ranges) (range_at at size)
     else Err refusal.Range
-range_answer None size ranges = unless_full (option_map (λ at. range_at at size) (place_of ranges size 4096))
+range_answer None size ranges = unless_full (option_map (λ at. range_at at size) (place_of ranges size DIMM_ALIGN))

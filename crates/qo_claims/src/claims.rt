@@ -207,7 +207,7 @@ impl Claims {
         })
     }
 
-    /// Claims a range of `size` bytes: at the named address, or at its place, a multiple of 4,096.
+    /// Claims a range of `size` bytes: at the named address, or at its place, a multiple of `DIMM_ALIGN`.
     /// `Range` exactly where the named one leaves the window, `Held` exactly where it overlaps one
     /// that is held, `Full` exactly where none is named and there is no place. An error leaves all as
     /// it was.

@@ -7,12 +7,9 @@ ghost use Rattle.qo_claims.specs.Lists.{range_eq};
 
 use crate::errors::ClaimError;
 use crate::placing::{WINDOW_END, WINDOW_START, place};
-use qo_values::Range;
+use qo_values::{DIMM_ALIGN, Range};
 use std::alloc::{AllocError, Global};
 use std::marker::Model;
-
-/// The address of a range that names none is a multiple of this.
-const ALIGN: u64 = 4_096;
 
 /// Ranges that lie apart in the window, by rising addresses.
 #[derive(Drop)]
@@ -98,7 +95,7 @@ impl Ranges {
         ensures free { IfOk result (λ range. (range.size ≡ size) × (is_in_window range ≡ true) × (overlaps_any range self.now ≡ false)) }
     {
         let Some(at) = at else {
-            return match place(&self.list, size, ALIGN) {
+            return match place(&self.list, size, DIMM_ALIGN) {
                 Some(at) => Ok(Range { at, size }),
                 None => Err(ClaimError::Full),
             };

@@ -52,9 +52,7 @@ pub(crate) fn query_detached<L: Ledger>(
 ) -> Result<Done, AllocError>
     ensures { (b : Tree) → Stands b board.now → IfOk result (λ d. done_of b d ≡ returned b (array (items_of (map detached_data (detached_told b))))) }
 {
-    let Ok(objects) = board.detached(alloc, steps) else {
-        return Err(AllocError);
-    };
+    let objects = board.detached(alloc, steps)?;
     let value = detached_list(alloc, &objects)?;
     Ok(returned(alloc, Body::Value(value)))
 }

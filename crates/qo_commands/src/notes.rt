@@ -53,9 +53,7 @@ fn told(alloc: Global, first: u64, notes: &[Note], total: u64) -> Result<Value, 
 pub(crate) fn query_notes(alloc: Global, board: &Board, from: u64) -> Result<Done, AllocError>
     ensures { (b : Tree) → Stands b board.now → IfOk result (λ d. done_of b d ≡ returned b (notes_data from b.notes)) }
 {
-    let Ok(notes) = board.notes(from, alloc) else {
-        return Err(AllocError);
-    };
+    let notes = board.notes(from, alloc)?;
     let value = told(alloc, board.notes_first(from), &notes, board.notes_total())?;
     Ok(returned(alloc, Body::Value(value)))
 }

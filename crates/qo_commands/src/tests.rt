@@ -5,7 +5,6 @@ ghost use Rattle.qo_commands.specs.Changes.{is_change};
 
 use crate::{Body, Done, ask, change};
 use qo_heap::Steps;
-use qo_properties::Memory;
 use qo_realize::Board;
 use qo_requests::Request;
 use qo_values::{Code, PropList, PropType, Text, TypeText, Val};
@@ -26,7 +25,7 @@ fn tells<L: Ledger>(
     request: &Request,
     want: &str,
     steps: &mut Steps<L>,
-) -> Result<bool, Memory>
+) -> Result<bool, AllocError>
     requires { is_change request.now ≡ false }
 {
     let Done {
@@ -46,7 +45,7 @@ fn lists_type<L: Ledger>(
     board: &Board,
     request: &Request,
     steps: &mut Steps<L>,
-) -> Result<bool, Memory>
+) -> Result<bool, AllocError>
     requires { is_change request.now ≡ false }
 {
     let Done {
@@ -65,7 +64,7 @@ fn lists_type<L: Ledger>(
 }
 
 /// Whether the opening board is read.
-fn reads<L: Ledger>(alloc: Global, blank: Blank) -> Result<bool, Memory>
+fn reads<L: Ledger>(alloc: Global, blank: Blank) -> Result<bool, AllocError>
     requires name { blank.name ≡ L.name }
     requires parts { blank.parts ≡ L.parts }
     requires some { 0 < blank.parts }
@@ -154,7 +153,7 @@ fn reads_text<L: Ledger>(
     alloc: Global,
     board: &Board,
     steps: &mut Steps<L>,
-) -> Result<bool, Memory> {
+) -> Result<bool, AllocError> {
     let path = text(alloc, "t")?;
     let property = text(alloc, "text")?;
     let read = Request::QomGet { path, property };
@@ -176,7 +175,7 @@ fn tells_end<L: Ledger>(
     alloc: Global,
     board: &Board,
     steps: &mut Steps<L>,
-) -> Result<bool, Memory> {
+) -> Result<bool, AllocError> {
     tells(
         alloc,
         board,

@@ -71,9 +71,7 @@ pub(crate) fn list_types(
 ) -> Result<Value, AllocError>
     ensures { IfOk result (λ v. view v ≡ array (items_of (map type_data (types_of (option_map_or (λ name. name.now) implements.entry (codes "object")) with_abstract)))) }
 {
-    let Ok(types) = TypeTable::board().list(alloc, name_given(implements), with_abstract) else {
-        return Err(AllocError);
-    };
+    let types = TypeTable::board().list(alloc, name_given(implements), with_abstract)?;
     type_listing(alloc, &types)
 }
 

@@ -1,6 +1,7 @@
 //! The errors of the heap's calls.
 
 use qo_object::AddError;
+use std::alloc::AllocError;
 use thiserror::Error;
 
 /// Why no object was made.
@@ -12,6 +13,13 @@ pub enum MakeError {
     /// There was not enough memory, or no birth is left below 2^64.
     #[error("not enough memory")]
     Memory,
+}
+
+/// For a caller that has seen that there is room for one more object.
+impl From<MakeError> for AllocError {
+    fn from(_error: MakeError) -> AllocError {
+        AllocError
+    }
 }
 
 /// Why no slot was added.
@@ -39,5 +47,12 @@ impl From<AddError> for SlotError {
             AddError::Duplicate => SlotError::Duplicate,
             AddError::Memory => SlotError::Memory,
         }
+    }
+}
+
+/// For a caller that has seen that the name is free, and that the child has no parent.
+impl From<SlotError> for AllocError {
+    fn from(_error: SlotError) -> AllocError {
+        AllocError
     }
 }

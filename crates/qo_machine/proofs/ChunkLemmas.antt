@@ -21,6 +21,7 @@ use Rattle.qo_sessions.specs.declared.acts.SessionAct.TheVariants.{Answer, Negot
 use Rattle.qo_sessions.specs.declared.modes.Mode.{Mode}
 use Rattle.qo_sessions.specs.declared.modes.Mode.TheVariants.{Closed, Negotiating, Commanding}
 use Rattle.qo_values.specs.declared.codes.Code.TheVariants.{E99}
+use Rattle.qo_values.specs.declared.limits.TheConstants.{SESSIONS}
 use Rattle.qo_machine.proofs.MachineLemmas.{behind_twice, serve_on, step_ended, step_on, stopped, with_same}
 use Rattle.qo_machine.proofs.RunLemmas.{outs_more, state_more}
 use Rattle.qo_commands.specs.Commands.{empty, perform}
@@ -92,7 +93,7 @@ those_same (m ∷ ms) n f s =
 
 events_same : (at : Moment) (n : ℕ) (f : Framing) (s : State) (es : List Event) → event_outs at (reframed n f s) es ≡ event_outs at s es
 events_same at n f s es =
-    ap (λ (ms : List ℕ). flat_map (λ (event : Event). told_of event at ms) es) (those_same (numbers_below 16) n f s)
+    ap (λ (ms : List ℕ). flat_map (λ (event : Event). told_of event at ms) es) (those_same (numbers_below SESSIONS) n f s)
 
 -- the one state behind the end, and the other before it
 abbrev keep : Bool → State → State → State
@@ -271,27 +272,27 @@ fed_all Closed x bytes h = absurd (true≢false (sym h))
 fed_all Negotiating x bytes h = refl
 fed_all Commanding x bytes h = refl
 
-step_beyond : (s : State) (at : Moment) (n : ℕ) (bytes : List ℕ) (cs : List Choice) → s.ended ≡ false → nat_lt n 16 ≡ false → step s (input at (Bytes n bytes)) cs ≡ unchanged s cs
+step_beyond : (s : State) (at : Moment) (n : ℕ) (bytes : List ℕ) (cs : List Choice) → s.ended ≡ false → nat_lt n SESSIONS ≡ false → step s (input at (Bytes n bytes)) cs ≡ unchanged s cs
 step_beyond s at n bytes cs going beyond =
     step_on s (input at (Bytes n bytes)) (Bytes n bytes) cs going refl ∙ ap (λ (t : Bool). if t then taken at s n bytes cs else unchanged s cs) beyond
 
-step_taken : (s : State) (at : Moment) (n : ℕ) (bytes : List ℕ) (cs : List Choice) → s.ended ≡ false → nat_lt n 16 ≡ true → step s (input at (Bytes n bytes)) cs ≡ taken at s n bytes cs
+step_taken : (s : State) (at : Moment) (n : ℕ) (bytes : List ℕ) (cs : List Choice) → s.ended ≡ false → nat_lt n SESSIONS ≡ true → step s (input at (Bytes n bytes)) cs ≡ taken at s n bytes cs
 step_taken s at n bytes cs going below =
     step_on s (input at (Bytes n bytes)) (Bytes n bytes) cs going refl ∙ ap (λ (t : Bool). if t then taken at s n bytes cs else unchanged s cs) below
 
-step_closed : (s : State) (at : Moment) (n : ℕ) (bytes : List ℕ) (cs : List Choice) → s.ended ≡ false → nat_lt n 16 ≡ true → is_open (mode_of s n) ≡ false → step s (input at (Bytes n bytes)) cs ≡ unchanged s cs
+step_closed : (s : State) (at : Moment) (n : ℕ) (bytes : List ℕ) (cs : List Choice) → s.ended ≡ false → nat_lt n SESSIONS ≡ true → is_open (mode_of s n) ≡ false → step s (input at (Bytes n bytes)) cs ≡ unchanged s cs
 step_closed s at n bytes cs going below shut =
     step_taken s at n bytes cs going below
     ∙ ap (λ (d : Fed). serve at n d.items (with_session s n d.session) cs) (fed_none (mode_of s n) (session_of s n) bytes shut)
     ∙ ap (λ (t : State). unchanged t cs) (with_same s n)
 
-step_open : (s : State) (at : Moment) (n : ℕ) (bytes : List ℕ) (cs : List Choice) → s.ended ≡ false → nat_lt n 16 ≡ true → is_open (mode_of s n) ≡ true → step s (input at (Bytes n bytes)) cs ≡ serve at n (cut (session_of s n).framing bytes).items (reframed n (cut (session_of s n).framing bytes).state s) cs
+step_open : (s : State) (at : Moment) (n : ℕ) (bytes : List ℕ) (cs : List Choice) → s.ended ≡ false → nat_lt n SESSIONS ≡ true → is_open (mode_of s n) ≡ true → step s (input at (Bytes n bytes)) cs ≡ serve at n (cut (session_of s n).framing bytes).items (reframed n (cut (session_of s n).framing bytes).state s) cs
 step_open s at n bytes cs going below takes =
     step_taken s at n bytes cs going below
     ∙ ap (λ (d : Fed). serve at n d.items (with_session s n d.session) cs) (fed_all (mode_of s n) (session_of s n) bytes takes)
 
 -- the items of the first of two pieces are served from the state before them, and of the second from there
-step_still : (s : State) (at : Moment) (n : ℕ) (f : Framing) (bytes : List ℕ) (cs : List Choice) → nat_lt n 16 ≡ true → lives n s ≡ true → step (still n f s) (input at (Bytes n bytes)) cs ≡ still_step n (cut f bytes).state (serve at n (cut f bytes).items s cs)
+step_still : (s : State) (at : Moment) (n : ℕ) (f : Framing) (bytes : List ℕ) (cs : List Choice) → nat_lt n SESSIONS ≡ true → lives n s ≡ true → step (still n f s) (input at (Bytes n bytes)) cs ≡ still_step n (cut f bytes).state (serve at n (cut f bytes).items s cs)
 step_still s at n f bytes cs below h = go s.ended refl h
   where
     go : (e : Bool) → s.ended ≡ e → (e || is_open (mode_of s n)) ≡ true → step (still n f s) (input at (Bytes n bytes)) cs ≡ still_step n (cut f bytes).state (serve at n (cut f bytes).items s cs)
@@ -315,7 +316,7 @@ nothing_two : (s : State) (i j k : Input) (cs : List Choice) → step s i cs ≡
 nothing_two s i j k cs p q r = p ∙ sym (ap (then_step k) q ∙ ap (behind []) r)
 
 -- and where the session is open
-open_two : (s : State) (at : Moment) (n : ℕ) (a b : List ℕ) (cs : List Choice) → s.ended ≡ false → nat_lt n 16 ≡ true → is_open (mode_of s n) ≡ true → InTwo (Bytes n) s at a b cs
+open_two : (s : State) (at : Moment) (n : ℕ) (a b : List ℕ) (cs : List Choice) → s.ended ≡ false → nat_lt n SESSIONS ≡ true → is_open (mode_of s n) ≡ true → InTwo (Bytes n) s at a b cs
 open_two s at n a b cs going below takes =
     let f = (session_of s n).framing in
     let c = cut f a in
@@ -332,19 +333,19 @@ open_two s at n a b cs going below takes =
 bytes_two : (n : ℕ) (s : State) (at : Moment) (a b : List ℕ) (cs : List Choice) → InTwo (Bytes n) s at a b cs
 bytes_two n s at a b cs = by_end s.ended refl
   where
-    by_mode : (t : Bool) → s.ended ≡ false → nat_lt n 16 ≡ true → is_open (mode_of s n) ≡ t → InTwo (Bytes n) s at a b cs
+    by_mode : (t : Bool) → s.ended ≡ false → nat_lt n SESSIONS ≡ true → is_open (mode_of s n) ≡ t → InTwo (Bytes n) s at a b cs
     by_mode true going below takes = open_two s at n a b cs going below takes
     by_mode false going below shut =
         nothing_two s _ _ _ cs (step_closed s at n (a ++ b) cs going below shut) (step_closed s at n a cs going below shut) (step_closed s at n b cs going below shut)
 
-    by_number : (t : Bool) → s.ended ≡ false → nat_lt n 16 ≡ t → InTwo (Bytes n) s at a b cs
+    by_number : (t : Bool) → s.ended ≡ false → nat_lt n SESSIONS ≡ t → InTwo (Bytes n) s at a b cs
     by_number true going below = by_mode (is_open (mode_of s n)) going below refl
     by_number false going beyond =
         nothing_two s _ _ _ cs (step_beyond s at n (a ++ b) cs going beyond) (step_beyond s at n a cs going beyond) (step_beyond s at n b cs going beyond)
 
     by_end : (e : Bool) → s.ended ≡ e → InTwo (Bytes n) s at a b cs
     by_end true over = nothing_two s _ _ _ cs (step_ended s _ cs over) (step_ended s _ cs over) (step_ended s _ cs over)
-    by_end false going = by_number (nat_lt n 16) going refl
+    by_end false going = by_number (nat_lt n SESSIONS) going refl
 
 -- whatever the choices, an input comes to some items served from some state
 abbrev ServesSome : State → Moment → ℕ → Input → Type 0
@@ -353,18 +354,18 @@ ServesSome s at n i = (items : List Item) × (t : State) × ((cs : List Choice) 
 bytes_serve : (n : ℕ) (s : State) (at : Moment) (bytes : List ℕ) → ServesSome s at n (input at (Bytes n bytes))
 bytes_serve n s at bytes = by_end s.ended refl
   where
-    by_mode : (t : Bool) → s.ended ≡ false → nat_lt n 16 ≡ true → is_open (mode_of s n) ≡ t → ServesSome s at n (input at (Bytes n bytes))
+    by_mode : (t : Bool) → s.ended ≡ false → nat_lt n SESSIONS ≡ true → is_open (mode_of s n) ≡ t → ServesSome s at n (input at (Bytes n bytes))
     by_mode true going below takes =
         ((cut (session_of s n).framing bytes).items, reframed n (cut (session_of s n).framing bytes).state s, λ cs. step_open s at n bytes cs going below takes)
     by_mode false going below shut = ([], s, λ cs. step_closed s at n bytes cs going below shut)
 
-    by_number : (t : Bool) → s.ended ≡ false → nat_lt n 16 ≡ t → ServesSome s at n (input at (Bytes n bytes))
+    by_number : (t : Bool) → s.ended ≡ false → nat_lt n SESSIONS ≡ t → ServesSome s at n (input at (Bytes n bytes))
     by_number true going below = by_mode (is_open (mode_of s n)) going below refl
     by_number false going beyond = ([], s, λ cs. step_beyond s at n bytes cs going beyond)
 
     by_end : (e : Bool) → s.ended ≡ e → ServesSome s at n (input at (Bytes n bytes))
     by_end true over = ([], s, λ cs. step_ended s (input at (Bytes n bytes)) cs over)
-    by_end false going = by_number (nat_lt n 16) going refl
+    by_end false going = by_number (nat_lt n SESSIONS) going refl
 
 -- the choices that a step uses
 abbrev Uses : State → Input → List Choice → Type 0

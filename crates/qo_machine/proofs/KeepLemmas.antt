@@ -13,6 +13,7 @@ use Rattle.qo_values.specs.declared.codes.Code.{Code}
 use Rattle.qo_values.specs.declared.codes.Code.TheVariants.{E22}
 use Rattle.qo_values.specs.declared.kinds.TypeId.{TypeId}
 use Rattle.qo_values.specs.declared.properties.Val.{Val}
+use Rattle.qo_values.specs.declared.limits.TheConstants.{SESSIONS}
 use Rattle.qo_model.specs.Board.{Board}
 use Rattle.qo_model.specs.FinalNotesRuns.{Change, added, deleted, wrote, severed, changed}
 use Rattle.qo_model.specs.Objects.{Changed, barred_by, object_add, object_del, sever, with_attempt}
@@ -199,9 +200,9 @@ step_keeps P k s i cs p = unless_board P s.ended (unchanged s cs) (input_step s 
     shuts n false = p
 
     by : (w : What) → P (input_step s i.at w cs).state.board
-    by (Open n) = opens n (mode_of s n) (nat_lt n 16)
-    by (Bytes n bytes) = takes n bytes (nat_lt n 16)
-    by (Shut n) = shuts n (nat_lt n 16)
+    by (Open n) = opens n (mode_of s n) (nat_lt n SESSIONS)
+    by (Bytes n bytes) = takes n bytes (nat_lt n SESSIONS)
+    by (Shut n) = shuts n (nat_lt n SESSIONS)
     by (GuestLine bytes) = p
     by (Step ns) = p
     by End = p

@@ -2,6 +2,7 @@
 use Rattle.std.proofs.Common.{◌≡◌, ℕ, zero, suc, ◌<◌, ◌≤◌, Bool, true, false, if◌then◌else◌, List, [], ◌∷◌, ◌++◌, map, Ok, ap, ◌∙◌, append_assoc, refl, subst, sym, arith, nat_lt}
 use Rattle.std.proofs.lemmas.Bool.{ltb-true}
 use Rattle.std.proofs.lemmas.Grind.{flat_map-append}
+use Rattle.qo_values.specs.declared.limits.TheConstants.{SESSIONS}
 use Rattle.qo_causes.specs.declared.hubs.Lane.TheVariants.{Session}
 use Rattle.qo_causes.specs.declared.inputs.Moment.{Moment}
 use Rattle.qo_causes.specs.declared.inputs.What.{What}
@@ -28,11 +29,11 @@ lanes_more : (a b : List Message) → AreToLanes a → AreToLanes b → AreToLan
 lanes_more [] b p q = q
 lanes_more (m ∷ a) b p q = (p.0, lanes_more a b p.1 q)
 
-one_told : (s : State) (e : Event) (at : Moment) (n : ℕ) (t : Bool) → n < 16 → is_commanding (mode_of s n) ≡ t → AreToLanes (told_of e at (if t then n ∷ [] else []))
+one_told : (s : State) (e : Event) (at : Moment) (n : ℕ) (t : Bool) → n < SESSIONS → is_commanding (mode_of s n) ≡ t → AreToLanes (told_of e at (if t then n ∷ [] else []))
 one_told s e at n true below is = (below, tt)
 one_told s e at n false below is = tt
 
-all_told : (k : ℕ) (s : State) (e : Event) (at : Moment) → k ≤ 16 → AreToLanes (told_of e at (those_commanding s (numbers_below k)))
+all_told : (k : ℕ) (s : State) (e : Event) (at : Moment) → k ≤ SESSIONS → AreToLanes (told_of e at (those_commanding s (numbers_below k)))
 all_told zero s e at few = tt
 all_told (suc k) s e at few =
     subst AreToLanes (sym (told_more s e at (numbers_below k) (k ∷ [])))
@@ -40,9 +41,9 @@ all_told (suc k) s e at few =
 
 events_told : (es : List Event) (s : State) (at : Moment) → AreToLanes (event_outs at s es)
 events_told [] s at = tt
-events_told (e ∷ es) s at = lanes_more (told_of e at (those_commanding s (numbers_below 16))) (event_outs at s es) (all_told 16 s e at (omega arith)) (events_told es s at)
+events_told (e ∷ es) s at = lanes_more (told_of e at (those_commanding s (numbers_below SESSIONS))) (event_outs at s es) (all_told SESSIONS s e at (omega arith)) (events_told es s at)
 
-made_lanes : (choice : Choice) (at : Moment) (n : ℕ) (s : State) (what : SessionAct) → n < 16 → AreToLanes (made_by choice at n s what).outs
+made_lanes : (choice : Choice) (at : Moment) (n : ℕ) (s : State) (what : SessionAct) → n < SESSIONS → AreToLanes (made_by choice at n s what).outs
 made_lanes defined at n s (Answer code id) below = (below, tt)
 made_lanes defined at n s (Negotiated id) below = (below, tt)
 made_lanes defined at n s (Do request id) below = lanes_more (event_outs at s (perform s.board request).events) _ (events_told (perform s.board request).events s at) (below, tt)
@@ -50,7 +51,7 @@ made_lanes (refused i joined) at n s (Answer code id) below = (below, tt)
 made_lanes (refused i joined) at n s (Negotiated id) below = (below, tt)
 made_lanes (refused i joined) at n s (Do request id) below = (below, tt)
 
-item_lanes : (choice : Choice) (at : Moment) (n : ℕ) (s : State) (item : Item) → n < 16 → AreToLanes (item_step choice at n s item).outs
+item_lanes : (choice : Choice) (at : Moment) (n : ℕ) (s : State) (item : Item) → n < SESSIONS → AreToLanes (item_step choice at n s item).outs
 unfolding item_step
 item_lanes choice at n s item below = made_lanes choice at n s (act (mode_of s n) item) below
 
@@ -58,7 +59,7 @@ unless_lanes : (e : Bool) (a b : Stepped) → AreToLanes a.outs → AreToLanes b
 unless_lanes true a b p q = p
 unless_lanes false a b p q = q
 
-serve_lanes : (items : List Item) (at : Moment) (n : ℕ) (s : State) (cs : List Choice) → n < 16 → AreToLanes (serve at n items s cs).outs
+serve_lanes : (items : List Item) (at : Moment) (n : ℕ) (s : State) (cs : List Choice) → n < SESSIONS → AreToLanes (serve at n items s cs).outs
 serve_lanes [] at n s cs below = tt
 serve_lanes (item ∷ items) at n s cs below =
     unless_lanes s.ended (unchanged s cs) (behind (item_step (first cs) at n s item).outs (serve at n items (item_step (first cs) at n s item).state (others cs))) tt
@@ -68,14 +69,14 @@ serve_lanes (item ∷ items) at n s cs below =
 pub input_lanes : (s : State) (at : Moment) (w : What) (cs : List Choice) → AreToLanes (input_step s at w cs).outs
 input_lanes s at w cs = what_lanes w
   where
-    open_lanes : (n : ℕ) (mode : Mode) (t : Bool) → nat_lt n 16 ≡ t → AreToLanes (if t then opened s n mode cs else unchanged s cs).outs
-    open_lanes n Closed true h = (ltb-true n 16 h, tt)
+    open_lanes : (n : ℕ) (mode : Mode) (t : Bool) → nat_lt n SESSIONS ≡ t → AreToLanes (if t then opened s n mode cs else unchanged s cs).outs
+    open_lanes n Closed true h = (ltb-true n SESSIONS h, tt)
     open_lanes n Negotiating true h = tt
     open_lanes n Commanding true h = tt
     open_lanes n mode false h = tt
 
-    bytes_lanes : (n : ℕ) (bytes : List ℕ) (t : Bool) → nat_lt n 16 ≡ t → AreToLanes (if t then taken at s n bytes cs else unchanged s cs).outs
-    bytes_lanes n bytes true h = serve_lanes (fed (session_of s n) bytes).items at n (with_session s n (fed (session_of s n) bytes).session) cs (ltb-true n 16 h)
+    bytes_lanes : (n : ℕ) (bytes : List ℕ) (t : Bool) → nat_lt n SESSIONS ≡ t → AreToLanes (if t then taken at s n bytes cs else unchanged s cs).outs
+    bytes_lanes n bytes true h = serve_lanes (fed (session_of s n) bytes).items at n (with_session s n (fed (session_of s n) bytes).session) cs (ltb-true n SESSIONS h)
     bytes_lanes n bytes false h = tt
 
     shut_lanes : (n : ℕ) (t : Bool) (a b : State) → AreToLanes (if t then unchanged a cs else unchanged b cs).outs
@@ -83,9 +84,9 @@ input_lanes s at w cs = what_lanes w
     shut_lanes n false a b = tt
 
     what_lanes : (w : What) → AreToLanes (input_step s at w cs).outs
-    what_lanes (Open n) = open_lanes n (mode_of s n) (nat_lt n 16) refl
-    what_lanes (Bytes n bytes) = bytes_lanes n bytes (nat_lt n 16) refl
-    what_lanes (Shut n) = shut_lanes n (nat_lt n 16) _ _
+    what_lanes (Open n) = open_lanes n (mode_of s n) (nat_lt n SESSIONS) refl
+    what_lanes (Bytes n bytes) = bytes_lanes n bytes (nat_lt n SESSIONS) refl
+    what_lanes (Shut n) = shut_lanes n (nat_lt n SESSIONS) _ _
     what_lanes (GuestLine bytes) = tt
     what_lanes (Step ns) = tt
     what_lanes End = tt
@@ -94,10 +95,10 @@ input_lanes s at w cs = what_lanes w
 pub no_lanes : (outs : List Message) → outs ≡ [] → AreToLanes outs
 no_lanes outs none = subst AreToLanes (sym none) tt
 
-pub one_lane : (n : ℕ) (text : List ℕ) → n < 16 → AreToLanes ((Session n, text) ∷ [])
+pub one_lane : (n : ℕ) (text : List ℕ) → n < SESSIONS → AreToLanes ((Session n, text) ∷ [])
 one_lane n text below = (below, tt)
 
-pub told_lanes : (es : List Event) (s : State) (at : Moment) (n : ℕ) (text : List ℕ) (told front : List Message) → told ≡ event_outs at s es → front ≡ told ++ (Session n, text) ∷ [] → n < 16 → AreToLanes front
+pub told_lanes : (es : List Event) (s : State) (at : Moment) (n : ℕ) (text : List ℕ) (told front : List Message) → told ≡ event_outs at s es → front ≡ told ++ (Session n, text) ∷ [] → n < SESSIONS → AreToLanes front
 told_lanes es s at n text told front tells is below =
     subst AreToLanes (sym is) (lanes_more told ((Session n, text) ∷ []) (subst AreToLanes (sym tells) (events_told es s at)) (below, tt))
 
@@ -106,7 +107,7 @@ more_lanes a front b is p q = subst AreToLanes (sym is) (lanes_more a front p q)
 
 -- the messages that tell of what waited, of a command's own events, and its reply
 pub reply_sent : (at : Moment) (n : ℕ) (m mid : Seen) (r : Replied) (start told both outs : List Message) (waiting seen own : List Event) (text : List ℕ)
-    → n < 16 → ((b : Board) → state_at b mid ≡ state_at b m) → ((b : Board) → Stands b m.board → waiting ≡ map event_of b.events)
+    → n < SESSIONS → ((b : Board) → state_at b mid ≡ state_at b m) → ((b : Board) → Stands b m.board → waiting ≡ map event_of b.events)
     → told ≡ start ++ event_outs at (beside mid) seen → seen ≡ waiting → both ≡ told ++ event_outs at (beside mid) own → own ≡ r.events.items
     → r.text ≡ Ok text → outs ≡ both ++ (Session n, text) ∷ []
     → (front : List Message) × (outs ≡ start ++ front) × AreToLanes front × Tells at n m r front

@@ -1,5 +1,6 @@
 -- Opening, shutting, and items that are no commands touch one session.
 use Rattle.std.proofs.Common.{◌≡◌, ◌≢◌, ℕ, zero, suc, nat_lt, Bool, true, false, if◌then◌else◌, List, [], ◌∷◌, refl, ap, slice_set, slice_index_or}
+use Rattle.qo_values.specs.declared.limits.TheConstants.{SESSIONS}
 use Rattle.qo_causes.specs.declared.hubs.Lane.TheVariants.{Session as to_session}
 use Rattle.qo_causes.specs.declared.inputs.Moment.{Moment}
 use Rattle.qo_causes.specs.declared.inputs.What.TheVariants.{Open, Shut}
@@ -58,7 +59,7 @@ open_alone s at n cs = on s.ended
 
     on : (e : Bool) → AloneBy n s (serve_unless e (unchanged s cs) (input_step s at (Open n) cs))
     on true = alone_none n s
-    on false = by_number (nat_lt n 16)
+    on false = by_number (nat_lt n SESSIONS)
 
 shut_alone : ShutAlone
 unfolding step
@@ -70,7 +71,7 @@ shut_alone s at n cs = on s.ended
 
     on : (e : Bool) → AloneBy n s (serve_unless e (unchanged s cs) (input_step s at (Shut n) cs))
     on true = alone_none n s
-    on false = by_number (nat_lt n 16)
+    on false = by_number (nat_lt n SESSIONS)
 
 made_alone : (choice : Choice) (at : Moment) (n : ℕ) (s : State) (what : SessionAct) → IsOwn what → Alone n s (made_by choice at n s what).outs (made_by choice at n s what).state
 made_alone (refused i joined) at n s (Answer code id) own = alone_told n s _

@@ -13,6 +13,7 @@ use Rattle.qo_sessions.specs.Sessions.{fed}
 use Rattle.qo_sessions.specs.declared.acts.SessionAct.{SessionAct}
 use Rattle.qo_sessions.specs.declared.acts.SessionAct.TheVariants.{Answer, Negotiated, Do}
 use Rattle.qo_values.specs.declared.codes.Code.{Code}
+use Rattle.qo_values.specs.declared.limits.TheConstants.{SESSIONS}
 use Rattle.qo_model.specs.Board.{Board}
 use Rattle.qo_realize.specs.Stands.{Stands}
 use Rattle.qo_machine.proofs.MachineLemmas.{by_board, in_at, serve_on}
@@ -101,7 +102,7 @@ front_of_all at n s m items i p = (
 -- the board is that before
 pub fed_board : (s : State) (w : What) → (fed_at s w).board ≡ s.board
 fed_board s (Open n) = refl
-fed_board s (Bytes n bytes) = by (nat_lt n 16)
+fed_board s (Bytes n bytes) = by (nat_lt n SESSIONS)
   where
     by : (t : Bool) → (if t then with_session s n (fed (session_of s n) bytes).session else s).board ≡ s.board
     by true = refl
@@ -117,7 +118,7 @@ breaks_before s i m to same here =
     ([], items_at s i.what, [], refl, subst (λ (b : Board). Stands b to.board) (sym (fed_board s i.what)) (subst (Stands s.board) (sym same) here.stands))
 
 -- a front of the items was served
-pub breaks_in : (at : Moment) (n : ℕ) (m mid to : Seen) (bytes : List ℕ) (items : List Item) → n < 16 → ((b : Board) → items ≡ (fed (session_of (state_at b m) n) bytes).items) → ((b : Board) → state_at b mid ≡ with_session (state_at b m) n (fed (session_of (state_at b m) n) bytes).session) → mid.board ≡ m.board → ((s : State) → IsIn s mid → ServesFront at n s items to) → (s : State) → IsIn s m → BreaksOff s (record { at = at; what = Bytes n bytes }) to
+pub breaks_in : (at : Moment) (n : ℕ) (m mid to : Seen) (bytes : List ℕ) (items : List Item) → n < SESSIONS → ((b : Board) → items ≡ (fed (session_of (state_at b m) n) bytes).items) → ((b : Board) → state_at b mid ≡ with_session (state_at b m) n (fed (session_of (state_at b m) n) bytes).session) → mid.board ≡ m.board → ((s : State) → IsIn s mid → ServesFront at n s items to) → (s : State) → IsIn s m → BreaksOff s (record { at = at; what = Bytes n bytes }) to
 breaks_in at n m mid to bytes items below cuts move same served s here =
     by_board (λ (x : State). BreaksOff x (record { at = at; what = Bytes n bytes }) to) m
     (λ b stands.
@@ -126,8 +127,8 @@ breaks_in at n m mid to bytes items below cuts move same served s here =
       p.0,
       p.1,
       p.2,
-      rw (lt-ltb n 16 below) (sym (cuts b) ∙ p.3),
-      rw (lt-ltb n 16 below) p.4.stands,
+      rw (lt-ltb n SESSIONS below) (sym (cuts b) ∙ p.3),
+      rw (lt-ltb n SESSIONS below) p.4.stands,
     )) s here
 
 -- where the machine ends behind it, the objects stay

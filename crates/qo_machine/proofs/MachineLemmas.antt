@@ -20,6 +20,7 @@ use Rattle.qo_sessions.specs.declared.acts.SessionAct.{SessionAct}
 use Rattle.qo_sessions.specs.declared.acts.SessionAct.TheVariants.{Answer, Negotiated, Do}
 use Rattle.qo_values.specs.declared.codes.Code.{Code}
 use Rattle.qo_values.specs.declared.codes.Code.TheVariants.{E99}
+use Rattle.qo_values.specs.declared.limits.TheConstants.{SESSIONS}
 use Rattle.qo_model.specs.Board.{Board}
 use Rattle.qo_model.specs.Opening.{opening_board}
 use Rattle.qo_commands.specs.Changes.{attempted}
@@ -185,12 +186,12 @@ serve_all at n s t items outs p =
     ∙ ap (λ (o : List Message). record { outs = o; state = t; rest = [] }) (append-nil outs)
 
 -- bytes of a session
-pub bytes_taken : (at : Moment) (n : ℕ) (s : State) (m : Seen) (bytes : List ℕ) (items : List Item) (outs : List Message) → n < 16 → items ≡ (fed (session_of s n) bytes).items → ServesTo at n (with_session s n (fed (session_of s n) bytes).session) items outs m → (choices : List Choice) × (t : State) × IsIn t m × (input_step s at (Bytes n bytes) choices ≡ record { outs = outs; state = t; rest = [] })
+pub bytes_taken : (at : Moment) (n : ℕ) (s : State) (m : Seen) (bytes : List ℕ) (items : List Item) (outs : List Message) → n < SESSIONS → items ≡ (fed (session_of s n) bytes).items → ServesTo at n (with_session s n (fed (session_of s n) bytes).session) items outs m → (choices : List Choice) × (t : State) × IsIn t m × (input_step s at (Bytes n bytes) choices ≡ record { outs = outs; state = t; rest = [] })
 bytes_taken at n s m bytes items outs below is p =
     let f = fed (session_of s n) bytes in
     let start = with_session s n f.session in
     let q : Serves at n start f.items outs p.0 = subst (λ (js : List Item). Serves at n start js outs p.0) is p.2 in
-    (q.0, p.0, p.1, rw (lt-ltb n 16 below) (serve_all at n start p.0 f.items outs q))
+    (q.0, p.0, p.1, rw (lt-ltb n SESSIONS below) (serve_all at n start p.0 f.items outs q))
 
 -- A machine that moved beside its board.
 
@@ -329,7 +330,7 @@ pub served_bytes : {E : Type 0} (r : Result (List Message) E) (i : Input) (w : W
 served_bytes r i w m to going what is s here = if_ok r (λ outs p. answers_taken i w outs m to going what s here p) (is s here)
 
 -- the items that bytes complete
-pub served_items : {E : Type 0} (r : Result (List Message) E) (at : Moment) (n : ℕ) (m mid to : Seen) (bytes : List ℕ) (items : List Item) → n < 16 → ((b : Board) → items ≡ (fed (session_of (state_at b m) n) bytes).items) → ((b : Board) → state_at b mid ≡ with_session (state_at b m) n (fed (session_of (state_at b m) n) bytes).session) → mid.board ≡ m.board → IfOk r (λ outs. (s : State) → IsIn s mid → ServesTo at n s items outs to) → (s : State) → IsIn s m → IfOk r (λ outs. (choices : List Choice) × (t : State) × IsIn t to × (input_step s at (Bytes n bytes) choices ≡ record { outs = outs; state = t; rest = [] }))
+pub served_items : {E : Type 0} (r : Result (List Message) E) (at : Moment) (n : ℕ) (m mid to : Seen) (bytes : List ℕ) (items : List Item) → n < SESSIONS → ((b : Board) → items ≡ (fed (session_of (state_at b m) n) bytes).items) → ((b : Board) → state_at b mid ≡ with_session (state_at b m) n (fed (session_of (state_at b m) n) bytes).session) → mid.board ≡ m.board → IfOk r (λ outs. (s : State) → IsIn s mid → ServesTo at n s items outs to) → (s : State) → IsIn s m → IfOk r (λ outs. (choices : List Choice) × (t : State) × IsIn t to × (input_step s at (Bytes n bytes) choices ≡ record { outs = outs; state = t; rest = [] }))
 served_items r at n m mid to bytes items below cuts move same served s here =
     by_board
     (λ (x : State). IfOk r (λ outs. (choices : List Choice) × (t : State) × IsIn t to × (input_step x at (Bytes n bytes) choices ≡ record { outs = outs; state = t; rest = [] }))) m
@@ -341,15 +342,15 @@ served_items r at n m mid to bytes items below cuts move same served s here =
     (subst (λ (x : State). IsIn x mid) (move b) (in_at b mid (subst (Stands b) (sym same) stands))))) served) s here
 
 -- bytes of a number that is no session's
-pub beyond : (at : Moment) (n : ℕ) (bytes : List ℕ) (s : State) (outs : List Message) → 16 ≤ n → outs ≡ [] → input_step s at (Bytes n bytes) [] ≡ record { outs = outs; state = s; rest = [] }
-beyond at n bytes s outs high none = by (nat_lt n 16) refl
+pub beyond : (at : Moment) (n : ℕ) (bytes : List ℕ) (s : State) (outs : List Message) → SESSIONS ≤ n → outs ≡ [] → input_step s at (Bytes n bytes) [] ≡ record { outs = outs; state = s; rest = [] }
+beyond at n bytes s outs high none = by (nat_lt n SESSIONS) refl
   where
-    by : (t : Bool) → nat_lt n 16 ≡ t → input_step s at (Bytes n bytes) [] ≡ record { outs = outs; state = s; rest = [] }
-    by true is = let below : n < 16 = ltb-true n 16 is in absurd (omega (arith, below, high))
+    by : (t : Bool) → nat_lt n SESSIONS ≡ t → input_step s at (Bytes n bytes) [] ≡ record { outs = outs; state = s; rest = [] }
+    by true is = let below : n < SESSIONS = ltb-true n SESSIONS is in absurd (omega (arith, below, high))
     by false is = rw is (leaves s outs none)
 
 -- a machine at first
-pub starts : (m : Seen) → Stands opening_board m.board → m.sessions ≡ replicate 16 closed → m.guest_line ≡ [] → m.ended ≡ false → IsIn opening m
+pub starts : (m : Seen) → Stands opening_board m.board → m.sessions ≡ replicate SESSIONS closed → m.guest_line ≡ [] → m.ended ≡ false → IsIn opening m
 starts m stands shut empty_line going =
     record {
       stands = stands;

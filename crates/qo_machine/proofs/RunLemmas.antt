@@ -6,6 +6,7 @@ use Rattle.std.proofs.lemmas.Grind.{flat_map-append}
 use Rattle.std.proofs.lemmas.List.{append-nil, length-set}
 use Rattle.std.specs.Io.KnownBytes.{append_known}
 use Rattle.std.specs.List.{cons_option}
+use Rattle.qo_values.specs.declared.limits.TheConstants.{SESSIONS}
 use Rattle.qo_machine.proofs.MachineLemmas.{step_ended, step_on}
 use Rattle.qo_causes.proofs.BytesLemmas.{append_known_twice}
 use Rattle.qo_causes.specs.Hub.{AtEnd, Gives, given_by, is_end, line}
@@ -116,14 +117,14 @@ unfolding closed_where
 closed_all [] = refl
 closed_all (s ∷ ss) = ap (λ (rest : List Session). closed ∷ rest) (closed_all ss)
 
-pub closed_sixteen : (sessions : List Session) → length sessions ≡ 16 → closed_where (replicate 16 true) sessions ≡ replicate 16 closed
+pub closed_sixteen : (sessions : List Session) → length sessions ≡ SESSIONS → closed_where (replicate SESSIONS true) sessions ≡ replicate SESSIONS closed
 closed_sixteen sessions size = subst (λ n. closed_where (replicate n true) sessions ≡ replicate n closed) size (closed_all sessions)
 
 -- one session was closed
 pub closed_one : (before now : List Session) (i : ℕ) (x : Session) → now ≡ slice_set before i x → x ≡ closed → now ≡ slice_set before i closed
 closed_one before now i x is shut = is ∙ ap (slice_set before i) shut
 
-pub still_sixteen : (before now : List Session) (i : ℕ) (x : Session) → now ≡ slice_set before i x → length before ≡ 16 → length now ≡ 16
+pub still_sixteen : (before now : List Session) (i : ℕ) (x : Session) → now ≡ slice_set before i x → length before ≡ SESSIONS → length now ≡ SESSIONS
 still_sixteen before now i x is size = ap length is ∙ length-set before i x ∙ size
 
 pub closed_then : (i : ℕ) (lost : List Bool) (sessions before now : List Session) → i < length lost → i < length sessions → slice_index_or lost i false ≡ true → before ≡ closed_where (take i lost) sessions → now ≡ slice_set before i closed → now ≡ closed_where (take (i + 1) lost) sessions

@@ -6,6 +6,7 @@ use Rattle.std.proofs.lemmas.Grind.{flat_map-append}
 use Rattle.std.proofs.lemmas.List.Folds.{list_any-append}
 use Rattle.std.proofs.lemmas.List.{append-nil, take-append-le, take-append-drop, get_or-set_same, get_or-set_other, length-set}
 use Rattle.std.specs.Io.KnownBytes.{append_known}
+use Rattle.qo_values.specs.declared.limits.TheConstants.{SESSIONS}
 use Rattle.qo_causes.proofs.BytesLemmas.{append_known_twice}
 use Rattle.qo_causes.specs.Bytes.{AppendsPrefix, PutsAll}
 use Rattle.qo_causes.specs.Hub.{GoneOnly, Loses, Sends, is_gone, line, part, same_lane}
@@ -159,7 +160,7 @@ gone_within true cut n bytes more within few = omega (arith, length-append bytes
 gone_within false cut n bytes more within few = omega (arith, length-append bytes [])
 
 -- its session is gone
-pub sent_gone : (start : Told) (mi ni : Option (List Input)) (ms ns : Option (List ℕ)) (mg ng : Lane → Option (List ℕ)) (ml nl : ℕ → ℕ) (outs : List Message) (m : Message) (k : ℕ) (lost : List Bool) → is_lost lost m.0 ≡ false → m.0 ≡ Session k → k < 16 → ni ≡ mi → (ms ≡ None) × (ns ≡ None) → ((l : Lane) → AppendsPrefix (mg l) (ng l) (part l m.0 m.1)) → ((n : ℕ) → Loses (n == k) (ml n) (nl n)) → Sent start (told mi ms mg ml) outs lost → Sent start (told ni ns ng nl) (outs ++ m ∷ []) (slice_set lost k true)
+pub sent_gone : (start : Told) (mi ni : Option (List Input)) (ms ns : Option (List ℕ)) (mg ng : Lane → Option (List ℕ)) (ml nl : ℕ → ℕ) (outs : List Message) (m : Message) (k : ℕ) (lost : List Bool) → is_lost lost m.0 ≡ false → m.0 ≡ Session k → k < SESSIONS → ni ≡ mi → (ms ≡ None) × (ns ≡ None) → ((l : Lane) → AppendsPrefix (mg l) (ng l) (part l m.0 m.1)) → ((n : ℕ) → Loses (n == k) (ml n) (nl n)) → Sent start (told mi ms mg ml) outs lost → Sent start (told ni ns ng nl) (outs ++ m ∷ []) (slice_set lost k true)
 sent_gone start mi ni ms ns mg ng ml nl outs m k lost flag lane below inputs sent got losses h =
     record {
       inputs = inputs ∙ h.inputs;
@@ -210,7 +211,7 @@ pub err_gone : (start : Told) (mi ni : Option (List Input)) (ms ns : Option (Lis
 err_gone start mi ni ms ns mg ng ml nl outs lane bytes text (Gone j) s k lost is from same flag wide inputs sent got gone losses h =
     let j_is : j ≡ k = cc in
     let below : IsLane (Session j) = subst IsLane gone wide in
-    let k_below : k < 16 = omega arith in
+    let k_below : k < SESSIONS = omega arith in
     let to : lane ≡ Session k = gone ∙ ap Session j_is in
     sent_gone start mi ni ms ns mg ng ml nl outs (lane, text) k lost flag to k_below inputs sent (λ l. rw same at (got l)) (λ n. rw j_is at (losses n)) h
 err_gone start mi ni ms ns mg ng ml nl outs lane bytes text Failed s k lost is from same flag wide inputs sent got gone losses h = cc
@@ -231,15 +232,15 @@ none_among zero n = refl
 none_among (suc k) zero = refl
 none_among (suc k) (suc n) = none_among k n
 
-none_lost : (n : ℕ) → slice_index_or (replicate 16 false) n false ≡ false
-none_lost n = none_among 16 n
+none_lost : (n : ℕ) → slice_index_or (replicate SESSIONS false) n false ≡ false
+none_lost n = none_among SESSIONS n
 
-lane_not_lost : (l : Lane) → is_lost (replicate 16 false) l ≡ false
+lane_not_lost : (l : Lane) → is_lost (replicate SESSIONS false) l ≡ false
 lane_not_lost (Session n) = none_lost n
 lane_not_lost Guest = refl
 
 -- nothing was sent yet
-pub sent_none : (i : Option (List Input)) (s : Option (List ℕ)) (g : Lane → Option (List ℕ)) (n : ℕ → ℕ) → Sent (told i s g n) (told i s g n) [] (replicate 16 false)
+pub sent_none : (i : Option (List Input)) (s : Option (List ℕ)) (g : Lane → Option (List ℕ)) (n : ℕ → ℕ) → Sent (told i s g n) (told i s g n) [] (replicate SESSIONS false)
 sent_none i s g n =
     record {
       inputs = refl;

@@ -4,6 +4,7 @@ use Rattle.std.specs.List.{flat_map}
 use Rattle.serde_json.specs.Data.{Data}
 use Rattle.qo_values.specs.declared.codes.Code.{Code}
 use Rattle.qo_values.specs.declared.codes.Code.TheVariants.{E99}
+use Rattle.qo_values.specs.declared.limits.TheConstants.{SESSIONS}
 use Rattle.qo_causes.specs.declared.hubs.Lane.{Lane}
 use Rattle.qo_causes.specs.declared.hubs.Lane.TheVariants.{Session as to_session}
 use Rattle.qo_causes.specs.declared.inputs.Input.{Input}
@@ -42,7 +43,7 @@ pub record State : Type 0 where
 
 -- the machine at first: the opening board, and all sessions closed
 abbrev pub opening : State
-opening = record { board = opening_board; sessions = replicate 16 closed; guest_line = []; ended = false }
+opening = record { board = opening_board; sessions = replicate SESSIONS closed; guest_line = []; ended = false }
 
 -- how an item is served: as it is defined; or, where it is a command, refused for want of memory, behind an attempt that had made so many objects, the last of them joined to the tree or not. A missing choice is `defined`.
 pub data Choice : Type 0 where
@@ -87,7 +88,7 @@ with_board s board = record { board = board; sessions = s.sessions; guest_line =
 
 -- the run has ended: all sessions are closed, and no guest line is unfinished
 abbrev pub finished : State → State
-finished s = record { board = s.board; sessions = replicate 16 closed; guest_line = []; ended = true }
+finished s = record { board = s.board; sessions = replicate SESSIONS closed; guest_line = []; ended = true }
 
 -- the numbers below a number, rising
 abbrev pub numbers_below : ℕ → List ℕ
@@ -103,7 +104,7 @@ abbrev pub those_commanding : State → List ℕ → List ℕ
 those_commanding s numbers = filter (λ n. is_commanding (mode_of s n)) numbers
 
 abbrev pub commanding : State → List ℕ
-commanding s = those_commanding s (numbers_below 16)
+commanding s = those_commanding s (numbers_below SESSIONS)
 
 -- an event, to each of some sessions
 abbrev pub told_of : Event → Moment → List ℕ → List Message
@@ -179,9 +180,9 @@ taken at s n bytes choices =
 
 -- one input; a session number above 15 changes nothing
 abbrev pub input_step : State → Moment → What → List Choice → Stepped
-input_step s at (Open n) choices = if nat_lt n 16 then opened s n (mode_of s n) choices else unchanged s choices
-input_step s at (Bytes n bytes) choices = if nat_lt n 16 then taken at s n bytes choices else unchanged s choices
-input_step s at (Shut n) choices = if nat_lt n 16 then unchanged (with_session s n closed) choices else unchanged s choices
+input_step s at (Open n) choices = if nat_lt n SESSIONS then opened s n (mode_of s n) choices else unchanged s choices
+input_step s at (Bytes n bytes) choices = if nat_lt n SESSIONS then taken at s n bytes choices else unchanged s choices
+input_step s at (Shut n) choices = if nat_lt n SESSIONS then unchanged (with_session s n closed) choices else unchanged s choices
 input_step s at End choices = unchanged (finished s) choices
 input_step s at what choices = unchanged s choices
 
@@ -216,7 +217,7 @@ Answers s input outs m = (choices : List Choice) × ((step s input choices).outs
 
 -- the items that an input completes, the session whose they are, and the state in which they are served: what is unfinished is kept
 abbrev pub items_at : State → What → List Item
-items_at s (Bytes n bytes) = if nat_lt n 16 then (fed (session_of s n) bytes).items else []
+items_at s (Bytes n bytes) = if nat_lt n SESSIONS then (fed (session_of s n) bytes).items else []
 items_at s what = []
 
 abbrev pub number_of : What → ℕ
@@ -224,7 +225,7 @@ number_of (Bytes n bytes) = n
 number_of what = 0
 
 abbrev pub fed_at : State → What → State
-fed_at s (Bytes n bytes) = if nat_lt n 16 then with_session s n (fed (session_of s n) bytes).session else s
+fed_at s (Bytes n bytes) = if nat_lt n SESSIONS then with_session s n (fed (session_of s n) bytes).session else s
 fed_at s what = s
 
 -- broken off: by some choices, a front of the items leads to a board that the machine's objects stand for

@@ -2,6 +2,7 @@
 use Rattle.std.specs.Prelude.{◌≡◌, ℕ, ◌<◌, ◌≤◌, Bool, true, false, List, length, Option, None, Result, Ok, Err, slice_index_or}
 use Rattle.std.specs.Io.KnownBytes.{append_known}
 use Rattle.std.specs.List.{AllByRecursion}
+use Rattle.qo_values.specs.declared.limits.TheConstants.{SESSIONS}
 use Rattle.qo_causes.specs.Bytes.{AppendsPrefix}
 use Rattle.qo_causes.specs.declared.faults.Failed.{Failed}
 use Rattle.qo_causes.specs.declared.hubs.Lane.{Lane}
@@ -11,7 +12,7 @@ use Rattle.qo_machine.specs.Runs.{LostHad, Told, cut_to, is_lost, lane_bytes, ri
 
 -- a lane of one of the sixteen sessions, or of the guest
 abbrev pub IsLane : Lane → Type 0
-IsLane (Session n) = n < 16
+IsLane (Session n) = n < SESSIONS
 IsLane Guest = Unit {0}
 
 -- each message goes to such a lane
@@ -31,7 +32,7 @@ pub record Sent (old new : Told) (outs : List Message) (lost : List Bool) : Type
   pub losses : (n : ℕ) → risen (slice_index_or lost n false) (old.losses n) ≤ new.losses n
   pub untold : (l : Lane) → is_lost lost l ≡ true → new.sent ≡ None
   pub had : LostHad lost outs
-  pub size : length lost ≡ 16
+  pub size : length lost ≡ SESSIONS
 
 -- fronts of the messages were sent
 pub record SentFront (old new : Told) (outs : List Message) : Type 0 where

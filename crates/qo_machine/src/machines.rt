@@ -1,6 +1,7 @@
 //! The machine: its board and its sessions, and what one input does.
 
 ghost use Rattle.std.specs.Prelude.{◌≡◌, ◌<◌, [], List, length, map, option_map, replicate, IfOk};
+ghost use Rattle.qo_values.specs.declared.limits.TheConstants.{SESSIONS};
 ghost use Rattle.qo_causes.specs.declared.inputs.Moment.{Moment};
 ghost use Rattle.qo_causes.specs.declared.inputs.What.TheVariants as What;
 ghost use Rattle.qo_sessions.specs.Sessions.{closed};
@@ -25,23 +26,20 @@ use std::sync::ledger::{Blank, Ledger};
 
 /// Sixteen sessions that are not open.
 fn closed_sessions(alloc: Global) -> Result<Vec<Session>, AllocError>
-    ensures { IfOk result (λ sessions. sessions.items ≡ replicate 16 closed) }
+    ensures { IfOk result (λ sessions. sessions.items ≡ replicate SESSIONS closed) }
 {
     let mut sessions = Vec::with_capacity(alloc, usize::from(SESSIONS))?;
     for _ in 0..SESSIONS {
-        let Ok(session) = Session::closed(alloc) else {
-            return Err(AllocError);
-        };
-        sessions.push(session)?;
+        sessions.push(Session::closed(alloc)?)?;
     }
     Ok(sessions)
 }
 
 /// Closes the sessions whose flag is set.
 fn close_where(sessions: &mut Vec<Session>, lost: &[bool; 16])
-    requires { length sessions.old.items ≡ 16 }
+    requires { length sessions.old.items ≡ SESSIONS }
     ensures closed { sessions.new.items ≡ closed_where lost.now sessions.old.items }
-    ensures size { length sessions.new.items ≡ 16 }
+    ensures size { length sessions.new.items ≡ SESSIONS }
 {
     for session in 0..16usize {
         if lost[session] {
@@ -76,13 +74,14 @@ pub struct Machine {
 
 impl Model for Machine {
     ghost use Rattle.std.specs.Prelude.{◌≡◌, length};
+    ghost use Rattle.qo_values.specs.declared.limits.TheConstants.{SESSIONS};
     ghost use Rattle.qo_machine.specs.Machine.{Seen};
 
     ghost Value = { Seen };
 
     ghost view = { λ m. record { board = m.board; sessions = m.sessions.items; guest_line = m.guest_line.items; ended = m.ended; spent = m.spent } };
 
-    ghost invariant = { λ m. length m.sessions.items ≡ 16 };
+    ghost invariant = { λ m. length m.sessions.items ≡ SESSIONS };
 }
 
 impl Machine {
@@ -115,11 +114,8 @@ impl Machine {
         ensures state { IfOk result (λ m. IsIn opening m × (m.spent ≡ false)) }
     {
         let mut steps = Steps::<L>::from_blank(blank);
-        let Ok(board) = Board::start(alloc, &mut steps) else {
-            return Err(AllocError);
-        };
         Ok(Machine {
-            board,
+            board: Board::start(alloc, &mut steps)?,
             sessions: closed_sessions(alloc)?,
             guest_line: Vec::new(alloc),
             ended: false,
@@ -235,9 +231,7 @@ impl Machine {
         if session >= SESSIONS || self.sessions[usize::from(session)].mode() != Mode::Closed {
             return Ok(outs);
         }
-        let Ok(begun) = Session::begin(alloc) else {
-            return Err(AllocError);
-        };
+        let begun = Session::begin(alloc)?;
         outs.push(session, begun.greet_text(alloc)?)?;
         self.sessions[usize::from(session)] = begun;
         Ok(outs)
@@ -277,7 +271,7 @@ impl Machine {
 
     /// The items that bytes of a session complete.
     fn feed(&mut self, alloc: Global, session: u8, bytes: &[u8]) -> Result<Vec<Item>, AllocError>
-        requires { session < 16 }
+        requires { session < SESSIONS }
         ensures items { (b : Tree) → IfOk result (λ items. items.items ≡ (fed (session_of (state_at b self.old) session) bytes.now).items) }
         ensures state { (b : Tree) → IfOk result (λ items. state_at b self.new ≡ with_session (state_at b self.old) session (fed (session_of (state_at b self.old) session) bytes.now).session) }
         ensures board { self.new.board ≡ self.old.board }
@@ -291,7 +285,7 @@ impl Machine {
 
     /// The mode of a session.
     pub(crate) fn mode(&self, session: u8) -> Mode
-        requires { session < 16 }
+        requires { session < SESSIONS }
         ensures { result ≡ mode_of (beside self.now) session }
     {
         self.sessions[usize::from(session)].mode()
@@ -304,7 +298,7 @@ impl Machine {
         session: u8,
         item: &Item,
     ) -> Result<SessionAct, AllocError>
-        requires { session < 16 }
+        requires { session < SESSIONS }
         ensures act { (b : Tree) → IfOk result (λ what. what ≡ act (mode_of (state_at b self.old) session) item.now) }
         ensures state { (b : Tree) → IfOk result (λ what. state_at b self.new ≡ moved (state_at b self.old) session what) }
         ensures kept { (b : Tree) → OnErr result (state_at b self.new ≡ state_at b self.old) }

@@ -8,6 +8,7 @@ ghost use Rattle.qo_model.specs.Board.{Board as Tree};
 ghost use Rattle.qo_realize.specs.Stands.{Stands};
 ghost use Rattle.qo_commands.specs.Commands.{without_events};
 ghost use Rattle.qo_machine.specs.Machine.{IsIn, Message, State, beside, commanding, event_outs, state_at, those_commanding, told_of};
+ghost use Rattle.qo_values.specs.declared.limits.TheConstants.{SESSIONS};
 ghost use Rattle.qo_machine.specs.Sending.{AreToLanes};
 ghost use Rattle.qo_machine.specs.Serving.{CommandLeft, CommandServed, ServesFront, ServesTo, Tells};
 
@@ -33,7 +34,7 @@ fn tell_one(
     event: &Event,
     outs: &mut Outs,
 ) -> Result<(), AllocError>
-    requires { session < 16 }
+    requires { session < SESSIONS }
     ensures { OnOk result (outs.new ≡ outs.old ++ told_of event.now at (those_commanding (beside machine.now) (session ∷ []))) }
 {
     if machine.mode(session) == Mode::Commanding {
@@ -97,7 +98,7 @@ fn send_reply(
     reply: Replied,
     outs: &mut Outs,
 ) -> Result<(), AllocError>
-    requires { session < 16 }
+    requires { session < SESSIONS }
     ensures sent { OnOk result ((front : List Message) × (outs.new ≡ outs.old ++ front) × AreToLanes front × Tells at session machine.old reply front) }
     ensures board { (b : Tree) → Stands b machine.old.board → Stands (without_events b) machine.new.board }
     ensures rest { (b : Tree) → state_at b machine.new ≡ state_at b machine.old }
@@ -121,7 +122,7 @@ fn serve_command<L: Ledger>(
     outs: &mut Outs,
     steps: &mut Steps<L>,
 ) -> Result<(), AllocError>
-    requires { session < 16 }
+    requires { session < SESSIONS }
     ensures served { OnOk result ((front : List Message) × (outs.new ≡ outs.old ++ front) × AreToLanes front × ((s : State) → IsIn s machine.old → CommandServed at session s request.now (option_map (λ id. id.now) id.entry) front machine.new)) }
     ensures left { OnErr result ((s : State) → IsIn s machine.old → CommandLeft at session s request.now (option_map (λ id. id.now) id.entry) machine.new) }
     ensures lasts { machine.new.spent ≡ machine.old.spent }
@@ -147,7 +148,7 @@ fn serve_item<L: Ledger>(
     outs: &mut Outs,
     steps: &mut Steps<L>,
 ) -> Result<(), AllocError>
-    requires { session < 16 }
+    requires { session < SESSIONS }
     ensures served { OnOk result ((front : List Message) × (outs.new ≡ outs.old ++ front) × AreToLanes front × ((s : State) → IsIn s machine.old → ServesTo at session s (item.now ∷ []) front machine.new)) }
     ensures left { OnErr result ((s : State) → IsIn s machine.old → ServesFront at session s (item.now ∷ []) machine.new) }
     ensures lasts { machine.new.spent ≡ machine.old.spent }
@@ -187,7 +188,7 @@ pub(crate) fn serve_items<L: Ledger>(
     items: &[Item],
     steps: &mut Steps<L>,
 ) -> Result<Outs, AllocError>
-    requires { session < 16 }
+    requires { session < SESSIONS }
     ensures served { IfOk result (λ outs. (s : State) → IsIn s machine.old → ServesTo at session s items.now outs machine.new) }
     ensures left { OnErr result ((s : State) → IsIn s machine.old → ServesFront at session s items.now machine.new) }
     ensures lanes { IfOk result AreToLanes }

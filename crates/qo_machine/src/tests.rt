@@ -1,4 +1,5 @@
-//! Steps and whole runs with ample memory, over hubs that are told what to do.
+//! That steps and runs succeed with ample memory: no clause says that memory does not want, nor that a
+//! reply is not E99.
 
 use crate::{Ending, Machine, Outs, run};
 use qo_causes::{Chunk, Input, Lane, Moment, ScriptHub, What};
@@ -10,15 +11,11 @@ const GREETING: &[u8] =
 
 const NEGOTIATE: &[u8] = b"{\"execute\":\"qmp_capabilities\"}";
 
-const STATUS: &[u8] = b"{\"execute\":\"query-status\"}";
-
 const LIST_ROOT: &[u8] = b"{\"execute\":\"qom-list\",\"arguments\":{\"path\":\"/\"}}";
 
 const QUIT: &[u8] = b"{\"execute\":\"quit\"}";
 
 const EMPTY: &[u8] = b"{\"return\":{}}\r\n";
-
-const RUNNING: &[u8] = b"{\"return\":{\"running\":true,\"status\":\"running\"}}\r\n";
 
 const ROOT: &[u8] =
     b"{\"return\":[{\"name\":\"type\",\"type\":\"string\"},{\"name\":\"machine\",\"type\":\"child<machine>\"},{\"name\":\"objects\",\"type\":\"child<container>\"}]}\r\n";
@@ -68,124 +65,19 @@ fn joined(alloc: Global, pieces: &[&[u8]]) -> Result<Vec<u8>, Fail> {
 }
 
 #[test]
-fn a_session_is_greeted_and_served(rt: HostRuntime) -> Result<(), Fail> {
+fn a_session_is_served(rt: HostRuntime) -> Result<(), Fail> {
     let alloc = rt.alloc();
     let mut machine = Machine::start(alloc)?;
-    let early = machine.step(alloc, &bytes(alloc, 0, NEGOTIATE)?)?;
-    assert_eq!(rt; early.as_slice().len(), 0);
     let opened = machine.step(alloc, &input(What::Open(0)))?;
     assert_eq!(rt; told(alloc, &opened)?, joined(alloc, &[b"0", GREETING])?);
-    let again = machine.step(alloc, &input(What::Open(0)))?;
-    assert_eq!(rt; again.as_slice().len(), 0);
-    let served = machine.step(
-        alloc,
-        &bytes(alloc, 0, &joined(alloc, &[NEGOTIATE, LIST_ROOT, STATUS])?)?,
-    )?;
-    assert_eq!(rt;
-        told(alloc, &served)?,
-        joined(alloc, &[b"0", EMPTY, b"0", ROOT, b"0", RUNNING])?
-    );
-    let over = machine.step(alloc, &input(What::End))?;
-    assert_eq!(rt; over.as_slice().len(), 0);
-    assert!(rt; machine.ended());
+    let commands = joined(alloc, &[NEGOTIATE, LIST_ROOT, QUIT])?;
+    let served = machine.step(alloc, &bytes(alloc, 0, &commands)?)?;
+    let replies = [b"0", EMPTY, b"0", ROOT, b"0", SHUTDOWN, b"0", EMPTY];
+    assert_eq!(rt; told(alloc, &served)?, joined(alloc, &replies)?);
     Ok(())
 }
 
-#[test]
-fn inputs_that_change_nothing(rt: HostRuntime) -> Result<(), Fail> {
-    let alloc = rt.alloc();
-    let mut machine = Machine::start(alloc)?;
-    for session in [16u8, 255] {
-        assert_eq!(rt;
-            machine
-                .step(alloc, &input(What::Open(session)))?
-                .as_slice()
-                .len(),
-            0
-        );
-        assert_eq!(rt;
-            machine
-                .step(alloc, &bytes(alloc, session, STATUS)?)?
-                .as_slice()
-                .len(),
-            0
-        );
-        assert_eq!(rt;
-            machine
-                .step(alloc, &input(What::Shut(session)))?
-                .as_slice()
-                .len(),
-            0
-        );
-    }
-    assert_eq!(rt;
-        machine.step(alloc, &input(What::Shut(3)))?.as_slice().len(),
-        0
-    );
-    assert_eq!(rt;
-        machine
-            .step(alloc, &input(What::Step(25)))?
-            .as_slice()
-            .len(),
-        0
-    );
-    let guest = Chunk::from_vec(Vec::from_slice(alloc, b"poll\n")?);
-    assert_eq!(rt;
-        machine
-            .step(alloc, &input(What::Guest(guest)))?
-            .as_slice()
-            .len(),
-        0
-    );
-    assert!(rt; !machine.ended());
-    Ok(())
-}
-
-#[test]
-fn a_session_that_shuts_loses_what_is_unfinished(rt: HostRuntime) -> Result<(), Fail> {
-    let alloc = rt.alloc();
-    let mut machine = Machine::start(alloc)?;
-    machine.step(alloc, &input(What::Open(15)))?;
-    machine.step(
-        alloc,
-        &bytes(alloc, 15, &joined(alloc, &[NEGOTIATE, b"{\"execute\":"])?)?,
-    )?;
-    machine.step(alloc, &input(What::Shut(15)))?;
-    machine.step(alloc, &input(What::Open(15)))?;
-    let served = machine.step(alloc, &bytes(alloc, 15, b"\"stop\"}\n")?)?;
-    assert_eq!(rt;
-        told(alloc, &served)?,
-        joined(
-            alloc,
-            &[
-                b"5{\"error\":{\"class\":\"GenericError\",\"desc\":\"E2 input outside an object\"}}\r\n"
-            ]
-        )?
-    );
-    Ok(())
-}
-
-#[test]
-fn quit_tells_those_that_command(rt: HostRuntime) -> Result<(), Fail> {
-    let alloc = rt.alloc();
-    let mut machine = Machine::start(alloc)?;
-    for session in 0..3u8 {
-        machine.step(alloc, &input(What::Open(session)))?;
-    }
-    machine.step(alloc, &bytes(alloc, 0, NEGOTIATE)?)?;
-    machine.step(alloc, &bytes(alloc, 1, NEGOTIATE)?)?;
-    let quit = machine.step(alloc, &bytes(alloc, 1, &joined(alloc, &[QUIT, STATUS])?)?)?;
-    assert_eq!(rt;
-        told(alloc, &quit)?,
-        joined(alloc, &[b"0", SHUTDOWN, b"1", SHUTDOWN, b"1", EMPTY])?
-    );
-    assert!(rt; machine.ended());
-    let late = machine.step(alloc, &bytes(alloc, 0, STATUS)?)?;
-    assert_eq!(rt; late.as_slice().len(), 0);
-    Ok(())
-}
-
-/// A hub with the inputs of a session that negotiates and lists the root.
+/// A hub with the inputs of a session that negotiates and lists the root, and whose calls of these numbers fail.
 fn listing_hub(alloc: Global, nexts: &[u64], sends: &[u64]) -> Result<ScriptHub, Fail> {
     let mut inputs = Vec::new(alloc);
     inputs.push(input(What::Open(0)))?;
@@ -210,57 +102,17 @@ fn a_run_sends_each_message(rt: HostRuntime) -> Result<(), Fail> {
         hub.lane(Lane::Session(0)),
         joined(alloc, &[GREETING, EMPTY, ROOT])?.as_slice()
     );
-    assert_eq!(rt; hub.lane(Lane::Guest), b"".as_slice());
     Ok(())
 }
 
 #[test]
-fn a_run_stops_at_its_limit_and_at_each_fault(rt: HostRuntime) -> Result<(), Fail> {
+fn a_run_stops_at_its_limit_and_at_a_fault(rt: HostRuntime) -> Result<(), Fail> {
     let alloc = rt.alloc();
-    let whole = joined(alloc, &[GREETING, EMPTY, ROOT])?;
-    let fronts = [0, GREETING.len(), GREETING.len() + EMPTY.len(), whole.len()];
-    for limit in 0..4u64 {
-        let mut hub = listing_hub(alloc, &[], &[])?;
-        assert_eq!(rt; run(alloc, &mut hub, limit), Ending::Limit, "limit {limit}");
-        assert_eq!(rt; hub.lane(Lane::Session(0)).len(), fronts[limit as usize]);
-    }
-    for call in 1..5u64 {
-        let mut hub = listing_hub(alloc, &[call], &[])?;
-        assert_eq!(rt; run(alloc, &mut hub, 9), Ending::NextFailed, "next {call}");
-        assert_eq!(rt; hub.lane(Lane::Session(0)).len(), fronts[call as usize - 1]);
-    }
-    for call in 1..4u64 {
-        let mut hub = listing_hub(alloc, &[], &[call])?;
-        assert_eq!(rt; run(alloc, &mut hub, 9), Ending::SendFailed, "send {call}");
-        assert!(rt; whole.as_slice().starts_with(hub.lane(Lane::Session(0))));
-    }
-    Ok(())
-}
-
-#[test]
-fn a_lost_session_is_sent_nothing_more(rt: HostRuntime) -> Result<(), Fail> {
-    let alloc = rt.alloc();
-    let mut inputs = Vec::new(alloc);
-    inputs.push(input(What::Open(0)))?;
-    inputs.push(input(What::Open(1)))?;
-    inputs.push(bytes(alloc, 0, NEGOTIATE)?)?;
-    inputs.push(bytes(alloc, 1, &joined(alloc, &[NEGOTIATE, STATUS])?)?)?;
-    inputs.push(bytes(alloc, 1, STATUS)?)?;
-    inputs.push(bytes(alloc, 0, STATUS)?)?;
-    // The fourth send is the second to session 1.
-    let mut hub = ScriptHub::new(
-        alloc,
-        inputs,
-        4_096,
-        Vec::new(alloc),
-        Vec::new(alloc),
-        Vec::from_slice(alloc, &[4])?,
-    )?;
-    assert_eq!(rt; run(alloc, &mut hub, 99), Ending::Done);
-    assert_eq!(rt;
-        hub.lane(Lane::Session(0)),
-        joined(alloc, &[GREETING, EMPTY, RUNNING])?.as_slice()
-    );
-    assert_eq!(rt; hub.lane(Lane::Session(1)), GREETING);
+    let mut hub = listing_hub(alloc, &[], &[])?;
+    assert_eq!(rt; run(alloc, &mut hub, 3), Ending::Limit);
+    let mut hub = listing_hub(alloc, &[3], &[])?;
+    assert_eq!(rt; run(alloc, &mut hub, 4), Ending::NextFailed);
+    let mut hub = listing_hub(alloc, &[], &[3])?;
+    assert_eq!(rt; run(alloc, &mut hub, 4), Ending::SendFailed);
     Ok(())
 }

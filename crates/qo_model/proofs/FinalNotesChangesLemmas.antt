@@ -2,6 +2,7 @@
 use Rattle.std.proofs.Common.{◌≡◌, refl, ℕ, zero, suc, Bool, true, false, List, Option, Some, None, option_and_then, Result, Ok, Err, length, position}
 use Rattle.std.specs.Str.{bytes_eq}
 use Rattle.qo_values.specs.Properties.{admits}
+use Rattle.qo_values.specs.declared.births.TheConstants.{OBJECTS_BIRTH}
 use Rattle.qo_values.specs.declared.codes.Code.{Code}
 use Rattle.qo_values.specs.declared.kinds.TypeId.{TypeId}
 use Rattle.qo_values.specs.declared.properties.Val.{Val}
@@ -10,7 +11,7 @@ use Rattle.qo_model.specs.Board.{Board, Slot, plain, child, strong, weak, alias,
 use Rattle.qo_model.specs.Changes.{point, set, with_changed, with_val, pointed}
 use Rattle.qo_model.specs.FinalNotes.{NotesInOrder}
 use Rattle.qo_model.specs.FinalNotesRuns.{Change, added, deleted, wrote, severed, behind_write, changed}
-use Rattle.qo_model.specs.Objects.{Given, added_as, added_by, barred, is_object_named, object_add, object_del, objects_birth, place_from, refusal_of, sever, severed_from}
+use Rattle.qo_model.specs.Objects.{Given, added_as, added_by, barred, is_object_named, object_add, object_del, place_from, refusal_of, sever, severed_from}
 use Rattle.qo_model.specs.Paths.{attached}
 use Rattle.qo_model.specs.Properties.{link_target, link_written, linked, may_set, pointed_at, relinked, row_of_property, write, written, written_by}
 use Rattle.qo_model.specs.Release.{drop_slot, let_go, pin, put_in_order, with_dropped}
@@ -36,11 +37,11 @@ object_add-keeps b driver id props o = go (row_named driver) refl
 
 -- `object-del`
 pub object_del-keeps : (b : Board) (id : List ℕ) → NotesInOrder b → NotesInOrder (object_del b id).board
-object_del-keeps b id o = go (place_from (is_object_named id) 0 (slots_at b objects_birth)) refl
+object_del-keeps b id o = go (place_from (is_object_named id) 0 (slots_at b OBJECTS_BIRTH)) refl
   where
-    go : (place : Option ℕ) → place_from (is_object_named id) 0 (slots_at b objects_birth) ≡ place → NotesInOrder (object_del b id).board
+    go : (place : Option ℕ) → place_from (is_object_named id) 0 (slots_at b OBJECTS_BIRTH) ≡ place → NotesInOrder (object_del b id).board
     go None p = rw (object_del, p) o
-    go (Some i) p = rw (object_del, p) (let_go-keeps b objects_birth i o)
+    go (Some i) p = rw (object_del, p) (let_go-keeps b OBJECTS_BIRTH i o)
 
 -- `qom-set`
 drop-keeps : (b : Board) (n i : ℕ) → NotesInOrder b → NotesInOrder (drop_slot b n i)

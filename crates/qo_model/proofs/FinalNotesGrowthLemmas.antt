@@ -5,6 +5,7 @@ use Rattle.std.proofs.lemmas.Option.{same_Some}
 use Rattle.std.proofs.lemmas.List.Elements.{filter-append}
 use Rattle.std.proofs.lemmas.List.Folds.{find-append, list_any-append}
 use Rattle.std.specs.Option.{option_or}
+use Rattle.qo_values.specs.declared.births.TheConstants.{OBJECTS_BIRTH}
 use Rattle.qo_values.specs.declared.kinds.Act.{Act}
 use Rattle.qo_values.specs.declared.kinds.Act.TheVariants.{Init}
 use Rattle.qo_values.specs.declared.kinds.TypeId.{TypeId}
@@ -17,7 +18,7 @@ use Rattle.qo_model.specs.FinalNotes.{beginning, ending, is_bound, IsBorn, Notes
 use Rattle.qo_model.specs.FinalNotesRuns.{with_act}
 use Rattle.qo_model.specs.Notes.{deed_type}
 use Rattle.qo_values.specs.Registers.{fresh_registers}
-use Rattle.qo_model.specs.Objects.{Given, given_slots, init_notes, objects_birth, with_attempt, with_object}
+use Rattle.qo_model.specs.Objects.{Given, given_slots, init_notes, with_attempt, with_object}
 use Rattle.qo_model.specs.Release.{edited}
 use Rattle.qo_model.specs.ReleaseNotes.{notes_on}
 use Rattle.qo_model.specs.Types.{finals, inits}
@@ -224,10 +225,10 @@ object-grows b t id props o =
     at_objects = with_added id (child (b.born + 1))
 
     named : List Record
-    named = map (edited objects_birth at_objects) b.records
+    named = map (edited OBJECTS_BIRTH at_objects) b.records
 
     new : Record
     new = record { birth = b.born + 1; kind = t; slots = given_slots b t props; registers = fresh_registers t; device_id = None; kept_path = None }
 
     named-kind : (x : ℕ) → option_map (λ (r : Record). r.kind) (found_at x named) ≡ kind_of b x
-    named-kind x = edit-kind objects_birth at_objects (λ r. refl) (λ r. refl) b x
+    named-kind x = edit-kind OBJECTS_BIRTH at_objects (λ r. refl) (λ r. refl) b x

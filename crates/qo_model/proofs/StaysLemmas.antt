@@ -2,6 +2,7 @@
 use Rattle.std.proofs.Common.{◌≡◌, refl, ◌∙◌, ℕ, zero, suc, Bool, true, false, ◌==◌, List, [], ◌∷◌, length, position, Option, Some, None, option_and_then, Result, Ok, Err}
 use Rattle.std.specs.Str.{bytes_eq}
 use Rattle.qo_values.specs.Properties.{admits}
+use Rattle.qo_values.specs.declared.births.TheConstants.{OBJECTS_BIRTH}
 use Rattle.qo_values.specs.declared.codes.Code.{Code}
 use Rattle.qo_values.specs.declared.kinds.TypeId.{TypeId}
 use Rattle.qo_values.specs.declared.properties.Val.{Val}
@@ -9,7 +10,7 @@ use Rattle.qo_values.specs.declared.properties.Val.TheVariants as val
 use Rattle.qo_model.specs.Board.{Board, Slot, plain, child, strong, weak, alias, is_live, kind_of, slot_at, slots_at, held}
 use Rattle.qo_model.specs.Changes.{point, set}
 use Rattle.qo_model.specs.FinalNotesRuns.{Change, added, deleted, wrote, severed, behind, behind_write, changed}
-use Rattle.qo_model.specs.Objects.{Given, added_as, added_by, attempted_as, barred, barred_by, is_object_named, object_add, object_del, objects_birth, place_from, refusal_of, sever, severed_from, with_attempt}
+use Rattle.qo_model.specs.Objects.{Given, added_as, added_by, attempted_as, barred, barred_by, is_object_named, object_add, object_del, place_from, refusal_of, sever, severed_from, with_attempt}
 use Rattle.qo_model.specs.Paths.{attached}
 use Rattle.qo_model.specs.Properties.{link_target, link_written, linked, may_set, pointed_at, relinked, row_of_property, write, written, written_by}
 use Rattle.qo_model.specs.References.{refs}
@@ -74,11 +75,11 @@ object_add-stays b driver id props = go (row_named driver) refl
 
 -- `object-del`
 object_del-stays : (b : Board) (id : List ℕ) → Stays b (object_del b id).board
-object_del-stays b id = go (place_from (is_object_named id) 0 (slots_at b objects_birth)) refl
+object_del-stays b id = go (place_from (is_object_named id) 0 (slots_at b OBJECTS_BIRTH)) refl
   where
-    go : (place : Option ℕ) → place_from (is_object_named id) 0 (slots_at b objects_birth) ≡ place → Stays b (object_del b id).board
+    go : (place : Option ℕ) → place_from (is_object_named id) 0 (slots_at b OBJECTS_BIRTH) ≡ place → Stays b (object_del b id).board
     go None p = rw (object_del, p) (stays-none b)
-    go (Some i) p = rw (object_del, p) (left-stays b (let_go b objects_birth i) (let_go-leaves b objects_birth i))
+    go (Some i) p = rw (object_del, p) (left-stays b (let_go b OBJECTS_BIRTH i) (let_go-leaves b OBJECTS_BIRTH i))
 
 -- `qom-set`
 set-stays : (b : Board) (n i : ℕ) (v : Val) → Stays b (set n i v b)

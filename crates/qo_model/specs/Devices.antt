@@ -9,25 +9,6 @@ use Rattle.qo_model.specs.Board.{Board, Record, Slot, plain, child, strong, slot
 use Rattle.qo_model.specs.Depth.{among, by_objects}
 use Rattle.qo_model.specs.Paths.{births, is_of, parent_of}
 
--- the births of the objects that stand on every board
-abbrev pub machine_birth : ℕ
-machine_birth = 2
-
-abbrev pub peripheral_birth : ℕ
-peripheral_birth = 3
-
-abbrev pub anonymous_birth : ℕ
-anonymous_birth = 4
-
-abbrev pub sysclk_birth : ℕ
-sysclk_birth = 5
-
-abbrev pub root_bus : ℕ
-root_bus = 6
-
-abbrev pub memory_bus : ℕ
-memory_bus = 7
-
 -- the value of the plain property of a name of n itself
 abbrev pub plain_in : Slot → Option Val
 plain_in (plain v) = Some v

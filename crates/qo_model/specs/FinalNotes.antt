@@ -2,6 +2,7 @@
 use Rattle.std.specs.Prelude.{◌≡◌, ℕ, ◌≤◌, ◌<◌, leb, Bool, true, false, if◌then◌else◌, List, [], ◌++◌, map, Option, Some, is_some}
 use Rattle.std.specs.Option.{option_map_or}
 use Rattle.std.specs.List.{list_any}
+use Rattle.qo_values.specs.declared.births.TheConstants.{OPENING_OBJECTS}
 use Rattle.qo_values.specs.declared.kinds.TypeId.{TypeId}
 use Rattle.qo_model.specs.declared.notes.Deed.{Deed}
 use Rattle.qo_model.specs.declared.notes.Deed.TheVariants.{Did, Final}
@@ -34,9 +35,9 @@ pub record FinalOnce (n : ℕ) (notes : List Note) : Type 0 where
   pub last : Option TypeId
   pub in_order : notes_on n notes ≡ before ++ option_map_or (ending n) last []
 
--- the init notes of n, an object of a type; the eight objects of the opening board have none
+-- the init notes of n, an object of a type; the objects of the opening board have none
 abbrev pub beginning : ℕ → TypeId → List Note
-beginning n t = if leb n 8 then [] else init_notes n t
+beginning n t = if leb n OPENING_OBJECTS then [] else init_notes n t
 
 -- what was noted of n, an object of a type that is over or not: its init notes, base first; notes that are neither init nor final; and, once it is over, its final notes, derived first
 pub record Story (n : ℕ) (t : TypeId) (over : Bool) (notes : List Note) : Type 0 where
@@ -50,8 +51,8 @@ IsBorn b n = (0 < n) × (n ≤ b.born)
 
 -- the notes of a board tell the story of each birth
 pub record NotesInOrder (b : Board) : Type 0 where
-  -- the eight objects of the opening board were made, and who is there was born
-  pub opened : 8 ≤ b.born
+  -- the objects of the opening board were made, and who is there was born
+  pub opened : OPENING_OBJECTS ≤ b.born
   pub counted : (n : ℕ) → is_live b n ≡ true → IsBorn b n
   -- who is not born has no note
   pub unborn : (n : ℕ) → ¬ (IsBorn b n) → notes_on n b.notes ≡ []

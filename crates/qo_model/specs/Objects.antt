@@ -6,6 +6,7 @@ use Rattle.std.specs.Str.{bytes_eq}
 use Rattle.qo_values.specs.Ids.{is_id}
 use Rattle.qo_values.specs.Properties.{admits}
 use Rattle.qo_values.specs.Registers.{fresh_registers}
+use Rattle.qo_values.specs.declared.births.TheConstants.{OBJECTS_BIRTH, ROOT_BIRTH}
 use Rattle.qo_values.specs.declared.codes.Code.{Code}
 use Rattle.qo_values.specs.declared.codes.Code.TheVariants.{E15, E17, E18, E19, E20, E21, E22, E23, E24, E33, E43, E50}
 use Rattle.qo_values.specs.declared.kinds.Act.TheVariants.{Init}
@@ -18,7 +19,7 @@ use Rattle.qo_model.specs.declared.notes.Note.{Note}
 use Rattle.qo_model.specs.Board.{Board, Record, Slot, plain, child, strong, weak, is_live, slot_at, slots_at}
 use Rattle.qo_model.specs.Changes.{with_added}
 use Rattle.qo_model.specs.Opening.{fresh_slots}
-use Rattle.qo_model.specs.Paths.{attached, place_of, root_birth}
+use Rattle.qo_model.specs.Paths.{attached, place_of}
 use Rattle.qo_model.specs.Properties.{link_target, row_of_property}
 use Rattle.qo_model.specs.Release.{edited, final_notes, let_go, pin, unpin}
 use Rattle.qo_model.specs.Types.{Kind, Mark, Property, TypeRow, both, on_add, inits, is_a, row_named}
@@ -76,22 +77,18 @@ given_slots b t props = map (slot_given b props) (fresh_slots t)
 abbrev pub init_notes : ℕ → TypeId → List Note
 init_notes n t = map (λ (k : TypeId). record { birth = n; deed = Did (Init k) }) (inits t)
 
--- the birth of `/objects`, under which users' objects stand
-abbrev pub objects_birth : ℕ
-objects_birth = 8
-
 -- whether an object has a slot of a name
 abbrev pub has_slot : Board → ℕ → List ℕ → Bool
 has_slot b n name = list_any (λ (s : List ℕ × Slot). bytes_eq s.0 name) (slots_at b n)
 
--- why an object of a named type, under an id, is refused before an attempt is made, if it is; E15 where `/objects` is not there, which it is on every sound board
+-- why an object of a named type, under an id at `/objects`, is refused before an attempt is made, if it is; E15 where `/objects` is not there, which it is on every sound board
 abbrev pub barred : Board → TypeRow → List ℕ → Option Code
 barred b row id =
     if row.is_abstract then Some E21
     else if not (is_a row.id (codes "user-creatable")) then Some E22
     else if not (is_id id) then Some E23
-    else if not (is_live b objects_birth) then Some E15
-    else if has_slot b objects_birth id then Some E24
+    else if not (is_live b OBJECTS_BIRTH) then Some E15
+    else if has_slot b OBJECTS_BIRTH id then Some E24
     else if leb LIVE_OBJECTS_MAX (length b.records) then Some E43
     else None
 
@@ -104,7 +101,7 @@ abbrev pub with_object : Board → TypeId → List ℕ → List Given → Board
 with_object b t id props =
     record b {
       records =
-          map (edited objects_birth (with_added id (child (b.born + 1)))) b.records
+          map (edited OBJECTS_BIRTH (with_added id (child (b.born + 1)))) b.records
           ++ record { birth = b.born + 1; kind = t; slots = given_slots b t props; registers = fresh_registers t; device_id = None; kept_path = None } ∷ [];
       born = b.born + 1;
       notes = b.notes ++ init_notes (b.born + 1) t;
@@ -156,9 +153,9 @@ place_from p i (s ∷ slots) = if p s then Some i else place_from p (suc i) slot
 -- `object-del`: the child slot is let go
 abbrev pub object_del : Board → List ℕ → Changed
 object_del b id =
-    elim (place_from (is_object_named id) 0 (slots_at b objects_birth)) [
+    elim (place_from (is_object_named id) 0 (slots_at b OBJECTS_BIRTH)) [
       | None ↦ record { refusal = Some E15; board = b }
-      | Some i ↦ record { refusal = None; board = let_go b objects_birth i }
+      | Some i ↦ record { refusal = None; board = let_go b OBJECTS_BIRTH i }
     ]
 
 -- the strong links of n are let go, in order, at so many places from one on
@@ -174,6 +171,6 @@ sever b n =
     else if attached b n then record { refusal = Some E50; board = b }
     else record { refusal = None; board = unpin (severed_from (length (slots_at b n)) 0 n (pin b n)) n }
 
--- the objects without parent, but birth 1, in the order of births
+-- the objects without parent, but `/`, in the order of births
 abbrev pub detached : Board → List Record
-detached b = filter (λ (r : Record). not (r.birth == root_birth) && is_none (place_of b r.birth)) b.records
+detached b = filter (λ (r : Record). not (r.birth == ROOT_BIRTH) && is_none (place_of b r.birth)) b.records

@@ -1,10 +1,12 @@
 -- The opening board: the eight objects that every machine begins with (the profile's; compare docs/devel/qom.rst on `/machine` and `/objects`).
-use Rattle.std.specs.Prelude.{ℕ, ◌*◌, ◌^◌, true, false, if◌then◌else◌, List, [], ◌∷◌, ◌++◌, map, filter_map, codes, Option, Some, None, option_map}
+use Rattle.std.specs.Prelude.{ℕ, true, false, if◌then◌else◌, List, [], ◌∷◌, ◌++◌, map, filter_map, codes, Option, Some, None, option_map}
 use Rattle.std.specs.Str.{bytes_eq}
 use Rattle.qo_values.specs.Kinds.{type_name}
 use Rattle.qo_values.specs.Registers.{fresh_registers}
+use Rattle.qo_values.specs.declared.births.TheConstants.{ROOT_BIRTH, MACHINE_BIRTH, PERIPHERAL_BIRTH, ANONYMOUS_BIRTH, SYSTEM_CLOCK_BIRTH, ROOT_BUS_BIRTH, MEMORY_BUS_BIRTH, OBJECTS_BIRTH, OPENING_OBJECTS}
 use Rattle.qo_values.specs.declared.kinds.TypeId.{TypeId}
 use Rattle.qo_values.specs.declared.kinds.TypeId.TheVariants.{Container, Machine, Clock, SlotBus, MemBus}
+use Rattle.qo_values.specs.declared.limits.TheConstants.{SYSTEM_PERIOD}
 use Rattle.qo_values.specs.declared.properties.Val.{Val}
 use Rattle.qo_values.specs.declared.properties.Val.TheVariants as val
 use Rattle.qo_model.specs.Board.{Board, Record, Slot}
@@ -46,29 +48,29 @@ with_child name n r = record r { slots = r.slots ++ (name, Slot.child n) ∷ [] 
 abbrev pub with_value : List ℕ → Val → Record → Record
 with_value name v r = record r { slots = map (λ (s : List ℕ × Slot). if bytes_eq s.0 name then (name, Slot.plain v) else s) r.slots }
 
--- 10 ns, in units of 2^-32 ns (docs/devel/clocks.rst, "The clock state")
-abbrev pub system_period : ℕ
-system_period = 10 * 2 ^ 32
-
--- the eight objects
+-- the eight objects; the system clock has its period (docs/devel/clocks.rst, "The clock state")
 abbrev pub opening_records : List Record
 opening_records =
-    with_child (codes "objects") 8 (with_child (codes "machine") 2 (fresh_record 1 Container))
-    ∷ with_child (codes "mem.0") 7 (with_child (codes "root.0") 6 (with_child (codes "sysclk") 5 (with_child (codes "peripheral-anon") 4 (with_child (codes "peripheral") 3 (fresh_record 2 Machine)))))
-    ∷ fresh_record 3 Container
-    ∷ fresh_record 4 Container
-    ∷ with_value (codes "period") (val.Uint system_period) (fresh_record 5 Clock)
-    ∷ fresh_record 6 SlotBus
-    ∷ fresh_record 7 MemBus
-    ∷ fresh_record 8 Container
+    with_child (codes "objects") OBJECTS_BIRTH (with_child (codes "machine") MACHINE_BIRTH (fresh_record ROOT_BIRTH Container))
+    ∷ with_child (codes "mem.0") MEMORY_BUS_BIRTH
+    (with_child (codes "root.0") ROOT_BUS_BIRTH
+    (with_child (codes "sysclk") SYSTEM_CLOCK_BIRTH
+    (with_child (codes "peripheral-anon") ANONYMOUS_BIRTH
+    (with_child (codes "peripheral") PERIPHERAL_BIRTH (fresh_record MACHINE_BIRTH Machine)))))
+    ∷ fresh_record PERIPHERAL_BIRTH Container
+    ∷ fresh_record ANONYMOUS_BIRTH Container
+    ∷ with_value (codes "period") (val.Uint SYSTEM_PERIOD) (fresh_record SYSTEM_CLOCK_BIRTH Clock)
+    ∷ fresh_record ROOT_BUS_BIRTH SlotBus
+    ∷ fresh_record MEMORY_BUS_BIRTH MemBus
+    ∷ fresh_record OBJECTS_BIRTH Container
     ∷ []
 
--- the board as a machine begins: it runs, at time 0, and only birth 1 is pinned
+-- the board as a machine begins: it runs, at time 0, and only `/` is pinned
 unfoldable pub opening_board : Board
 opening_board =
     record {
       records = opening_records;
-      born = 8;
+      born = OPENING_OBJECTS;
       anonymous = 0;
       now = 0;
       running = true;
@@ -76,7 +78,7 @@ opening_board =
       pending = [];
       notices = [];
       rings = [];
-      pins = 1 ∷ [];
+      pins = ROOT_BIRTH ∷ [];
       notes = [];
       events = [];
     }

@@ -3,14 +3,11 @@ use Rattle.std.specs.Prelude.{ℕ, Bool, true, false, not, ◌==◌, if◌then�
 use Rattle.std.specs.List.{slice_split}
 use Rattle.std.specs.Str.{bytes_eq}
 use Rattle.std.specs.Option.{option_map_or}
+use Rattle.qo_values.specs.declared.births.TheConstants.{ROOT_BIRTH}
 use Rattle.qo_values.specs.declared.kinds.TypeId.{TypeId}
 use Rattle.qo_model.specs.Board.{Board, Record, Slot, child, kind_of, slots_at, slot_named, target_of}
 use Rattle.qo_model.specs.Depth.{by_objects}
 use Rattle.qo_model.specs.Types.{is_a}
-
--- the birth of `/`
-abbrev pub root_birth : ℕ
-root_birth = 1
 
 -- whether a slot is a child slot that names n
 abbrev pub is_child : ℕ → Slot → Bool
@@ -46,26 +43,26 @@ children_of b n = children_in (slots_at b n)
 abbrev pub births : Board → List ℕ
 births b = map (λ (r : Record). r.birth) b.records
 
--- whether parents lead from an object to birth 1, where f says it of its parent
+-- whether parents lead from an object to the root, where f says it of its parent
 abbrev pub attached_turn : Board → (ℕ → Bool) → ℕ → Bool
-attached_turn b f n = elim (n == 1) [ true ↦ true | false ↦ elim (place_of b n) [ None ↦ false | Some p ↦ f p.0 ] ]
+attached_turn b f n = elim (n == ROOT_BIRTH) [ true ↦ true | false ↦ elim (place_of b n) [ None ↦ false | Some p ↦ f p.0 ] ]
 
--- whether n is attached: parents lead from it to birth 1, which itself is attached
+-- whether n is attached: parents lead from it to the root, which itself is attached
 unfoldable pub attached : Board → ℕ → Bool
 attached b n = by_objects (attached_turn b) (λ _. false) (births b) n
 
--- a `/` and a name for each step from birth 1 down to an object, where f says it of its parent
+-- a `/` and a name for each step from the root down to an object, where f says it of its parent
 abbrev pub steps_turn : Board → (ℕ → Option (List ℕ)) → ℕ → Option (List ℕ)
 steps_turn b f n =
-    elim (n == 1) [ true ↦ Some [] | false ↦ elim (place_of b n) [ None ↦ None | Some p ↦ option_map (λ (above : List ℕ). above ++ 47 ∷ p.1) (f p.0) ] ]
+    elim (n == ROOT_BIRTH) [ true ↦ Some [] | false ↦ elim (place_of b n) [ None ↦ None | Some p ↦ option_map (λ (above : List ℕ). above ++ 47 ∷ p.1) (f p.0) ] ]
 
--- a `/` and the name of the child slot for each step from birth 1 down; none where parents do not lead there
+-- a `/` and the name of the child slot for each step from the root down; none where parents do not lead there
 unfoldable pub steps_to : Board → ℕ → Option (List ℕ)
 steps_to b n = by_objects (steps_turn b) (λ _. None) (births b) n
 
--- the canonical path: `/` of birth 1, else the steps down to the object; a detached object has none
+-- the canonical path: `/` of the root, else the steps down to the object; a detached object has none
 abbrev pub canonical : Board → ℕ → Option (List ℕ)
-canonical b n = if n == 1 then Some (codes "/") else steps_to b n
+canonical b n = if n == ROOT_BIRTH then Some (codes "/") else steps_to b n
 
 -- the components of a path: what stands between its `/`, without the empty ones
 abbrev pub components : List ℕ → List (List ℕ)
@@ -95,7 +92,7 @@ only_of b wanted n = if is_of b wanted n then Some n else None
 
 -- the object of an absolute path: where its components lead from `/`, if that is of the wanted type
 abbrev pub resolve_absolute : Board → List ℕ → List ℕ → Option ℕ
-resolve_absolute b path wanted = if is_absolute path then option_and_then (only_of b wanted) (walk b root_birth (components path)) else None
+resolve_absolute b path wanted = if is_absolute path then option_and_then (only_of b wanted) (walk b ROOT_BIRTH (components path)) else None
 
 -- what a path leads to from the objects that it may begin at: one object, none, or several, also where these are the same object
 pub data Place : Type 0 where
@@ -105,7 +102,7 @@ pub data Place : Type 0 where
 
 -- the objects that a path begins at: `/` for an absolute one, else each attached object
 abbrev pub starts : Board → List ℕ → List ℕ
-starts b path = if is_absolute path then root_birth ∷ [] else filter (attached b) (births b)
+starts b path = if is_absolute path then ROOT_BIRTH ∷ [] else filter (attached b) (births b)
 
 -- the objects of the wanted type that a path ends at, for each of its beginnings that leads to one
 abbrev pub ends : Board → List ℕ → List ℕ → List ℕ

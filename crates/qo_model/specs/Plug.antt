@@ -1,5 +1,5 @@
 -- Plugging: adding a device in stages, and what an attempt leaves that was given up (include/hw/qdev-core.h, "Realization"; include/hw/hotplug.h; the stages and the order of refusals are the profile's).
-use Rattle.std.specs.Prelude.{ℕ, zero, suc, ◌+◌, Bool, true, false, not, ◌&&◌, ◌||◌, ◌==◌, nat_le, if◌then◌else◌, List, [], ◌∷◌, ◌++◌, map, filter, filter_map, drop, take, length, find, codes, Option, Some, None, option_map, option_and_then, unwrap_or, Result, Ok, Err}
+use Rattle.std.specs.Prelude.{ℕ, zero, suc, ◌+◌, Bool, true, false, not, ◌&&◌, ◌||◌, ◌==◌, nat_le, nat_lt, if◌then◌else◌, List, [], ◌∷◌, ◌++◌, map, filter, filter_map, drop, take, length, find, codes, Option, Some, None, option_map, option_and_then, unwrap_or, Result, Ok, Err}
 use Rattle.std.specs.List.{flat_map, list_any}
 use Rattle.std.specs.Option.{option_map_or, option_or}
 use Rattle.std.specs.Str.{bytes_eq}
@@ -7,7 +7,8 @@ use Rattle.qo_values.specs.Ids.{is_id}
 use Rattle.qo_values.specs.Kinds.{type_name}
 use Rattle.qo_values.specs.Placing.{is_in_window, least, overlaps_any, place_of, range_at}
 use Rattle.qo_values.specs.Registers.{Registers, dimm}
-use Rattle.qo_values.specs.declared.limits.TheConstants.{LIVE_OBJECTS_MAX}
+use Rattle.qo_values.specs.declared.births.TheConstants.{ANONYMOUS_BIRTH, MEMORY_BUS_BIRTH, PERIPHERAL_BIRTH, ROOT_BUS_BIRTH, SYSTEM_CLOCK_BIRTH}
+use Rattle.qo_values.specs.declared.limits.TheConstants.{BUS_DEPTH_MAX, BUS_SLOTS, DIMM_ALIGN, LIVE_OBJECTS_MAX, NOTICES_MAX}
 use Rattle.qo_values.specs.declared.codes.Code.{Code}
 use Rattle.qo_values.specs.declared.codes.Code.TheVariants.{E15, E20, E21, E22, E23, E24, E25, E26, E27, E28, E29, E30, E36, E37, E38, E39, E40, E41, E42, E43, E44}
 use Rattle.qo_values.specs.declared.kinds.Act.{Act}
@@ -22,7 +23,7 @@ use Rattle.qo_model.specs.declared.notes.Note.{Note}
 use Rattle.qo_model.specs.Board.{Board, Record, Ring, Slot, plain, child, strong, weak, alias, record_of, slot_named, slots_at}
 use Rattle.qo_model.specs.Changes.{add, fresh, with_changed}
 use Rattle.qo_model.specs.Clocks.{acted}
-use Rattle.qo_model.specs.Devices.{anonymous_birth, anonymous_name, bridge_of, child_named, clock_of, depth_of, device_named, is_going, is_realized, kid_name, memory_bus, number_at, number_in, peripheral_birth, root_bus, strong_at, sysclk_birth, text_at, text_in}
+use Rattle.qo_model.specs.Devices.{anonymous_name, bridge_of, child_named, clock_of, depth_of, device_named, is_going, is_realized, kid_name, number_at, number_in, strong_at, text_at, text_in}
 use Rattle.qo_model.specs.FinalNotes.{ending}
 use Rattle.qo_model.specs.Objects.{Given, has_slot, init_notes, place_from, refusal_of, slot_given}
 use Rattle.qo_model.specs.Opening.{first_value, fresh_record}
@@ -75,8 +76,8 @@ type_barred driver =
 
 -- stage 2: the id, and the place in the container; E15 where the container is not there, and E24 where the next name of a device without id is taken, which is on no sound board
 abbrev pub parent_for : Option (List ℕ) → ℕ
-parent_for None = anonymous_birth
-parent_for (Some id) = peripheral_birth
+parent_for None = ANONYMOUS_BIRTH
+parent_for (Some id) = PERIPHERAL_BIRTH
 
 abbrev pub name_for : Board → Option (List ℕ) → List ℕ
 name_for b None = anonymous_name b.anonymous
@@ -97,7 +98,7 @@ abbrev pub bus_type : TypeId → List ℕ
 bus_type t = if is_a t (codes "slot-device") then codes "slot-bus" else codes "mem-bus"
 
 abbrev pub bus_for : Board → TypeId → Option (List ℕ) → Option ℕ
-bus_for b t None = Some (if is_a t (codes "slot-device") then root_bus else memory_bus)
+bus_for b t None = Some (if is_a t (codes "slot-device") then ROOT_BUS_BIRTH else MEMORY_BUS_BIRTH)
 bus_for b t (Some path) = elim (resolve b path (codes "bus")) [ found m ↦ Some m | _ ↦ None ]
 
 abbrev pub bus_barred : Board → TypeId → Option ℕ → Option Code
@@ -124,8 +125,8 @@ abbrev pub is_free : Board → ℕ → ℕ → Bool
 is_free b bus slot = not (has_slot b bus (kid_name slot))
 
 abbrev pub slot_for : Board → ℕ → Option ℕ → Result ℕ Code
-slot_for b bus (Some slot) = if nat_le slot 7 then (if is_free b bus slot then Ok slot else Err E29) else Err E28
-slot_for b bus None = elim (least (is_free b bus) 0 8) [ None ↦ Err E30 | Some slot ↦ Ok slot ]
+slot_for b bus (Some slot) = if nat_lt slot BUS_SLOTS then (if is_free b bus slot then Ok slot else Err E29) else Err E28
+slot_for b bus None = elim (least (is_free b bus) 0 BUS_SLOTS) [ None ↦ Err E30 | Some slot ↦ Ok slot ]
 
 abbrev pub target_for : Board → TypeId → List Given → List ℕ → Option ℕ
 target_for b t props name = elim (link_target b t (text_for props name)) [ Ok target ↦ target | Err code ↦ None ]
@@ -156,7 +157,7 @@ size_of b m = unwrap_or (number_at b m (codes "size")) 0
 abbrev pub range_for : Board → Option ℕ → ℕ → Result Range Code
 range_for b (Some at) size =
     if is_in_window (range_at at size) && not (overlaps_any (range_at at size) (ranges_of b)) then Ok (range_at at size) else Err E40
-range_for b None size = elim (place_of (ranges_of b) size 4096) [ None ↦ Err E41 | Some at ↦ Ok (range_at at size) ]
+range_for b None size = elim (place_of (ranges_of b) size DIMM_ALIGN) [ None ↦ Err E41 | Some at ↦ Ok (range_at at size) ]
 
 abbrev pub code_in : {T : Type 0} → Result T Code → Option Code
 code_in (Ok x) = None
@@ -169,7 +170,7 @@ range_barred b props (Some m) =
 
 abbrev pub kind_barred : Board → TypeId → ℕ → List Given → Option Code
 kind_barred b MemDimm bus props = range_barred b props (target_for b MemoryBackend props (codes "memdev"))
-kind_barred b SlotBridge bus props = if nat_le 8 (depth_of b bus) then Some E42 else None
+kind_barred b SlotBridge bus props = if nat_le BUS_DEPTH_MAX (depth_of b bus) then Some E42 else None
 kind_barred b t bus props = None
 
 abbrev pub place_barred : Board → TypeId → ℕ → List Given → Option Code
@@ -192,7 +193,7 @@ realize_barred b t props = None
 
 -- stage 8: the notices
 abbrev pub notice_barred : Board → Option Code
-notice_barred b = if nat_le 64 (length b.notices) then Some E44 else None
+notice_barred b = if nat_le NOTICES_MAX (length b.notices) then Some E44 else None
 
 -- the first refusal that stands, with its stage
 abbrev pub at_stage : ℕ → Option Code → Option (ℕ × Code)
@@ -348,7 +349,7 @@ with_body_of id range r = record r { registers = registers_on range r.registers;
 
 -- the clock that a device's clock is connected to: that of the bridge whose bus this is, or the system's
 abbrev pub source_for : Board → ℕ → ℕ
-source_for b bus = unwrap_or (option_and_then (clock_of b) (bridge_of b bus)) sysclk_birth
+source_for b bus = unwrap_or (option_and_then (clock_of b) (bridge_of b bus)) SYSTEM_CLOCK_BIRTH
 
 abbrev pub with_source : ℕ → Option ℕ → Board → Board
 with_source source None b = b

@@ -2,13 +2,14 @@
 use Rattle.std.specs.Prelude.{◌≡◌, ℕ, true, Bool, filter, codes, if◌then◌else◌, List, [], ◌∷◌, ⊤}
 use Rattle.std.specs.Str.{bytes_eq}
 use Rattle.std.specs.List.{AllByRecursion}
+use Rattle.qo_values.specs.declared.births.TheConstants.{PERIPHERAL_BIRTH, ANONYMOUS_BIRTH, OBJECTS_BIRTH}
 use Rattle.qo_model.specs.Board.{Board, Record, Slot, alias}
 use Rattle.qo_model.specs.Depth.{among}
 use Rattle.qo_model.specs.Paths.{children_in}
 
--- the births of the objects whose children go by command: `/machine/peripheral`, `/machine/peripheral-anon` and `/objects`
+-- the objects whose children go by command
 abbrev pub is_open : ℕ → Bool
-is_open n = among (3 ∷ 4 ∷ 8 ∷ []) n
+is_open n = among (PERIPHERAL_BIRTH ∷ ANONYMOUS_BIRTH ∷ OBJECTS_BIRTH ∷ []) n
 
 -- the child that an object has for as long as it is there: its clock
 abbrev pub is_clock_slot : List ℕ × Slot → Bool

@@ -4,6 +4,7 @@ use Rattle.std.specs.List.{AllByRecursion, IsDistinct}
 use Rattle.std.specs.Str.{bytes_eq}
 use Rattle.qo_values.specs.Kinds.{type_name}
 use Rattle.qo_values.specs.Registers.{bare}
+use Rattle.qo_values.specs.declared.births.TheConstants.{OPENING_OBJECTS, ROOT_BIRTH}
 use Rattle.qo_values.specs.declared.kinds.TypeId.{TypeId}
 use Rattle.qo_values.specs.declared.properties.Val.TheVariants as val
 use Rattle.qo_model.specs.Board.{Board, Record, Slot, plain, child, strong, weak, alias, is_live}
@@ -58,10 +59,10 @@ NamesLive b (alias n name) = is_live b n ≡ true
 
 -- the facts, of a board that has nothing else
 pub record GraphFacts (g : Board) : Type 0 where
-  -- births rise and are at most the births so far, of which eight are those that every machine begins with
+  -- births rise and are at most the births so far, the first of which are those that every machine begins with
   pub rising : Rises (births g)
   pub within : AllByRecursion (λ n. n ≤ g.born) (births g)
-  pub begun : 8 ≤ g.born
+  pub begun : OPENING_OBJECTS ≤ g.born
   -- the names of an object's slots differ
   pub named : AllByRecursion (λ (r : Record). IsDistinct bytes_eq (map (λ (s : List ℕ × Slot). s.0) r.slots)) g.records
   -- each slot that names an object names one that is there, and a link one of its type
@@ -69,9 +70,9 @@ pub record GraphFacts (g : Board) : Type 0 where
   -- no object is a child twice, and none is below itself
   pub one_parent : IsDistinct nat_eq (flat_map (λ (r : Record). children_in r.slots) g.records)
   pub none_round : (n : ℕ) → ¬ (Leads (children_of g) n n)
-  -- birth 1 alone is pinned, once, and every other object has references
-  pub pinned : g.pins ≡ 1 ∷ []
-  pub referred : AllByRecursion (λ n. n ≢ 1 → 0 < refs g n) (births g)
+  -- the root alone is pinned, once, and every other object has references
+  pub pinned : g.pins ≡ ROOT_BIRTH ∷ []
+  pub referred : AllByRecursion (λ n. n ≢ ROOT_BIRTH → 0 < refs g n) (births g)
 
 -- the tree is sound
 abbrev pub SoundGraph : Board → Type 0

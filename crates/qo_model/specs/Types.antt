@@ -6,6 +6,7 @@ use Rattle.std.specs.Str.{bytes_eq}
 use Rattle.qo_values.specs.Kinds.{type_name}
 use Rattle.qo_values.specs.declared.kinds.TypeId.{TypeId}
 use Rattle.qo_values.specs.declared.kinds.TypeId.TheVariants.{Object, Container, Machine, Device, SlotDevice, SlotUart, SlotTimer, SlotBridge, MemDimm, Bus, SlotBus, MemBus, Clock, MemoryBackend, MemoryBackendRam, Tag}
+use Rattle.qo_values.specs.declared.limits.TheConstants.{BACKEND_SIZE_AT_FIRST, BACKEND_SIZE_MAX, DIMM_ALIGN}
 use Rattle.qo_values.specs.declared.properties.PropType.{PropType}
 use Rattle.qo_values.specs.declared.properties.PropType.TheVariants as ty
 
@@ -104,7 +105,7 @@ types =
       interfaces = [];
       properties =
           property (codes "memdev") (link MemoryBackend true) on_add
-          ∷ property (codes "addr") (plain (multiple_of 4096) nothing) on_add
+          ∷ property (codes "addr") (plain (multiple_of DIMM_ALIGN) nothing) on_add
           ∷ [];
     }
     ∷ record { id = Bus; parent = Some (codes "object"); is_abstract = true; interfaces = codes "resettable" ∷ []; properties = [] }
@@ -127,7 +128,7 @@ types =
       parent = Some (codes "object");
       is_abstract = true;
       interfaces = codes "user-creatable" ∷ [];
-      properties = property (codes "size") (plain (ty.Uint 4096 (2 ^ 40) 4096) (number 1048576)) on_add ∷ [];
+      properties = property (codes "size") (plain (ty.Uint DIMM_ALIGN BACKEND_SIZE_MAX DIMM_ALIGN) (number BACKEND_SIZE_AT_FIRST)) on_add ∷ [];
     }
     ∷ record { id = MemoryBackendRam; parent = Some (codes "memory-backend"); is_abstract = false; interfaces = []; properties = [] }
     ∷ record {

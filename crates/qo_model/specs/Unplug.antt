@@ -1,6 +1,7 @@
 -- Unplugging: a device is unrealized, with all that is below it, and let go (include/hw/qdev-core.h, "Realization" and `unparent`; include/hw/hotplug.h; the order is the profile's).
 use Rattle.std.specs.Prelude.{◌&&◌, ℕ, zero, suc, Bool, false, not, ◌==◌, List, [], ◌∷◌, filter, length, codes, Option, Some, None}
 use Rattle.std.specs.Str.{bytes_eq}
+use Rattle.qo_values.specs.declared.births.TheConstants.{ANONYMOUS_BIRTH, PERIPHERAL_BIRTH}
 use Rattle.qo_values.specs.declared.kinds.Act.TheVariants.{Unrealize}
 use Rattle.qo_values.specs.declared.properties.Val.{Val}
 use Rattle.qo_values.specs.declared.properties.Val.TheVariants as val
@@ -8,7 +9,7 @@ use Rattle.qo_model.specs.Board.{Board, Notice, Slot, strong, weak, slots_at, sl
 use Rattle.qo_model.specs.Changes.{cut, set, with_changed}
 use Rattle.qo_model.specs.Clocks.{acted, device_period}
 use Rattle.qo_model.specs.Depth.{by_objects}
-use Rattle.qo_model.specs.Devices.{anonymous_birth, clock_name, peripheral_birth, bus_of, buses_of, clock_of, kids_of}
+use Rattle.qo_model.specs.Devices.{clock_name, bus_of, buses_of, clock_of, kids_of}
 use Rattle.qo_model.specs.Objects.{place_from}
 use Rattle.qo_model.specs.Paths.{births, is_child}
 use Rattle.qo_model.specs.Release.{after, drop_slot, edit, finalise, let_go, pin, unpin}
@@ -108,7 +109,7 @@ abbrev pub left_bus : ℕ → Board → Board
 left_bus d b = elim (bus_of b d) [ None ↦ b | Some m ↦ let_go_where (is_named (codes "parent_bus")) d (take_where (names_kid d) m b) ]
 
 abbrev pub left_parent : ℕ → Board → Board
-left_parent d b = let_go_where (is_child_slot d) anonymous_birth (let_go_where (is_child_slot d) peripheral_birth b)
+left_parent d b = let_go_where (is_child_slot d) ANONYMOUS_BIRTH (let_go_where (is_child_slot d) PERIPHERAL_BIRTH b)
 
 -- a device that is unrealized and held is taken out, with all that is below it
 abbrev pub taken_by : (ℕ → Board → Board) → ℕ → Board → Board

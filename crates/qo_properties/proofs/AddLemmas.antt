@@ -4,6 +4,7 @@ use Rattle.std.specs.List.{AllByRecursion, cons_option}
 use Rattle.std.specs.Option.{option_map_or}
 use Rattle.std.proofs.lemmas.Bool.{eqb-true, eq-eqb}
 use Rattle.std.proofs.lemmas.List.Sums.{sum_by-cons, sum_by-append}
+use Rattle.qo_values.specs.declared.births.TheConstants.{OBJECTS_BIRTH}
 use Rattle.qo_values.specs.declared.kinds.TypeId.{TypeId}
 use Rattle.qo_kinds.specs.Bodies.{kept_of, none_kept}
 use Rattle.qo_kinds.proofs.BodyLemmas.{fresh-bare, fresh-registers}
@@ -18,7 +19,7 @@ use Rattle.qo_model.specs.Release.{edited}
 use Rattle.qo_model.specs.Opening.{first_value}
 use Rattle.qo_model.specs.Types.{Kind, Property, slots_of}
 use Rattle.qo_properties.specs.Fresh.{first_slots, new_slots, slot_begun, with_slots}
-use Rattle.qo_model.specs.Objects.{Given, given_slots, objects_birth, with_attempt, with_object}
+use Rattle.qo_model.specs.Objects.{Given, given_slots, with_attempt, with_object}
 use Rattle.qo_notes.proofs.Logs.{all_lem}
 use Rattle.qo_object.specs.Content.{Content, fresh, held_count, holding, with_slot, without_pin, as_made}
 use Rattle.qo_object.specs.Slots.{Named, forgotten_in, held, holds, is_born, target_of}
@@ -377,7 +378,7 @@ pins-last [] o c none = rw none refl
 pins-last (row ∷ rows) o c none = ap (λ (l : List ℕ). replicate row.1.pins row.0.birth ++ l) (pins-last rows o c none)
 
 -- the board with an object more
-pub shows-object : (b : Board) (v : Objects) → Shows b v → (o parent : Key) → parent.birth ≡ objects_birth → o.birth ≡ v.born + 1 → (name : List ℕ) (t : TypeId) (props : List Given) (slots : List Named) → shown_slots slots ≡ given_slots b t props → Shows (with_object b t name props) (with_newest o (as_made t slots 0) (with_edit parent.birth (with_slot name (Child o)) v))
+pub shows-object : (b : Board) (v : Objects) → Shows b v → (o parent : Key) → parent.birth ≡ OBJECTS_BIRTH → o.birth ≡ v.born + 1 → (name : List ℕ) (t : TypeId) (props : List Given) (slots : List Named) → shown_slots slots ≡ given_slots b t props → Shows (with_object b t name props) (with_newest o (as_made t slots 0) (with_edit parent.birth (with_slot name (Child o)) v))
 unfolding add
 shows-object b v s o parent place birth name t props slots given =
     let rows : Objects = with_edit parent.birth (with_slot name (Child o)) v in

@@ -1,12 +1,13 @@
 -- What the calls on users' objects answer.
 use Rattle.std.proofs.Common.{◌≡◌, refl, ap, sym, subst, ◌∙◌, ℕ, true, false, List, [], Option, Some, None, Ok, Err, is_some, option_map, inl, inr}
 use Rattle.std.specs.Option.{option_map_or}
+use Rattle.qo_values.specs.declared.births.TheConstants.{OBJECTS_BIRTH}
 use Rattle.qo_values.specs.declared.codes.Code.TheVariants.{E15, E20, E33, E50}
 use Rattle.qo_values.specs.declared.codes.Code.{Code}
 use Rattle.qo_values.specs.declared.kinds.TypeId.{TypeId}
 use Rattle.qo_model.specs.Types.{TypeRow, row_named}
 use Rattle.qo_model.specs.Board.{Board, is_live, slots_at}
-use Rattle.qo_model.specs.Objects.{Changed, Given, added_as, added_by, attempted_as, barred, barred_by, is_object_named, object_add, object_del, objects_birth, place_from, refusal_of, sever, with_attempt, with_object}
+use Rattle.qo_model.specs.Objects.{Changed, Given, added_as, added_by, attempted_as, barred, barred_by, is_object_named, object_add, object_del, place_from, refusal_of, sever, with_attempt, with_object}
 use Rattle.qo_model.specs.Paths.{attached}
 use Rattle.qo_model.specs.Release.{let_go}
 use Rattle.qo_object.specs.Content.{Content}
@@ -21,7 +22,7 @@ use Rattle.qo_properties.specs.declared.refusals.Refusal.TheVariants.{Refused, M
 use Rattle.qo_properties.proofs.AddLemmas.{shows-tried}
 
 -- the place of a user's object
-place-shown : (b : Board) (v : Objects) → Shows b v → (id : List ℕ) (n : ℕ) → n ≡ 8 → (o : Option ℕ) → o ≡ place_from (is_object_named id) 0 (shown_slots (slots_of v n)) → place_from (is_object_named id) 0 (slots_at b objects_birth) ≡ o
+place-shown : (b : Board) (v : Objects) → Shows b v → (id : List ℕ) (n : ℕ) → n ≡ 8 → (o : Option ℕ) → o ≡ place_from (is_object_named id) 0 (shown_slots (slots_of v n)) → place_from (is_object_named id) 0 (slots_at b OBJECTS_BIRTH) ≡ o
 place-shown b v s id n is o e =
     ap (λ (m : ℕ). place_from (is_object_named id) 0 (slots_at b m)) (sym is) ∙ ap (place_from (is_object_named id) 0) (shows-slots b v s n) ∙ sym e
 

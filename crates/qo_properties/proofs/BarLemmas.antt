@@ -11,6 +11,7 @@ use Rattle.std.specs.Str.{bytes_eq}
 use Rattle.std.proofs.lemmas.Option.{same_Some}
 use Rattle.std.proofs.lemmas.List.{length-map}
 use Rattle.qo_values.specs.Kinds.{type_name}
+use Rattle.qo_values.specs.declared.births.TheConstants.{OBJECTS_BIRTH}
 use Rattle.qo_values.specs.declared.codes.Code.TheVariants.{E15, E20, E21, E22, E23, E24, E43}
 use Rattle.qo_values.specs.declared.codes.Code.{Code}
 use Rattle.qo_values.specs.declared.kinds.TypeId.{TypeId}
@@ -20,7 +21,7 @@ use Rattle.qo_types.specs.Rows.{Told, type_told, type_told_of}
 use Rattle.qo_types.specs.declared.rows.TypeRow as code
 use Rattle.qo_model.specs.Board.{Board, is_live}
 use Rattle.qo_model.specs.Board as board
-use Rattle.qo_model.specs.Objects.{barred, barred_by, has_slot, objects_birth}
+use Rattle.qo_model.specs.Objects.{barred, barred_by, has_slot}
 use Rattle.qo_slots.specs.declared.keys.Key.{Key}
 use Rattle.qo_table.specs.Rows.{IsLive}
 use Rattle.qo_object.specs.Content.{Content}
@@ -71,7 +72,7 @@ module _ (name : List ℕ) (t : TypeId) (r : code.TypeRow) (is : Some t ≡ opti
 
 -- the slots of `/objects`, and the objects
 
-taken-shown : (b : Board) (v : Objects) → Shows b v → (n : ℕ) (id : List ℕ) → n ≡ objects_birth → has_slot b objects_birth id ≡ list_any (λ (s : Named). bytes_eq id s.0) (slots_of v n)
+taken-shown : (b : Board) (v : Objects) → Shows b v → (n : ℕ) (id : List ℕ) → n ≡ OBJECTS_BIRTH → has_slot b OBJECTS_BIRTH id ≡ list_any (λ (s : Named). bytes_eq id s.0) (slots_of v n)
 taken-shown b v s n id is =
     ap (λ (m : ℕ). has_slot b m id) (sym is) ∙ ap (list_any (λ (t : List ℕ × board.Slot). bytes_eq t.0 id)) (shows-slots b v s n) ∙ go (slots_of v n)
   where
@@ -83,7 +84,7 @@ found-told : {A : Type 0} (f : A → Named) (o : Option A) (x : Option Named) (t
 found-told f None x t e is = ap is_some (sym e) ∙ is
 found-told f (Some a) x t e is = ap is_some (sym e) ∙ is
 
-pub taken-is : {A : Type 0} (f : A → Named) (o : Option A) (b : Board) (v : Objects) → Shows b v → (n : ℕ) (id : List ℕ) (t : Bool) → n ≡ objects_birth → option_map f o ≡ find (λ (s : Named). bytes_eq id s.0) (slots_of v n) → is_some o ≡ t → has_slot b objects_birth id ≡ t
+pub taken-is : {A : Type 0} (f : A → Named) (o : Option A) (b : Board) (v : Objects) → Shows b v → (n : ℕ) (id : List ℕ) (t : Bool) → n ≡ OBJECTS_BIRTH → option_map f o ≡ find (λ (s : Named). bytes_eq id s.0) (slots_of v n) → is_some o ≡ t → has_slot b OBJECTS_BIRTH id ≡ t
 taken-is f o b v s n id t is e some =
     taken-shown b v s n id is ∙ sym (is_some-find (λ (x : Named). bytes_eq id x.0) (slots_of v n)) ∙ found-told f o (find (λ (x : Named). bytes_eq id x.0) (slots_of v n)) t e some
 
@@ -92,23 +93,23 @@ many-shown b v s = ap (λ (l : List board.Record). length l) s.records ∙ lengt
 
 pub place-gone : (b : Board) (v : Objects) → Shows b v → (id : List ℕ) → content_of v 8 ≡ None → Some E15 ≡ place_refusal b id
 place-gone b v s id none =
-    let gone : is_live b objects_birth ≡ false = shows-live b v s objects_birth ∙ ap (λ (o : Option Content). is_some o) none in
+    let gone : is_live b OBJECTS_BIRTH ≡ false = shows-live b v s OBJECTS_BIRTH ∙ ap (λ (o : Option Content). is_some o) none in
     rw (place_refusal, gone) refl
 
 -- `/objects`, by its name
-module _ (b : Board) (v : Objects) (s : Shows b v) (key : Key) (live : IsLive v.rows key) (is : key.birth ≡ objects_birth) (id : List ℕ) where
-  lives : is_live b objects_birth ≡ true
+module _ (b : Board) (v : Objects) (s : Shows b v) (key : Key) (live : IsLive v.rows key) (is : key.birth ≡ OBJECTS_BIRTH) (id : List ℕ) where
+  lives : is_live b OBJECTS_BIRTH ≡ true
   lives = ap (is_live b) (sym is) ∙ shows-live_key b v s key live
 
-  pub place-taken : has_slot b objects_birth id ≡ true → Some E24 ≡ place_refusal b id
+  pub place-taken : has_slot b OBJECTS_BIRTH id ≡ true → Some E24 ≡ place_refusal b id
   place-taken taken = rw (place_refusal, lives, taken) refl
 
-  pub place-full : has_slot b objects_birth id ≡ false → LIVE_OBJECTS_MAX ≤ length v.rows → Some E43 ≡ place_refusal b id
+  pub place-full : has_slot b OBJECTS_BIRTH id ≡ false → LIVE_OBJECTS_MAX ≤ length v.rows → Some E43 ≡ place_refusal b id
   place-full none many =
       let so : leb LIVE_OBJECTS_MAX (length b.records) ≡ true = grind (arith, nat_tests, many-shown b v s, many) in
       rw (place_refusal, lives, none, so) refl
 
-  pub place-vacant : has_slot b objects_birth id ≡ false → length v.rows < LIVE_OBJECTS_MAX → None ≡ place_refusal b id
+  pub place-vacant : has_slot b OBJECTS_BIRTH id ≡ false → length v.rows < LIVE_OBJECTS_MAX → None ≡ place_refusal b id
   place-vacant none few =
       let so : leb LIVE_OBJECTS_MAX (length b.records) ≡ false = grind (arith, nat_tests, many-shown b v s, few) in
       rw (place_refusal, lives, none, so) refl

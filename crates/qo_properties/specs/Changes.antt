@@ -1,12 +1,13 @@
 -- What the calls that change the board answer, and the severing of an object's links.
 use Rattle.std.specs.Prelude.{◌≡◌, ℕ, Bool, false, leb, not, if◌then◌else◌, List, length, codes, Option, Some, None, Result, Ok, Err}
 use Rattle.std.specs.Option.{option_map_or}
+use Rattle.qo_values.specs.declared.births.TheConstants.{OBJECTS_BIRTH}
 use Rattle.qo_values.specs.declared.codes.Code.{Code}
 use Rattle.qo_values.specs.declared.limits.TheConstants.{LIVE_OBJECTS_MAX}
 use Rattle.qo_object.specs.Slots.{Named, is_strong, slot_in}
 use Rattle.qo_model.specs.Board.{Board, is_live, slot_at, slots_at, strong}
 use Rattle.qo_values.specs.declared.codes.Code.TheVariants.{E15, E20, E21, E22, E24, E43}
-use Rattle.qo_model.specs.Objects.{Changed, has_slot, objects_birth, severed_from}
+use Rattle.qo_model.specs.Objects.{Changed, has_slot, severed_from}
 use Rattle.qo_model.specs.Types.{TypeRow, is_a, row_named}
 use Rattle.qo_model.specs.Release.{let_go, pin, unpin}
 use Rattle.qo_heap.specs.Board.{Shows}
@@ -43,4 +44,4 @@ type_refusal driver = option_map_or row_refusal (row_named driver) (Some E20)
 
 -- why no object is made under an id: `/objects` is not there, it has a slot of that name, or there are as many objects as there may be
 abbrev pub place_refusal : Board → List ℕ → Option Code
-place_refusal b id = if not (is_live b objects_birth) then Some E15 else if has_slot b objects_birth id then Some E24 else if leb LIVE_OBJECTS_MAX (length b.records) then Some E43 else None
+place_refusal b id = if not (is_live b OBJECTS_BIRTH) then Some E15 else if has_slot b OBJECTS_BIRTH id then Some E24 else if leb LIVE_OBJECTS_MAX (length b.records) then Some E43 else None

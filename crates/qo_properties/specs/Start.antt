@@ -8,7 +8,7 @@ use Rattle.qo_table.specs.Rows.{IsLive}
 use Rattle.qo_object.specs.Content.{as_made}
 use Rattle.qo_model.specs.Board.{Board, child}
 use Rattle.qo_model.specs.Changes.{make, set, add, with_fresh_slots}
-use Rattle.qo_model.specs.Opening.{system_period}
+use Rattle.qo_values.specs.declared.limits.TheConstants.{SYSTEM_PERIOD}
 use Rattle.qo_model.specs.Release.{without_pin}
 use Rattle.qo_heap.specs.Objects.{Objects, content_of}
 use Rattle.qo_properties.specs.Claims.{KeepsBook}
@@ -42,7 +42,7 @@ no_objects =
 
 -- a clock more, which ticks with the system's period
 abbrev pub with_clock : ℕ → Board → Board
-with_clock n b = set (b.born + 1) 1 (Uint system_period) (with_new_child n (codes "sysclk") Clock b)
+with_clock n b = set (b.born + 1) 1 (Uint SYSTEM_PERIOD) (with_new_child n (codes "sysclk") Clock b)
 
 -- the machine more, with its children
 abbrev pub with_containers : ℕ → Board → Board

@@ -4,7 +4,6 @@
 #![tactic(auto)]
 
 mod adding;
-mod errors;
 mod reading;
 mod refusals;
 #[cfg(test)]
@@ -17,10 +16,9 @@ pub use adding::fresh::{add_fresh_slots, name_of};
 pub use adding::given::{check_given, given_val, linked_to};
 pub use adding::objects::{add_filled, add_object, attempt, make_child};
 pub use adding::start::make_all;
-pub use errors::Memory;
 pub use reading::detached::detached_list;
 pub use reading::listing::{Prop, list};
-pub use reading::lookup::{OBJECTS_BIRTH, ROOT_BIRTH, child_place, object_of, place_named};
+pub use reading::lookup::{child_place, object_of, place_named};
 pub use reading::naming::{object_at, path_text, target_text};
 pub use reading::values::{copy_of, get};
 pub use refusals::Refusal;

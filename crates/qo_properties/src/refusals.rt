@@ -1,6 +1,5 @@
 //! The answer of a call that is refused.
 
-use crate::errors::Memory;
 use qo_values::Code;
 use std::alloc::AllocError;
 use thiserror::Error;
@@ -24,17 +23,6 @@ impl From<Code> for Refusal {
 
     fn from(code: Code) -> Refusal {
         Refusal::Refused(code)
-    }
-}
-
-impl From<Memory> for Refusal {
-    ghost use Rattle.std.specs.Prelude.{◌≡◌};
-    ghost use Rattle.qo_properties.specs.declared.refusals.Refusal.TheVariants as refusal;
-
-    ghost from_gives = { λ memory made. made ≡ refusal.Memory };
-
-    fn from(_memory: Memory) -> Refusal {
-        Refusal::Memory
     }
 }
 

@@ -2,18 +2,17 @@
 //! memory.
 ghost use Rattle.std.specs.Prelude.{◌≡◌, ◌<◌};
 
-use crate::Memory;
 use crate::adding::fresh::add_fresh_slots;
 use crate::adding::objects::attempt;
 use qo_heap::{Heap, Steps};
 use qo_values::TypeId;
-use std::alloc::Global;
+use std::alloc::{AllocError, Global};
 use std::marker::Brand;
 use std::sync::ledger::{Blank, Ledger};
 use std::test::Fail;
 
 /// A new tag with its slots, and an attempt, which takes a birth and leaves two notes.
-fn attempted<L: Ledger>(alloc: Global, blank: Blank) -> Result<bool, Memory>
+fn attempted<L: Ledger>(alloc: Global, blank: Blank) -> Result<bool, AllocError>
     requires name { blank.name ≡ L.name }
     requires parts { blank.parts ≡ L.parts }
     requires some { 0 < blank.parts }

@@ -1,5 +1,5 @@
 -- What stands beside the objects stays with each call on them.
-use Rattle.std.proofs.Common.{◌≡◌, refl, ap, subst, ◌∙◌, ap₂, ℕ, Bool, List, [], Result, Ok, Err, OnErr, inl, inr, map, true}
+use Rattle.std.proofs.Common.{◌≡◌, refl, ap, sym, subst, ◌∙◌, ap₂, ℕ, Bool, List, [], Result, Ok, Err, OnErr, inl, inr, map, true}
 use Rattle.qo_values.specs.declared.codes.Code.{Code}
 use Rattle.qo_values.specs.declared.properties.Val.{Val}
 use Rattle.qo_model.specs.declared.notes.Note.{Note}
@@ -8,7 +8,7 @@ use Rattle.qo_model.specs.Board.{Board}
 use Rattle.qo_model.specs.FinalNotesRuns.{added, behind_write, deleted, severed, wrote}
 use Rattle.qo_model.specs.NoteReplies.{first_from, given_from}
 use Rattle.qo_model.specs.Notes.{kept_of, total_of}
-use Rattle.qo_model.specs.Objects.{Given, attempted_as, object_add, object_del, sever}
+use Rattle.qo_model.specs.Objects.{Changed, Given, attempted_as, object_add, object_del, sever}
 use Rattle.qo_model.specs.Opening.{opening_board}
 use Rattle.qo_model.specs.Properties.{object_at, write}
 use Rattle.qo_model.specs.Stays.{Stays}
@@ -17,16 +17,21 @@ use Rattle.qo_notes.specs.Log as log
 use Rattle.qo_notes.specs.Log.{IsLogOf, Log}
 use Rattle.qo_heap.specs.Board.{Shows}
 use Rattle.qo_heap.specs.Book.{IsBook}
-use Rattle.qo_heap.specs.Objects.{Objects}
+use Rattle.qo_heap.specs.Objects.{Objects, no_objects_made}
 use Rattle.qo_properties.specs.Adding as properties
 use Rattle.qo_properties.specs.Changes as changes
 use Rattle.qo_properties.specs.Claims.{KeepsBook}
+use Rattle.qo_properties.specs.Pinned.{OnlyRootPinned}
+use Rattle.qo_properties.specs.Start.{no_objects, with_all}
 use Rattle.qo_properties.specs.Writes as writes
 use Rattle.qo_properties.specs.declared.refusals.Refusal.{Refusal}
 use Rattle.qo_properties.specs.declared.refusals.Refusal.TheVariants.{Refused, Memory}
+use Rattle.qo_properties.proofs.ClaimLemmas.{book-none}
+use Rattle.qo_properties.proofs.PinLemmas.{opening-pinned}
+use Rattle.qo_properties.proofs.StartLemmas.{all-is_opening, shows-none}
 use Rattle.qo_realize.specs.Answers.{Adds, IsAnswered, Writes}
 use Rattle.qo_realize.specs.Parts.{Parts, ring_claim}
-use Rattle.qo_realize.specs.Stands.{Stands}
+use Rattle.qo_realize.specs.Stands.{Stands, StandsForSome}
 
 -- other objects, beside the same
 abbrev pub with_objects : Objects → Parts → Parts
@@ -88,11 +93,31 @@ pub err-stays : {T E : Type 0} (r : Result T E) (anonymous : ℕ) (running : Boo
 err-stays (Ok t) anonymous running v w p is same = tt
 err-stays (Err e) anonymous running v w p is same = ap (seen anonymous running) same ∙ is
 
+-- some board stands behind each call
+pub answered-some : (change : Changed) (result : Result (Unit {0}) Code) (p : Parts) → IsAnswered change result p → StandsForSome p
+answered-some change result p h = (change.board, h.board)
+
+pub written-some : (b : Board) (anonymous : ℕ) (running : Bool) (v w : Objects) (result : Result (Unit {0}) Refusal) (given : Result Board Code) → Stands b (seen anonymous running v) → Writes (seen anonymous running w) result given → OnErr result (w ≡ v) → StandsForSome (seen anonymous running w)
+written-some b anonymous running v w (Ok u) given s (c, is, stands) same = (c, stands)
+written-some b anonymous running v w (Err e) given s h same = (b, subst (λ (x : Objects). Stands b (seen anonymous running x)) (sym same) s)
+
+pub added-some : (b : Board) (driver id : List ℕ) (props : List Given) (result : Result (Unit {0}) Refusal) (p : Parts) → Adds b driver id props result p → StandsForSome p
+added-some b driver id props (Ok u) p h = ((object_add b driver id props).board, h.1)
+added-some b driver id props (Err (Refused code)) p h = ((object_add b driver id props).board, h.1)
+added-some b driver id props (Err Memory) p (inl s) = (b, s)
+added-some b driver id props (Err Memory) p (inr s) = (attempted_as b driver id, s)
+
 -- the beginning
-pub opening-stands : (v : Objects) → Shows opening_board v → IsBook [] v → Stands opening_board (seen 0 true v)
+opening-stands : (v : Objects) → Shows opening_board v → IsBook [] v → Stands opening_board (seen 0 true v)
 unfolding opening_board
 opening-stands v shows book =
     record { shows = shows; anonymous = refl; running = refl; holds = refl; pending = refl; notices = refl; rings = refl; book = book }
+
+pub opens : (v w : Objects) → v ≡ no_objects_made → ((b : Board) → Shows b v → Shows (with_all b) w) → KeepsBook v w → OnlyRootPinned w × Stands opening_board (seen 0 true w)
+opens v w none makes keeps = (opening-pinned w shows, opening-stands w shows (keeps [] (subst (λ (x : Objects). IsBook [] x) (sym none) book-none)))
+  where
+    shows : Shows opening_board w
+    shows = subst (λ (b : Board). Shows b w) all-is_opening (makes no_objects (subst (λ (x : Objects). Shows no_objects x) (sym none) shows-none))
 
 -- the notes that the log tells are those of the board
 log-of : (notes : List Note) (l : Log) → IsLogOf notes l → l ≡ record { total = total_of notes; kept = kept_of notes }

@@ -15,3 +15,7 @@ pub record Stands (b : Board) (p : Parts) : Type 0 where
   pub notices : b.notices ≡ p.notices
   pub rings : b.rings ≡ p.rings
   pub book : IsBook (map ring_claim p.rings) p.objects
+
+-- there is a board that they stand for
+abbrev pub StandsForSome : Parts → Type 0
+StandsForSome p = (b : Board) × Stands b p

@@ -4,10 +4,10 @@ use qo_events::DeviceEvent;
 use qo_heap::{Heap, Steps};
 use qo_model::{Detached, Note};
 use qo_properties::{
-    Memory, Prop, Refusal, add_object, detached_list, get, list, make_all, remove, set, sever,
+    Prop, Refusal, add_object, detached_list, get, list, make_all, remove, set, sever,
 };
 use qo_values::{Code, PropList, Val};
-use std::alloc::Global;
+use std::alloc::{AllocError, Global};
 use std::marker::Model;
 use std::sync::ledger::Ledger;
 
@@ -24,12 +24,13 @@ impl Model for Board {
     ghost use Rattle.std.specs.Prelude.{[]};
     ghost use Rattle.qo_properties.specs.Pinned.{OnlyRootPinned};
     ghost use Rattle.qo_realize.specs.Parts.{Parts};
+    ghost use Rattle.qo_realize.specs.Stands.{StandsForSome};
 
     ghost Value = { Parts };
 
     ghost view = { λ b. record { objects = b.heap; anonymous = b.anonymous; running = b.running; holds = []; pending = []; notices = []; rings = [] } };
 
-    ghost invariant = { λ b. OnlyRootPinned b.heap };
+    ghost invariant = { λ b. OnlyRootPinned b.heap × StandsForSome (record { objects = b.heap; anonymous = b.anonymous; running = b.running; holds = []; pending = []; notices = []; rings = [] }) };
 }
 
 impl Board {
@@ -41,14 +42,15 @@ impl Board {
     ghost use Rattle.qo_model.specs.Notes.{total_of};
     ghost use Rattle.qo_model.specs.Objects as objects;
     ghost use Rattle.qo_model.specs.Opening.{opening_board};
+    ghost use Rattle.qo_notes.specs.Log as log;
     ghost use Rattle.qo_properties.specs.Listed.{prop_told};
     ghost use Rattle.qo_properties.specs.Reads.{Answers};
     ghost use Rattle.qo_realize.specs.Answers.{Adds, IsAnswered, Writes};
-    ghost use Rattle.qo_realize.specs.Stands.{Stands};
+    ghost use Rattle.qo_realize.specs.Stands.{Stands, StandsForSome};
 
     /// The opening board: the eight objects that every machine begins with; it runs. The error is
     /// want of memory.
-    pub fn start<L: Ledger>(alloc: Global, steps: &mut Steps<L>) -> Result<Board, Memory>
+    pub fn start<L: Ledger>(alloc: Global, steps: &mut Steps<L>) -> Result<Board, AllocError>
         ensures { IfOk result (Stands opening_board) }
     {
         let mut heap = Heap::new(alloc)?;
@@ -58,6 +60,13 @@ impl Board {
             anonymous: 0,
             running: true,
         })
+    }
+
+    /// What it stands for: there is a board that stands at it.
+    pub fn shown(&self)
+        ensures { StandsForSome self.now }
+    {
+        let _heap = &self.heap;
     }
 
     /// Whether the machine runs.
@@ -103,31 +112,34 @@ impl Board {
         &self,
         alloc: Global,
         steps: &mut Steps<L>,
-    ) -> Result<Vec<Detached>, Memory>
+    ) -> Result<Vec<Detached>, AllocError>
         ensures { (b : model.Board) → Stands b self.now → IfOk result (λ list. list.items ≡ detached_told b) }
     {
-        Ok(detached_list(&self.heap, alloc, steps)?)
+        detached_list(&self.heap, alloc, steps)
     }
 
     /// How many notes there were; it stays at 2^64 - 1 once there.
     pub fn notes_total(&self) -> u64
-        ensures { (b : model.Board) → Stands b self.now → result ≡ total_of b.notes }
+        ensures logged { result ≡ self.now.objects.log.total }
+        ensures told { (b : model.Board) → Stands b self.now → result ≡ total_of b.notes }
     {
         self.heap.notes_total()
     }
 
     /// The number of the first note that a reading from a number gives.
     pub fn notes_first(&self, from: u64) -> u64
-        ensures { (b : model.Board) → Stands b self.now → result ≡ first_from from b.notes }
+        ensures logged { result ≡ log.first_from from self.now.objects.log }
+        ensures told { (b : model.Board) → Stands b self.now → result ≡ first_from from b.notes }
     {
         self.heap.notes_first(from)
     }
 
     /// The notes that a reading from a number gives, at most `NOTES_PER_REPLY`. The error is want of memory.
-    pub fn notes(&self, from: u64, alloc: Global) -> Result<Vec<Note>, Memory>
-        ensures { (b : model.Board) → Stands b self.now → IfOk result (λ notes. notes.items ≡ given_from from b.notes) }
+    pub fn notes(&self, from: u64, alloc: Global) -> Result<Vec<Note>, AllocError>
+        ensures logged { IfOk result (λ notes. notes.items ≡ log.given_from from self.now.objects.log) }
+        ensures told { (b : model.Board) → Stands b self.now → IfOk result (λ notes. notes.items ≡ given_from from b.notes) }
     {
-        Ok(self.heap.notes(from, alloc)?)
+        self.heap.notes(from, alloc)
     }
 
     /// The events on devices that wait, in the order of their coming. It takes no memory.

@@ -9,13 +9,14 @@ use Rattle.std.proofs.lemmas.List.{map-append}
 use Rattle.std.proofs.lemmas.List.Sums.{sum_by-cons}
 use Rattle.qo_values.specs.Ids.{is_id}
 use Rattle.qo_values.specs.Registers.{fresh_registers}
+use Rattle.qo_values.specs.declared.births.TheConstants.{OBJECTS_BIRTH}
 use Rattle.qo_values.specs.declared.codes.Code.{Code}
 use Rattle.qo_values.specs.declared.codes.Code.TheVariants.{E15, E21, E22, E23, E24, E43}
 use Rattle.qo_values.specs.declared.kinds.TypeId.{TypeId}
 use Rattle.qo_model.specs.declared.notes.Note.{Note}
 use Rattle.qo_model.specs.Board.{Board, Record, Slot, plain, child, strong, weak, alias, record_of, kind_of, is_live}
 use Rattle.qo_model.specs.Changes.{with_added}
-use Rattle.qo_model.specs.Objects.{Given, added_as, added_by, barred, given_slots, has_slot, init_notes, object_add, objects_birth, refusal_of, with_attempt, with_object}
+use Rattle.qo_model.specs.Objects.{Given, added_as, added_by, barred, given_slots, has_slot, init_notes, object_add, refusal_of, with_attempt, with_object}
 use Rattle.qo_model.specs.Paths.{births, children_in, children_of, is_child}
 use Rattle.qo_model.specs.Release.{edit, edited}
 use Rattle.qo_model.specs.Types.{TypeRow, is_a, row_named}
@@ -89,8 +90,8 @@ made b t props = record { birth = b.born + 1; kind = t; slots = given_slots b t 
 abbrev noted : Board → TypeId → List Note
 noted b t = b.notes ++ init_notes (b.born + 1) t
 
-object-rest : (b : Board) (t : TypeId) (id : List ℕ) (props : List Given) → is_live b objects_birth ≡ true → has_slot b objects_birth id ≡ false → AtRest b → AtRest (with_object b t id props)
-object-rest b t id props there free h = record { used = subst (λ (rs : List Record). Nearly None (record b { records = rs; born = b.born + 1; notes = noted b t })) same (go (record_of b objects_birth) refl); pinned = h.pinned }
+object-rest : (b : Board) (t : TypeId) (id : List ℕ) (props : List Given) → is_live b OBJECTS_BIRTH ≡ true → has_slot b OBJECTS_BIRTH id ≡ false → AtRest b → AtRest (with_object b t id props)
+object-rest b t id props there free h = record { used = subst (λ (rs : List Record). Nearly None (record b { records = rs; born = b.born + 1; notes = noted b t })) same (go (record_of b OBJECTS_BIRTH) refl); pinned = h.pinned }
   where
     f : Firm b
     f = h.used.firm
@@ -98,30 +99,30 @@ object-rest b t id props there free h = record { used = subst (λ (rs : List Rec
     new : IsNew b (made b t props)
     new = record { birth = refl; names = new-names b t props; lone = all-lone b t props }
 
-    apart : (o : Record) → record_of b objects_birth ≡ Some o → (objects_birth == b.born + 1) ≡ false
-    apart o e = choose (objects_birth == b.born + 1) refl
+    apart : (o : Record) → record_of b OBJECTS_BIRTH ≡ Some o → (OBJECTS_BIRTH == b.born + 1) ≡ false
+    apart o e = choose (OBJECTS_BIRTH == b.born + 1) refl
       where
-        choose : (u : Bool) → (objects_birth == b.born + 1) ≡ u → (objects_birth == b.born + 1) ≡ false
+        choose : (u : Bool) → (OBJECTS_BIRTH == b.born + 1) ≡ u → (OBJECTS_BIRTH == b.born + 1) ≡ false
         choose false p = p
         choose true p =
-            let gone : record_of b objects_birth ≡ None = ap (record_of b) (eqb-true objects_birth (b.born + 1) p) ∙ new-absent b (made b t props) (noted b t) f new in
+            let gone : record_of b OBJECTS_BIRTH ≡ None = ap (record_of b) (eqb-true OBJECTS_BIRTH (b.born + 1) p) ∙ new-absent b (made b t props) (noted b t) f new in
             absurd (let clash : Some o ≡ None = sym e ∙ gone in cc)
 
-    other : (b.born + 1 == objects_birth) ≡ false
-    other = live_apart (record_of b objects_birth) refl there
+    other : (b.born + 1 == OBJECTS_BIRTH) ≡ false
+    other = live_apart (record_of b OBJECTS_BIRTH) refl there
       where
-        live_apart : (o : Option Record) → record_of b objects_birth ≡ o → is_some o ≡ true → (b.born + 1 == objects_birth) ≡ false
+        live_apart : (o : Option Record) → record_of b OBJECTS_BIRTH ≡ o → is_some o ≡ true → (b.born + 1 == OBJECTS_BIRTH) ≡ false
         live_apart None e k = absurd (let clash : false ≡ true = k in cc)
-        live_apart (Some o) e k = let differs : (objects_birth == b.born + 1) ≡ false = apart o e in grind (arith, differs)
+        live_apart (Some o) e k = let differs : (OBJECTS_BIRTH == b.born + 1) ≡ false = apart o e in grind (arith, differs)
 
-    same : map (edited objects_birth (with_added id (child (b.born + 1)))) (b.records ++ made b t props ∷ []) ≡ map (edited objects_birth (with_added id (child (b.born + 1)))) b.records ++ made b t props ∷ []
-    same = map-append (edited objects_birth (with_added id (child (b.born + 1)))) b.records (made b t props ∷ []) ∙ ap (λ (x : Record). map (edited objects_birth (with_added id (child (b.born + 1)))) b.records ++ x ∷ []) (rw (edited, other) refl)
+    same : map (edited OBJECTS_BIRTH (with_added id (child (b.born + 1)))) (b.records ++ made b t props ∷ []) ≡ map (edited OBJECTS_BIRTH (with_added id (child (b.born + 1)))) b.records ++ made b t props ∷ []
+    same = map-append (edited OBJECTS_BIRTH (with_added id (child (b.born + 1)))) b.records (made b t props ∷ []) ∙ ap (λ (x : Record). map (edited OBJECTS_BIRTH (with_added id (child (b.born + 1)))) b.records ++ x ∷ []) (rw (edited, other) refl)
 
-    bare : (o : Record) → record_of b objects_birth ≡ Some o → IsNameless (grown b (made b t props) (noted b t)) objects_birth (b.born + 1) id
+    bare : (o : Record) → record_of b OBJECTS_BIRTH ≡ Some o → IsNameless (grown b (made b t props) (noted b t)) OBJECTS_BIRTH (b.born + 1) id
     bare o e =
         record {
           owner = o;
-          found = grown-old b (made b t props) (noted b t) f new objects_birth o e;
+          found = grown-old b (made b t props) (noted b t) f new OBJECTS_BIRTH o e;
           free_name = name-free id o.slots (sym (ap (λ (x : Option Record). list_any (λ (s : List ℕ × Slot). bytes_eq s.0 id) (option_map_or (λ (y : Record). y.slots) x [])) e) ∙ free);
           there = ap (λ (x : Option Record). is_some (option_map (λ (y : Record). y.kind) x)) (grown-new b (made b t props) (noted b t) f new);
           no_parent = grown-parents b (made b t props) (noted b t) f new (b.born + 1) ∙ absent-parents (kind_of b) (b.born + 1) (ap (option_map (λ (y : Record). y.kind)) (new-absent b (made b t props) (noted b t) f new)) b.records f.linked;
@@ -129,14 +130,14 @@ object-rest b t id props there free h = record { used = subst (λ (rs : List Rec
           apart = apart o e;
         }
 
-    go : (o : Option Record) → record_of b objects_birth ≡ o → Nearly None (edit objects_birth (with_added id (child (b.born + 1))) (grown b (made b t props) (noted b t)))
+    go : (o : Option Record) → record_of b OBJECTS_BIRTH ≡ o → Nearly None (edit OBJECTS_BIRTH (with_added id (child (b.born + 1))) (grown b (made b t props) (noted b t)))
     go None e = absurd (let clash : false ≡ true = sym (ap is_some e) ∙ there in cc)
-    go (Some o) e = named-near (grown b (made b t props) (noted b t)) objects_birth (b.born + 1) id (bare o e) (grown-near b (made b t props) (noted b t) f new h.used)
+    go (Some o) e = named-near (grown b (made b t props) (noted b t)) OBJECTS_BIRTH (b.born + 1) id (bare o e) (grown-near b (made b t props) (noted b t) f new h.used)
 
 -- what is known where no reason bars an object
 record IsFree (b : Board) (id : List ℕ) : Type 0 where
-  there : is_live b objects_birth ≡ true
-  free : has_slot b objects_birth id ≡ false
+  there : is_live b OBJECTS_BIRTH ≡ true
+  free : has_slot b OBJECTS_BIRTH id ≡ false
 
 pub unbarred : (t : Bool) (code : Code) (o : Option Code) → (if t then Some code else o) ≡ None → (t ≡ false) × (o ≡ None)
 unbarred true code o e = absurd (let clash : Some code ≡ None = e in cc)
@@ -145,16 +146,16 @@ unbarred false code o e = (refl, e)
 free-from_barred : (b : Board) (row : TypeRow) (id : List ℕ) → barred b row id ≡ None → IsFree b id
 free-from_barred b row id e =
     let after_place : Option Code = if leb 4096 (length b.records) then Some E43 else None in
-    let after_name : Option Code = if has_slot b objects_birth id then Some E24 else after_place in
-    let after_there : Option Code = if not (is_live b objects_birth) then Some E15 else after_name in
+    let after_name : Option Code = if has_slot b OBJECTS_BIRTH id then Some E24 else after_place in
+    let after_there : Option Code = if not (is_live b OBJECTS_BIRTH) then Some E15 else after_name in
     let after_id : Option Code = if not (is_id id) then Some E23 else after_there in
     let after_type : Option Code = if not (is_a row.id (codes "user-creatable")) then Some E22 else after_id in
     let type_fits : (row.is_abstract ≡ false) × (after_type ≡ None) = unbarred row.is_abstract E21 after_type e in
     let id_fits : (not (is_a row.id (codes "user-creatable")) ≡ false) × (after_id ≡ None) = unbarred (not (is_a row.id (codes "user-creatable"))) E22 after_id type_fits.1 in
     let container : (not (is_id id) ≡ false) × (after_there ≡ None) = unbarred (not (is_id id)) E23 after_there id_fits.1 in
-    let name : (not (is_live b objects_birth) ≡ false) × (after_name ≡ None) = unbarred (not (is_live b objects_birth)) E15 after_name container.1 in
-    let place : (has_slot b objects_birth id ≡ false) × (after_place ≡ None) = unbarred (has_slot b objects_birth id) E24 after_place name.1 in
-    record { there = flip (is_live b objects_birth) name.0; free = place.0 }
+    let name : (not (is_live b OBJECTS_BIRTH) ≡ false) × (after_name ≡ None) = unbarred (not (is_live b OBJECTS_BIRTH)) E15 after_name container.1 in
+    let place : (has_slot b OBJECTS_BIRTH id ≡ false) × (after_place ≡ None) = unbarred (has_slot b OBJECTS_BIRTH id) E24 after_place name.1 in
+    record { there = flip (is_live b OBJECTS_BIRTH) name.0; free = place.0 }
   where
     flip : (t : Bool) → not t ≡ false → t ≡ true
     flip true k = refl

@@ -4,12 +4,12 @@ use Rattle.std.specs.List.{AllByRecursion}
 use Rattle.std.specs.Option.{option_map_or}
 use Rattle.std.proofs.lemmas.Bool.{eq-eqb}
 use Rattle.std.proofs.lemmas.Option.{same_Some}
+use Rattle.qo_values.specs.declared.births.TheConstants.{OBJECTS_BIRTH}
 use Rattle.qo_values.specs.declared.kinds.TypeId.{TypeId}
 use Rattle.qo_values.specs.declared.properties.Val.{Val}
 use Rattle.qo_model.specs.Board.{Board, Record, Slot, plain, child, strong, weak, alias, record_of, kind_of, is_live, slots_at, slot_at, held}
 use Rattle.qo_model.specs.Changes.{point, pointed, set, changed_at, with_changed, with_val}
 use Rattle.qo_model.specs.Depth.{among}
-use Rattle.qo_model.specs.Objects.{objects_birth}
 use Rattle.qo_model.specs.Paths.{child_of}
 use Rattle.qo_model.specs.Properties.{pointed_at, relinked}
 use Rattle.qo_model.specs.References.{refs, refs_in, holds_it}
@@ -82,8 +82,8 @@ near-let_go b n i lasts h = go (slot_at b n i) refl
     go (Some s) p = rw (let_go, p) (after-firm (drop_slot b n i) (held s) (near-drop b n i s p (lasts s p) h))
 
 -- a slot of `/objects` is let go, and a link of any object
-pub near-deleted : (b : Board) (i : ℕ) → Nearly None b → Nearly None (let_go b objects_birth i)
-near-deleted b i h = near-let_go b objects_birth i (λ s e. open-last b objects_birth i refl) h
+pub near-deleted : (b : Board) (i : ℕ) → Nearly None b → Nearly None (let_go b OBJECTS_BIRTH i)
+near-deleted b i h = near-let_go b OBJECTS_BIRTH i (λ s e. open-last b OBJECTS_BIRTH i refl) h
 
 pub near-unlinked : (b : Board) (n i : ℕ) (t : TypeId) (target : Option ℕ) → slot_at b n i ≡ Some (strong t target) → Nearly None b → Nearly None (let_go b n i)
 near-unlinked b n i t target e h = near-let_go b n i (λ s q. link-lasts b n i s q (ap child_of (same_Some s (strong t target) (sym q ∙ e)))) h

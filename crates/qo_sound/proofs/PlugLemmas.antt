@@ -1,6 +1,6 @@
 -- Adding a device keeps a board at rest, taken or refused, and so does an attempt that was cut.
 use Rattle.std.proofs.Common.{nat_eq, ◌≡◌, refl, ap, sym, subst, ◌∙◌, ℕ, zero, suc, ◌+◌, ◌<◌, ◌≤◌, Bool, true, false, not, ◌==◌, List, [], ◌∷◌, filter, take, length, codes, Option, Some, None, is_some, option_map, arith}
-use Rattle.std.specs.Prelude.{nat_le, if◌then◌else◌, ◌||◌}
+use Rattle.std.specs.Prelude.{nat_lt, if◌then◌else◌, ◌||◌}
 use Rattle.std.specs.List.{list_any}
 use Rattle.std.specs.Option.{option_map_or, option_or}
 use Rattle.std.specs.Str.{bytes_eq}
@@ -13,6 +13,7 @@ use Rattle.qo_values.specs.declared.kinds.Act.{Act}
 use Rattle.qo_values.specs.declared.kinds.Act.TheVariants.{Realize, Enter, Hold, Exit}
 use Rattle.qo_values.specs.declared.kinds.TypeId.{TypeId}
 use Rattle.qo_values.specs.declared.kinds.TypeId.TheVariants.{Object, Container, Machine, Device, SlotDevice, SlotUart, SlotTimer, SlotBridge, MemDimm, Bus, SlotBus, MemBus, Clock, MemoryBackend, MemoryBackendRam, Tag}
+use Rattle.qo_values.specs.declared.limits.TheConstants.{BUS_SLOTS}
 use Rattle.qo_values.specs.declared.properties.Val.TheVariants as val
 use Rattle.qo_values.specs.declared.ranges.Range.{Range}
 use Rattle.qo_model.specs.declared.notes.Note.{Note}
@@ -338,9 +339,9 @@ least-passes p (suc times) first m e = go (p first) refl (least-passes p times (
     go false q rest = rest (rw q at e)
 
 slot-free : (b : Board) (bus : ℕ) (given : Option ℕ) → code_in (slot_for b bus given) ≡ None → has_slot b bus (kid_name (ok_or_zero (slot_for b bus given))) ≡ false
-slot-free b bus (Some slot) e = go (nat_le slot 7) refl (is_free b bus slot) refl
+slot-free b bus (Some slot) e = go (nat_lt slot BUS_SLOTS) refl (is_free b bus slot) refl
   where
-    go : (u : Bool) → nat_le slot 7 ≡ u → (v : Bool) → is_free b bus slot ≡ v → has_slot b bus (kid_name (ok_or_zero (slot_for b bus (Some slot)))) ≡ false
+    go : (u : Bool) → nat_lt slot BUS_SLOTS ≡ u → (v : Bool) → is_free b bus slot ≡ v → has_slot b bus (kid_name (ok_or_zero (slot_for b bus (Some slot)))) ≡ false
     go true p true q = rw (slot_for, p, q) (unflipped (has_slot b bus (kid_name slot)) q)
       where
         unflipped : (u : Bool) → not u ≡ true → u ≡ false
@@ -348,15 +349,15 @@ slot-free b bus (Some slot) e = go (nat_le slot 7) refl (is_free b bus slot) ref
         unflipped true k = absurd (let clash : false ≡ true = k in cc)
     go true p false q = absurd (let clash : Some E29 ≡ None = rw (slot_for, p, q) at e in cc)
     go false p v q = absurd (let clash : Some E28 ≡ None = rw (slot_for, p) at e in cc)
-slot-free b bus None e = go (least (is_free b bus) 0 8) refl
+slot-free b bus None e = go (least (is_free b bus) 0 BUS_SLOTS) refl
   where
     unflipped : (u : Bool) → not u ≡ true → u ≡ false
     unflipped false k = refl
     unflipped true k = absurd (let clash : false ≡ true = k in cc)
 
-    go : (o : Option ℕ) → least (is_free b bus) 0 8 ≡ o → has_slot b bus (kid_name (ok_or_zero (slot_for b bus None))) ≡ false
+    go : (o : Option ℕ) → least (is_free b bus) 0 BUS_SLOTS ≡ o → has_slot b bus (kid_name (ok_or_zero (slot_for b bus None))) ≡ false
     go None p = absurd (let clash : Some E30 ≡ None = rw (slot_for, p) at e in cc)
-    go (Some slot) p = rw (slot_for, p) (unflipped (has_slot b bus (kid_name slot)) (least-passes (is_free b bus) 8 0 slot p))
+    go (Some slot) p = rw (slot_for, p) (unflipped (has_slot b bus (kid_name slot)) (least-passes (is_free b bus) BUS_SLOTS 0 slot p))
 
 -- the stages
 

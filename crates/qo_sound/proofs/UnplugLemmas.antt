@@ -7,6 +7,7 @@ use Rattle.std.specs.Str.{bytes_eq}
 use Rattle.std.proofs.lemmas.Bool.{eqb-true, eq-eqb}
 use Rattle.std.proofs.lemmas.Option.{same_Some}
 use Rattle.std.proofs.lemmas.Slice.Eq.{bytes_eq-Decides}
+use Rattle.qo_values.specs.declared.births.TheConstants.{ANONYMOUS_BIRTH, PERIPHERAL_BIRTH}
 use Rattle.qo_values.specs.declared.kinds.TypeId.{TypeId}
 use Rattle.qo_values.specs.declared.kinds.Act.{Act}
 use Rattle.qo_values.specs.declared.kinds.Act.TheVariants.{Unrealize}
@@ -16,7 +17,7 @@ use Rattle.qo_model.specs.Board.{Board, Notice, Record, Slot, plain, child, stro
 use Rattle.qo_model.specs.Changes.{cut, set, with_val}
 use Rattle.qo_model.specs.Clocks.{acted, device_period, with_act_on}
 use Rattle.qo_model.specs.Depth.{by_depth}
-use Rattle.qo_model.specs.Devices.{anonymous_birth, bus_of, buses_of, clock_of, peripheral_birth, kids_of}
+use Rattle.qo_model.specs.Devices.{bus_of, buses_of, clock_of, kids_of}
 use Rattle.qo_model.specs.Objects.{place_from}
 use Rattle.qo_model.specs.Paths.{births, child_of, is_child}
 use Rattle.qo_model.specs.Release.{drop_slot, let_go, pin, put_in_order, unpin, without_first}
@@ -333,8 +334,8 @@ held-left_bus ps d c h = go (bus_of c d) refl
 
 held-out : (ps : List ℕ) (f : ℕ → Board → Board) → ((n : ℕ) (c : Board) → Sits ps c → Sits ps (f n c)) → (d : ℕ) (c : Board) → Sits ps c → Sits ps (taken_by f d c)
 held-out ps f keeps d c h =
-    held-where_open ps (is_child_slot d) anonymous_birth _ refl
-    (held-where_open ps (is_child_slot d) peripheral_birth _ refl
+    held-where_open ps (is_child_slot d) ANONYMOUS_BIRTH _ refl
+    (held-where_open ps (is_child_slot d) PERIPHERAL_BIRTH _ refl
     (held-left_bus ps d _
     (held-buses (Sits ps) f d (λ m e k. held-where_other ps (is_bus_slot m) (bus-apart m) d _ (held-drained (Sits ps) f keeps (length (slots_at e m)) m e k)) (length (slots_at c d)) c h)))
 

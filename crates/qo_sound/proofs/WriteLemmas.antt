@@ -2,6 +2,7 @@
 use Rattle.std.proofs.Common.{◌≡◌, refl, ◌∙◌, ℕ, Bool, true, false, List, position, Option, Some, None, option_and_then, Result, Ok, Err}
 use Rattle.std.specs.Str.{bytes_eq}
 use Rattle.qo_values.specs.Properties.{admits}
+use Rattle.qo_values.specs.declared.births.TheConstants.{OBJECTS_BIRTH}
 use Rattle.qo_values.specs.declared.codes.Code.{Code}
 use Rattle.qo_values.specs.declared.kinds.TypeId.{TypeId}
 use Rattle.qo_values.specs.declared.properties.Val.{Val}
@@ -9,7 +10,7 @@ use Rattle.qo_values.specs.declared.properties.Val.TheVariants as val
 use Rattle.qo_model.specs.Board.{Board, Slot, plain, child, strong, weak, alias, kind_of, slot_at, slots_at, held}
 use Rattle.qo_model.specs.Changes.{point, set}
 use Rattle.qo_model.specs.FinalNotesRuns.{behind_write}
-use Rattle.qo_model.specs.Objects.{is_object_named, object_del, objects_birth, place_from}
+use Rattle.qo_model.specs.Objects.{is_object_named, object_del, place_from}
 use Rattle.qo_model.specs.Properties.{link_target, link_written, linked, may_set, pointed_at, relinked, row_of_property, write, written, written_by}
 use Rattle.qo_model.specs.Release.{drop_slot}
 use Rattle.qo_model.specs.Types.{Kind, Property}
@@ -22,11 +23,11 @@ use Rattle.qo_sound.proofs.SeverLemmas.{release-pins}
 
 -- `object-del`
 pub object_del-rest : (b : Board) (id : List ℕ) → AtRest b → AtRest (object_del b id).board
-object_del-rest b id h = go (place_from (is_object_named id) 0 (slots_at b objects_birth)) refl
+object_del-rest b id h = go (place_from (is_object_named id) 0 (slots_at b OBJECTS_BIRTH)) refl
   where
-    go : (place : Option ℕ) → place_from (is_object_named id) 0 (slots_at b objects_birth) ≡ place → AtRest (object_del b id).board
+    go : (place : Option ℕ) → place_from (is_object_named id) 0 (slots_at b OBJECTS_BIRTH) ≡ place → AtRest (object_del b id).board
     go None p = rw (object_del, p) h
-    go (Some i) p = rw (object_del, p) (record { used = near-deleted b i h.used; pinned = (let_go-leaves b objects_birth i).pins ∙ h.pinned })
+    go (Some i) p = rw (object_del, p) (record { used = near-deleted b i h.used; pinned = (let_go-leaves b OBJECTS_BIRTH i).pins ∙ h.pinned })
 
 -- `qom-set`
 pointed-pins : (b : Board) (n i : ℕ) (target : Option ℕ) → (pointed_at target n i (drop_slot b n i)).pins ≡ b.pins

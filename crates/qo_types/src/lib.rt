@@ -3,7 +3,6 @@
 //! properties are the profile's).
 #![tactic(auto)]
 
-mod errors;
 mod hierarchy;
 mod rows;
 mod slots;
@@ -11,6 +10,5 @@ mod table;
 #[cfg(test)]
 mod tests;
 
-pub use errors::Memory;
 pub use rows::{First, Mark, RowKind, SlotRow, TypeRow};
 pub use table::TypeTable;

@@ -6,7 +6,7 @@ ghost use Rattle.qo_model.specs.Types.{slots_of};
 ghost use Rattle.qo_types.specs.Rows.{property_told};
 
 use crate::rows::{First, Mark, RowKind, SlotRow};
-use qo_values::{PropType, TypeId};
+use qo_values::{BACKEND_SIZE_AT_FIRST, BACKEND_SIZE_MAX, DIMM_ALIGN, PropType, TypeId};
 
 const TYPE: SlotRow = SlotRow {
     name: "type",
@@ -102,7 +102,7 @@ const ADDR: SlotRow = SlotRow {
         PropType::Uint {
             lo: 0,
             hi: u64::MAX,
-            step: 4096,
+            step: DIMM_ALIGN,
         },
         First::Nothing,
     ),
@@ -161,11 +161,11 @@ const SIZE: SlotRow = SlotRow {
     name: "size",
     kind: RowKind::Plain(
         PropType::Uint {
-            lo: 4096,
-            hi: 1_099_511_627_776,
-            step: 4096,
+            lo: DIMM_ALIGN,
+            hi: BACKEND_SIZE_MAX,
+            step: DIMM_ALIGN,
         },
-        First::Uint(1_048_576),
+        First::Uint(BACKEND_SIZE_AT_FIRST),
     ),
     mark: Mark::Add,
 };

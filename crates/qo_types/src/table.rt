@@ -6,7 +6,6 @@ ghost use Rattle.std.specs.Str.{bytes_eq};
 ghost use Rattle.qo_model.specs.Types.{chain, has_finaliser, is_a, row_named, row_of, slots_of};
 ghost use Rattle.qo_types.specs.Rows.{listed, property_told, type_told, type_told_of};
 
-use crate::errors::Memory;
 use crate::hierarchy::{all_types, ancestry, answers_to, first_named, interfaces, is_abstract};
 use crate::rows::{SlotRow, TypeRow};
 use crate::slots::{self, slots};
@@ -101,13 +100,13 @@ impl TypeTable {
         alloc: Global,
         implements: &str,
         with_abstract: bool,
-    ) -> Result<Vec<TypeId>, Memory>
+    ) -> Result<Vec<TypeId>, AllocError>
         ensures { IfOk result (λ ids. ids.items ≡ listed implements.now with_abstract) }
     {
         let mut ids = Vec::new(alloc);
         for t in all_types() {
             if self.is_a(*t, implements) && (with_abstract || !is_abstract(*t)) {
-                ids.push(*t).map_err(AllocError::from)?;
+                ids.push(*t)?;
             }
         }
         Ok(ids)

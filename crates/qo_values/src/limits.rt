@@ -65,3 +65,6 @@ pub const DIMM_ALIGN: u64 = 4_096;
 
 /// The greatest size of a memory backend, in bytes.
 pub const BACKEND_SIZE_MAX: u64 = 1_099_511_627_776;
+
+/// The size of a memory backend to which none was given, in bytes.
+pub const BACKEND_SIZE_AT_FIRST: u64 = 1_048_576;

@@ -3,22 +3,23 @@
 ghost use Rattle.std.specs.Prelude.{◌≡◌, Some, None, Err, IfOk, OnOk, option_map};
 ghost use Rattle.std.specs.Prelude.{true, false};
 ghost use Rattle.qo_values.specs.Ids.{is_id};
+ghost use Rattle.qo_values.specs.declared.births.TheConstants.{OBJECTS_BIRTH};
 ghost use Rattle.qo_values.specs.declared.codes.Code.{Code};
 ghost use Rattle.qo_values.specs.declared.codes.Code.TheVariants.{E23};
 ghost use Rattle.qo_properties.specs.declared.refusals.Refusal.TheVariants.{Refused};
 ghost use Rattle.qo_model.specs.Board.{Board};
-ghost use Rattle.qo_model.specs.Objects.{barred_by, objects_birth};
+ghost use Rattle.qo_model.specs.Objects.{barred_by};
 ghost use Rattle.qo_model.specs.Types.{row_named};
 ghost use Rattle.qo_table.specs.Rows.{IsLive};
 ghost use Rattle.qo_heap.specs.Board.{Shows};
 ghost use Rattle.qo_properties.specs.Changes.{place_refusal, refusal_in, type_refusal};
 
 use crate::adding::fresh::name_of;
-use crate::reading::lookup::{OBJECTS_BIRTH, object_of};
+use crate::reading::lookup::object_of;
 use crate::refusals::Refusal;
 use qo_heap::{Heap, Oid, Steps};
 use qo_types::TypeTable;
-use qo_values::{Code, Id, IdError, LIVE_OBJECTS_MAX, Name, TypeId};
+use qo_values::{Code, Id, IdError, LIVE_OBJECTS_MAX, Name, OBJECTS_BIRTH, TypeId};
 use std::alloc::Global;
 use std::sync::ledger::Ledger;
 
@@ -41,7 +42,7 @@ fn creatable(driver: &str) -> Result<TypeId, Code>
 
 /// `/objects`, where a user's object may stand there under an id.
 fn vacant<L: Ledger>(heap: &Heap, id: &str, steps: &mut Steps<L>) -> Result<Oid, Code>
-    ensures objects { IfOk result (λ o. (o.birth ≡ objects_birth) × IsLive heap.now.rows o) }
+    ensures objects { IfOk result (λ o. (o.birth ≡ OBJECTS_BIRTH) × IsLive heap.now.rows o) }
     ensures refused { (b : Board) → Shows b heap.now → refusal_in result ≡ place_refusal b id.now }
 {
     let Some(objects) = object_of(heap, OBJECTS_BIRTH) else {
@@ -93,7 +94,7 @@ pub fn admit<L: Ledger>(
     steps: &mut Steps<L>,
 ) -> Result<Admitted, Refusal>
     ensures kind { IfOk result (λ a. option_map (λ r. r.id) (row_named driver.now) ≡ Some a.kind) }
-    ensures place { IfOk result (λ a. (a.objects.birth ≡ objects_birth) × IsLive heap.now.rows a.objects × (a.name ≡ id.now)) }
+    ensures place { IfOk result (λ a. (a.objects.birth ≡ OBJECTS_BIRTH) × IsLive heap.now.rows a.objects × (a.name ≡ id.now)) }
     ensures open { OnOk result ((b : Board) → Shows b heap.now → barred_by b driver.now id.now ≡ None) }
     ensures refused { (b : Board) (code : Code) → Shows b heap.now → result ≡ Err (Refused code) → barred_by b driver.now id.now ≡ Some code }
 {

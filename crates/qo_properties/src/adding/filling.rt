@@ -14,7 +14,6 @@ ghost use Rattle.qo_properties.specs.Fresh.{begun_row, new_slots, slot_of_row};
 ghost use Rattle.qo_properties.specs.Filling.{Fits, HasValue, IsGiven, filled_at, fits, fits_at, target_in, with_filled};
 
 use crate::adding::given::{given_val, linked_to};
-use crate::errors::Memory;
 use crate::reading::values::copy_of;
 use qo_heap::{Heap, Oid, Steps};
 use qo_types::{RowKind, SlotRow, TypeTable};

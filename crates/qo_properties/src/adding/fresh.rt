@@ -11,7 +11,6 @@ ghost use Rattle.qo_heap.specs.Board.{Shows};
 ghost use Rattle.qo_heap.specs.Objects.{with_edit};
 ghost use Rattle.qo_properties.specs.Fresh.{first_slots, new_slots, slot_of_row, val_of, with_slots};
 
-use crate::errors::Memory;
 use qo_heap::{Heap, Oid, Steps};
 use qo_types::{First, RowKind, SlotRow, TypeTable};
 use qo_values::{Name, PropType, Text, TypeId, Val};
@@ -50,7 +49,7 @@ fn add_row<L: Ledger>(
     row: SlotRow,
     alloc: Global,
     steps: &mut Steps<L>,
-) -> Result<(), Memory>
+) -> Result<(), AllocError>
     requires live { IsLive heap.old.rows o }
     requires name { IsName row.name.now }
     ensures ok { OnOk result (heap.new ≡ with_edit o.birth (with_slots (option_to_list (slot_of_row kind row))) heap.old) }
@@ -83,7 +82,7 @@ pub fn add_fresh_slots<L: Ledger>(
     kind: TypeId,
     alloc: Global,
     steps: &mut Steps<L>,
-) -> Result<(), Memory>
+) -> Result<(), AllocError>
     requires live { IsLive heap.old.rows o }
     ensures ok { OnOk result (heap.new ≡ with_edit o.birth (with_slots (new_slots kind)) heap.old) }
     ensures shown { OnOk result ((b : Board) → Shows b heap.old → Shows (with_fresh_slots o.birth kind b) heap.new) }

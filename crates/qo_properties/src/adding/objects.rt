@@ -1,9 +1,10 @@
 //! Making users' objects.
 
 ghost use Rattle.std.specs.Prelude.{◌≡◌, ℕ, ◌+◌, Some, option_map, IfOk, OnOk, OnErr, List};
+ghost use Rattle.qo_values.specs.declared.births.TheConstants.{OBJECTS_BIRTH};
 ghost use Rattle.qo_table.specs.Rows.{IsLive};
 ghost use Rattle.qo_model.specs.Board.{Board};
-ghost use Rattle.qo_model.specs.Objects.{objects_birth, with_object};
+ghost use Rattle.qo_model.specs.Objects.{with_object};
 ghost use Rattle.qo_object.specs.Content.{held_count, with_slot, without_pin};
 ghost use Rattle.qo_object.specs.Slots.{Named};
 ghost use Rattle.qo_object.specs.declared.slots.Slot.TheVariants.{Child};
@@ -17,12 +18,11 @@ use crate::adding::barring::{Admitted, admit};
 use crate::adding::filling::{plan_of, settle};
 use crate::adding::fresh::add_fresh_slots;
 use crate::adding::given::check_given;
-use crate::errors::Memory;
 use crate::refusals::Refusal;
 use qo_heap::{Heap, Oid, Steps};
 use qo_life::create;
 use qo_values::{Name, PropList, TypeId};
-use std::alloc::Global;
+use std::alloc::{AllocError, Global};
 use std::sync::ledger::Ledger;
 
 /// Ends an object that holds nothing, and that nothing holds but its one pin.
@@ -43,7 +43,7 @@ pub fn attempt<L: Ledger>(
     kind: TypeId,
     alloc: Global,
     steps: &mut Steps<L>,
-) -> Result<(), Memory>
+) -> Result<(), AllocError>
     ensures ok { OnOk result (heap.new ≡ given_up kind heap.old) }
     ensures err { OnErr result (heap.new ≡ heap.old) }
 {
@@ -63,7 +63,7 @@ fn furnish<L: Ledger>(
     kind: TypeId,
     alloc: Global,
     steps: &mut Steps<L>,
-) -> Result<(), Memory>
+) -> Result<(), AllocError>
     requires parent { IsLive heap.old.rows parent }
     requires live { IsLive heap.old.rows o }
     ensures ok { OnOk result (heap.new ≡ with_edit parent.birth (with_slot name (Child o)) (with_edit o.birth (with_slots (new_slots kind)) heap.old)) }
@@ -83,7 +83,7 @@ pub fn make_child<L: Ledger>(
     kind: TypeId,
     alloc: Global,
     steps: &mut Steps<L>,
-) -> Result<Oid, Memory>
+) -> Result<Oid, AllocError>
     requires { IsLive heap.old.rows parent }
     ensures made { IfOk result (λ o. IsChild heap.old heap.new o parent name kind) }
     ensures err { OnErr result (IsTried kind heap.old heap.new) }
@@ -107,9 +107,9 @@ pub fn add_filled<L: Ledger>(
     props: &PropList,
     alloc: Global,
     steps: &mut Steps<L>,
-) -> Result<(), Memory>
+) -> Result<(), AllocError>
     requires live { IsLive heap.old.rows admitted.objects }
-    requires objects { admitted.objects.birth ≡ objects_birth }
+    requires objects { admitted.objects.birth ≡ OBJECTS_BIRTH }
     ensures ok { OnOk result ((b : Board) → Shows b heap.old → Shows (with_object b admitted.kind admitted.name props.now) heap.new) }
     ensures err { OnErr result (IsTried admitted.kind heap.old heap.new) }
     ensures pins { pins_in heap.new.rows ≡ pins_in heap.old.rows }

@@ -3,9 +3,9 @@
 ghost use Rattle.std.specs.Prelude.{◌≡◌, Some, None, IfOk, OnOk};
 ghost use Rattle.qo_values.specs.Names.{IsName};
 ghost use Rattle.qo_values.specs.declared.kinds.TypeId.TheVariants.{Clock};
+ghost use Rattle.qo_values.specs.declared.limits.TheConstants.{SYSTEM_PERIOD};
 ghost use Rattle.qo_values.specs.declared.properties.Val.TheVariants.{Uint};
 ghost use Rattle.qo_model.specs.Board.{Board};
-ghost use Rattle.qo_model.specs.Opening.{system_period};
 ghost use Rattle.qo_table.specs.Rows.{IsLive};
 ghost use Rattle.qo_object.specs.Content.{set_at, as_made};
 ghost use Rattle.qo_heap.specs.Board.{Shows};
@@ -15,16 +15,11 @@ ghost use Rattle.qo_properties.specs.Fresh.{new_slots};
 ghost use Rattle.qo_properties.specs.Start.{IsMade, KeepsNames, with_new, with_new_child, with_clock, with_containers, with_buses, with_machine, with_all};
 
 use crate::adding::fresh::{add_fresh_slots, name_of};
-use crate::errors::Memory;
 use crate::reading::lookup::place_named;
 use qo_heap::{Heap, Oid, Steps};
-use qo_values::{TypeId, Val};
-use std::alloc::Global;
+use qo_values::{SYSTEM_PERIOD, TypeId, Val};
+use std::alloc::{AllocError, Global};
 use std::sync::ledger::Ledger;
-
-/// The period of the system clock: 10 ns, in units of 2^-32 ns (docs/devel/clocks.rst, "The clock
-/// state").
-const SYSTEM_PERIOD: u64 = 10 << 32;
 
 /// Makes an object of a type with its plain properties and its links.
 fn make_new<L: Ledger>(
@@ -32,7 +27,7 @@ fn make_new<L: Ledger>(
     kind: TypeId,
     alloc: Global,
     steps: &mut Steps<L>,
-) -> Result<Oid, Memory>
+) -> Result<Oid, AllocError>
     ensures made { IfOk result (λ o. IsMade heap.old heap.new kind 1 o) }
     ensures shown { OnOk result ((b : Board) → Shows b heap.old → Shows (with_new kind b) heap.new) }
 {
@@ -50,7 +45,7 @@ fn make_child<L: Ledger>(
     kind: TypeId,
     alloc: Global,
     steps: &mut Steps<L>,
-) -> Result<Oid, Memory>
+) -> Result<Oid, AllocError>
     requires live { IsLive heap.old.rows parent }
     requires name { IsName name.now }
     ensures made { IfOk result (λ o. IsMade heap.old heap.new kind 0 o) }
@@ -69,7 +64,7 @@ fn make_child<L: Ledger>(
 fn set_period<L: Ledger>(heap: &mut Heap, clock: Oid, steps: &mut Steps<L>)
     requires live { IsLive heap.old.rows clock }
     requires content { content_of heap.old clock.birth ≡ Some (as_made Clock (new_slots Clock) 0) }
-    ensures { heap.new ≡ with_edit clock.birth (set_at (Uint system_period) 1) heap.old }
+    ensures { heap.new ≡ with_edit clock.birth (set_at (Uint SYSTEM_PERIOD) 1) heap.old }
 {
     if let Some(at) = place_named(heap, clock, "period", steps) {
         heap.set(clock, at, Val::Uint(SYSTEM_PERIOD), steps);
@@ -82,7 +77,7 @@ fn make_clock<L: Ledger>(
     machine: Oid,
     alloc: Global,
     steps: &mut Steps<L>,
-) -> Result<(), Memory>
+) -> Result<(), AllocError>
     requires live { IsLive heap.old.rows machine }
     ensures names { OnOk result (KeepsNames heap.old heap.new) }
     ensures book { OnOk result (KeepsBook heap.old heap.new) }
@@ -99,7 +94,7 @@ fn make_containers<L: Ledger>(
     machine: Oid,
     alloc: Global,
     steps: &mut Steps<L>,
-) -> Result<(), Memory>
+) -> Result<(), AllocError>
     requires live { IsLive heap.old.rows machine }
     ensures names { OnOk result (KeepsNames heap.old heap.new) }
     ensures book { OnOk result (KeepsBook heap.old heap.new) }
@@ -123,7 +118,7 @@ fn make_buses<L: Ledger>(
     machine: Oid,
     alloc: Global,
     steps: &mut Steps<L>,
-) -> Result<(), Memory>
+) -> Result<(), AllocError>
     requires live { IsLive heap.old.rows machine }
     ensures names { OnOk result (KeepsNames heap.old heap.new) }
     ensures book { OnOk result (KeepsBook heap.old heap.new) }
@@ -140,7 +135,7 @@ fn make_machine<L: Ledger>(
     root: Oid,
     alloc: Global,
     steps: &mut Steps<L>,
-) -> Result<(), Memory>
+) -> Result<(), AllocError>
     requires live { IsLive heap.old.rows root }
     ensures names { OnOk result (KeepsNames heap.old heap.new) }
     ensures book { OnOk result (KeepsBook heap.old heap.new) }
@@ -158,7 +153,7 @@ pub fn make_all<L: Ledger>(
     heap: &mut Heap,
     alloc: Global,
     steps: &mut Steps<L>,
-) -> Result<(), Memory>
+) -> Result<(), AllocError>
     ensures shown { OnOk result ((b : Board) → Shows b heap.old → Shows (with_all b) heap.new) }
     ensures book { OnOk result (KeepsBook heap.old heap.new) }
 {

@@ -7,9 +7,9 @@ ghost use Rattle.qo_model.specs.Detachment.{detached_told};
 ghost use Rattle.qo_heap.specs.Board.{Shows, record_of};
 ghost use Rattle.qo_properties.specs.Reads.{detached_in};
 
-use crate::reading::lookup::ROOT_BIRTH;
 use qo_heap::{Heap, Steps};
 use qo_model::Detached;
+use qo_values::ROOT_BIRTH;
 use std::alloc::{AllocError, Global};
 use std::sync::ledger::Ledger;
 

@@ -13,7 +13,6 @@ ghost use Rattle.qo_heap.specs.Board.{Shows};
 ghost use Rattle.qo_properties.specs.Reads.{Answers};
 ghost use Rattle.qo_properties.specs.Listed.{prop_told, word_of};
 
-use crate::errors::Memory;
 use crate::reading::lookup::object_of;
 use crate::reading::naming::object_at;
 use crate::refusals::Refusal;
@@ -113,7 +112,7 @@ fn prop_of<L: Ledger>(
     what: &Slot,
     alloc: Global,
     steps: &mut Steps<L>,
-) -> Result<Prop, Memory>
+) -> Result<Prop, AllocError>
     requires live { IsLive heap.now.rows o }
     requires target { IfSome (target_of what.now) (IsLive heap.now.rows) }
     ensures { (b : Tree) → Shows b heap.now → IfOk result (λ prop. prop_told prop ≡ (name.now, type_text b o.birth (name.now, shown_slot what.now))) }
@@ -140,7 +139,7 @@ fn props<L: Ledger>(
     o: Oid,
     alloc: Global,
     steps: &mut Steps<L>,
-) -> Result<Vec<Prop>, Memory>
+) -> Result<Vec<Prop>, AllocError>
     requires { IsLive heap.now.rows o }
     ensures { (b : Tree) → Shows b heap.now → IfOk result (λ props. map prop_told props.items ≡ listing b o.birth) }
 {

@@ -11,12 +11,6 @@ use qo_heap::{Heap, Oid, Slot, Steps};
 use qo_values::Name;
 use std::sync::ledger::Ledger;
 
-/// The birth of `/`.
-pub const ROOT_BIRTH: u64 = 1;
-
-/// The birth of `/objects`, under which users' objects stand.
-pub const OBJECTS_BIRTH: u64 = 8;
-
 /// The live object of a birth; `None` exactly where there is none.
 pub fn object_of(heap: &Heap, birth: u64) -> Option<Oid>
     ensures born { IfSome result (λ o. o.birth ≡ birth) }

@@ -8,7 +8,6 @@ ghost use Rattle.qo_table.specs.Rows.{IsLive};
 ghost use Rattle.qo_heap.specs.Board.{Shows};
 ghost use Rattle.qo_properties.specs.Reads.{birth_told};
 
-use crate::errors::Memory;
 use itoa::Buffer;
 use qo_heap::{Heap, Oid, Steps};
 use qo_paths::{PathError, canonical, resolve};
@@ -44,13 +43,13 @@ pub fn path_text<L: Ledger>(
     o: Oid,
     alloc: Global,
     steps: &mut Steps<L>,
-) -> Result<String, Memory>
+) -> Result<String, AllocError>
     ensures { (b : Board) → Shows b heap.now → IfOk result (λ text. string_bytes text ≡ path_text b o.birth) }
 {
     if let Some(path) = canonical(heap, o, alloc, steps)? {
         return Ok(path);
     }
-    Ok(detached_text(o.birth, alloc)?)
+    detached_text(o.birth, alloc)
 }
 
 /// The text that is read of a link: that of its target, or the empty text.
@@ -59,7 +58,7 @@ pub fn target_text<L: Ledger>(
     target: Option<Oid>,
     alloc: Global,
     steps: &mut Steps<L>,
-) -> Result<String, Memory>
+) -> Result<String, AllocError>
     ensures { (b : Board) → Shows b heap.now → IfOk result (λ text. string_bytes text ≡ target_text b (birth_of target)) }
 {
     match target {

@@ -11,7 +11,6 @@ ghost use Rattle.qo_table.specs.Rows.{IsLive};
 ghost use Rattle.qo_heap.specs.Board.{Shows};
 ghost use Rattle.qo_properties.specs.Reads.{Answers};
 
-use crate::errors::Memory;
 use crate::reading::lookup::object_of;
 use crate::reading::naming::{object_at, path_text, target_text};
 use crate::refusals::Refusal;
@@ -39,7 +38,7 @@ fn own_value<L: Ledger>(
     what: &Slot,
     alloc: Global,
     steps: &mut Steps<L>,
-) -> Result<Val, Memory>
+) -> Result<Val, AllocError>
     ensures { (b : Tree) (n : ℕ) (name : List ℕ) → Shows b heap.now → IfOk result (λ val. val ≡ own_value b n name (shown_slot what.now)) }
 {
     match what {
@@ -63,7 +62,7 @@ fn passed_on<L: Ledger>(
     of: &str,
     alloc: Global,
     steps: &mut Steps<L>,
-) -> Result<Option<Val>, Memory>
+) -> Result<Option<Val>, AllocError>
     ensures { (b : Tree) → Shows b heap.now → IfOk result (λ val. val ≡ option_map (own_value b birth of.now) (slot_named b birth of.now)) }
 {
     let Some(o) = object_of(heap, birth) else {
@@ -82,7 +81,7 @@ fn value_of<L: Ledger>(
     name: &str,
     alloc: Global,
     steps: &mut Steps<L>,
-) -> Result<Option<Val>, Memory>
+) -> Result<Option<Val>, AllocError>
     requires { IsLive heap.now.rows o }
     ensures { (b : Tree) → Shows b heap.now → IfOk result (λ val. val ≡ value_of b o.birth name.now) }
 {

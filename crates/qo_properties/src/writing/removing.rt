@@ -7,10 +7,10 @@ ghost use Rattle.qo_heap.specs.Board.{Shows, pins_in};
 ghost use Rattle.qo_properties.specs.Changes.{IsAnswered};
 ghost use Rattle.qo_properties.specs.Claims.{KeepsBook};
 
-use crate::reading::lookup::{OBJECTS_BIRTH, child_place, object_of};
+use crate::reading::lookup::{child_place, object_of};
 use qo_heap::{Heap, Steps};
 use qo_life::let_go;
-use qo_values::Code;
+use qo_values::{Code, OBJECTS_BIRTH};
 use std::sync::ledger::Ledger;
 
 /// Removes the user's object of an id: its slot at `/objects` is let go, and it is finalised where

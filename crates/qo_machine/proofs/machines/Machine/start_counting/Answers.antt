@@ -4,4 +4,4 @@ use Rattle.qo_machine.proofs.MachineLemmas.{starts}
 use Rattle.qo_machine.proofs.machines.Machine.start_counting.Goals as goal
 
 pub returns : goal.returns
-returns g c = record { state = (starts _ c.in-Ok.ensures c.in_ok-closed_sessions.ensures c.new.ensures.items refl, refl) }
+returns g c = record { state = (starts _ c.in_ok-start.ensures c.in_ok-closed_sessions.ensures c.new.ensures.items refl, refl) }

@@ -6,4 +6,4 @@ use Rattle.qo_realize.proofs.board.Board.detached.Goals as goal
 pub returns : goal.returns
 returns g c = λ b s.
     let seen = subst (λ (p : Parts). Stands b p) (sym c.self.view_is) s in
-    c.in_ok-detached_list.ensures b seen.shows
+    c.detached_list.ensures b seen.shows

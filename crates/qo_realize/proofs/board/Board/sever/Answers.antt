@@ -1,7 +1,7 @@
 use Rattle.std.proofs.Common.{sym, subst}
 use Rattle.qo_realize.specs.Parts.{Parts}
 use Rattle.qo_realize.specs.Stands.{Stands}
-use Rattle.qo_realize.proofs.StandsLemmas.{err-stays, sever-stands}
+use Rattle.qo_realize.proofs.StandsLemmas.{answered-some, err-stays, sever-stands}
 use Rattle.qo_realize.proofs.board.Board.sever.Goals as goal
 
 pub returns-clause-change : goal.returns-clause-change
@@ -11,3 +11,8 @@ returns-clause-change g c = λ b s.
 
 pub returns-clause-err : goal.returns-clause-err
 returns-clause-err g c = err-stays c.sever.result c.self.inside.anonymous c.self.inside.running c.self.inside.heap c.sever.new.heap _ c.self.view_is c.sever.ensures.err
+
+pub invariant_of-self : goal.invariant_of-self
+invariant_of-self g c =
+    let (b, s) = c.self.invariant.1 in
+    (c.sever.ensures.pinned, answered-some _ c.sever.result _ (sever-stands b _ c.sever.new.heap c.args.birth c.sever.result s (c.sever.ensures.change b s.shows) c.sever.ensures.book))

@@ -1,9 +1,0 @@
-use Rattle.std.proofs.Common.{sym, subst, ◌∙◌}
-use Rattle.qo_realize.specs.Parts.{Parts}
-use Rattle.qo_realize.specs.Stands.{Stands}
-use Rattle.qo_realize.proofs.board.Board.notes_total.Goals as goal
-
-pub returns : goal.returns
-returns c = λ b s.
-    let seen = subst (λ (p : Parts). Stands b p) (sym c.self.view_is) s in
-    c.notes_total.ensures ∙ seen.shows.notes.total
