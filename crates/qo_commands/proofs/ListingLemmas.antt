@@ -9,7 +9,8 @@ use Rattle.qo_values.specs.declared.codes.Code.TheVariants.{E20, E22}
 use Rattle.qo_values.specs.declared.kinds.TypeId.{TypeId}
 use Rattle.qo_model.specs.Board.{Board}
 use Rattle.qo_model.specs.Objects.{may_add}
-use Rattle.qo_model.specs.Types.{Kind, Mark, Property, TypeRow, is_a, property, row_of, slots_of}
+use Rattle.qo_model.specs.declared.properties.Mark.{Mark}
+use Rattle.qo_model.specs.Types.{Kind, Property, TypeRow, is_a, property, row_of, slots_of}
 use Rattle.qo_types.specs.Rows.{property_told}
 use Rattle.qo_types.specs.declared.rows.SlotRow.{SlotRow}
 use Rattle.qo_commands.specs.Commands.{adding_properties, device_properties, is_for_adding, kind_word, property_data, property_words, refused_with, returned, type_data}

@@ -8,12 +8,13 @@ ghost use Rattle.qo_values.specs.TypeTexts.{around};
 ghost use Rattle.qo_model.specs.Board.{Board as Tree};
 ghost use Rattle.qo_model.specs.Objects.{may_add};
 ghost use Rattle.qo_model.specs.Types.{row_named, row_of};
-ghost use Rattle.qo_types.specs.Rows.{kind_told, mark_told, property_told};
+ghost use Rattle.qo_types.specs.Rows.{kind_told, property_told};
 ghost use Rattle.qo_commands.specs.Commands.{adding_properties, device_properties, kind_word, property_data, returned, type_data, types_of};
 ghost use Rattle.qo_commands.specs.Views.{done_of, words_for_adding};
 
 use crate::commands::{Body, Done, refused, returned};
-use qo_types::{Mark, RowKind, SlotRow, TypeTable};
+use qo_model::Mark;
+use qo_types::{RowKind, SlotRow, TypeTable};
 use qo_values::{Code, Text, TypeId};
 use serde_json::{Value, json};
 use std::alloc::{AllocError, Global};
@@ -110,7 +111,7 @@ fn kind_text(alloc: Global, kind: &RowKind) -> Result<String, AllocError>
 
 /// Whether the adding command writes a property with a mark.
 fn is_for_adding(mark: Mark) -> bool
-    ensures { result ≡ may_add (mark_told mark) }
+    ensures { result ≡ may_add mark }
 {
     match mark {
         Mark::Add => true,

@@ -21,7 +21,9 @@ use Rattle.qo_model.specs.Opening.{fresh_slots}
 use Rattle.qo_model.specs.Paths.{attached, place_of, root_birth}
 use Rattle.qo_model.specs.Properties.{link_target, row_of_property}
 use Rattle.qo_model.specs.Release.{edited, final_notes, let_go, pin, unpin}
-use Rattle.qo_model.specs.Types.{Kind, Mark, Property, TypeRow, both, on_add, inits, is_a, row_named}
+use Rattle.qo_model.specs.Types.{Kind, Property, TypeRow, inits, is_a, row_named}
+use Rattle.qo_model.specs.declared.properties.Mark.{Mark}
+use Rattle.qo_model.specs.declared.properties.Mark.TheVariants.{Add, Both}
 
 -- a property that a command gives: its name and its value
 abbrev pub Given : Type 0
@@ -29,8 +31,8 @@ Given = List ℕ × Val
 
 -- whether the adding command writes a property with a mark
 abbrev pub may_add : Mark → Bool
-may_add both = true
-may_add on_add = true
+may_add Add = true
+may_add Both = true
 may_add mark = false
 
 -- the code of a target that was refused

@@ -8,15 +8,17 @@ use Rattle.qo_values.specs.declared.kinds.TypeId.TheVariants.{Container, Machine
 use Rattle.qo_values.specs.declared.properties.Val.{Val}
 use Rattle.qo_values.specs.declared.properties.Val.TheVariants as val
 use Rattle.qo_model.specs.Board.{Board, Record, Slot}
-use Rattle.qo_model.specs.Types.{First, nothing, empty_text, own_name, truth, number, Property, Kind, slots_of}
+use Rattle.qo_model.specs.Types.{Property, Kind, slots_of}
+use Rattle.qo_model.specs.declared.properties.First.{First}
+use Rattle.qo_model.specs.declared.properties.First.TheVariants as first
 
 -- what a plain property of an object of a type holds at first
 abbrev pub first_value : TypeId → First → Val
-first_value t nothing = val.Nothing
-first_value t empty_text = val.Text []
-first_value t own_name = val.Text (type_name t)
-first_value t (truth b) = val.Bool b
-first_value t (number n) = val.Uint n
+first_value t first.TypeName = val.Text (type_name t)
+first_value t first.Nothing = val.Nothing
+first_value t (first.Bool b) = val.Bool b
+first_value t (first.Uint n) = val.Uint n
+first_value t first.NoText = val.Text []
 
 -- the slot that a property of a name begins as; `further` has the births of the objects that are made as children, by name, as far as they are made
 abbrev pub first_slot : (List ℕ → Option ℕ) → TypeId → List ℕ → Kind → Option Slot

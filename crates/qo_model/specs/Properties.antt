@@ -13,7 +13,9 @@ use Rattle.qo_model.specs.Board.{Board, Slot, kind_of, slot_at, slot_named, slot
 use Rattle.qo_model.specs.Changes.{point, set}
 use Rattle.qo_model.specs.Paths.{found, missing, several, canonical, resolve}
 use Rattle.qo_model.specs.Release.{after, drop_slot, finalise}
-use Rattle.qo_model.specs.Types.{Kind, Mark, Property, both, slots_of}
+use Rattle.qo_model.specs.Types.{Kind, Property, slots_of}
+use Rattle.qo_model.specs.declared.properties.Mark.{Mark}
+use Rattle.qo_model.specs.declared.properties.Mark.TheVariants.{Both}
 
 -- an object, as the text of a property that names it: its canonical path, or `detached:` and its birth where it has none
 abbrev pub path_text : Board → ℕ → List ℕ
@@ -46,7 +48,7 @@ row_of_property t name = find (λ (p : Property). bytes_eq p.name name) (slots_o
 
 -- whether `qom-set` writes a property with a mark; the clocks, which only it would write, cannot be written yet
 abbrev pub may_set : Mark → Bool
-may_set both = true
+may_set Both = true
 may_set mark = false
 
 -- what a text names as the target of a link to objects of a type: no target where it is empty; refused where it names several, one of another type, or none

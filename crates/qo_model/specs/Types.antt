@@ -8,21 +8,10 @@ use Rattle.qo_values.specs.declared.kinds.TypeId.{TypeId}
 use Rattle.qo_values.specs.declared.kinds.TypeId.TheVariants.{Object, Container, Machine, Device, SlotDevice, SlotUart, SlotTimer, SlotBridge, MemDimm, Bus, SlotBus, MemBus, Clock, MemoryBackend, MemoryBackendRam, Tag}
 use Rattle.qo_values.specs.declared.properties.PropType.{PropType}
 use Rattle.qo_values.specs.declared.properties.PropType.TheVariants as ty
-
--- what a plain property holds at first
-pub data First : Type 0 where
-  nothing : First
-  empty_text : First
-  own_name : First
-  truth : Bool → First
-  number : ℕ → First
-
--- who may write a property: nobody; the adding command; that and `qom-set`; `qom-set`
-pub data Mark : Type 0 where
-  never : Mark
-  on_add : Mark
-  both : Mark
-  on_set : Mark
+use Rattle.qo_model.specs.declared.properties.First.{First}
+use Rattle.qo_model.specs.declared.properties.First.TheVariants as first
+use Rattle.qo_model.specs.declared.properties.Mark.{Mark}
+use Rattle.qo_model.specs.declared.properties.Mark.TheVariants.{Never, Add, Both, Set}
 
 -- what a property is: a value; a child of a type, made with the object; a link to a type, strong where it says true; or, of the child of a name, the property of another name
 pub data Kind : Type 0 where
@@ -68,7 +57,7 @@ property name kind mark = record { name = name; kind = kind; mark = mark }
 -- the sixteen types
 unfoldable pub types : List TypeRow
 types =
-    record { id = Object; parent = None; is_abstract = true; interfaces = []; properties = property (codes "type") (plain ty.Text own_name) never ∷ [] }
+    record { id = Object; parent = None; is_abstract = true; interfaces = []; properties = property (codes "type") (plain ty.Text first.TypeName) Never ∷ [] }
     ∷ record { id = Container; parent = Some (codes "object"); is_abstract = false; interfaces = []; properties = [] }
     ∷ record { id = Machine; parent = Some (codes "object"); is_abstract = false; interfaces = codes "hotplug-handler" ∷ codes "resettable" ∷ []; properties = [] }
     ∷ record {
@@ -77,11 +66,11 @@ types =
       is_abstract = true;
       interfaces = codes "resettable" ∷ [];
       properties =
-          property (codes "realized") (plain ty.Bool (truth false)) never
-          ∷ property (codes "parent_bus") (link Bus true) never
-          ∷ property (codes "slot") (plain (up_to 255) nothing) on_add
-          ∷ property (codes "peer") (link Device true) both
-          ∷ property (codes "watch") (link Device false) both
+          property (codes "realized") (plain ty.Bool (first.Bool false)) Never
+          ∷ property (codes "parent_bus") (link Bus true) Never
+          ∷ property (codes "slot") (plain (up_to 255) first.Nothing) Add
+          ∷ property (codes "peer") (link Device true) Both
+          ∷ property (codes "watch") (link Device false) Both
           ∷ [];
     }
     ∷ record {
@@ -90,21 +79,21 @@ types =
       is_abstract = true;
       interfaces = [];
       properties =
-          property (codes "clk") (child Clock) never
-          ∷ property (codes "clock-period") (alias (codes "clk") (codes "period")) on_set
+          property (codes "clk") (child Clock) Never
+          ∷ property (codes "clock-period") (alias (codes "clk") (codes "period")) Set
           ∷ [];
     }
-    ∷ record { id = SlotUart; parent = Some (codes "slot-device"); is_abstract = false; interfaces = []; properties = property (codes "chardev") (plain ty.Text empty_text) on_add ∷ [] }
+    ∷ record { id = SlotUart; parent = Some (codes "slot-device"); is_abstract = false; interfaces = []; properties = property (codes "chardev") (plain ty.Text first.NoText) Add ∷ [] }
     ∷ record { id = SlotTimer; parent = Some (codes "slot-device"); is_abstract = false; interfaces = []; properties = [] }
-    ∷ record { id = SlotBridge; parent = Some (codes "slot-device"); is_abstract = false; interfaces = codes "hotplug-handler" ∷ []; properties = property (codes "bus.0") (child SlotBus) never ∷ [] }
+    ∷ record { id = SlotBridge; parent = Some (codes "slot-device"); is_abstract = false; interfaces = codes "hotplug-handler" ∷ []; properties = property (codes "bus.0") (child SlotBus) Never ∷ [] }
     ∷ record {
       id = MemDimm;
       parent = Some (codes "device");
       is_abstract = false;
       interfaces = [];
       properties =
-          property (codes "memdev") (link MemoryBackend true) on_add
-          ∷ property (codes "addr") (plain (multiple_of 4096) nothing) on_add
+          property (codes "memdev") (link MemoryBackend true) Add
+          ∷ property (codes "addr") (plain (multiple_of 4096) first.Nothing) Add
           ∷ [];
     }
     ∷ record { id = Bus; parent = Some (codes "object"); is_abstract = true; interfaces = codes "resettable" ∷ []; properties = [] }
@@ -116,10 +105,10 @@ types =
       is_abstract = false;
       interfaces = [];
       properties =
-          property (codes "period") (plain uint64 (number 0)) on_set
-          ∷ property (codes "mul") (plain (up_to 4294967295) (number 1)) on_set
-          ∷ property (codes "div") (plain (up_to 4294967295) (number 1)) on_set
-          ∷ property (codes "source") (link Clock false) never
+          property (codes "period") (plain uint64 (first.Uint 0)) Set
+          ∷ property (codes "mul") (plain (up_to 4294967295) (first.Uint 1)) Set
+          ∷ property (codes "div") (plain (up_to 4294967295) (first.Uint 1)) Set
+          ∷ property (codes "source") (link Clock false) Never
           ∷ [];
     }
     ∷ record {
@@ -127,7 +116,7 @@ types =
       parent = Some (codes "object");
       is_abstract = true;
       interfaces = codes "user-creatable" ∷ [];
-      properties = property (codes "size") (plain (ty.Uint 4096 (2 ^ 40) 4096) (number 1048576)) on_add ∷ [];
+      properties = property (codes "size") (plain (ty.Uint 4096 (2 ^ 40) 4096) (first.Uint 1048576)) Add ∷ [];
     }
     ∷ record { id = MemoryBackendRam; parent = Some (codes "memory-backend"); is_abstract = false; interfaces = []; properties = [] }
     ∷ record {
@@ -136,11 +125,11 @@ types =
       is_abstract = false;
       interfaces = codes "user-creatable" ∷ [];
       properties =
-          property (codes "text") (plain ty.Text empty_text) both
-          ∷ property (codes "number") (plain int64 (number 0)) both
-          ∷ property (codes "flag") (plain ty.Bool (truth false)) both
-          ∷ property (codes "next") (link Object true) both
-          ∷ property (codes "seen") (link Object false) both
+          property (codes "text") (plain ty.Text first.NoText) Both
+          ∷ property (codes "number") (plain int64 (first.Uint 0)) Both
+          ∷ property (codes "flag") (plain ty.Bool (first.Bool false)) Both
+          ∷ property (codes "next") (link Object true) Both
+          ∷ property (codes "seen") (link Object false) Both
           ∷ [];
     }
     ∷ []

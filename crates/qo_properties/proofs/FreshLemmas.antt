@@ -13,9 +13,8 @@ use Rattle.qo_table.specs.Rows.{edit}
 use Rattle.qo_model.specs.Board as board
 use Rattle.qo_model.specs.Changes.{with_fresh, with_fresh_slots}
 use Rattle.qo_model.specs.Opening.{first_slot, first_value}
-use Rattle.qo_model.specs.Types.{Kind, Property, property, types, slots_of, nothing, empty_text, own_name, truth, number}
-use Rattle.qo_types.specs.Rows.{kind_told, mark_told, property_told}
-use Rattle.qo_types.specs.declared.rows.First.TheVariants as first
+use Rattle.qo_model.specs.Types.{Kind, Property, property, types, slots_of}
+use Rattle.qo_types.specs.Rows.{kind_told, property_told}
 use Rattle.qo_types.specs.declared.rows.RowKind.{RowKind}
 use Rattle.qo_types.specs.declared.rows.RowKind.TheVariants as row
 use Rattle.qo_types.specs.declared.rows.SlotRow.{SlotRow}
@@ -63,17 +62,12 @@ row-told t r p told = go r.kind refl
   where
     by : (k : RowKind) (told_as : Kind) → r.kind ≡ k → kind_told k ≡ Some told_as → named r.name.now (begun_row t k) ≡ named r.name.now (begun t told_as) → slot_of_row t r ≡ slot_begun t p
     by k told_as is tells same =
-        let this : Some (property r.name.now told_as (mark_told r.mark)) ≡ Some p = rw (is, tells) at told in
-        let its : property r.name.now told_as (mark_told r.mark) ≡ p = cc in
+        let this : Some (property r.name.now told_as r.mark) ≡ Some p = rw (is, tells) at told in
+        let its : property r.name.now told_as r.mark ≡ p = cc in
         rw is (same ∙ ap (slot_begun t) its)
 
     go : (k : RowKind) → r.kind ≡ k → slot_of_row t r ≡ slot_begun t p
-    go (row.Plain type first.TypeName) is = by (row.Plain type first.TypeName) (Kind.plain type own_name) is refl refl
-    go (row.Plain type first.Nothing) is = by (row.Plain type first.Nothing) (Kind.plain type nothing) is refl refl
-    go (row.Plain type (first.Bool b)) is = by (row.Plain type (first.Bool b)) (Kind.plain type (truth b)) is refl refl
-    go (row.Plain type (first.Int n)) is = let none : None ≡ Some p = rw is at told in cc
-    go (row.Plain type (first.Uint n)) is = by (row.Plain type (first.Uint n)) (Kind.plain type (number n)) is refl refl
-    go (row.Plain type first.NoText) is = by (row.Plain type first.NoText) (Kind.plain type empty_text) is refl refl
+    go (row.Plain type begins) is = by (row.Plain type begins) (Kind.plain type begins) is refl refl
     go (row.Child c) is = by (row.Child c) (Kind.child c) is refl refl
     go (row.Link target strong) is = by (row.Link target strong) (Kind.link target strong) is refl refl
     go (row.Alias child of) is = by (row.Alias child of) (Kind.alias child.now of.now) is refl refl
@@ -208,7 +202,7 @@ name-told r p told = go (kind_told r.kind) refl
   where
     go : (o : Option Kind) → kind_told r.kind ≡ o → r.name.now ≡ p.name
     go None is = let none : None ≡ Some p = rw is at told in cc
-    go (Some k) is = let some : Some (property r.name.now k (mark_told r.mark)) ≡ Some p = rw is at told in let its : property r.name.now k (mark_told r.mark) ≡ p = cc in ap (λ (q : Property). q.name) its
+    go (Some k) is = let some : Some (property r.name.now k r.mark) ≡ Some p = rw is at told in let its : property r.name.now k r.mark ≡ p = cc in ap (λ (q : Property). q.name) its
 
 pub told-at : (t : TypeId) (i : ℕ) (r : SlotRow) → Some (property_told r) ≡ option_map Some (slice_get (slots_of t) i) → ToldAt t i r
 told-at t i r told = go (slice_get (slots_of t) i) refl

@@ -12,11 +12,10 @@ use Rattle.qo_values.specs.declared.properties.Val.TheVariants as val
 use Rattle.qo_model.specs.Board.{Board}
 use Rattle.qo_model.specs.Objects.{Given, may_add, misfit, refusal_by, refusal_of}
 use Rattle.qo_model.specs.Properties.{row_of_property}
-use Rattle.qo_model.specs.Types.{Kind, Property, property, slots_of, nothing, empty_text, own_name, truth, number}
-use Rattle.qo_types.specs.Rows.{kind_told, mark_told, property_told}
-use Rattle.qo_types.specs.declared.rows.First.TheVariants as first
-use Rattle.qo_types.specs.declared.rows.Mark.{Mark}
-use Rattle.qo_types.specs.declared.rows.Mark.TheVariants as mark
+use Rattle.qo_model.specs.Types.{Kind, Property, property, slots_of}
+use Rattle.qo_types.specs.Rows.{kind_told, property_told}
+use Rattle.qo_model.specs.declared.properties.Mark.{Mark}
+use Rattle.qo_model.specs.declared.properties.Mark.TheVariants as mark
 use Rattle.qo_types.specs.declared.rows.RowKind.{RowKind}
 use Rattle.qo_types.specs.declared.rows.RowKind.TheVariants as row
 use Rattle.qo_types.specs.declared.rows.SlotRow.{SlotRow}
@@ -35,17 +34,12 @@ module _ (b : Board) where
   as-told k p q v tells e is = let same : p ≡ q = cc (tells, e) in ap (λ (x : Kind). misfit b x v) (sym same) ∙ is
 
   kind-misfit : (k : RowKind) (q : Kind) (v : Val) → kind_told k ≡ Some q → misfit b q v ≡ row_misfit b k v
-  kind-misfit (row.Plain ty first.TypeName) q v e = as-told (row.Plain ty first.TypeName) (Kind.plain ty own_name) q v refl e refl
-  kind-misfit (row.Plain ty first.Nothing) q v e = as-told (row.Plain ty first.Nothing) (Kind.plain ty nothing) q v refl e refl
-  kind-misfit (row.Plain ty (first.Bool x)) q v e = as-told (row.Plain ty (first.Bool x)) (Kind.plain ty (truth x)) q v refl e refl
-  kind-misfit (row.Plain ty (first.Int x)) q v e = cc
-  kind-misfit (row.Plain ty (first.Uint x)) q v e = as-told (row.Plain ty (first.Uint x)) (Kind.plain ty (number x)) q v refl e refl
-  kind-misfit (row.Plain ty first.NoText) q v e = as-told (row.Plain ty first.NoText) (Kind.plain ty empty_text) q v refl e refl
+  kind-misfit (row.Plain ty begins) q v e = as-told (row.Plain ty begins) (Kind.plain ty begins) q v refl e refl
   kind-misfit (row.Child t) q v e = as-told (row.Child t) (Kind.child t) q v refl e refl
   kind-misfit (row.Link t strong) q v e = as-told (row.Link t strong) (Kind.link t strong) q v refl e (link-misfit t strong v)
   kind-misfit (row.Alias child of) q v e = as-told (row.Alias child of) (Kind.alias child.now of.now) q v refl e refl
 
-  mark-same : (m : Mark) (given : Option Code) → (if may_add (mark_told m) then given else Some E18) ≡ mark_refusal m given
+  mark-same : (m : Mark) (given : Option Code) → (if may_add m then given else Some E18) ≡ mark_refusal m given
   mark-same mark.Never given = refl
   mark-same mark.Add given = refl
   mark-same mark.Both given = refl
@@ -54,10 +48,10 @@ module _ (b : Board) where
   by-row : (r : SlotRow) (p : Property) (v : Val) → property_told r ≡ Some p → refusal_by b (Some p) v ≡ mark_refusal r.mark (row_misfit b r.kind v)
   by-row r p v told = go (kind_told r.kind) refl told
     where
-      go : (o : Option Kind) → kind_told r.kind ≡ o → option_map (λ (k : Kind). property r.name.now k (mark_told r.mark)) o ≡ Some p → refusal_by b (Some p) v ≡ mark_refusal r.mark (row_misfit b r.kind v)
+      go : (o : Option Kind) → kind_told r.kind ≡ o → option_map (λ (k : Kind). property r.name.now k r.mark) o ≡ Some p → refusal_by b (Some p) v ≡ mark_refusal r.mark (row_misfit b r.kind v)
       go None is e = cc
       go (Some q) is e =
-          let same : property r.name.now q (mark_told r.mark) ≡ p = cc e in
+          let same : property r.name.now q r.mark ≡ p = cc e in
           ap (λ (x : Property). refusal_by b (Some x) v) (sym same)
           ∙ mark-same r.mark (misfit b q v)
           ∙ ap (mark_refusal r.mark) (kind-misfit r.kind q v is)

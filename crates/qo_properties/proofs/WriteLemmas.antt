@@ -14,10 +14,9 @@ use Rattle.qo_values.specs.declared.properties.PropType.{PropType}
 use Rattle.qo_values.specs.Properties.{admits}
 use Rattle.qo_slots.specs.declared.keys.Key.{Key}
 use Rattle.qo_table.specs.Rows.{IsLive}
-use Rattle.qo_types.specs.Rows.{kind_told, mark_told, property_told}
-use Rattle.qo_types.specs.declared.rows.First.TheVariants as first
-use Rattle.qo_types.specs.declared.rows.Mark.{Mark}
-use Rattle.qo_types.specs.declared.rows.Mark.TheVariants as mark
+use Rattle.qo_types.specs.Rows.{kind_told, property_told}
+use Rattle.qo_model.specs.declared.properties.Mark.{Mark}
+use Rattle.qo_model.specs.declared.properties.Mark.TheVariants as mark
 use Rattle.qo_types.specs.declared.rows.RowKind.{RowKind}
 use Rattle.qo_types.specs.declared.rows.RowKind.TheVariants as row
 use Rattle.qo_types.specs.declared.rows.SlotRow.{SlotRow}
@@ -31,7 +30,8 @@ use Rattle.qo_model.specs.Board as board
 use Rattle.qo_model.specs.Changes.{set}
 use Rattle.qo_model.specs.Properties.{link_written, may_set, pointed_at, relinked, row_of_property, write, written, written_by}
 use Rattle.qo_model.specs.Release.{after, drop_slot, finalise}
-use Rattle.qo_model.specs.Types.{First, Kind, Property, property, slots_of, nothing, empty_text, own_name, truth, number}
+use Rattle.qo_model.specs.Types.{Kind, Property, property, slots_of}
+use Rattle.qo_model.specs.declared.properties.First.{First}
 use Rattle.qo_heap.specs.Objects as heap
 use Rattle.qo_heap.specs.Objects.{IsHeap, Objects, content_of, with_edit}
 use Rattle.qo_heap.specs.Board.{Shows}
@@ -79,12 +79,7 @@ module _ (b : board.Board) (n i : ℕ) where
   as-told k p q v tells e is = let same : p ≡ q = cc (tells, e) in ap (λ (x : Kind). written b n i x (board.slot_at b n i) v) (sym same) ∙ is
 
   kind-same : (k : RowKind) (q : Kind) (v : Val) → kind_told k ≡ Some q → written b n i q (board.slot_at b n i) v ≡ kind_written b n i k v
-  kind-same (row.Plain ty first.TypeName) q v e = as-told (row.Plain ty first.TypeName) (Kind.plain ty own_name) q v refl e (plain-same ty own_name (board.slot_at b n i) v)
-  kind-same (row.Plain ty first.Nothing) q v e = as-told (row.Plain ty first.Nothing) (Kind.plain ty nothing) q v refl e (plain-same ty nothing (board.slot_at b n i) v)
-  kind-same (row.Plain ty (first.Bool x)) q v e = as-told (row.Plain ty (first.Bool x)) (Kind.plain ty (truth x)) q v refl e (plain-same ty (truth x) (board.slot_at b n i) v)
-  kind-same (row.Plain ty (first.Int x)) q v e = cc
-  kind-same (row.Plain ty (first.Uint x)) q v e = as-told (row.Plain ty (first.Uint x)) (Kind.plain ty (number x)) q v refl e (plain-same ty (number x) (board.slot_at b n i) v)
-  kind-same (row.Plain ty first.NoText) q v e = as-told (row.Plain ty first.NoText) (Kind.plain ty empty_text) q v refl e (plain-same ty empty_text (board.slot_at b n i) v)
+  kind-same (row.Plain ty begins) q v e = as-told (row.Plain ty begins) (Kind.plain ty begins) q v refl e (plain-same ty begins (board.slot_at b n i) v)
   kind-same (row.Child t) q v e = as-told (row.Child t) (Kind.child t) q v refl e (no-child t (board.slot_at b n i))
     where
       no-child : (t : TypeId) (s : Option board.Slot) → written b n i (Kind.child t) s v ≡ Err E18
@@ -92,7 +87,7 @@ module _ (b : board.Board) (n i : ℕ) where
   kind-same (row.Link t strong) q v e = as-told (row.Link t strong) (Kind.link t strong) q v refl e (link-same t strong (board.slot_at b n i) v)
   kind-same (row.Alias child of) q v e = as-told (row.Alias child of) (Kind.alias child.now of.now) q v refl e refl
 
-mark-same : (m : Mark) (given : Result board.Board Code) → (if may_set (mark_told m) then given else Err E18) ≡ mark_written m given
+mark-same : (m : Mark) (given : Result board.Board Code) → (if may_set m then given else Err E18) ≡ mark_written m given
 mark-same mark.Never given = refl
 mark-same mark.Add given = refl
 mark-same mark.Both given = refl
@@ -101,10 +96,10 @@ mark-same mark.Set given = refl
 by-row : (b : board.Board) (n i : ℕ) (r : SlotRow) (p : Property) (v : Val) → property_told r ≡ Some p → written_by b n i (Some p) v ≡ row_written b n i r v
 by-row b n i r p v told = go (kind_told r.kind) refl told
   where
-    go : (o : Option Kind) → kind_told r.kind ≡ o → option_map (λ (k : Kind). property r.name.now k (mark_told r.mark)) o ≡ Some p → written_by b n i (Some p) v ≡ row_written b n i r v
+    go : (o : Option Kind) → kind_told r.kind ≡ o → option_map (λ (k : Kind). property r.name.now k r.mark) o ≡ Some p → written_by b n i (Some p) v ≡ row_written b n i r v
     go None is e = cc
     go (Some q) is e =
-        let same : property r.name.now q (mark_told r.mark) ≡ p = cc e in
+        let same : property r.name.now q r.mark ≡ p = cc e in
         ap (λ (x : Property). written_by b n i (Some x) v) (sym same)
         ∙ mark-same r.mark (written b n i q (board.slot_at b n i) v)
         ∙ ap (mark_written r.mark) (kind-same b n i r.kind q v is)

@@ -1,16 +1,11 @@
 -- The slots of a new object: its plain properties with their first values, and its links without targets.
 use Rattle.std.specs.Prelude.{ℕ, List, [], ◌++◌, take, filter_map, Option, Some, None, option_map}
-use Rattle.qo_values.specs.Kinds.{type_name}
 use Rattle.qo_values.specs.declared.kinds.TypeId.{TypeId}
-use Rattle.qo_values.specs.declared.properties.Val.{Val}
-use Rattle.qo_values.specs.declared.properties.Val.TheVariants as val
 use Rattle.qo_model.specs.Opening.{first_value}
 use Rattle.qo_model.specs.Types.{Kind, Property, slots_of}
 use Rattle.qo_types.specs.declared.rows.SlotRow.{SlotRow}
 use Rattle.qo_types.specs.declared.rows.RowKind.{RowKind}
 use Rattle.qo_types.specs.declared.rows.RowKind.TheVariants as row
-use Rattle.qo_types.specs.declared.rows.First.{First}
-use Rattle.qo_types.specs.declared.rows.First.TheVariants as first
 use Rattle.qo_object.specs.declared.slots.Slot.{Slot}
 use Rattle.qo_object.specs.declared.slots.Slot.TheVariants.{Plain, Link}
 use Rattle.qo_object.specs.Slots.{Named}
@@ -36,17 +31,9 @@ first_slots k t = filter_map (slot_begun t) (take k (slots_of t))
 abbrev pub with_slots : List Named → Content → Content
 with_slots more c = record c { slots = c.slots ++ more }
 
--- the same by the rows of the code: the first value, and the slot of a row
-abbrev pub val_of : TypeId → First → Val
-val_of t first.TypeName = val.Text (type_name t)
-val_of t first.Nothing = val.Nothing
-val_of t (first.Bool b) = val.Bool b
-val_of t (first.Int n) = val.Int n
-val_of t (first.Uint n) = val.Uint n
-val_of t first.NoText = val.Text []
-
+-- the same by the rows of the code
 abbrev pub begun_row : TypeId → RowKind → Option Slot
-begun_row t (row.Plain type begins) = Some (Plain (val_of t begins))
+begun_row t (row.Plain type begins) = Some (Plain (first_value t begins))
 begun_row t (row.Link target strong) = Some (Link target strong None)
 begun_row t kind = None
 

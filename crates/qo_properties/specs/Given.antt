@@ -10,8 +10,8 @@ use Rattle.qo_values.specs.declared.properties.Val.TheVariants as val
 use Rattle.qo_model.specs.Board.{Board}
 use Rattle.qo_model.specs.Objects.{code_of, target_given}
 use Rattle.qo_model.specs.Properties.{link_target}
-use Rattle.qo_types.specs.declared.rows.Mark.{Mark}
-use Rattle.qo_types.specs.declared.rows.Mark.TheVariants.{Add, Both}
+use Rattle.qo_model.specs.declared.properties.Mark.{Mark}
+use Rattle.qo_model.specs.declared.properties.Mark.TheVariants.{Add, Both}
 use Rattle.qo_types.specs.declared.rows.RowKind.{RowKind}
 use Rattle.qo_types.specs.declared.rows.RowKind.TheVariants as row
 

@@ -13,8 +13,8 @@ use Rattle.qo_model.specs.Board.{Board, slot_at}
 use Rattle.qo_model.specs.Changes.{set}
 use Rattle.qo_model.specs.Paths.{missing, resolve}
 use Rattle.qo_model.specs.Properties.{link_written}
-use Rattle.qo_types.specs.declared.rows.Mark.{Mark}
-use Rattle.qo_types.specs.declared.rows.Mark.TheVariants.{Both}
+use Rattle.qo_model.specs.declared.properties.Mark.{Mark}
+use Rattle.qo_model.specs.declared.properties.Mark.TheVariants.{Both}
 use Rattle.qo_types.specs.declared.rows.RowKind.{RowKind}
 use Rattle.qo_types.specs.declared.rows.RowKind.TheVariants as row
 use Rattle.qo_types.specs.declared.rows.SlotRow.{SlotRow}

@@ -10,7 +10,7 @@ use Rattle.qo_values.specs.Kinds.{type_name}
 use Rattle.qo_values.specs.declared.kinds.TypeId.{TypeId}
 use Rattle.qo_values.specs.declared.kinds.TypeId.TheVariants.{Object, Container, Machine, Device, SlotDevice, SlotUart, SlotTimer, SlotBridge, MemDimm, Bus, SlotBus, MemBus, Clock, MemoryBackend, MemoryBackendRam, Tag}
 use Rattle.qo_model.specs.Types.{Property, Kind, TypeRow, types, chain, property, row_of, row_named, interfaces_of}
-use Rattle.qo_types.specs.Rows.{Told, type_told_of, type_ids, is_abstract, property_told, kind_told, mark_told}
+use Rattle.qo_types.specs.Rows.{Told, type_told_of, type_ids, is_abstract, property_told, kind_told}
 use Rattle.qo_types.specs.declared.rows.SlotRow.{SlotRow}
 
 -- a test of what is read off each element
@@ -72,7 +72,7 @@ told_at rows ps i h = sym (slice_get-map property_told rows i) ∙ ap (λ told. 
 named_told : (r : SlotRow) (p : Property) → property_told r ≡ Some p → r.name.now ≡ p.name
 named_told r p h = go (kind_told r.kind) h
   where
-    go : (k : Option Kind) → option_map (λ (k : Kind). property r.name.now k (mark_told r.mark)) k ≡ Some p → r.name.now ≡ p.name
+    go : (k : Option Kind) → option_map (λ (k : Kind). property r.name.now k r.mark) k ≡ Some p → r.name.now ≡ p.name
     go None e = cc
     go (Some k) e = ap (λ (q : Option Property). option_map_or (λ (x : Property). x.name) q []) e
 

@@ -9,10 +9,6 @@ use Rattle.qo_types.specs.declared.rows.TypeRow.{TypeRow}
 use Rattle.qo_types.specs.declared.rows.SlotRow.{SlotRow}
 use Rattle.qo_types.specs.declared.rows.RowKind.{RowKind}
 use Rattle.qo_types.specs.declared.rows.RowKind.TheVariants as row
-use Rattle.qo_types.specs.declared.rows.First.{First}
-use Rattle.qo_types.specs.declared.rows.First.TheVariants as first
-use Rattle.qo_types.specs.declared.rows.Mark.{Mark}
-use Rattle.qo_types.specs.declared.rows.Mark.TheVariants as mark
 
 -- the types in row order
 abbrev pub type_ids : List TypeId
@@ -41,29 +37,13 @@ type_told r = record { name = r.name.now; parent = option_map type_name r.parent
 abbrev pub type_told_of : model.TypeRow → Told
 type_told_of r = record { name = type_name r.id; parent = r.parent; is_abstract = r.is_abstract; interfaces = r.interfaces }
 
--- what a plain property holds at first; none begins with a number below 0
-abbrev pub first_told : First → Option model.First
-first_told first.TypeName = Some model.own_name
-first_told first.Nothing = Some model.nothing
-first_told (first.Bool b) = Some (model.truth b)
-first_told (first.Int _) = None
-first_told (first.Uint n) = Some (model.number n)
-first_told first.NoText = Some model.empty_text
-
 -- what a property is
 abbrev pub kind_told : RowKind → Option Kind
-kind_told (row.Plain type begins) = option_map (Kind.plain type) (first_told begins)
+kind_told (row.Plain type begins) = Some (Kind.plain type begins)
 kind_told (row.Child t) = Some (Kind.child t)
 kind_told (row.Link t strong) = Some (Kind.link t strong)
 kind_told (row.Alias child of) = Some (Kind.alias child.now of.now)
 
--- who may write it
-abbrev pub mark_told : Mark → model.Mark
-mark_told mark.Never = model.never
-mark_told mark.Add = model.on_add
-mark_told mark.Both = model.both
-mark_told mark.Set = model.on_set
-
 -- the property that a row of the code tells
 abbrev pub property_told : SlotRow → Option Property
-property_told r = option_map (λ k. property r.name.now k (mark_told r.mark)) (kind_told r.kind)
+property_told r = option_map (λ k. property r.name.now k r.mark) (kind_told r.kind)

@@ -12,5 +12,5 @@ mod table;
 mod tests;
 
 pub use errors::Memory;
-pub use rows::{First, Mark, RowKind, SlotRow, TypeRow};
+pub use rows::{RowKind, SlotRow, TypeRow};
 pub use table::TypeTable;

@@ -1,5 +1,6 @@
 //! What a row of the table tells: of a type, and of a property that the objects of a type have.
 
+use qo_model::{First, Mark};
 use qo_values::{PropType, TypeId};
 
 /// A row of types.
@@ -47,34 +48,4 @@ pub enum RowKind {
         /// The property's name there.
         of: &'static str,
     },
-}
-
-/// What a plain property holds at first.
-#[derive(Clone, Copy, Debug, PartialEq, Eq)]
-pub enum First {
-    /// The name of the object's type.
-    TypeName,
-    /// No value yet.
-    Nothing,
-    /// A truth value.
-    Bool(bool),
-    /// A number below 0. No row has one.
-    Int(i64),
-    /// A number from 0 up, also where the property takes signed numbers.
-    Uint(u64),
-    /// The text without characters.
-    NoText,
-}
-
-/// Who may write a property.
-#[derive(Clone, Copy, Debug, PartialEq, Eq)]
-pub enum Mark {
-    /// Nobody.
-    Never,
-    /// The command that adds the object.
-    Add,
-    /// That command and `qom-set`.
-    Both,
-    /// `qom-set`.
-    Set,
 }

@@ -5,7 +5,8 @@ ghost use Rattle.std.specs.Str.{bytes_eq};
 ghost use Rattle.qo_model.specs.Types.{slots_of};
 ghost use Rattle.qo_types.specs.Rows.{property_told};
 
-use crate::rows::{First, Mark, RowKind, SlotRow};
+use crate::rows::{RowKind, SlotRow};
+use qo_model::{First, Mark};
 use qo_values::{PropType, TypeId};
 
 const TYPE: SlotRow = SlotRow {

@@ -1,6 +1,7 @@
 //! The rows as the profile states them, and that the calls succeed with ample memory.
 
-use crate::{Mark, Memory, SlotRow, TypeTable};
+use crate::{Memory, SlotRow, TypeTable};
+use qo_model::Mark;
 use qo_values::TypeId;
 use std::alloc::{AllocError, Global};
 

@@ -4,16 +4,18 @@ ghost use Rattle.std.specs.Prelude.{◌≡◌, ℕ, Some, [], ◌∷◌, slice_g
 ghost use Rattle.qo_values.specs.Names.{IsName};
 ghost use Rattle.qo_model.specs.Board.{Board};
 ghost use Rattle.qo_model.specs.Changes.{with_fresh_slots};
+ghost use Rattle.qo_model.specs.Opening.{first_value};
 ghost use Rattle.qo_model.specs.Types.{slots_of};
 ghost use Rattle.qo_table.specs.Rows.{IsLive};
 ghost use Rattle.qo_object.specs.declared.slots.Slot.TheVariants.{Plain, Link};
 ghost use Rattle.qo_heap.specs.Board.{Shows};
 ghost use Rattle.qo_heap.specs.Objects.{with_edit};
-ghost use Rattle.qo_properties.specs.Fresh.{first_slots, new_slots, slot_of_row, val_of, with_slots};
+ghost use Rattle.qo_properties.specs.Fresh.{first_slots, new_slots, slot_of_row, with_slots};
 
 use crate::errors::Memory;
 use qo_heap::{Heap, Oid, Steps};
-use qo_types::{First, RowKind, SlotRow, TypeTable};
+use qo_model::First;
+use qo_types::{RowKind, SlotRow, TypeTable};
 use qo_values::{Name, PropType, Text, TypeId, Val};
 use std::alloc::{AllocError, Global};
 use std::sync::ledger::Ledger;
@@ -29,13 +31,12 @@ pub fn name_of(text: &str, alloc: Global) -> Result<Name, AllocError>
 
 /// What a plain property of an object of a type holds at first.
 fn first_val(kind: TypeId, first: First, alloc: Global) -> Result<Val, AllocError>
-    ensures { IfOk result (λ val. val ≡ val_of kind first) }
+    ensures { IfOk result (λ val. val ≡ first_value kind first) }
 {
     Ok(match first {
         First::TypeName => Val::Text(Text::from_string(String::from_str(alloc, kind.name())?)),
         First::Nothing => Val::Nothing,
         First::Bool(truth) => Val::Bool(truth),
-        First::Int(number) => Val::Int(number),
         First::Uint(number) => Val::Uint(number),
         First::NoText => Val::Text(Text::from_string(String::new(alloc))),
     })

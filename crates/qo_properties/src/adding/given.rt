@@ -13,7 +13,8 @@ ghost use Rattle.qo_properties.specs.Given.{link_misfit, linked_to, mark_refusal
 
 use crate::writing::writes::link_target;
 use qo_heap::{Heap, Oid, Steps};
-use qo_types::{Mark, RowKind, SlotRow, TypeTable};
+use qo_model::Mark;
+use qo_types::{RowKind, SlotRow, TypeTable};
 use qo_values::{Code, Misfit, PropList, PropType, TypeId, Val};
 use std::sync::ledger::Ledger;
 
