@@ -21,7 +21,10 @@ use Rattle.qo_model.specs.Opening.{fresh_slots}
 use Rattle.qo_model.specs.Paths.{attached, place_of, root_birth}
 use Rattle.qo_model.specs.Properties.{link_target, row_of_property}
 use Rattle.qo_model.specs.Release.{edited, final_notes, let_go, pin, unpin}
-use Rattle.qo_model.specs.Types.{Kind, Property, TypeRow, inits, is_a, row_named}
+use Rattle.qo_model.specs.Types.{TypeRow, inits, is_a, row_named}
+use Rattle.qo_model.specs.declared.properties.Property.{Property}
+use Rattle.qo_model.specs.declared.properties.RowKind.{RowKind}
+use Rattle.qo_model.specs.declared.properties.RowKind.TheVariants as row
 use Rattle.qo_model.specs.declared.properties.Mark.{Mark}
 use Rattle.qo_model.specs.declared.properties.Mark.TheVariants.{Add, Both}
 
@@ -41,9 +44,9 @@ code_of (Ok target) = None
 code_of (Err code) = Some code
 
 -- why a value is refused for a property with a row, if it is
-abbrev pub misfit : Board → Kind → Val → Option Code
-misfit b (Kind.plain type first) v = if admits type v then None else Some E19
-misfit b (Kind.link t holds) (val.Text path) = code_of (link_target b t path)
+abbrev pub misfit : Board → RowKind → Val → Option Code
+misfit b (row.Plain type first) v = if admits type v then None else Some E19
+misfit b (row.Link t holds) (val.Text path) = code_of (link_target b t path)
 misfit b kind v = Some E19
 
 abbrev pub refusal_by : Board → Option Property → Val → Option Code

@@ -18,7 +18,10 @@ use Rattle.qo_model.specs.Properties.{link_target, link_written, linked, may_set
 use Rattle.qo_model.specs.References.{refs}
 use Rattle.qo_model.specs.Release.{after, deleted_event, drop_slot, edit, edited, finalise, finish, forgotten, let_go, pin, unpin, with_dropped, without_pin}
 use Rattle.qo_model.specs.ReleaseKeeps.{KeepsRelease}
-use Rattle.qo_model.specs.Types.{Kind, Property, TypeRow, is_a, row_named}
+use Rattle.qo_model.specs.Types.{TypeRow, is_a, row_named}
+use Rattle.qo_model.specs.declared.properties.Property.{Property}
+use Rattle.qo_model.specs.declared.properties.RowKind.{RowKind}
+use Rattle.qo_model.specs.declared.properties.RowKind.TheVariants as row
 use Rattle.qo_model.proofs.ReleaseKeepsLemmas.{after_keeps}
 use Rattle.qo_model.specs.Access.{write_at}
 use Rattle.qo_realize.specs.Stands.{IsQuiet}
@@ -158,25 +161,25 @@ link_written-quiet b n i t (val.Int v) h = h
 link_written-quiet b n i t (val.Uint v) h = h
 link_written-quiet b n i t val.Nothing h = h
 
-written-quiet : (b : Board) (n i : ℕ) (kind : Kind) (s : Option Slot) (v : Val) → IsQuiet b → IsQuiet (behind_write b (written b n i kind s v))
-written-quiet b n i (Kind.plain type first) (Some (plain old)) v h = go (admits type v) refl
+written-quiet : (b : Board) (n i : ℕ) (kind : RowKind) (s : Option Slot) (v : Val) → IsQuiet b → IsQuiet (behind_write b (written b n i kind s v))
+written-quiet b n i (row.Plain type first) (Some (plain old)) v h = go (admits type v) refl
   where
-    go : (t : Bool) → admits type v ≡ t → IsQuiet (behind_write b (written b n i (Kind.plain type first) (Some (plain old)) v))
+    go : (t : Bool) → admits type v ≡ t → IsQuiet (behind_write b (written b n i (row.Plain type first) (Some (plain old)) v))
     go true p = rw (written, p) (set-quiet b n i v h)
     go false p = rw (written, p) h
-written-quiet b n i (Kind.link t holds) (Some (strong to target)) v h = link_written-quiet b n i to v h
-written-quiet b n i (Kind.link t holds) (Some (weak to target)) v h = link_written-quiet b n i to v h
-written-quiet b n i (Kind.plain type first) None v h = h
-written-quiet b n i (Kind.plain type first) (Some (child m)) v h = h
-written-quiet b n i (Kind.plain type first) (Some (strong to target)) v h = h
-written-quiet b n i (Kind.plain type first) (Some (weak to target)) v h = h
-written-quiet b n i (Kind.plain type first) (Some (alias m property)) v h = h
-written-quiet b n i (Kind.link t holds) None v h = h
-written-quiet b n i (Kind.link t holds) (Some (plain old)) v h = h
-written-quiet b n i (Kind.link t holds) (Some (child m)) v h = h
-written-quiet b n i (Kind.link t holds) (Some (alias m property)) v h = h
-written-quiet b n i (Kind.child t) s v h = h
-written-quiet b n i (Kind.alias owner property) s v h = h
+written-quiet b n i (row.Link t holds) (Some (strong to target)) v h = link_written-quiet b n i to v h
+written-quiet b n i (row.Link t holds) (Some (weak to target)) v h = link_written-quiet b n i to v h
+written-quiet b n i (row.Plain type first) None v h = h
+written-quiet b n i (row.Plain type first) (Some (child m)) v h = h
+written-quiet b n i (row.Plain type first) (Some (strong to target)) v h = h
+written-quiet b n i (row.Plain type first) (Some (weak to target)) v h = h
+written-quiet b n i (row.Plain type first) (Some (alias m property)) v h = h
+written-quiet b n i (row.Link t holds) None v h = h
+written-quiet b n i (row.Link t holds) (Some (plain old)) v h = h
+written-quiet b n i (row.Link t holds) (Some (child m)) v h = h
+written-quiet b n i (row.Link t holds) (Some (alias m property)) v h = h
+written-quiet b n i (row.Child t) s v h = h
+written-quiet b n i (row.Alias owner property) s v h = h
 
 written_by-quiet : (b : Board) (n i : ℕ) (row : Option Property) (v : Val) → IsQuiet b → IsQuiet (behind_write b (written_by b n i row v))
 written_by-quiet b n i None v h = h

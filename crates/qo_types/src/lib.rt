@@ -5,12 +5,10 @@
 
 mod errors;
 mod hierarchy;
-mod rows;
 mod slots;
 mod table;
 #[cfg(test)]
 mod tests;
 
 pub use errors::Memory;
-pub use rows::{RowKind, SlotRow, TypeRow};
 pub use table::TypeTable;

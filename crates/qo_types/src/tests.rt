@@ -1,20 +1,29 @@
 //! The rows as the profile states them, and that the calls succeed with ample memory.
 
-use crate::{Memory, SlotRow, TypeTable};
-use qo_model::Mark;
+use crate::{Memory, TypeTable};
+use qo_model::{Mark, Property};
 use qo_values::TypeId;
 use std::alloc::{AllocError, Global};
+
+/// Whether the interfaces that a type adds have these names, in this order.
+fn adds(t: TypeId, names: &[&str]) -> bool {
+    let interfaces = TypeTable::board().interfaces(t);
+    interfaces.len() == names.len()
+        && interfaces
+            .iter()
+            .zip(names)
+            .all(|(interface, name)| interface.name() == *name)
+}
 
 /// Whether the type of a name has this row.
 fn has_row(name: &str, parent: Option<TypeId>, is_abstract: bool, interfaces: &[&str]) -> bool {
     let table = TypeTable::board();
     match table.find(name) {
         Some(t) => {
-            let row = table.row(t);
-            row.name == name
-                && row.parent == parent
-                && row.is_abstract == is_abstract
-                && row.interfaces == interfaces
+            t.name() == name
+                && table.parent(t) == parent
+                && table.is_abstract(t) == is_abstract
+                && adds(t, interfaces)
         }
         None => false,
     }
@@ -74,7 +83,7 @@ fn has_slots(t: TypeId, names: &[&str]) -> bool {
     for (i, name) in names.iter().enumerate() {
         match table.prop(t, i) {
             Some(row) => {
-                if row.name != *name {
+                if row.name.as_str() != *name {
                     return false;
                 }
             }
@@ -158,7 +167,7 @@ fn slot_order_of_devices(rt: HostRuntime) {
 }
 
 /// Whether a row is of this mark, and its kind prints so.
-fn row_is(alloc: Global, row: SlotRow, mark: Mark, kind: &str) -> Result<bool, AllocError> {
+fn row_is(alloc: Global, row: Property, mark: Mark, kind: &str) -> Result<bool, AllocError> {
     let printed = format!(in alloc; "{:?}", row.kind)?;
     Ok(row.mark == mark && printed.as_str() == kind)
 }
@@ -216,7 +225,7 @@ fn slots(rt: HostRuntime) {
             TypeId::SlotDevice,
             "clock-period",
             Mark::Set,
-            "Alias { child: \"clk\", of: \"period\" }",
+            "Alias { child: Clk, of: Period }",
         ),
         (
             TypeId::SlotUart,

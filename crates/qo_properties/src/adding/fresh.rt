@@ -5,17 +5,18 @@ ghost use Rattle.qo_values.specs.Names.{IsName};
 ghost use Rattle.qo_model.specs.Board.{Board};
 ghost use Rattle.qo_model.specs.Changes.{with_fresh_slots};
 ghost use Rattle.qo_model.specs.Opening.{first_value};
+ghost use Rattle.qo_model.specs.RowNames.{property_name};
 ghost use Rattle.qo_model.specs.Types.{slots_of};
 ghost use Rattle.qo_table.specs.Rows.{IsLive};
 ghost use Rattle.qo_object.specs.declared.slots.Slot.TheVariants.{Plain, Link};
 ghost use Rattle.qo_heap.specs.Board.{Shows};
 ghost use Rattle.qo_heap.specs.Objects.{with_edit};
-ghost use Rattle.qo_properties.specs.Fresh.{first_slots, new_slots, slot_of_row, with_slots};
+ghost use Rattle.qo_properties.specs.Fresh.{first_slots, new_slots, slot_begun, with_slots};
 
 use crate::errors::Memory;
 use qo_heap::{Heap, Oid, Steps};
-use qo_model::First;
-use qo_types::{RowKind, SlotRow, TypeTable};
+use qo_model::{First, Property, RowKind};
+use qo_types::TypeTable;
 use qo_values::{Name, PropType, Text, TypeId, Val};
 use std::alloc::{AllocError, Global};
 use std::sync::ledger::Ledger;
@@ -48,24 +49,24 @@ fn add_row<L: Ledger>(
     heap: &mut Heap,
     o: Oid,
     kind: TypeId,
-    row: SlotRow,
+    row: Property,
     alloc: Global,
     steps: &mut Steps<L>,
 ) -> Result<(), Memory>
     requires live { IsLive heap.old.rows o }
-    requires name { IsName row.name.now }
-    ensures ok { OnOk result (heap.new ≡ with_edit o.birth (with_slots (option_to_list (slot_of_row kind row))) heap.old) }
+    requires name { IsName (property_name row.name) }
+    ensures ok { OnOk result (heap.new ≡ with_edit o.birth (with_slots (option_to_list (slot_begun kind row))) heap.old) }
     ensures err { OnErr result (heap.new ≡ heap.old) }
 {
     match row.kind {
         RowKind::Plain(_, first) => {
-            let name = name_of(row.name, alloc)?;
+            let name = name_of(row.name.as_str(), alloc)?;
             let val = first_val(kind, first, alloc)?;
             heap.add_plain(o, name, val, steps)?;
             Ok(())
         }
         RowKind::Link { ty, strong } => {
-            let name = name_of(row.name, alloc)?;
+            let name = name_of(row.name.as_str(), alloc)?;
             heap.add_link(o, name, ty, strong, None, steps)?;
             Ok(())
         }
