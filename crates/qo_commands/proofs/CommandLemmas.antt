@@ -12,6 +12,7 @@ use Rattle.qo_values.specs.declared.properties.Val.{Val}
 use Rattle.qo_values.specs.declared.properties.Val.TheVariants as val
 use Rattle.qo_values.specs.declared.codes.Code.TheVariants.{E10, E22}
 use Rattle.qo_model.specs.Objects.{Changed, object_add, object_del, sever}
+use Rattle.qo_values.specs.declared.kinds.TypeId.{TypeId}
 use Rattle.qo_model.specs.Types.{TypeRow, is_a, row_named}
 use Rattle.qo_model.specs.NoteReplies.{given_from}
 use Rattle.qo_model.specs.Access.{listing_at, read, write_at}
@@ -65,7 +66,7 @@ types_no_float : (rows : List TypeRow) → items_have_float (items_of (map type_
 types_no_float [] = refl
 types_no_float (r ∷ rs) = by r.is_abstract r.parent (types_no_float rs)
   where
-    by : (a : Bool) (p : Option (List ℕ)) → items_have_float (items_of (map type_data rs)) ≡ false → items_have_float (items_of (type_data (record r { is_abstract = a; parent = p }) ∷ map type_data rs)) ≡ false
+    by : (a : Bool) (p : Option TypeId) → items_have_float (items_of (map type_data rs)) ≡ false → items_have_float (items_of (type_data (record r { is_abstract = a; parent = p }) ∷ map type_data rs)) ≡ false
     by true None rest = rest
     by true (Some parent) rest = rest
     by false None rest = rest

@@ -16,7 +16,11 @@ use Rattle.qo_model.specs.declared.notes.Note.{Note}
 use Rattle.qo_model.specs.Access.{listing_at, read, write_at}
 use Rattle.qo_model.specs.Detachment.{detached_told}
 use Rattle.qo_model.specs.declared.detached.Detached.{Detached}
-use Rattle.qo_model.specs.Types.{Kind, Property, TypeRow, is_a, row_named, row_of, slots_of}
+use Rattle.qo_model.specs.Types.{TypeRow, is_a, row_named, row_of, slots_of}
+use Rattle.qo_model.specs.RowNames.{property_name}
+use Rattle.qo_model.specs.declared.properties.Property.{Property}
+use Rattle.qo_model.specs.declared.properties.RowKind.{RowKind}
+use Rattle.qo_model.specs.declared.properties.RowKind.TheVariants as row
 use Rattle.qo_types.specs.Rows.{listed as listed_types}
 pub use Rattle.qo_replies.specs.Properties.{properties_data, property_data}
 use Rattle.qo_replies.specs.Replies.{version_data}
@@ -104,9 +108,9 @@ built =
     ∷ []
 
 -- a type: that it is abstract is said only where it is, and its parent only where it has one
-abbrev pub with_parent : Option (List ℕ) → Members
+abbrev pub with_parent : Option TypeId → Members
 with_parent None = no_members
-with_parent (Some parent) = member (codes "parent") (string parent) no_members
+with_parent (Some parent) = member (codes "parent") (string (type_name parent)) no_members
 
 abbrev pub named_type : TypeRow → Members
 named_type row = member (codes "name") (string (type_name row.id)) (with_parent row.parent)
@@ -129,15 +133,15 @@ is_for_adding row = may_add row.mark
 abbrev pub link_word : TypeId → List ℕ
 link_word t = around (codes "link") t
 
-abbrev pub kind_word : Kind → List ℕ
-kind_word (Kind.plain type first) = value_word type
-kind_word (Kind.link t holds) = link_word t
-kind_word (Kind.child t) = around (codes "child") t
-kind_word (Kind.alias owner of) = []
+abbrev pub kind_word : RowKind → List ℕ
+kind_word (row.Plain type first) = value_word type
+kind_word (row.Link t holds) = link_word t
+kind_word (row.Child t) = around (codes "child") t
+kind_word (row.Alias owner of) = []
 
 -- a property by its name and type text
 abbrev pub property_words : Property → List ℕ × List ℕ
-property_words row = (row.name, kind_word row.kind)
+property_words p = (property_name p.name, kind_word p.kind)
 
 -- the properties of a type of devices that the adding command writes, in row order
 abbrev pub adding_properties : TypeId → List (List ℕ × List ℕ)

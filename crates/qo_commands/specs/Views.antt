@@ -1,11 +1,12 @@
 -- What the code's outcomes of commands are.
-use Rattle.std.specs.Prelude.{ℕ, Bool, false, if◌then◌else◌, List, [], ◌∷◌, map, Result, Ok, Err}
+use Rattle.std.specs.Prelude.{ℕ, Bool, false, if◌then◌else◌, List, [], ◌∷◌, map, Option, Result, Ok, Err}
 use Rattle.serde_json.specs.Data.{Data}
 use Rattle.serde_json.specs.View.{view}
 use Rattle.serde_json.specs.Written.{has_float}
 use Rattle.qo_values.specs.declared.codes.Code.{Code}
+use Rattle.qo_values.specs.declared.kinds.TypeId.{TypeId}
 use Rattle.qo_model.specs.Board.{Board}
-use Rattle.qo_model.specs.Types.{Property}
+use Rattle.qo_model.specs.declared.properties.Property.{Property}
 use Rattle.qo_properties.specs.Listed.{prop_told}
 use Rattle.qo_replies.specs.Properties.{properties_data}
 use Rattle.qo_commands.specs.Commands as defined
@@ -36,3 +37,7 @@ has_float_in (Err code) = false
 -- a property by name and type text, if the adding command writes it
 abbrev pub words_for_adding : Property → List (List ℕ × List ℕ)
 words_for_adding p = if defined.is_for_adding p then defined.property_words p ∷ [] else []
+
+-- a type as it is told of, by the parts of its row that are told: its id, whether it is abstract, and its parent
+abbrev pub row_data : TypeId → Bool → Option TypeId → Data
+row_data t abstract parent = defined.type_data (record { id = t; parent = parent; is_abstract = abstract; interfaces = []; properties = [] })

@@ -1,6 +1,6 @@
 //! Types and the properties that they declare: `qom-list-types`, `device-list-properties`.
 
-ghost use Rattle.std.specs.Prelude.{◌≡◌, ◌++◌, [], ◌∷◌, codes, map, filter_map, Some, option_map, string_bytes, IfOk, IfSome, OnOk};
+ghost use Rattle.std.specs.Prelude.{◌≡◌, ◌++◌, [], ◌∷◌, codes, map, filter_map, Some, option_map, string_bytes, IfOk, OnOk};
 ghost use Rattle.std.specs.Option.{option_map_or};
 ghost use Rattle.serde_json.specs.Data.{array};
 ghost use Rattle.serde_json.specs.View.{items_of, view};
@@ -8,29 +8,43 @@ ghost use Rattle.qo_values.specs.TypeTexts.{around};
 ghost use Rattle.qo_model.specs.Board.{Board as Tree};
 ghost use Rattle.qo_model.specs.Objects.{may_add};
 ghost use Rattle.qo_model.specs.Types.{row_named, row_of};
-ghost use Rattle.qo_types.specs.Rows.{kind_told, mark_told, property_told};
 ghost use Rattle.qo_commands.specs.Commands.{adding_properties, device_properties, kind_word, property_data, returned, type_data, types_of};
-ghost use Rattle.qo_commands.specs.Views.{done_of, words_for_adding};
+ghost use Rattle.qo_commands.specs.Views.{done_of, row_data, words_for_adding};
 
 use crate::commands::{Body, Done, refused, returned};
-use qo_types::{Mark, RowKind, SlotRow, TypeTable};
+use qo_model::{Mark, Property, RowKind};
+use qo_types::TypeTable;
 use qo_values::{Code, Text, TypeId};
 use serde_json::{Value, json};
 use std::alloc::{AllocError, Global};
 
+/// A type by its name, whether it is abstract, and its parent.
+fn row_value(
+    alloc: Global,
+    t: TypeId,
+    is_abstract: bool,
+    parent: Option<TypeId>,
+) -> Result<Value, AllocError>
+    ensures { IfOk result (λ v. view v ≡ row_data t is_abstract parent) }
+{
+    let name = t.name();
+    match (is_abstract, parent) {
+        (true, Some(parent)) => {
+            json!(in alloc; {"abstract": true, "name": name, "parent": parent.name()})
+        }
+        (true, None) => json!(in alloc; {"abstract": true, "name": name}),
+        (false, Some(parent)) => json!(in alloc; {"name": name, "parent": parent.name()}),
+        (false, None) => json!(in alloc; {"name": name}),
+    }
+}
+
 /// A type, as `qom-list-types` tells of it.
+#[tactic(auto, using(crate::proofs::ListingLemmas::row_told))]
 fn type_value(alloc: Global, t: TypeId) -> Result<Value, AllocError>
     ensures { IfOk result (λ v. Some (view v) ≡ option_map type_data (row_of t)) }
 {
-    let row = TypeTable::board().row(t);
-    match (row.is_abstract, row.parent) {
-        (true, Some(parent)) => {
-            json!(in alloc; {"abstract": true, "name": row.name, "parent": parent.name()})
-        }
-        (true, None) => json!(in alloc; {"abstract": true, "name": row.name}),
-        (false, Some(parent)) => json!(in alloc; {"name": row.name, "parent": parent.name()}),
-        (false, None) => json!(in alloc; {"name": row.name}),
-    }
+    let types = TypeTable::board();
+    row_value(alloc, t, types.is_abstract(t), types.parent(t))
 }
 
 /// Adds a type to a list.
@@ -96,7 +110,7 @@ fn around(alloc: Global, word: &str, kind: TypeId) -> Result<String, AllocError>
 /// The type text of a property with a row; that of an alias is the text of what it passes on to,
 /// and is empty here.
 fn kind_text(alloc: Global, kind: &RowKind) -> Result<String, AllocError>
-    ensures { IfOk result (λ text. IfSome (kind_told kind.now) (λ k. string_bytes text ≡ kind_word k)) }
+    ensures { IfOk result (λ text. string_bytes text ≡ kind_word kind.now) }
 {
     match kind {
         RowKind::Plain(ty, _) => String::from_str(alloc, ty.word()),
@@ -108,7 +122,7 @@ fn kind_text(alloc: Global, kind: &RowKind) -> Result<String, AllocError>
 
 /// Whether the adding command writes a property with a mark.
 fn is_for_adding(mark: Mark) -> bool
-    ensures { result ≡ may_add (mark_told mark) }
+    ensures { result ≡ may_add mark }
 {
     match mark {
         Mark::Add => true,
@@ -119,14 +133,14 @@ fn is_for_adding(mark: Mark) -> bool
 }
 
 /// Adds a property to a list, where the adding command writes it.
-fn push_row(alloc: Global, values: &mut Vec<Value>, row: &SlotRow) -> Result<(), AllocError>
-    ensures { OnOk result (IfSome (property_told row.now) (λ p. map view values.new.items ≡ map view values.old.items ++ map property_data (words_for_adding p))) }
+fn push_row(alloc: Global, values: &mut Vec<Value>, row: &Property) -> Result<(), AllocError>
+    ensures { OnOk result (map view values.new.items ≡ map view values.old.items ++ map property_data (words_for_adding row.now)) }
 {
     if !is_for_adding(row.mark) {
         return Ok(());
     }
     let text = kind_text(alloc, &row.kind)?;
-    let value = property_value(alloc, row.name, &text)?;
+    let value = property_value(alloc, row.name.as_str(), &text)?;
     values.push(value)?;
     Ok(())
 }

@@ -15,7 +15,10 @@ use Rattle.qo_model.specs.Objects.{Given, added_as, added_by, barred, is_object_
 use Rattle.qo_model.specs.Paths.{attached}
 use Rattle.qo_model.specs.Properties.{link_target, link_written, linked, may_set, pointed_at, relinked, row_of_property, write, written, written_by}
 use Rattle.qo_model.specs.Release.{drop_slot, let_go, pin, put_in_order, with_dropped}
-use Rattle.qo_model.specs.Types.{Kind, Property, TypeRow, row_named}
+use Rattle.qo_model.specs.Types.{TypeRow, row_named}
+use Rattle.qo_model.specs.declared.properties.Property.{Property}
+use Rattle.qo_model.specs.declared.properties.RowKind.{RowKind}
+use Rattle.qo_model.specs.declared.properties.RowKind.TheVariants as row
 use Rattle.qo_model.proofs.FinalNotesLemmas.{after-keeps, edit-keeps, let_go-keeps, pins-keep, unpin-keeps}
 use Rattle.qo_model.proofs.FinalNotesGrowthLemmas.{attempt-grows, grown-keeps, object-grows}
 
@@ -75,25 +78,25 @@ link_written-keeps b n i t (val.Int v) o = o
 link_written-keeps b n i t (val.Uint v) o = o
 link_written-keeps b n i t val.Nothing o = o
 
-written-keeps : (b : Board) (n i : ℕ) (kind : Kind) (s : Option Slot) (v : Val) → NotesInOrder b → NotesInOrder (behind_write b (written b n i kind s v))
-written-keeps b n i (Kind.plain type first) (Some (plain old)) v o = go (admits type v) refl
+written-keeps : (b : Board) (n i : ℕ) (kind : RowKind) (s : Option Slot) (v : Val) → NotesInOrder b → NotesInOrder (behind_write b (written b n i kind s v))
+written-keeps b n i (row.Plain type first) (Some (plain old)) v o = go (admits type v) refl
   where
-    go : (t : Bool) → admits type v ≡ t → NotesInOrder (behind_write b (written b n i (Kind.plain type first) (Some (plain old)) v))
+    go : (t : Bool) → admits type v ≡ t → NotesInOrder (behind_write b (written b n i (row.Plain type first) (Some (plain old)) v))
     go true p = rw (written, p) (set-keeps b n i v o)
     go false p = rw (written, p) o
-written-keeps b n i (Kind.link t holds) (Some (strong to target)) v o = link_written-keeps b n i to v o
-written-keeps b n i (Kind.link t holds) (Some (weak to target)) v o = link_written-keeps b n i to v o
-written-keeps b n i (Kind.plain type first) None v o = o
-written-keeps b n i (Kind.plain type first) (Some (child m)) v o = o
-written-keeps b n i (Kind.plain type first) (Some (strong to target)) v o = o
-written-keeps b n i (Kind.plain type first) (Some (weak to target)) v o = o
-written-keeps b n i (Kind.plain type first) (Some (alias m property)) v o = o
-written-keeps b n i (Kind.link t holds) None v o = o
-written-keeps b n i (Kind.link t holds) (Some (plain old)) v o = o
-written-keeps b n i (Kind.link t holds) (Some (child m)) v o = o
-written-keeps b n i (Kind.link t holds) (Some (alias m property)) v o = o
-written-keeps b n i (Kind.child t) s v o = o
-written-keeps b n i (Kind.alias owner property) s v o = o
+written-keeps b n i (row.Link t holds) (Some (strong to target)) v o = link_written-keeps b n i to v o
+written-keeps b n i (row.Link t holds) (Some (weak to target)) v o = link_written-keeps b n i to v o
+written-keeps b n i (row.Plain type first) None v o = o
+written-keeps b n i (row.Plain type first) (Some (child m)) v o = o
+written-keeps b n i (row.Plain type first) (Some (strong to target)) v o = o
+written-keeps b n i (row.Plain type first) (Some (weak to target)) v o = o
+written-keeps b n i (row.Plain type first) (Some (alias m property)) v o = o
+written-keeps b n i (row.Link t holds) None v o = o
+written-keeps b n i (row.Link t holds) (Some (plain old)) v o = o
+written-keeps b n i (row.Link t holds) (Some (child m)) v o = o
+written-keeps b n i (row.Link t holds) (Some (alias m property)) v o = o
+written-keeps b n i (row.Child t) s v o = o
+written-keeps b n i (row.Alias owner property) s v o = o
 
 written_by-keeps : (b : Board) (n i : ℕ) (row : Option Property) (v : Val) → NotesInOrder b → NotesInOrder (behind_write b (written_by b n i row v))
 written_by-keeps b n i None v o = o

@@ -7,7 +7,9 @@ use Rattle.qo_model.specs.Listing.{listing}
 use Rattle.qo_model.specs.Opening.{opening_board, opening_records, fresh_record, slots_with}
 use Rattle.qo_model.specs.Paths.{canonical, steps_to, attached, resolve_absolute, components, walk}
 use Rattle.qo_model.specs.References.{refs}
-use Rattle.qo_model.specs.Types.{Property, TypeRow, types, type_line, chain, is_a, slots_of, inits, finals}
+use Rattle.qo_model.specs.Types.{TypeRow, types, type_line, chain, is_a, slots_of, inits, finals}
+use Rattle.qo_model.specs.RowNames.{property_name}
+use Rattle.qo_model.specs.declared.properties.Property.{Property}
 
 -- the lines of the types
 lines-of-types :
@@ -45,7 +47,7 @@ bus-is-no-device : is_a SlotBus (codes "device") ≡ false
 unfolding types
 bus-is-no-device = refl
 
-slots-of-uart : map (λ (p : Property). p.name) (slots_of SlotUart) ≡ codes "type" ∷ codes "realized" ∷ codes "parent_bus" ∷ codes "slot" ∷ codes "peer" ∷ codes "watch" ∷ codes "clk" ∷ codes "clock-period" ∷ codes "chardev" ∷ []
+slots-of-uart : map (λ (p : Property). (property_name p.name)) (slots_of SlotUart) ≡ codes "type" ∷ codes "realized" ∷ codes "parent_bus" ∷ codes "slot" ∷ codes "peer" ∷ codes "watch" ∷ codes "clk" ∷ codes "clock-period" ∷ codes "chardev" ∷ []
 unfolding types
 slots-of-uart = refl
 

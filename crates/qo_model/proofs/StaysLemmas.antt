@@ -16,7 +16,10 @@ use Rattle.qo_model.specs.Properties.{link_target, link_written, linked, may_set
 use Rattle.qo_model.specs.References.{refs}
 use Rattle.qo_model.specs.Release.{after, drop_slot, finalise, let_go, pin, unpin}
 use Rattle.qo_model.specs.ReleaseKeeps.{Leaves}
-use Rattle.qo_model.specs.Types.{Kind, Property, TypeRow, row_named}
+use Rattle.qo_model.specs.Types.{TypeRow, row_named}
+use Rattle.qo_model.specs.declared.properties.Property.{Property}
+use Rattle.qo_model.specs.declared.properties.RowKind.{RowKind}
+use Rattle.qo_model.specs.declared.properties.RowKind.TheVariants as row
 use Rattle.qo_model.proofs.ReleaseLeavesLemmas.{let_go-leaves, release_leaves, unpin-leaves}
 use Rattle.qo_model.specs.Stays.{Stays, StaysLaw}
 
@@ -108,25 +111,25 @@ link_written-stays b n i t (val.Int v) = stays-none b
 link_written-stays b n i t (val.Uint v) = stays-none b
 link_written-stays b n i t val.Nothing = stays-none b
 
-written-stays : (b : Board) (n i : ℕ) (kind : Kind) (s : Option Slot) (v : Val) → Stays b (behind_write b (written b n i kind s v))
-written-stays b n i (Kind.plain type first) (Some (plain old)) v = go (admits type v) refl
+written-stays : (b : Board) (n i : ℕ) (kind : RowKind) (s : Option Slot) (v : Val) → Stays b (behind_write b (written b n i kind s v))
+written-stays b n i (row.Plain type first) (Some (plain old)) v = go (admits type v) refl
   where
-    go : (t : Bool) → admits type v ≡ t → Stays b (behind_write b (written b n i (Kind.plain type first) (Some (plain old)) v))
+    go : (t : Bool) → admits type v ≡ t → Stays b (behind_write b (written b n i (row.Plain type first) (Some (plain old)) v))
     go true p = rw (written, p) (set-stays b n i v)
     go false p = rw (written, p) (stays-none b)
-written-stays b n i (Kind.link t holds) (Some (strong to target)) v = link_written-stays b n i to v
-written-stays b n i (Kind.link t holds) (Some (weak to target)) v = link_written-stays b n i to v
-written-stays b n i (Kind.plain type first) None v = stays-none b
-written-stays b n i (Kind.plain type first) (Some (child m)) v = stays-none b
-written-stays b n i (Kind.plain type first) (Some (strong to target)) v = stays-none b
-written-stays b n i (Kind.plain type first) (Some (weak to target)) v = stays-none b
-written-stays b n i (Kind.plain type first) (Some (alias m property)) v = stays-none b
-written-stays b n i (Kind.link t holds) None v = stays-none b
-written-stays b n i (Kind.link t holds) (Some (plain old)) v = stays-none b
-written-stays b n i (Kind.link t holds) (Some (child m)) v = stays-none b
-written-stays b n i (Kind.link t holds) (Some (alias m property)) v = stays-none b
-written-stays b n i (Kind.child t) s v = stays-none b
-written-stays b n i (Kind.alias owner property) s v = stays-none b
+written-stays b n i (row.Link t holds) (Some (strong to target)) v = link_written-stays b n i to v
+written-stays b n i (row.Link t holds) (Some (weak to target)) v = link_written-stays b n i to v
+written-stays b n i (row.Plain type first) None v = stays-none b
+written-stays b n i (row.Plain type first) (Some (child m)) v = stays-none b
+written-stays b n i (row.Plain type first) (Some (strong to target)) v = stays-none b
+written-stays b n i (row.Plain type first) (Some (weak to target)) v = stays-none b
+written-stays b n i (row.Plain type first) (Some (alias m property)) v = stays-none b
+written-stays b n i (row.Link t holds) None v = stays-none b
+written-stays b n i (row.Link t holds) (Some (plain old)) v = stays-none b
+written-stays b n i (row.Link t holds) (Some (child m)) v = stays-none b
+written-stays b n i (row.Link t holds) (Some (alias m property)) v = stays-none b
+written-stays b n i (row.Child t) s v = stays-none b
+written-stays b n i (row.Alias owner property) s v = stays-none b
 
 written_by-stays : (b : Board) (n i : ℕ) (row : Option Property) (v : Val) → Stays b (behind_write b (written_by b n i row v))
 written_by-stays b n i None v = stays-none b

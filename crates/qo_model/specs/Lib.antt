@@ -23,6 +23,7 @@ pub mod ReleaseKeeps
 pub mod ReleaseNotes
 pub mod ReleaseRules
 pub mod Reset
+pub mod RowNames
 pub mod Sound
 pub mod SoundAliases
 pub mod SoundEvents

@@ -5,15 +5,18 @@ use Rattle.std.specs.Str.{bytes_eq}
 use Rattle.qo_values.specs.declared.kinds.TypeId.{TypeId}
 pub use Rattle.qo_values.specs.TypeTexts.{around, value_word}
 use Rattle.qo_model.specs.Board.{Board, Slot, kind_of, slots_at, slot_named}
-use Rattle.qo_model.specs.Types.{Property, Kind, slots_of}
+use Rattle.qo_model.specs.Types.{slots_of}
+use Rattle.qo_model.specs.RowNames.{property_name}
+use Rattle.qo_model.specs.declared.properties.Property.{Property}
+use Rattle.qo_model.specs.declared.properties.RowKind.TheVariants as row
 
 -- the word of a property's row; only plain rows have one
 abbrev pub row_word : Property → List ℕ
-row_word p = elim p.kind [ Kind.plain type first ↦ value_word type | _ ↦ [] ]
+row_word p = elim p.kind [ row.Plain type first ↦ value_word type | _ ↦ [] ]
 
 -- the word of the plain property of a name, of an object of a type
 abbrev pub plain_word : TypeId → List ℕ → List ℕ
-plain_word t name = option_map_or row_word (find (λ p. bytes_eq p.name name) (slots_of t)) []
+plain_word t name = option_map_or row_word (find (λ p. bytes_eq (property_name p.name) name) (slots_of t)) []
 
 -- the type text of a slot of n that is no alias; a link has its declared type
 abbrev pub own_text : Board → ℕ → List ℕ → Slot → List ℕ

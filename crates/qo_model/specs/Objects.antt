@@ -22,7 +22,12 @@ use Rattle.qo_model.specs.Opening.{fresh_slots}
 use Rattle.qo_model.specs.Paths.{attached, place_of}
 use Rattle.qo_model.specs.Properties.{link_target, row_of_property}
 use Rattle.qo_model.specs.Release.{edited, final_notes, let_go, pin, unpin}
-use Rattle.qo_model.specs.Types.{Kind, Mark, Property, TypeRow, both, on_add, inits, is_a, row_named}
+use Rattle.qo_model.specs.Types.{TypeRow, inits, is_a, row_named}
+use Rattle.qo_model.specs.declared.properties.Property.{Property}
+use Rattle.qo_model.specs.declared.properties.RowKind.{RowKind}
+use Rattle.qo_model.specs.declared.properties.RowKind.TheVariants as row
+use Rattle.qo_model.specs.declared.properties.Mark.{Mark}
+use Rattle.qo_model.specs.declared.properties.Mark.TheVariants.{Add, Both}
 
 -- a property that a command gives: its name and its value
 abbrev pub Given : Type 0
@@ -30,8 +35,8 @@ Given = List ℕ × Val
 
 -- whether the adding command writes a property with a mark
 abbrev pub may_add : Mark → Bool
-may_add both = true
-may_add on_add = true
+may_add Add = true
+may_add Both = true
 may_add mark = false
 
 -- the code of a target that was refused
@@ -40,9 +45,9 @@ code_of (Ok target) = None
 code_of (Err code) = Some code
 
 -- why a value is refused for a property with a row, if it is
-abbrev pub misfit : Board → Kind → Val → Option Code
-misfit b (Kind.plain type first) v = if admits type v then None else Some E19
-misfit b (Kind.link t holds) (val.Text path) = code_of (link_target b t path)
+abbrev pub misfit : Board → RowKind → Val → Option Code
+misfit b (row.Plain type first) v = if admits type v then None else Some E19
+misfit b (row.Link t holds) (val.Text path) = code_of (link_target b t path)
 misfit b kind v = Some E19
 
 abbrev pub refusal_by : Board → Option Property → Val → Option Code

@@ -10,27 +10,33 @@ use Rattle.qo_values.specs.declared.limits.TheConstants.{SYSTEM_PERIOD}
 use Rattle.qo_values.specs.declared.properties.Val.{Val}
 use Rattle.qo_values.specs.declared.properties.Val.TheVariants as val
 use Rattle.qo_model.specs.Board.{Board, Record, Slot}
-use Rattle.qo_model.specs.Types.{First, nothing, empty_text, own_name, truth, number, Property, Kind, slots_of}
+use Rattle.qo_model.specs.Types.{slots_of}
+use Rattle.qo_model.specs.RowNames.{property_name}
+use Rattle.qo_model.specs.declared.properties.Property.{Property}
+use Rattle.qo_model.specs.declared.properties.RowKind.{RowKind}
+use Rattle.qo_model.specs.declared.properties.RowKind.TheVariants as row
+use Rattle.qo_model.specs.declared.properties.First.{First}
+use Rattle.qo_model.specs.declared.properties.First.TheVariants as first
 
 -- what a plain property of an object of a type holds at first
 abbrev pub first_value : TypeId → First → Val
-first_value t nothing = val.Nothing
-first_value t empty_text = val.Text []
-first_value t own_name = val.Text (type_name t)
-first_value t (truth b) = val.Bool b
-first_value t (number n) = val.Uint n
+first_value t first.TypeName = val.Text (type_name t)
+first_value t first.Nothing = val.Nothing
+first_value t (first.Bool b) = val.Bool b
+first_value t (first.Uint n) = val.Uint n
+first_value t first.NoText = val.Text []
 
 -- the slot that a property of a name begins as; `further` has the births of the objects that are made as children, by name, as far as they are made
-abbrev pub first_slot : (List ℕ → Option ℕ) → TypeId → List ℕ → Kind → Option Slot
-first_slot further t name (Kind.plain type first) = Some (Slot.plain (first_value t first))
-first_slot further t name (Kind.link target true) = Some (Slot.strong target None)
-first_slot further t name (Kind.link target false) = Some (Slot.weak target None)
-first_slot further t name (Kind.child type) = option_map Slot.child (further name)
-first_slot further t name (Kind.alias owner property) = option_map (λ n. Slot.alias n property) (further owner)
+abbrev pub first_slot : (List ℕ → Option ℕ) → TypeId → List ℕ → RowKind → Option Slot
+first_slot further t name (row.Plain type first) = Some (Slot.plain (first_value t first))
+first_slot further t name (row.Link target true) = Some (Slot.strong target None)
+first_slot further t name (row.Link target false) = Some (Slot.weak target None)
+first_slot further t name (row.Child type) = option_map Slot.child (further name)
+first_slot further t name (row.Alias owner of) = option_map (λ n. Slot.alias n (property_name of)) (further (property_name owner))
 
 -- the slots of a new object with these further objects, in order
 abbrev pub slots_with : (List ℕ → Option ℕ) → TypeId → List (List ℕ × Slot)
-slots_with further t = filter_map (λ (p : Property). option_map (λ (s : Slot). (p.name, s)) (first_slot further t p.name p.kind)) (slots_of t)
+slots_with further t = filter_map (λ (p : Property). option_map (λ (s : Slot). (property_name p.name, s)) (first_slot further t (property_name p.name) p.kind)) (slots_of t)
 
 -- the slots of a new object without further objects: its plain properties and its links
 abbrev pub fresh_slots : TypeId → List (List ℕ × Slot)

@@ -31,7 +31,11 @@ use Rattle.qo_model.specs.Paths.{attached, canonical, found, is_of, only_of, res
 use Rattle.qo_model.specs.Properties.{link_target}
 use Rattle.qo_model.specs.Release.{edit}
 use Rattle.qo_model.specs.Reset.{count, plugged}
-use Rattle.qo_model.specs.Types.{Kind, Property, is_a, row_named, slots_of}
+use Rattle.qo_model.specs.Types.{is_a, row_named, slots_of}
+use Rattle.qo_model.specs.RowNames.{property_name}
+use Rattle.qo_model.specs.declared.properties.Property.{Property}
+use Rattle.qo_model.specs.declared.properties.RowKind.{RowKind}
+use Rattle.qo_model.specs.declared.properties.RowKind.TheVariants as row
 use Rattle.qo_model.specs.Unplug.{is_named, set_named}
 
 -- what is asked for: a type's name, an id, the path of a bus, and properties in byte order of their names
@@ -43,7 +47,7 @@ pub record Wanted : Type 0 where
 
 -- the further objects of a device, in slot order, by name and type; and how many objects a device is
 abbrev pub further_in : Property → Option (List ℕ × TypeId)
-further_in p = elim p.kind [ Kind.child t ↦ Some (p.name, t) | _ ↦ None ]
+further_in p = elim p.kind [ row.Child t ↦ Some (property_name p.name, t) | _ ↦ None ]
 
 abbrev pub further_of : TypeId → List (List ℕ × TypeId)
 further_of t = filter_map further_in (slots_of t)
@@ -295,16 +299,16 @@ aliased n name property None b = b
 aliased n name property (Some m) b = add n name (alias m property) b
 
 -- what a property of a type comes to at a new object n of the type: a plain slot, an empty link, a further object, or an alias of one that was made before
-abbrev pub row_made : ℕ → TypeId → List ℕ → Kind → Board → Board
-row_made n t name (Kind.plain type first) b = add n name (plain (first_value t first)) b
-row_made n t name (Kind.link target true) b = add n name (strong target None) b
-row_made n t name (Kind.link target false) b = add n name (weak target None) b
-row_made n t name (Kind.child type) b = with_kid n name type b
-row_made n t name (Kind.alias owner property) b = aliased n name property (owned b n owner) b
+abbrev pub row_made : ℕ → TypeId → List ℕ → RowKind → Board → Board
+row_made n t name (row.Plain type first) b = add n name (plain (first_value t first)) b
+row_made n t name (row.Link target true) b = add n name (strong target None) b
+row_made n t name (row.Link target false) b = add n name (weak target None) b
+row_made n t name (row.Child type) b = with_kid n name type b
+row_made n t name (row.Alias owner of) b = aliased n name (property_name of) (owned b n (property_name owner)) b
 
 abbrev pub rows_made : ℕ → TypeId → List Property → Board → Board
 rows_made n t [] b = b
-rows_made n t (p ∷ ps) b = rows_made n t ps (row_made n t p.name p.kind b)
+rows_made n t (p ∷ ps) b = rows_made n t ps (row_made n t (property_name p.name) p.kind b)
 
 -- the device is made, property by property, and stands nowhere yet
 abbrev pub drafted : Board → TypeId → Board

@@ -13,7 +13,13 @@ use Rattle.qo_model.specs.Board.{Board, Slot, kind_of, slot_at, slot_named, slot
 use Rattle.qo_model.specs.Changes.{point, set}
 use Rattle.qo_model.specs.Paths.{found, missing, several, canonical, resolve}
 use Rattle.qo_model.specs.Release.{after, drop_slot, finalise}
-use Rattle.qo_model.specs.Types.{Kind, Mark, Property, both, slots_of}
+use Rattle.qo_model.specs.Types.{slots_of}
+use Rattle.qo_model.specs.RowNames.{property_name}
+use Rattle.qo_model.specs.declared.properties.Property.{Property}
+use Rattle.qo_model.specs.declared.properties.RowKind.{RowKind}
+use Rattle.qo_model.specs.declared.properties.RowKind.TheVariants as row
+use Rattle.qo_model.specs.declared.properties.Mark.{Mark}
+use Rattle.qo_model.specs.declared.properties.Mark.TheVariants.{Both}
 
 -- an object, as the text of a property that names it: its canonical path, or `detached:` and its birth where it has none
 abbrev pub path_text : Board → ℕ → List ℕ
@@ -42,11 +48,11 @@ value_of b n name = option_and_then (slot_value b n name) (slot_named b n name)
 
 -- the row of the property of a name, of objects of a type
 abbrev pub row_of_property : TypeId → List ℕ → Option Property
-row_of_property t name = find (λ (p : Property). bytes_eq p.name name) (slots_of t)
+row_of_property t name = find (λ (p : Property). bytes_eq (property_name p.name) name) (slots_of t)
 
 -- whether `qom-set` writes a property with a mark; the clocks, which only it would write, cannot be written yet
 abbrev pub may_set : Mark → Bool
-may_set both = true
+may_set Both = true
 may_set mark = false
 
 -- what a text names as the target of a link to objects of a type: no target where it is empty; refused where it names several, one of another type, or none
@@ -80,10 +86,10 @@ link_written b n i t (val.Text path) = linked b n i (link_target b t path)
 link_written b n i t v = Err E19
 
 -- a value to the slot of n at a place, which holds this, by the row of its property; a slot that is not what its row says is not written
-abbrev pub written : Board → ℕ → ℕ → Kind → Option Slot → Val → Result Board Code
-written b n i (Kind.plain type first) (Some (plain old)) v = if admits type v then Ok (set n i v b) else Err E19
-written b n i (Kind.link t holds) (Some (strong to target)) v = link_written b n i to v
-written b n i (Kind.link t holds) (Some (weak to target)) v = link_written b n i to v
+abbrev pub written : Board → ℕ → ℕ → RowKind → Option Slot → Val → Result Board Code
+written b n i (row.Plain type first) (Some (plain old)) v = if admits type v then Ok (set n i v b) else Err E19
+written b n i (row.Link t holds) (Some (strong to target)) v = link_written b n i to v
+written b n i (row.Link t holds) (Some (weak to target)) v = link_written b n i to v
 written b n i kind s v = Err E18
 
 -- a value to the slot of n at a place, whose property has this row; a slot that no row of the type has is not written

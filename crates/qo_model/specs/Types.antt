@@ -1,7 +1,7 @@
 -- The types of objects and their properties (docs/devel/qom.rst, "The QEMU Object Model", "Class Initialization", "Interfaces"; the sixteen types are the profile's).
-use Rattle.std.specs.Prelude.{ℕ, ◌-◌, ◌^◌, zero, suc, Bool, true, false, ◌||◌, if◌then◌else◌, List, [], ◌∷◌, ◌++◌, length, reverse, filter, find, flat_map, codes, pos, negsuc, Option, Some, None, unwrap_or}
+use Rattle.std.specs.Prelude.{ℕ, ◌-◌, ◌^◌, zero, suc, Bool, true, false, ◌||◌, if◌then◌else◌, List, [], ◌∷◌, ◌++◌, length, reverse, filter, find, map, flat_map, codes, pos, negsuc, Option, Some, None}
 use Rattle.std.specs.List.{list_any, join_with_byte}
-use Rattle.std.specs.Option.{option_map_or}
+use Rattle.std.specs.Option.{option_and_then, option_map_or}
 use Rattle.std.specs.Str.{bytes_eq}
 use Rattle.qo_values.specs.Kinds.{type_name}
 use Rattle.qo_values.specs.declared.kinds.TypeId.{TypeId}
@@ -9,41 +9,24 @@ use Rattle.qo_values.specs.declared.kinds.TypeId.TheVariants.{Object, Container,
 use Rattle.qo_values.specs.declared.limits.TheConstants.{BACKEND_SIZE_AT_FIRST, BACKEND_SIZE_MAX, DIMM_ALIGN}
 use Rattle.qo_values.specs.declared.properties.PropType.{PropType}
 use Rattle.qo_values.specs.declared.properties.PropType.TheVariants as ty
+use Rattle.qo_model.specs.RowNames.{interface_name}
+use Rattle.qo_model.specs.declared.properties.First.TheVariants as first
+use Rattle.qo_model.specs.declared.properties.Interface.{Interface}
+use Rattle.qo_model.specs.declared.properties.Interface.TheVariants.{HotplugHandler, Resettable, UserCreatable}
+use Rattle.qo_model.specs.declared.properties.Mark.{Mark}
+use Rattle.qo_model.specs.declared.properties.Mark.TheVariants.{Never, Add, Both, Set}
+use Rattle.qo_model.specs.declared.properties.Property.{Property}
+use Rattle.qo_model.specs.declared.properties.PropertyName.{PropertyName}
+use Rattle.qo_model.specs.declared.properties.PropertyName.TheVariants as prop
+use Rattle.qo_model.specs.declared.properties.RowKind.{RowKind}
+use Rattle.qo_model.specs.declared.properties.RowKind.TheVariants.{Plain, Child, Link, Alias}
 
--- what a plain property holds at first
-pub data First : Type 0 where
-  nothing : First
-  empty_text : First
-  own_name : First
-  truth : Bool → First
-  number : ℕ → First
-
--- who may write a property: nobody; the adding command; that and `qom-set`; `qom-set`
-pub data Mark : Type 0 where
-  never : Mark
-  on_add : Mark
-  both : Mark
-  on_set : Mark
-
--- what a property is: a value; a child of a type, made with the object; a link to a type, strong where it says true; or, of the child of a name, the property of another name
-pub data Kind : Type 0 where
-  plain : PropType → First → Kind
-  child : TypeId → Kind
-  link : TypeId → Bool → Kind
-  alias : List ℕ → List ℕ → Kind
-
--- a row of properties
-pub record Property : Type 0 where
-  pub name : List ℕ
-  pub kind : Kind
-  pub mark : Mark
-
--- a row of types; parents and interfaces are named
+-- a row of types: the type that it derives from, whether it has no objects of its own, and the interfaces and the properties that it adds to those of its parent
 pub record TypeRow : Type 0 where
   pub id : TypeId
-  pub parent : Option (List ℕ)
+  pub parent : Option TypeId
   pub is_abstract : Bool
-  pub interfaces : List (List ℕ)
+  pub interfaces : List Interface
   pub properties : List Property
 
 -- any number of 64 bits
@@ -63,85 +46,85 @@ abbrev pub int64 : PropType
 int64 = ty.Int (negsuc (2 ^ 63 - 1)) (pos (2 ^ 63 - 1))
 
 -- a row of properties with its parts in order
-abbrev pub property : List ℕ → Kind → Mark → Property
+abbrev pub property : PropertyName → RowKind → Mark → Property
 property name kind mark = record { name = name; kind = kind; mark = mark }
 
 -- the sixteen types
 unfoldable pub types : List TypeRow
 types =
-    record { id = Object; parent = None; is_abstract = true; interfaces = []; properties = property (codes "type") (plain ty.Text own_name) never ∷ [] }
-    ∷ record { id = Container; parent = Some (codes "object"); is_abstract = false; interfaces = []; properties = [] }
-    ∷ record { id = Machine; parent = Some (codes "object"); is_abstract = false; interfaces = codes "hotplug-handler" ∷ codes "resettable" ∷ []; properties = [] }
+    record { id = Object; parent = None; is_abstract = true; interfaces = []; properties = property prop.Type (Plain ty.Text first.TypeName) Never ∷ [] }
+    ∷ record { id = Container; parent = Some Object; is_abstract = false; interfaces = []; properties = [] }
+    ∷ record { id = Machine; parent = Some Object; is_abstract = false; interfaces = HotplugHandler ∷ Resettable ∷ []; properties = [] }
     ∷ record {
       id = Device;
-      parent = Some (codes "object");
+      parent = Some Object;
       is_abstract = true;
-      interfaces = codes "resettable" ∷ [];
+      interfaces = Resettable ∷ [];
       properties =
-          property (codes "realized") (plain ty.Bool (truth false)) never
-          ∷ property (codes "parent_bus") (link Bus true) never
-          ∷ property (codes "slot") (plain (up_to 255) nothing) on_add
-          ∷ property (codes "peer") (link Device true) both
-          ∷ property (codes "watch") (link Device false) both
+          property prop.Realized (Plain ty.Bool (first.Bool false)) Never
+          ∷ property prop.ParentBus (Link Bus true) Never
+          ∷ property prop.Slot (Plain (up_to 255) first.Nothing) Add
+          ∷ property prop.Peer (Link Device true) Both
+          ∷ property prop.Watch (Link Device false) Both
           ∷ [];
     }
     ∷ record {
       id = SlotDevice;
-      parent = Some (codes "device");
+      parent = Some Device;
       is_abstract = true;
       interfaces = [];
       properties =
-          property (codes "clk") (child Clock) never
-          ∷ property (codes "clock-period") (alias (codes "clk") (codes "period")) on_set
+          property prop.Clk (Child Clock) Never
+          ∷ property prop.ClockPeriod (Alias prop.Clk prop.Period) Set
           ∷ [];
     }
-    ∷ record { id = SlotUart; parent = Some (codes "slot-device"); is_abstract = false; interfaces = []; properties = property (codes "chardev") (plain ty.Text empty_text) on_add ∷ [] }
-    ∷ record { id = SlotTimer; parent = Some (codes "slot-device"); is_abstract = false; interfaces = []; properties = [] }
-    ∷ record { id = SlotBridge; parent = Some (codes "slot-device"); is_abstract = false; interfaces = codes "hotplug-handler" ∷ []; properties = property (codes "bus.0") (child SlotBus) never ∷ [] }
+    ∷ record { id = SlotUart; parent = Some SlotDevice; is_abstract = false; interfaces = []; properties = property prop.Chardev (Plain ty.Text first.NoText) Add ∷ [] }
+    ∷ record { id = SlotTimer; parent = Some SlotDevice; is_abstract = false; interfaces = []; properties = [] }
+    ∷ record { id = SlotBridge; parent = Some SlotDevice; is_abstract = false; interfaces = HotplugHandler ∷ []; properties = property prop.Bus0 (Child SlotBus) Never ∷ [] }
     ∷ record {
       id = MemDimm;
-      parent = Some (codes "device");
+      parent = Some Device;
       is_abstract = false;
       interfaces = [];
       properties =
-          property (codes "memdev") (link MemoryBackend true) on_add
-          ∷ property (codes "addr") (plain (multiple_of DIMM_ALIGN) nothing) on_add
+          property prop.Memdev (Link MemoryBackend true) Add
+          ∷ property prop.Addr (Plain (multiple_of DIMM_ALIGN) first.Nothing) Add
           ∷ [];
     }
-    ∷ record { id = Bus; parent = Some (codes "object"); is_abstract = true; interfaces = codes "resettable" ∷ []; properties = [] }
-    ∷ record { id = SlotBus; parent = Some (codes "bus"); is_abstract = false; interfaces = []; properties = [] }
-    ∷ record { id = MemBus; parent = Some (codes "bus"); is_abstract = false; interfaces = []; properties = [] }
+    ∷ record { id = Bus; parent = Some Object; is_abstract = true; interfaces = Resettable ∷ []; properties = [] }
+    ∷ record { id = SlotBus; parent = Some Bus; is_abstract = false; interfaces = []; properties = [] }
+    ∷ record { id = MemBus; parent = Some Bus; is_abstract = false; interfaces = []; properties = [] }
     ∷ record {
       id = Clock;
-      parent = Some (codes "object");
+      parent = Some Object;
       is_abstract = false;
       interfaces = [];
       properties =
-          property (codes "period") (plain uint64 (number 0)) on_set
-          ∷ property (codes "mul") (plain (up_to 4294967295) (number 1)) on_set
-          ∷ property (codes "div") (plain (up_to 4294967295) (number 1)) on_set
-          ∷ property (codes "source") (link Clock false) never
+          property prop.Period (Plain uint64 (first.Uint 0)) Set
+          ∷ property prop.Mul (Plain (up_to 4294967295) (first.Uint 1)) Set
+          ∷ property prop.Div (Plain (up_to 4294967295) (first.Uint 1)) Set
+          ∷ property prop.Source (Link Clock false) Never
           ∷ [];
     }
     ∷ record {
       id = MemoryBackend;
-      parent = Some (codes "object");
+      parent = Some Object;
       is_abstract = true;
-      interfaces = codes "user-creatable" ∷ [];
-      properties = property (codes "size") (plain (ty.Uint DIMM_ALIGN BACKEND_SIZE_MAX DIMM_ALIGN) (number BACKEND_SIZE_AT_FIRST)) on_add ∷ [];
+      interfaces = UserCreatable ∷ [];
+      properties = property prop.Size (Plain (ty.Uint DIMM_ALIGN BACKEND_SIZE_MAX DIMM_ALIGN) (first.Uint BACKEND_SIZE_AT_FIRST)) Add ∷ [];
     }
-    ∷ record { id = MemoryBackendRam; parent = Some (codes "memory-backend"); is_abstract = false; interfaces = []; properties = [] }
+    ∷ record { id = MemoryBackendRam; parent = Some MemoryBackend; is_abstract = false; interfaces = []; properties = [] }
     ∷ record {
       id = Tag;
-      parent = Some (codes "object");
+      parent = Some Object;
       is_abstract = false;
-      interfaces = codes "user-creatable" ∷ [];
+      interfaces = UserCreatable ∷ [];
       properties =
-          property (codes "text") (plain ty.Text empty_text) both
-          ∷ property (codes "number") (plain int64 (number 0)) both
-          ∷ property (codes "flag") (plain ty.Bool (truth false)) both
-          ∷ property (codes "next") (link Object true) both
-          ∷ property (codes "seen") (link Object false) both
+          property prop.Text (Plain ty.Text first.NoText) Both
+          ∷ property prop.Number (Plain int64 (first.Uint 0)) Both
+          ∷ property prop.Flag (Plain ty.Bool (first.Bool false)) Both
+          ∷ property prop.Next (Link Object true) Both
+          ∷ property prop.Seen (Link Object false) Both
           ∷ [];
     }
     ∷ []
@@ -154,18 +137,21 @@ row_named name = find (λ r. bytes_eq (type_name r.id) name) types
 abbrev pub row_of : TypeId → Option TypeRow
 row_of t = row_named (type_name t)
 
--- the type of a name, its parent and so on, at most so many
-abbrev pub chain_within : ℕ → List ℕ → List TypeId
-chain_within zero name = []
-chain_within (suc steps) name =
-    elim (row_named name) [ None ↦ [] | Some row ↦ row.id ∷ elim row.parent [ None ↦ [] | Some parent ↦ chain_within steps parent ] ]
+-- the type that a type derives from
+abbrev pub parent_of : TypeId → Option TypeId
+parent_of t = option_and_then (λ (r : TypeRow). r.parent) (row_of t)
+
+-- a type, its parent and so on, at most so many
+abbrev pub chain_within : ℕ → TypeId → List TypeId
+chain_within zero t = []
+chain_within (suc steps) t = t ∷ option_map_or (chain_within steps) (parent_of t) []
 
 -- a type, its parent and so on to `object`
 abbrev pub chain : TypeId → List TypeId
-chain t = chain_within (length types) (type_name t)
+chain t = chain_within (length types) t
 
 -- the interfaces in the row of a type
-abbrev pub interfaces_of : TypeId → List (List ℕ)
+abbrev pub interfaces_of : TypeId → List Interface
 interfaces_of t = option_map_or (λ (r : TypeRow). r.interfaces) (row_of t) []
 
 -- the properties in the row of a type
@@ -174,7 +160,7 @@ properties_of t = option_map_or (λ (r : TypeRow). r.properties) (row_of t) []
 
 -- whether a name is a type's own, or one of its interfaces
 abbrev pub answers_to : List ℕ → TypeId → Bool
-answers_to name t = bytes_eq (type_name t) name || list_any (bytes_eq name) (interfaces_of t)
+answers_to name t = bytes_eq (type_name t) name || list_any (λ i. bytes_eq name (interface_name i)) (interfaces_of t)
 
 -- whether a type is of a name: its own, an ancestor's, or an interface of itself or of an ancestor
 abbrev pub is_a : TypeId → List ℕ → Bool
@@ -206,4 +192,4 @@ names_text (name ∷ names) = join_with_byte 44 (name ∷ names)
 -- the line of a type: its name, its parent or `-`, `abstract` or `plain`, its interfaces or `-`; spaces between them, and LF behind
 abbrev pub type_line : TypeRow → List ℕ
 type_line r =
-    join_with_byte 32 (type_name r.id ∷ unwrap_or r.parent (codes "-") ∷ (if r.is_abstract then codes "abstract" else codes "plain") ∷ names_text r.interfaces ∷ []) ++ 10 ∷ []
+    join_with_byte 32 (type_name r.id ∷ option_map_or type_name r.parent (codes "-") ∷ (if r.is_abstract then codes "abstract" else codes "plain") ∷ names_text (map interface_name r.interfaces) ∷ []) ++ 10 ∷ []

@@ -5,6 +5,8 @@
 mod detached;
 pub mod laws;
 mod notes;
+mod properties;
 
 pub use detached::Detached;
 pub use notes::{Deed, Note};
+pub use properties::{First, Interface, Mark, Property, PropertyName, RowKind};

@@ -7,7 +7,7 @@ use Rattle.std.proofs.lemmas.List.Sums.{sum_by-cons, sum_by-append}
 use Rattle.qo_values.specs.declared.births.TheConstants.{OBJECTS_BIRTH}
 use Rattle.qo_values.specs.declared.kinds.TypeId.{TypeId}
 use Rattle.qo_kinds.specs.Bodies.{kept_of, none_kept}
-use Rattle.qo_kinds.proofs.BodyLemmas.{fresh-bare, fresh-registers}
+use Rattle.qo_kinds.proofs.BodyLemmas.{fresh-registers}
 use Rattle.qo_heap.specs.Objects.{without_kept, with_kept_event, without_device}
 use Rattle.qo_slots.specs.declared.keys.Key.{Key}
 use Rattle.qo_table.specs.Rows.{IsLive, Rises, births, edit, object_at, row_at, without}
@@ -17,7 +17,11 @@ use Rattle.qo_model.specs.Board.{Board}
 use Rattle.qo_model.specs.Changes.{add, with_added}
 use Rattle.qo_model.specs.Release.{edited}
 use Rattle.qo_model.specs.Opening.{first_value}
-use Rattle.qo_model.specs.Types.{Kind, Property, slots_of}
+use Rattle.qo_model.specs.Types.{slots_of}
+use Rattle.qo_model.specs.RowNames.{property_name}
+use Rattle.qo_model.specs.declared.properties.Property.{Property}
+use Rattle.qo_model.specs.declared.properties.RowKind.{RowKind}
+use Rattle.qo_model.specs.declared.properties.RowKind.TheVariants as row
 use Rattle.qo_properties.specs.Fresh.{first_slots, new_slots, slot_begun, with_slots}
 use Rattle.qo_model.specs.Objects.{Given, given_slots, with_attempt, with_object}
 use Rattle.qo_notes.proofs.Logs.{all_lem}
@@ -297,12 +301,12 @@ newest-beside v w u o key c f good birth live is change =
 begun-bare : (t : TypeId) (p : Property) (slots : List Named) → count_by (λ (s : Named). is_some (held s.1)) (cons_option (slot_begun t p) slots) ≡ count_by (λ (s : Named). is_some (held s.1)) slots
 begun-bare t p slots = go p.kind refl
   where
-    go : (k : Kind) → p.kind ≡ k → count_by (λ (s : Named). is_some (held s.1)) (cons_option (slot_begun t p) slots) ≡ count_by (λ (s : Named). is_some (held s.1)) slots
-    go (Kind.plain type first) e = rw e (omega (arith, sum_by-cons (λ (s : Named). cond {A = ℕ} (is_some (held s.1)) 1 0) (p.name, Plain (first_value t first)) slots))
-    go (Kind.child child) e = rw e refl
-    go (Kind.link target true) e = rw e (omega (arith, sum_by-cons (λ (s : Named). cond {A = ℕ} (is_some (held s.1)) 1 0) (p.name, Link target true None) slots))
-    go (Kind.link target false) e = rw e (omega (arith, sum_by-cons (λ (s : Named). cond {A = ℕ} (is_some (held s.1)) 1 0) (p.name, Link target false None) slots))
-    go (Kind.alias owner property) e = rw e refl
+    go : (k : RowKind) → p.kind ≡ k → count_by (λ (s : Named). is_some (held s.1)) (cons_option (slot_begun t p) slots) ≡ count_by (λ (s : Named). is_some (held s.1)) slots
+    go (row.Plain type first) e = rw e (omega (arith, sum_by-cons (λ (s : Named). cond {A = ℕ} (is_some (held s.1)) 1 0) (property_name p.name, Plain (first_value t first)) slots))
+    go (row.Child child) e = rw e refl
+    go (row.Link target true) e = rw e (omega (arith, sum_by-cons (λ (s : Named). cond {A = ℕ} (is_some (held s.1)) 1 0) (property_name p.name, Link target true None) slots))
+    go (row.Link target false) e = rw e (omega (arith, sum_by-cons (λ (s : Named). cond {A = ℕ} (is_some (held s.1)) 1 0) (property_name p.name, Link target false None) slots))
+    go (row.Alias owner property) e = rw e refl
 
 all-bare : (t : TypeId) (ps : List Property) → count_by (λ (s : Named). is_some (held s.1)) (filter_map (slot_begun t) ps) ≡ 0
 all-bare t [] = refl

@@ -1,5 +1,5 @@
 -- The row of a type that a name gives, and what it refuses.
-use Rattle.std.proofs.Common.{◌≡◌, refl, ap, sym, subst, ◌∙◌, ap₂, ◌<◌, ◌≤◌, leb, nat_le, nat_lt, cond, Bool, true, false, ◌||◌, List, [], ◌∷◌, length, ℕ, codes, find, Option, Some, None, is_some, option_map, arith}
+use Rattle.std.proofs.Common.{◌≡◌, refl, ap, sym, subst, ◌∙◌, ap₂, ◌<◌, ◌≤◌, leb, nat_lt, cond, Bool, true, false, ◌||◌, List, [], ◌∷◌, length, ℕ, codes, find, Option, Some, None, is_some, option_map, arith}
 use Rattle.std.specs.List.{AllByRecursion, list_all, list_any}
 use Rattle.qo_values.specs.Ids.{is_id, is_id_byte, is_letter}
 use Rattle.qo_values.specs.Names.{IsName, is_name_byte}
@@ -17,8 +17,7 @@ use Rattle.qo_values.specs.declared.codes.Code.{Code}
 use Rattle.qo_values.specs.declared.kinds.TypeId.{TypeId}
 use Rattle.qo_values.specs.declared.limits.TheConstants.{ID_MAX, LIVE_OBJECTS_MAX}
 use Rattle.qo_model.specs.Types.{TypeRow, is_a, row_named, row_of, types}
-use Rattle.qo_types.specs.Rows.{Told, type_told, type_told_of}
-use Rattle.qo_types.specs.declared.rows.TypeRow as code
+use Rattle.qo_types.specs.Rows.{is_abstract}
 use Rattle.qo_model.specs.Board.{Board, is_live}
 use Rattle.qo_model.specs.Board as board
 use Rattle.qo_model.specs.Objects.{barred, barred_by, has_slot}
@@ -49,25 +48,25 @@ found-has P p (r ∷ rows) row all e = go (p r) refl (found-has P p rows row all
 pub row-own : (name : List ℕ) (row : TypeRow) → row_named name ≡ Some row → row_of row.id ≡ Some row
 row-own name row e = found-has (λ (r : TypeRow). row_of r.id ≡ Some r) (λ (r : TypeRow). bytes_eq (type_name r.id) name) types row rows-own e
 
--- what the code's row of the type says, where a name gives the type
-module _ (name : List ℕ) (t : TypeId) (r : code.TypeRow) (is : Some t ≡ option_map (λ (x : TypeRow). x.id) (row_named name)) (told : Some (type_told r) ≡ option_map type_told_of (row_of t)) where
-  by_row : (P : Option TypeRow → Type 0) → ((row : TypeRow) → row_named name ≡ Some row → row.id ≡ t → r.is_abstract ≡ row.is_abstract → P (Some row)) → P (row_named name)
+-- what the row of a type says, where a name gives the type
+module _ (name : List ℕ) (t : TypeId) (is : Some t ≡ option_map (λ (x : TypeRow). x.id) (row_named name)) where
+  by_row : (P : Option TypeRow → Type 0) → ((row : TypeRow) → row_named name ≡ Some row → row.id ≡ t → is_abstract t ≡ row.is_abstract → P (Some row)) → P (row_named name)
   by_row P given = go (row_named name) refl
     where
       go : (o : Option TypeRow) → row_named name ≡ o → P o
       go None e = absurd (let clash : Some t ≡ None = is ∙ ap (option_map (λ (x : TypeRow). x.id)) e in cc)
       go (Some row) e =
           let same : t ≡ row.id = same_Some t row.id (is ∙ ap (option_map (λ (x : TypeRow). x.id)) e) in
-          let tells : type_told r ≡ type_told_of row = same_Some (type_told r) (type_told_of row) (told ∙ ap (λ (k : TypeId). option_map type_told_of (row_of k)) same ∙ ap (option_map type_told_of) (row-own name row e)) in
-          given row e (sym same) (ap (λ (x : Told). x.is_abstract) tells)
+          let row_is : row_of t ≡ Some row = ap row_of same ∙ row-own name row e in
+          given row e (sym same) (ap (λ (o : Option TypeRow). option_map_or (λ (x : TypeRow). x.is_abstract) o false) row_is)
 
-  pub refused-abstract : r.is_abstract ≡ true → Some E21 ≡ type_refusal name
+  pub refused-abstract : is_abstract t ≡ true → Some E21 ≡ type_refusal name
   refused-abstract is_so = by_row (λ o. Some E21 ≡ option_map_or row_refusal o (Some E20)) (λ row e same tells. let so : row.is_abstract ≡ true = sym tells ∙ is_so in rw (row_refusal, so) refl)
 
-  pub refused-use : r.is_abstract ≡ false → is_a t (codes "user-creatable") ≡ false → Some E22 ≡ type_refusal name
+  pub refused-use : is_abstract t ≡ false → is_a t (codes "user-creatable") ≡ false → Some E22 ≡ type_refusal name
   refused-use so_not use_not = by_row (λ o. Some E22 ≡ option_map_or row_refusal o (Some E20)) (λ row e same tells. let so : row.is_abstract ≡ false = sym tells ∙ so_not in let not_so : is_a row.id (codes "user-creatable") ≡ false = ap (λ (k : TypeId). is_a k (codes "user-creatable")) same ∙ use_not in rw (row_refusal, so, not_so) refl)
 
-  pub allowed : r.is_abstract ≡ false → is_a t (codes "user-creatable") ≡ true → None ≡ type_refusal name
+  pub allowed : is_abstract t ≡ false → is_a t (codes "user-creatable") ≡ true → None ≡ type_refusal name
   allowed so_not use_yes = by_row (λ o. None ≡ option_map_or row_refusal o (Some E20)) (λ row e same tells. let so : row.is_abstract ≡ false = sym tells ∙ so_not in let its : is_a row.id (codes "user-creatable") ≡ true = ap (λ (k : TypeId). is_a k (codes "user-creatable")) same ∙ use_yes in rw (row_refusal, so, its) refl)
 
 -- the slots of `/objects`, and the objects

@@ -13,20 +13,18 @@ use Rattle.qo_table.specs.Rows.{edit}
 use Rattle.qo_model.specs.Board as board
 use Rattle.qo_model.specs.Changes.{with_fresh, with_fresh_slots}
 use Rattle.qo_model.specs.Opening.{first_slot, first_value}
-use Rattle.qo_model.specs.Types.{Kind, Property, property, types, slots_of, nothing, empty_text, own_name, truth, number}
-use Rattle.qo_types.specs.Rows.{kind_told, mark_told, property_told}
-use Rattle.qo_types.specs.declared.rows.First.TheVariants as first
-use Rattle.qo_types.specs.declared.rows.RowKind.{RowKind}
-use Rattle.qo_types.specs.declared.rows.RowKind.TheVariants as row
-use Rattle.qo_types.specs.declared.rows.SlotRow.{SlotRow}
-use Rattle.qo_object.specs.declared.slots.Slot.{Slot}
+use Rattle.qo_model.specs.Types.{types, slots_of}
+use Rattle.qo_model.specs.RowNames.{property_name}
+use Rattle.qo_model.specs.declared.properties.Property.{Property}
+use Rattle.qo_model.specs.declared.properties.RowKind.{RowKind}
+use Rattle.qo_model.specs.declared.properties.RowKind.TheVariants as row
 use Rattle.qo_object.specs.Slots.{Named}
 use Rattle.qo_object.specs.Content.{Content}
 use Rattle.qo_object.specs.Shown.{shown, shown_slot, shown_slots}
 use Rattle.qo_heap.specs.Board.{Shows}
 use Rattle.qo_heap.specs.Objects.{Objects, with_edit}
 use Rattle.qo_heap.proofs.ShowsEdits.{shows-edit}
-use Rattle.qo_properties.specs.Fresh.{begun, begun_row, first_slots, new_slots, slot_begun, slot_of_row, with_slots}
+use Rattle.qo_properties.specs.Fresh.{first_slots, new_slots, slot_begun, with_slots}
 
 -- an object with slots more
 
@@ -52,31 +50,6 @@ module _ (n : ℕ) where
 
   pub with-more : (xs ys : List Named) (v : Objects) → with_edit n (with_slots ys) (with_edit n (with_slots xs) v) ≡ with_edit n (with_slots (xs ++ ys)) v
   with-more xs ys v = ap (λ (rows : List (Key × Content)). record v { rows = rows }) (edit-more xs ys v.rows)
-
--- the slot of a row is that of the property that it tells
-
-abbrev named : List ℕ → Option Slot → Option Named
-named name o = option_map (λ (s : Slot). (name, s)) o
-
-pub row-told : (t : TypeId) (r : SlotRow) (p : Property) → property_told r ≡ Some p → slot_of_row t r ≡ slot_begun t p
-row-told t r p told = go r.kind refl
-  where
-    by : (k : RowKind) (told_as : Kind) → r.kind ≡ k → kind_told k ≡ Some told_as → named r.name.now (begun_row t k) ≡ named r.name.now (begun t told_as) → slot_of_row t r ≡ slot_begun t p
-    by k told_as is tells same =
-        let this : Some (property r.name.now told_as (mark_told r.mark)) ≡ Some p = rw (is, tells) at told in
-        let its : property r.name.now told_as (mark_told r.mark) ≡ p = cc in
-        rw is (same ∙ ap (slot_begun t) its)
-
-    go : (k : RowKind) → r.kind ≡ k → slot_of_row t r ≡ slot_begun t p
-    go (row.Plain type first.TypeName) is = by (row.Plain type first.TypeName) (Kind.plain type own_name) is refl refl
-    go (row.Plain type first.Nothing) is = by (row.Plain type first.Nothing) (Kind.plain type nothing) is refl refl
-    go (row.Plain type (first.Bool b)) is = by (row.Plain type (first.Bool b)) (Kind.plain type (truth b)) is refl refl
-    go (row.Plain type (first.Int n)) is = let none : None ≡ Some p = rw is at told in cc
-    go (row.Plain type (first.Uint n)) is = by (row.Plain type (first.Uint n)) (Kind.plain type (number n)) is refl refl
-    go (row.Plain type first.NoText) is = by (row.Plain type first.NoText) (Kind.plain type empty_text) is refl refl
-    go (row.Child c) is = by (row.Child c) (Kind.child c) is refl refl
-    go (row.Link target strong) is = by (row.Link target strong) (Kind.link target strong) is refl refl
-    go (row.Alias child of) is = by (row.Alias child of) (Kind.alias child.now of.now) is refl refl
 
 -- the slots of the first properties, one by one
 
@@ -142,7 +115,7 @@ few-slots Tag = omega arith
 abbrev pub is_name : List ℕ → Bool
 is_name bytes = nat_le 1 (length bytes) && (nat_le (length bytes) 140 && list_all is_name_byte bytes)
 
-are-names : (t : TypeId) → list_all (λ (p : Property). is_name p.name) (slots_of t) ≡ true
+are-names : (t : TypeId) → list_all (λ (p : Property). is_name (property_name p.name)) (slots_of t) ≡ true
 unfolding types
 are-names Object = refl
 are-names Container = refl
@@ -168,25 +141,25 @@ named-of bytes is =
     let short : nat_le (length bytes) 140 ≡ true = and-left _ _ rest in
     record { some = grind (arith, nat_tests); short = grind (arith, nat_tests); printable = and-right _ _ rest }
 
-pub name-at : (t : TypeId) (i : ℕ) (p : Property) → slice_get (slots_of t) i ≡ Some p → IsName p.name
-name-at t i p at = named-of p.name (passes-at (λ (q : Property). is_name q.name) (slots_of t) i p (are-names t) at)
+pub name-at : (t : TypeId) (i : ℕ) (p : Property) → slice_get (slots_of t) i ≡ Some p → IsName (property_name p.name)
+name-at t i p at = named-of (property_name p.name) (passes-at (λ (q : Property). is_name (property_name q.name)) (slots_of t) i p (are-names t) at)
 
 -- what a new object shows
 
 -- the slots of properties as they are shown, also of the first ones alone
 abbrev pub of_rows : TypeId → List Property → List (List ℕ × board.Slot)
-of_rows t ps = filter_map (λ (p : Property). option_map (λ (s : board.Slot). (p.name, s)) (first_slot (λ _. None) t p.name p.kind)) ps
+of_rows t ps = filter_map (λ (p : Property). option_map (λ (s : board.Slot). (property_name p.name, s)) (first_slot (λ _. None) t (property_name p.name) p.kind)) ps
 
 pub new-shown : (t : TypeId) (ps : List Property) → shown_slots (filter_map (slot_begun t) ps) ≡ of_rows t ps
 new-shown t [] = refl
 new-shown t (p ∷ ps) = go p.kind refl (new-shown t ps)
   where
-    go : (k : Kind) → p.kind ≡ k → shown_slots (filter_map (slot_begun t) ps) ≡ of_rows t ps → shown_slots (filter_map (slot_begun t) (p ∷ ps)) ≡ of_rows t (p ∷ ps)
-    go (Kind.plain type first) is rest = rw is (ap (λ ss. (p.name, board.plain (first_value t first)) ∷ ss) rest)
-    go (Kind.child type) is rest = rw is rest
-    go (Kind.link target true) is rest = rw is (ap (λ ss. (p.name, board.strong target None) ∷ ss) rest)
-    go (Kind.link target false) is rest = rw is (ap (λ ss. (p.name, board.weak target None) ∷ ss) rest)
-    go (Kind.alias owner property) is rest = rw is rest
+    go : (k : RowKind) → p.kind ≡ k → shown_slots (filter_map (slot_begun t) ps) ≡ of_rows t ps → shown_slots (filter_map (slot_begun t) (p ∷ ps)) ≡ of_rows t (p ∷ ps)
+    go (row.Plain type first) is rest = rw is (ap (λ ss. (property_name p.name, board.plain (first_value t first)) ∷ ss) rest)
+    go (row.Child type) is rest = rw is rest
+    go (row.Link target true) is rest = rw is (ap (λ ss. (property_name p.name, board.strong target None) ∷ ss) rest)
+    go (row.Link target false) is rest = rw is (ap (λ ss. (property_name p.name, board.weak target None) ∷ ss) rest)
+    go (row.Alias owner property) is rest = rw is rest
 
 pub shows-fresh : (b : board.Board) (v : Objects) → Shows b v → (n : ℕ) (t : TypeId) → Shows (with_fresh_slots n t b) (with_edit n (with_slots (new_slots t)) v)
 unfolding with_fresh_slots
@@ -195,38 +168,12 @@ shows-fresh b v s n t =
     (λ m c. ap (λ (slots : List (List ℕ × board.Slot)). record (shown m c) { slots = slots }) (map-append (λ (s : Named). (s.0, shown_slot s.1)) c.slots (new_slots t) ∙ ap (λ (ss : List (List ℕ × board.Slot)). shown_slots c.slots ++ ss) (new-shown t (slots_of t))))
     (λ c. refl)
 
--- what a row at a place tells
+-- the row at a place
 
-pub record ToldAt (t : TypeId) (i : ℕ) (r : SlotRow) : Type 0 where
+pub record RowAt (t : TypeId) (i : ℕ) (r : Property) : Type 0 where
   pub within : i < length (slots_of t)
-  pub name : IsName r.name.now
-  pub next : first_slots (i + 1) t ≡ first_slots i t ++ option_to_list (slot_of_row t r)
+  pub name : IsName (property_name r.name)
+  pub next : first_slots (i + 1) t ≡ first_slots i t ++ option_to_list (slot_begun t r)
 
--- a row tells the name of its property
-name-told : (r : SlotRow) (p : Property) → property_told r ≡ Some p → r.name.now ≡ p.name
-name-told r p told = go (kind_told r.kind) refl
-  where
-    go : (o : Option Kind) → kind_told r.kind ≡ o → r.name.now ≡ p.name
-    go None is = let none : None ≡ Some p = rw is at told in cc
-    go (Some k) is = let some : Some (property r.name.now k (mark_told r.mark)) ≡ Some p = rw is at told in let its : property r.name.now k (mark_told r.mark) ≡ p = cc in ap (λ (q : Property). q.name) its
-
-pub told-at : (t : TypeId) (i : ℕ) (r : SlotRow) → Some (property_told r) ≡ option_map Some (slice_get (slots_of t) i) → ToldAt t i r
-told-at t i r told = go (slice_get (slots_of t) i) refl
-  where
-    go : (o : Option Property) → slice_get (slots_of t) i ≡ o → ToldAt t i r
-    go None is = let none : Some (property_told r) ≡ None = rw is at told in cc
-    go (Some p) is =
-        let some : Some (property_told r) ≡ Some (Some p) = rw is at told in
-        let its : property_told r ≡ Some p = cc in
-        record {
-          within = within (slots_of t) i p is;
-          name = subst (λ (name : List ℕ). IsName name) (sym (name-told r p its)) (name-at t i p is);
-          next = next-slot (slot_begun t) i (slots_of t) p is ∙ ap (λ (o : Option Named). first_slots i t ++ option_to_list o) (sym (row-told t r p its));
-        }
-
-pub none-at : (t : TypeId) (i : ℕ) → None ≡ option_map {T = Property} Some (slice_get (slots_of t) i) → slice_get (slots_of t) i ≡ None
-none-at t i told = go (slice_get (slots_of t) i) refl
-  where
-    go : (o : Option Property) → slice_get (slots_of t) i ≡ o → slice_get (slots_of t) i ≡ None
-    go None is = is
-    go (Some p) is = let some : None ≡ Some (Some p) = rw is at told in cc
+pub row-at : (t : TypeId) (i : ℕ) (r : Property) → Some r ≡ slice_get (slots_of t) i → RowAt t i r
+row-at t i r is = record { within = within (slots_of t) i r (sym is); name = name-at t i r (sym is); next = next-slot (slot_begun t) i (slots_of t) r (sym is) }

@@ -1,16 +1,10 @@
 -- Children found by name.
-use Rattle.std.proofs.Common.{◌≡◌, refl, ap, ◌∙◌, ℕ, zero, suc, ◌+◌, ◌<◌, ◌≤◌, Bool, true, false, cond, eqb, leb, List, [], ◌∷◌, drop, find, slice_get, Option, Some, None, option_map, arith}
-use Rattle.std.proofs.lemmas.Bool.{eq-eqb}
-use Rattle.std.proofs.lemmas.Bool.Decides.{nat_tests}
+use Rattle.std.proofs.Common.{◌≡◌, refl, ap, ◌∙◌, ℕ, zero, suc, ◌+◌, Bool, true, false, cond, List, [], ◌∷◌, drop, slice_get, Option, Some, None, arith}
 use Rattle.std.proofs.lemmas.Option.{same_Some}
-use Rattle.qo_slots.specs.declared.keys.Key.{Key}
-use Rattle.qo_table.specs.Rows.{IsLive, Rises, births, object_at}
 use Rattle.qo_model.specs.Board as board
 use Rattle.qo_model.specs.Objects.{place_from}
-use Rattle.qo_object.specs.Content.{Content}
 use Rattle.qo_object.specs.Shown.{shown_slot, shown_slots}
 use Rattle.qo_object.specs.Slots.{Named}
-use Rattle.qo_heap.proofs.ShowsEdits.{there-above}
 
 -- the place of a child, from a place on
 module _ (p : List ℕ × board.Slot → Bool) where

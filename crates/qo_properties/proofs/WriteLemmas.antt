@@ -1,6 +1,6 @@
 -- What is written to the board, by its heap.
-use Rattle.std.proofs.Common.{◌≡◌, refl, ap, sym, ◌∙◌, ℕ, zero, suc, Bool, true, false, cond, nat_lt, List, [], ◌∷◌, find, Option, Some, None, is_some, IfSome, option_map}
-use Rattle.std.specs.Prelude.{position, if◌then◌else◌, Result, Ok, Err}
+use Rattle.std.proofs.Common.{◌≡◌, refl, ap, sym, ◌∙◌, ℕ, zero, suc, Bool, true, false, cond, nat_lt, List, [], ◌∷◌, Option, Some, None, is_some, IfSome, option_map}
+use Rattle.std.specs.Prelude.{position, Result, Ok, Err}
 use Rattle.std.specs.List.{position_or_len}
 use Rattle.std.specs.Option.{option_and_then, option_map_or}
 use Rattle.std.specs.Str.{bytes_eq}
@@ -14,13 +14,6 @@ use Rattle.qo_values.specs.declared.properties.PropType.{PropType}
 use Rattle.qo_values.specs.Properties.{admits}
 use Rattle.qo_slots.specs.declared.keys.Key.{Key}
 use Rattle.qo_table.specs.Rows.{IsLive}
-use Rattle.qo_types.specs.Rows.{kind_told, mark_told, property_told}
-use Rattle.qo_types.specs.declared.rows.First.TheVariants as first
-use Rattle.qo_types.specs.declared.rows.Mark.{Mark}
-use Rattle.qo_types.specs.declared.rows.Mark.TheVariants as mark
-use Rattle.qo_types.specs.declared.rows.RowKind.{RowKind}
-use Rattle.qo_types.specs.declared.rows.RowKind.TheVariants as row
-use Rattle.qo_types.specs.declared.rows.SlotRow.{SlotRow}
 use Rattle.qo_object.specs.declared.slots.Slot.{Slot}
 use Rattle.qo_object.specs.declared.slots.Slot.TheVariants.{Plain, Child, Link, Alias}
 use Rattle.qo_object.specs.Content.{Content, dropped_at, empty_link_at}
@@ -29,15 +22,15 @@ use Rattle.qo_object.specs.Slots.{Named, held, is_empty_link, let_go_at, slot_in
 use Rattle.qo_object.proofs.ShownLemmas.{length-shown, shown-held}
 use Rattle.qo_model.specs.Board as board
 use Rattle.qo_model.specs.Changes.{set}
-use Rattle.qo_model.specs.Properties.{link_written, may_set, pointed_at, relinked, row_of_property, write, written, written_by}
+use Rattle.qo_model.specs.Properties.{link_written, pointed_at, relinked, row_of_property, write, written_by}
 use Rattle.qo_model.specs.Release.{after, drop_slot, finalise}
-use Rattle.qo_model.specs.Types.{First, Kind, Property, property, slots_of, nothing, empty_text, own_name, truth, number}
+use Rattle.qo_model.specs.declared.properties.Property.{Property}
 use Rattle.qo_heap.specs.Objects as heap
 use Rattle.qo_heap.specs.Objects.{IsHeap, Objects, content_of, with_edit}
 use Rattle.qo_heap.specs.Board.{Shows}
 use Rattle.qo_heap.proofs.ShowsLive.{content-edited, live-content, named-live_dropped}
 use Rattle.qo_heap.proofs.ShowsReads.{shows-kind, shows-slot_at, shows-slots}
-use Rattle.qo_properties.specs.Writes.{is_link_at, is_plain, is_plain_at, kind_written, link_type, link_type_at, mark_written, row_written, to_link, to_plain}
+use Rattle.qo_properties.specs.Writes.{is_link_at, is_plain, is_plain_at, link_type, link_type_at, to_link, to_plain}
 
 pub some-live : (P Q : Key → Type 0) → ((key : Key) → P key → Q key) → (o : Option Key) → IfSome o P → IfSome o Q
 some-live P Q more None all = tt
@@ -56,59 +49,6 @@ shows-place_of b v s n name =
 
 -- a write by the row of the property
 
--- what a row of the code tells of a property is written so
-module _ (b : board.Board) (n i : ℕ) where
-  plain-same : (ty : PropType) (first : First) (s : Option board.Slot) (v : Val) → written b n i (Kind.plain ty first) s v ≡ to_plain b n i ty s v
-  plain-same ty first None v = refl
-  plain-same ty first (Some (board.plain old)) v = refl
-  plain-same ty first (Some (board.child m)) v = refl
-  plain-same ty first (Some (board.strong to target)) v = refl
-  plain-same ty first (Some (board.weak to target)) v = refl
-  plain-same ty first (Some (board.alias m property)) v = refl
-
-  link-same : (t : TypeId) (strong : Bool) (s : Option board.Slot) (v : Val) → written b n i (Kind.link t strong) s v ≡ to_link b n i s v
-  link-same t strong None v = refl
-  link-same t strong (Some (board.plain old)) v = refl
-  link-same t strong (Some (board.child m)) v = refl
-  link-same t strong (Some (board.strong to target)) v = refl
-  link-same t strong (Some (board.weak to target)) v = refl
-  link-same t strong (Some (board.alias m property)) v = refl
-
-  -- the row as it is told
-  as-told : (k : RowKind) (p q : Kind) (v : Val) → kind_told k ≡ Some p → kind_told k ≡ Some q → written b n i p (board.slot_at b n i) v ≡ kind_written b n i k v → written b n i q (board.slot_at b n i) v ≡ kind_written b n i k v
-  as-told k p q v tells e is = let same : p ≡ q = cc (tells, e) in ap (λ (x : Kind). written b n i x (board.slot_at b n i) v) (sym same) ∙ is
-
-  kind-same : (k : RowKind) (q : Kind) (v : Val) → kind_told k ≡ Some q → written b n i q (board.slot_at b n i) v ≡ kind_written b n i k v
-  kind-same (row.Plain ty first.TypeName) q v e = as-told (row.Plain ty first.TypeName) (Kind.plain ty own_name) q v refl e (plain-same ty own_name (board.slot_at b n i) v)
-  kind-same (row.Plain ty first.Nothing) q v e = as-told (row.Plain ty first.Nothing) (Kind.plain ty nothing) q v refl e (plain-same ty nothing (board.slot_at b n i) v)
-  kind-same (row.Plain ty (first.Bool x)) q v e = as-told (row.Plain ty (first.Bool x)) (Kind.plain ty (truth x)) q v refl e (plain-same ty (truth x) (board.slot_at b n i) v)
-  kind-same (row.Plain ty (first.Int x)) q v e = cc
-  kind-same (row.Plain ty (first.Uint x)) q v e = as-told (row.Plain ty (first.Uint x)) (Kind.plain ty (number x)) q v refl e (plain-same ty (number x) (board.slot_at b n i) v)
-  kind-same (row.Plain ty first.NoText) q v e = as-told (row.Plain ty first.NoText) (Kind.plain ty empty_text) q v refl e (plain-same ty empty_text (board.slot_at b n i) v)
-  kind-same (row.Child t) q v e = as-told (row.Child t) (Kind.child t) q v refl e (no-child t (board.slot_at b n i))
-    where
-      no-child : (t : TypeId) (s : Option board.Slot) → written b n i (Kind.child t) s v ≡ Err E18
-      no-child t s = refl
-  kind-same (row.Link t strong) q v e = as-told (row.Link t strong) (Kind.link t strong) q v refl e (link-same t strong (board.slot_at b n i) v)
-  kind-same (row.Alias child of) q v e = as-told (row.Alias child of) (Kind.alias child.now of.now) q v refl e refl
-
-mark-same : (m : Mark) (given : Result board.Board Code) → (if may_set (mark_told m) then given else Err E18) ≡ mark_written m given
-mark-same mark.Never given = refl
-mark-same mark.Add given = refl
-mark-same mark.Both given = refl
-mark-same mark.Set given = refl
-
-by-row : (b : board.Board) (n i : ℕ) (r : SlotRow) (p : Property) (v : Val) → property_told r ≡ Some p → written_by b n i (Some p) v ≡ row_written b n i r v
-by-row b n i r p v told = go (kind_told r.kind) refl told
-  where
-    go : (o : Option Kind) → kind_told r.kind ≡ o → option_map (λ (k : Kind). property r.name.now k (mark_told r.mark)) o ≡ Some p → written_by b n i (Some p) v ≡ row_written b n i r v
-    go None is e = cc
-    go (Some q) is e =
-        let same : property r.name.now q (mark_told r.mark) ≡ p = cc e in
-        ap (λ (x : Property). written_by b n i (Some x) v) (sym same)
-        ∙ mark-same r.mark (written b n i q (board.slot_at b n i) v)
-        ∙ ap (mark_written r.mark) (kind-same b n i r.kind q v is)
-
 module _ (b : board.Board) (v : Objects) (s : Shows b v) (n : ℕ) (name : List ℕ) (val : Val) where
   pub write-none : None ≡ position (λ (t : Named). bytes_eq name t.0) (heap.slots_of v n) → Err E17 ≡ write b n name val
   write-none none = sym (ap (λ (o : Option ℕ). elim o [ None ↦ Err E17 | Some i ↦ written_by b n i (option_and_then (λ t. row_of_property t name) (board.kind_of b n)) val ]) (shows-place_of b v s n name ∙ sym none))
@@ -118,21 +58,11 @@ module _ (b : board.Board) (v : Objects) (s : Shows b v) (n : ℕ) (name : List 
       ap (λ (o : Option ℕ). elim o [ None ↦ Err E17 | Some j ↦ written_by b n j (option_and_then (λ t. row_of_property t name) (board.kind_of b n)) val ]) (shows-place_of b v s n name ∙ sym there)
       ∙ ap (λ (o : Option TypeId). written_by b n i (option_and_then (λ t. row_of_property t name) o) val) (shows-kind b v s n ∙ is)
 
-  pub write-no_row : (i : ℕ) (kind : TypeId) → Some i ≡ position (λ (t : Named). bytes_eq name t.0) (heap.slots_of v n) → option_map (λ (c : Content). c.kind) (content_of v n) ≡ Some kind → None ≡ option_map Some (find (λ (p : Property). bytes_eq p.name name) (slots_of kind)) → Err E18 ≡ write b n name val
-  write-no_row i kind there is none = sym (by-place i kind there is ∙ ap (λ (o : Option Property). written_by b n i o val) (no-row (row_of_property kind name) none))
-    where
-      no-row : (o : Option Property) → None ≡ option_map Some o → o ≡ None
-      no-row None e = refl
-      no-row (Some p) e = cc
+  pub write-no_row : (i : ℕ) (kind : TypeId) → Some i ≡ position (λ (t : Named). bytes_eq name t.0) (heap.slots_of v n) → option_map (λ (c : Content). c.kind) (content_of v n) ≡ Some kind → None ≡ row_of_property kind name → Err E18 ≡ write b n name val
+  write-no_row i kind there is none = sym (by-place i kind there is ∙ ap (λ (o : Option Property). written_by b n i o val) (sym none))
 
-  pub write-row : (i : ℕ) (kind : TypeId) (r : SlotRow) → Some i ≡ position (λ (t : Named). bytes_eq name t.0) (heap.slots_of v n) → option_map (λ (c : Content). c.kind) (content_of v n) ≡ Some kind → Some (property_told r) ≡ option_map Some (find (λ (p : Property). bytes_eq p.name name) (slots_of kind)) → row_written b n i r val ≡ write b n name val
-  write-row i kind r there is told = go (row_of_property kind name) refl told
-    where
-      go : (o : Option Property) → row_of_property kind name ≡ o → Some (property_told r) ≡ option_map Some o → row_written b n i r val ≡ write b n name val
-      go None e q = cc
-      go (Some p) e q =
-          let its : property_told r ≡ Some p = cc q in
-          sym (by-place i kind there is ∙ ap (λ (o : Option Property). written_by b n i o val) e ∙ by-row b n i r p val its)
+  pub write-row : (i : ℕ) (kind : TypeId) (r : Property) → Some i ≡ position (λ (t : Named). bytes_eq name t.0) (heap.slots_of v n) → option_map (λ (c : Content). c.kind) (content_of v n) ≡ Some kind → Some r ≡ row_of_property kind name → written_by b n i (Some r) val ≡ write b n name val
+  write-row i kind r there is its = sym (by-place i kind there is ∙ ap (λ (o : Option Property). written_by b n i o val) (sym its))
 
 -- what stands in the slot that is written
 

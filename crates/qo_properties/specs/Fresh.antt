@@ -1,29 +1,25 @@
 -- The slots of a new object: its plain properties with their first values, and its links without targets.
-use Rattle.std.specs.Prelude.{ℕ, List, [], ◌++◌, take, filter_map, Option, Some, None, option_map}
-use Rattle.qo_values.specs.Kinds.{type_name}
+use Rattle.std.specs.Prelude.{ℕ, List, ◌++◌, take, filter_map, Option, Some, None, option_map}
 use Rattle.qo_values.specs.declared.kinds.TypeId.{TypeId}
-use Rattle.qo_values.specs.declared.properties.Val.{Val}
-use Rattle.qo_values.specs.declared.properties.Val.TheVariants as val
 use Rattle.qo_model.specs.Opening.{first_value}
-use Rattle.qo_model.specs.Types.{Kind, Property, slots_of}
-use Rattle.qo_types.specs.declared.rows.SlotRow.{SlotRow}
-use Rattle.qo_types.specs.declared.rows.RowKind.{RowKind}
-use Rattle.qo_types.specs.declared.rows.RowKind.TheVariants as row
-use Rattle.qo_types.specs.declared.rows.First.{First}
-use Rattle.qo_types.specs.declared.rows.First.TheVariants as first
+use Rattle.qo_model.specs.Types.{slots_of}
+use Rattle.qo_model.specs.RowNames.{property_name}
+use Rattle.qo_model.specs.declared.properties.Property.{Property}
+use Rattle.qo_model.specs.declared.properties.RowKind.{RowKind}
+use Rattle.qo_model.specs.declared.properties.RowKind.TheVariants as row
 use Rattle.qo_object.specs.declared.slots.Slot.{Slot}
 use Rattle.qo_object.specs.declared.slots.Slot.TheVariants.{Plain, Link}
 use Rattle.qo_object.specs.Slots.{Named}
 use Rattle.qo_object.specs.Content.{Content}
 
 -- what a property of a new object of a type begins as; children and aliases stay away
-abbrev pub begun : TypeId → Kind → Option Slot
-begun t (Kind.plain type first) = Some (Plain (first_value t first))
-begun t (Kind.link target strong) = Some (Link target strong None)
+abbrev pub begun : TypeId → RowKind → Option Slot
+begun t (row.Plain type first) = Some (Plain (first_value t first))
+begun t (row.Link target strong) = Some (Link target strong None)
 begun t kind = None
 
 abbrev pub slot_begun : TypeId → Property → Option Named
-slot_begun t p = option_map (λ s. (p.name, s)) (begun t p.kind)
+slot_begun t p = option_map (λ s. (property_name p.name, s)) (begun t p.kind)
 
 -- the slots of a new object of a type, in order; and those of its first properties alone
 abbrev pub new_slots : TypeId → List Named
@@ -35,20 +31,3 @@ first_slots k t = filter_map (slot_begun t) (take k (slots_of t))
 -- an object with slots more, behind the others
 abbrev pub with_slots : List Named → Content → Content
 with_slots more c = record c { slots = c.slots ++ more }
-
--- the same by the rows of the code: the first value, and the slot of a row
-abbrev pub val_of : TypeId → First → Val
-val_of t first.TypeName = val.Text (type_name t)
-val_of t first.Nothing = val.Nothing
-val_of t (first.Bool b) = val.Bool b
-val_of t (first.Int n) = val.Int n
-val_of t (first.Uint n) = val.Uint n
-val_of t first.NoText = val.Text []
-
-abbrev pub begun_row : TypeId → RowKind → Option Slot
-begun_row t (row.Plain type begins) = Some (Plain (val_of t begins))
-begun_row t (row.Link target strong) = Some (Link target strong None)
-begun_row t kind = None
-
-abbrev pub slot_of_row : TypeId → SlotRow → Option Named
-slot_of_row t r = option_map (λ s. (r.name.now, s)) (begun_row t r.kind)

@@ -9,15 +9,10 @@ use Rattle.qo_values.specs.declared.properties.PropType.{PropType}
 use Rattle.qo_values.specs.declared.properties.Val.{Val}
 use Rattle.qo_slots.specs.declared.keys.Key.{Key}
 use Rattle.qo_model.specs.Board as board
-use Rattle.qo_model.specs.Board.{Board, slot_at}
+use Rattle.qo_model.specs.Board.{Board}
 use Rattle.qo_model.specs.Changes.{set}
 use Rattle.qo_model.specs.Paths.{missing, resolve}
 use Rattle.qo_model.specs.Properties.{link_written}
-use Rattle.qo_types.specs.declared.rows.Mark.{Mark}
-use Rattle.qo_types.specs.declared.rows.Mark.TheVariants.{Both}
-use Rattle.qo_types.specs.declared.rows.RowKind.{RowKind}
-use Rattle.qo_types.specs.declared.rows.RowKind.TheVariants as row
-use Rattle.qo_types.specs.declared.rows.SlotRow.{SlotRow}
 use Rattle.qo_object.specs.declared.slots.Slot.{Slot}
 use Rattle.qo_object.specs.declared.slots.Slot.TheVariants.{Plain, Link}
 use Rattle.qo_object.specs.Shown.{birth_of}
@@ -70,17 +65,3 @@ abbrev pub to_link : Board → ℕ → ℕ → Option board.Slot → Val → Res
 to_link b n i (Some (board.strong t target)) v = link_written b n i t v
 to_link b n i (Some (board.weak t target)) v = link_written b n i t v
 to_link b n i s v = Err E18
-
--- a value to the slot of n at a place, by the row of its property
-abbrev pub kind_written : Board → ℕ → ℕ → RowKind → Val → Result Board Code
-kind_written b n i (row.Plain type begins) v = to_plain b n i type (slot_at b n i) v
-kind_written b n i (row.Link t strong) v = to_link b n i (slot_at b n i) v
-kind_written b n i kind v = Err E18
-
--- only a property with both marks is written
-abbrev pub mark_written : Mark → Result Board Code → Result Board Code
-mark_written Both given = given
-mark_written mark given = Err E18
-
-abbrev pub row_written : Board → ℕ → ℕ → SlotRow → Val → Result Board Code
-row_written b n i r v = mark_written r.mark (kind_written b n i r.kind v)

@@ -24,7 +24,11 @@ use Rattle.qo_model.specs.Plug.{aliased, drafted, owned, row_made, rows_made, wi
 use Rattle.qo_model.specs.References.{refs}
 use Rattle.qo_model.specs.Release.{edited}
 use Rattle.qo_model.specs.SoundAliases.{is_clock_slot, is_open, lasting, PassesTo}
-use Rattle.qo_model.specs.Types.{Kind, Property, slots_of, types}
+use Rattle.qo_model.specs.Types.{slots_of, types}
+use Rattle.qo_model.specs.RowNames.{property_name}
+use Rattle.qo_model.specs.declared.properties.Property.{Property}
+use Rattle.qo_model.specs.declared.properties.RowKind.{RowKind}
+use Rattle.qo_model.specs.declared.properties.RowKind.TheVariants as row
 use Rattle.qo_model.proofs.StepLemmas.{found_at, found-edited}
 use Rattle.qo_sound.proofs.RecordLemmas.{births_at, all-append, found-birth}
 use Rattle.qo_sound.proofs.SlotLemmas.{clocks_in, names_in, one_child}
@@ -84,10 +88,10 @@ HoldsNone s = ⊤
 
 -- an alias passes on to the clock
 abbrev pub OfClock : Property → Type 0
-OfClock p = elim p.kind as (λ _. Type 0) [ Kind.alias owner property ↦ bytes_eq owner (codes "clk") ≡ true | _ ↦ ⊤ ]
+OfClock p = elim p.kind as (λ _. Type 0) [ row.Alias owner of ↦ bytes_eq (property_name owner) (codes "clk") ≡ true | _ ↦ ⊤ ]
 
 abbrev pub row_names : List Property → List (List ℕ)
-row_names ps = map (λ (p : Property). p.name) ps
+row_names ps = map (λ (p : Property). (property_name p.name)) ps
 
 -- what is known of a board on which a device n is being made, with these properties still to come, from a board b
 pub record Drafts (b : Board) (n : ℕ) (t : TypeId) (ps : List Property) (c : Board) : Type 0 where
@@ -96,7 +100,7 @@ pub record Drafts (b : Board) (n : ℕ) (t : TypeId) (ps : List Property) (c : B
   pub found : record_of c n ≡ Some owner
   pub kind : owner.kind ≡ t
   pub low : n ≤ c.born
-  pub free : AllByRecursion (λ (p : Property). AllByRecursion (λ name. bytes_eq name p.name ≡ false) (names_in owner.slots)) ps
+  pub free : AllByRecursion (λ (p : Property). AllByRecursion (λ name. bytes_eq name (property_name p.name) ≡ false) (names_in owner.slots)) ps
   pub apart : IsDistinct bytes_eq (row_names ps)
   pub clocked : AllByRecursion OfClock ps
   pub empty : AllByRecursion (λ (s : List ℕ × Slot). HoldsNone s.1) owner.slots
@@ -105,10 +109,10 @@ pub record Drafts (b : Board) (n : ℕ) (t : TypeId) (ps : List Property) (c : B
   pub upward : (x y : ℕ) → n ≤ x → leads (children_of c) x y ≡ true → n < y
 
 -- names that stay free where one more is taken
-free-more : (name : List ℕ) (s : Slot) (slots : List (List ℕ × Slot)) (ps : List Property) → AllByRecursion (λ (p : Property). AllByRecursion (λ x. bytes_eq x p.name ≡ false) (names_in slots)) ps → AllByRecursion (λ x. bytes_eq name x ≡ false) (row_names ps) → AllByRecursion (λ (p : Property). AllByRecursion (λ x. bytes_eq x p.name ≡ false) (names_in (slots ++ (name, s) ∷ []))) ps
+free-more : (name : List ℕ) (s : Slot) (slots : List (List ℕ × Slot)) (ps : List Property) → AllByRecursion (λ (p : Property). AllByRecursion (λ x. bytes_eq x (property_name p.name) ≡ false) (names_in slots)) ps → AllByRecursion (λ x. bytes_eq name x ≡ false) (row_names ps) → AllByRecursion (λ (p : Property). AllByRecursion (λ x. bytes_eq x (property_name p.name) ≡ false) (names_in (slots ++ (name, s) ∷ []))) ps
 free-more name s slots [] h k = tt
 free-more name s slots (p ∷ ps) h k =
-    (subst (AllByRecursion (λ x. bytes_eq x p.name ≡ false)) (sym (map-append (λ (x : List ℕ × Slot). x.0) slots ((name, s) ∷ []))) (all-append (λ x. bytes_eq x p.name ≡ false) (names_in slots) (name ∷ []) h.0 (k.0, tt)), free-more name s slots ps h.1 k.1)
+    (subst (AllByRecursion (λ x. bytes_eq x (property_name p.name) ≡ false)) (sym (map-append (λ (x : List ℕ × Slot). x.0) slots ((name, s) ∷ []))) (all-append (λ x. bytes_eq x (property_name p.name) ≡ false) (names_in slots) (name ∷ []) h.0 (k.0, tt)), free-more name s slots ps h.1 k.1)
 
 -- the object that was changed, and the others
 own-record : (n : ℕ) (change : Record → Record) → ((r : Record) → (change r).birth ≡ r.birth) → (rs : List Record) (owner : Record) → found_at n rs ≡ Some owner → found_at n (map (edited n change) rs) ≡ Some (change owner)
@@ -155,46 +159,46 @@ module _ (b : Board) (n : ℕ) (t : TypeId) (absent : record_of b n ≡ None) (n
       go true p = absurd (let clash : Some r ≡ None = sym e ∙ ap (record_of b) (eqb-true x n p) ∙ absent in cc)
 
   -- a slot more that names no child
-  drafts-slot : (p : Property) (ps : List Property) (c : Board) (s : Slot) → child_of s ≡ None → HoldsNone s → Linked (kind_of c) s → (h : Drafts b n t (p ∷ ps) c) → PassesTo (lasting h.owner) s → Drafts b n t ps (add n p.name s c)
+  drafts-slot : (p : Property) (ps : List Property) (c : Board) (s : Slot) → child_of s ≡ None → HoldsNone s → Linked (kind_of c) s → (h : Drafts b n t (p ∷ ps) c) → PassesTo (lasting h.owner) s → Drafts b n t ps (add n (property_name p.name) s c)
   unfolding add IsDistinct
   drafts-slot p ps c s none holds links h passes =
       record {
-        near = near-added None c n p.name s h.owner h.found h.free.0 none links passes h.near;
-        owner = with_added p.name s h.owner;
-        found = own-record n (with_added p.name s) (λ r. refl) c.records h.owner h.found;
+        near = near-added None c n (property_name p.name) s h.owner h.found h.free.0 none links passes h.near;
+        owner = with_added (property_name p.name) s h.owner;
+        found = own-record n (with_added (property_name p.name) s) (λ r. refl) c.records h.owner h.found;
         kind = h.kind;
         low = h.low;
-        free = free-more p.name s h.owner.slots ps h.free.1 h.apart.0;
+        free = free-more (property_name p.name) s h.owner.slots ps h.free.1 h.apart.0;
         apart = h.apart.1;
         clocked = h.clocked.1;
-        empty = all-append (λ (x : List ℕ × Slot). HoldsNone x.1) h.owner.slots ((p.name, s) ∷ []) h.empty (holds, tt);
-        old = λ x r e. other-record n (with_added p.name s) (λ y. refl) c.records x r (differs x r e) (h.old x r e);
+        empty = all-append (λ (x : List ℕ × Slot). HoldsNone x.1) h.owner.slots ((property_name p.name, s) ∷ []) h.empty (holds, tt);
+        old = λ x r e. other-record n (with_added (property_name p.name) s) (λ y. refl) c.records x r (differs x r e) (h.old x r e);
         alone =
-            let nothing : one_child n (p.name, s) ≡ 0 = none-child n s none in
-            omega (arith, h.alone, nothing, sum-added (one_child n) n p.name s c.records h.near.firm.rising h.owner h.found);
-        upward = λ x y le e. h.upward x y le (edited-leads n (with_added p.name s) (λ r. refl) (λ r. refl) c (λ r z q k. rw (children-added p.name s r.slots none) at k) x y e);
+            let nothing : one_child n (property_name p.name, s) ≡ 0 = none-child n s none in
+            omega (arith, h.alone, nothing, sum-added (one_child n) n (property_name p.name) s c.records h.near.firm.rising h.owner h.found);
+        upward = λ x y le e. h.upward x y le (edited-leads n (with_added (property_name p.name) s) (λ r. refl) (λ r. refl) c (λ r z q k. rw (children-added (property_name p.name) s r.slots none) at k) x y e);
       }
 
   -- a further object is made and joined
-  drafts-kid : (p : Property) (ps : List Property) (c : Board) (of : TypeId) → Drafts b n t (p ∷ ps) c → Drafts b n t ps (with_kid n p.name of c)
+  drafts-kid : (p : Property) (ps : List Property) (c : Board) (of : TypeId) → Drafts b n t (p ∷ ps) c → Drafts b n t ps (with_kid n (property_name p.name) of c)
   unfolding add IsDistinct
   drafts-kid p ps c of h =
       record {
-        near = named-near g n (c.born + 1) p.name bare near_g;
-        owner = with_added p.name (child (c.born + 1)) h.owner;
-        found = own-record n (with_added p.name (child (c.born + 1))) (λ r. refl) g.records h.owner (grown-old c k notes h.near.firm new n h.owner h.found);
+        near = named-near g n (c.born + 1) (property_name p.name) bare near_g;
+        owner = with_added (property_name p.name) (child (c.born + 1)) h.owner;
+        found = own-record n (with_added (property_name p.name) (child (c.born + 1))) (λ r. refl) g.records h.owner (grown-old c k notes h.near.firm new n h.owner h.found);
         kind = h.kind;
         low = omega (arith, low);
-        free = free-more p.name (child (c.born + 1)) h.owner.slots ps h.free.1 h.apart.0;
+        free = free-more (property_name p.name) (child (c.born + 1)) h.owner.slots ps h.free.1 h.apart.0;
         apart = h.apart.1;
         clocked = h.clocked.1;
-        empty = all-append (λ (x : List ℕ × Slot). HoldsNone x.1) h.owner.slots ((p.name, child (c.born + 1)) ∷ []) h.empty (tt, tt);
-        old = λ x r e. other-record n (with_added p.name (child (c.born + 1))) (λ y. refl) g.records x r (differs x r e) (grown-old c k notes h.near.firm new x r (h.old x r e));
+        empty = all-append (λ (x : List ℕ × Slot). HoldsNone x.1) h.owner.slots ((property_name p.name, child (c.born + 1)) ∷ []) h.empty (tt, tt);
+        old = λ x r e. other-record n (with_added (property_name p.name) (child (c.born + 1))) (λ y. refl) g.records x r (differs x r e) (grown-old c k notes h.near.firm new x r (h.old x r e));
         alone =
             let other : (c.born + 1 == n) ≡ false = grind (arith, low) in
-            let nothing : one_child n (p.name, child (c.born + 1)) ≡ 0 = rw other refl in
-            omega (arith, h.alone, nothing, named-parents g n (c.born + 1) p.name bare near_g n, grown-parents c k notes h.near.firm new n);
-        upward = λ x y le e. up x y le (named-step g n (c.born + 1) p.name bare near_g x y e);
+            let nothing : one_child n (property_name p.name, child (c.born + 1)) ≡ 0 = rw other refl in
+            omega (arith, h.alone, nothing, named-parents g n (c.born + 1) (property_name p.name) bare near_g n, grown-parents c k notes h.near.firm new n);
+        upward = λ x y le e. up x y le (named-step g n (c.born + 1) (property_name p.name) bare near_g x y e);
       }
     where
       k : Record
@@ -215,7 +219,7 @@ module _ (b : Board) (n : ℕ) (t : TypeId) (absent : record_of b n ≡ None) (n
       near_g : Nearly (Some (c.born + 1)) g
       near_g = grown-near c k notes h.near.firm new h.near
 
-      bare : IsNameless g n (c.born + 1) p.name
+      bare : IsNameless g n (c.born + 1) (property_name p.name)
       bare =
           record {
             owner = h.owner;
@@ -250,7 +254,7 @@ module _ (b : Board) (n : ℕ) (t : TypeId) (absent : record_of b n ≡ None) (n
         upward = h.upward;
       }
 
-  drafts-alias : (p : Property) (ps : List Property) (c : Board) (owner property : List ℕ) → bytes_eq owner (codes "clk") ≡ true → Drafts b n t (p ∷ ps) c → (o : Option ℕ) → owned c n owner ≡ o → Drafts b n t ps (aliased n p.name property o c)
+  drafts-alias : (p : Property) (ps : List Property) (c : Board) (owner property : List ℕ) → bytes_eq owner (codes "clk") ≡ true → Drafts b n t (p ∷ ps) c → (o : Option ℕ) → owned c n owner ≡ o → Drafts b n t ps (aliased n (property_name p.name) property o c)
   drafts-alias p ps c owner property clock h None e = drafts-skip p ps c h
   drafts-alias p ps c owner property clock h (Some m) e = drafts-slot p ps c (alias m property) refl tt tt h passes
     where
@@ -265,19 +269,19 @@ module _ (b : Board) (n : ℕ) (t : TypeId) (absent : record_of b n ≡ None) (n
           let shut : is_open h.owner.birth ≡ false = ap is_open (found-birth n c.records h.owner h.found) ∙ not_open in
           rw shut (clock-found h.owner.slots m in_slots)
 
-  drafts-row : (p : Property) (ps : List Property) (c : Board) → Drafts b n t (p ∷ ps) c → Drafts b n t ps (row_made n t p.name p.kind c)
+  drafts-row : (p : Property) (ps : List Property) (c : Board) → Drafts b n t (p ∷ ps) c → Drafts b n t ps (row_made n t (property_name p.name) p.kind c)
   drafts-row p ps c h = go p.kind refl
     where
-      go : (kind : Kind) → p.kind ≡ kind → Drafts b n t ps (row_made n t p.name p.kind c)
-      go (Kind.plain type first) e = rw e (drafts-slot p ps c (plain (first_value t first)) refl tt tt h tt)
-      go (Kind.link target true) e = rw e (drafts-slot p ps c (strong target None) refl tt tt h tt)
-      go (Kind.link target false) e = rw e (drafts-slot p ps c (weak target None) refl tt tt h tt)
-      go (Kind.child type) e = rw e (drafts-kid p ps c type h)
-      go (Kind.alias owner property) e = rw e (drafts-alias p ps c owner property (rw e at h.clocked.0) h (owned c n owner) refl)
+      go : (kind : RowKind) → p.kind ≡ kind → Drafts b n t ps (row_made n t (property_name p.name) p.kind c)
+      go (row.Plain type first) e = rw e (drafts-slot p ps c (plain (first_value t first)) refl tt tt h tt)
+      go (row.Link target true) e = rw e (drafts-slot p ps c (strong target None) refl tt tt h tt)
+      go (row.Link target false) e = rw e (drafts-slot p ps c (weak target None) refl tt tt h tt)
+      go (row.Child type) e = rw e (drafts-kid p ps c type h)
+      go (row.Alias owner of) e = rw e (drafts-alias p ps c (property_name owner) (property_name of) (rw e at h.clocked.0) h (owned c n (property_name owner)) refl)
 
   pub drafts-rows : (ps : List Property) (c : Board) → Drafts b n t ps c → Drafts b n t [] (rows_made n t ps c)
   drafts-rows [] c h = h
-  drafts-rows (p ∷ ps) c h = drafts-rows ps (row_made n t p.name p.kind c) (drafts-row p ps c h)
+  drafts-rows (p ∷ ps) c h = drafts-rows ps (row_made n t (property_name p.name) p.kind c) (drafts-row p ps c h)
 
 -- the rows of types: their names differ, and an alias passes on to the clock
 row-names : (t : TypeId) → IsDistinct bytes_eq (row_names (slots_of t))
@@ -318,7 +322,7 @@ row-clocks MemoryBackend = search rules
 row-clocks MemoryBackendRam = search rules
 row-clocks Tag = search rules
 
-all-free : (ps : List Property) → AllByRecursion (λ (p : Property). AllByRecursion (λ x. bytes_eq x p.name ≡ false) []) ps
+all-free : (ps : List Property) → AllByRecursion (λ (p : Property). AllByRecursion (λ x. bytes_eq x (property_name p.name) ≡ false) []) ps
 all-free [] = tt
 all-free (p ∷ ps) = (tt, all-free ps)
 
@@ -371,35 +375,35 @@ with_pins q c = record c { pins = q }
 pub rows-blind : (q : List ℕ) (n : ℕ) (t : TypeId) (ps : List Property) (c : Board) → rows_made n t ps (with_pins q c) ≡ with_pins q (rows_made n t ps c)
 unfolding add
 rows-blind q n t [] c = refl
-rows-blind q n t (p ∷ ps) c = ap (rows_made n t ps) (row p.kind) ∙ rows-blind q n t ps (row_made n t p.name p.kind c)
+rows-blind q n t (p ∷ ps) c = ap (rows_made n t ps) (by p.kind) ∙ rows-blind q n t ps (row_made n t (property_name p.name) p.kind c)
   where
-    joined : (o : Option ℕ) (property : List ℕ) → aliased n p.name property o (with_pins q c) ≡ with_pins q (aliased n p.name property o c)
+    joined : (o : Option ℕ) (property : List ℕ) → aliased n (property_name p.name) property o (with_pins q c) ≡ with_pins q (aliased n (property_name p.name) property o c)
     joined None property = refl
     joined (Some m) property = refl
 
-    row : (kind : Kind) → row_made n t p.name kind (with_pins q c) ≡ with_pins q (row_made n t p.name kind c)
-    row (Kind.plain type first) = refl
-    row (Kind.link target true) = refl
-    row (Kind.link target false) = refl
-    row (Kind.child type) = refl
-    row (Kind.alias owner property) = joined (owned c n owner) property
+    by : (kind : RowKind) → row_made n t (property_name p.name) kind (with_pins q c) ≡ with_pins q (row_made n t (property_name p.name) kind c)
+    by (row.Plain type first) = refl
+    by (row.Link target true) = refl
+    by (row.Link target false) = refl
+    by (row.Child type) = refl
+    by (row.Alias owner of) = joined (owned c n (property_name owner)) (property_name of)
 
 -- no row changes the pins
 pub rows-pins : (n : ℕ) (t : TypeId) (ps : List Property) (c : Board) → (rows_made n t ps c).pins ≡ c.pins
 unfolding add
 rows-pins n t [] c = refl
-rows-pins n t (p ∷ ps) c = rows-pins n t ps (row_made n t p.name p.kind c) ∙ row p.kind
+rows-pins n t (p ∷ ps) c = rows-pins n t ps (row_made n t (property_name p.name) p.kind c) ∙ by p.kind
   where
-    joined : (o : Option ℕ) (property : List ℕ) → (aliased n p.name property o c).pins ≡ c.pins
+    joined : (o : Option ℕ) (property : List ℕ) → (aliased n (property_name p.name) property o c).pins ≡ c.pins
     joined None property = refl
     joined (Some m) property = refl
 
-    row : (kind : Kind) → (row_made n t p.name kind c).pins ≡ c.pins
-    row (Kind.plain type first) = refl
-    row (Kind.link target true) = refl
-    row (Kind.link target false) = refl
-    row (Kind.child type) = refl
-    row (Kind.alias owner property) = joined (owned c n owner) property
+    by : (kind : RowKind) → (row_made n t (property_name p.name) kind c).pins ≡ c.pins
+    by (row.Plain type first) = refl
+    by (row.Link target true) = refl
+    by (row.Link target false) = refl
+    by (row.Child type) = refl
+    by (row.Alias owner of) = joined (owned c n (property_name owner)) (property_name of)
 
 rows-held_up : (n : ℕ) (t : TypeId) (ps : List Property) (c : Board) → rows_made n t ps (held_up n c) ≡ held_up n (rows_made n t ps c)
 rows-held_up n t ps c = rows-blind (n ∷ c.pins) n t ps c ∙ ap (λ (q : List ℕ). with_pins (n ∷ q) (rows_made n t ps c)) (sym (rows-pins n t ps c))

@@ -13,7 +13,11 @@ use Rattle.qo_model.specs.Objects.{Given, given_slots, given_to, slot_given, tar
 use Rattle.qo_model.specs.Opening.{first_slot, first_value, fresh_slots}
 use Rattle.qo_model.specs.Paths.{child_of}
 use Rattle.qo_model.specs.Properties.{link_target}
-use Rattle.qo_model.specs.Types.{Kind, Property, slots_of, types}
+use Rattle.qo_model.specs.Types.{slots_of, types}
+use Rattle.qo_model.specs.RowNames.{property_name}
+use Rattle.qo_model.specs.declared.properties.Property.{Property}
+use Rattle.qo_model.specs.declared.properties.RowKind.{RowKind}
+use Rattle.qo_model.specs.declared.properties.RowKind.TheVariants as row
 use Rattle.qo_model.specs.SoundAliases.{PassesTo}
 use Rattle.qo_sound.proofs.RecordLemmas.{all-imply, all-map}
 use Rattle.qo_sound.proofs.SlotLemmas.{names_in}
@@ -26,24 +30,24 @@ data IsFresh : Slot → Type 0 where
   holding : (t : TypeId) → IsFresh (strong t None)
   seeing : (t : TypeId) → IsFresh (weak t None)
 
-first-fresh : (t : TypeId) (name : List ℕ) (kind : Kind) (s : Slot) → first_slot (λ _. None) t name kind ≡ Some s → IsFresh s
-first-fresh t name (Kind.plain type first) s e = subst IsFresh (same_Some (plain (first_value t first)) s e) (a_value (first_value t first))
-first-fresh t name (Kind.link target true) s e = subst IsFresh (same_Some (strong target None) s e) (holding target)
-first-fresh t name (Kind.link target false) s e = subst IsFresh (same_Some (weak target None) s e) (seeing target)
-first-fresh t name (Kind.child type) s e = absurd (let clash : None ≡ Some s = e in cc)
-first-fresh t name (Kind.alias owner property) s e = absurd (let clash : None ≡ Some s = e in cc)
+first-fresh : (t : TypeId) (name : List ℕ) (kind : RowKind) (s : Slot) → first_slot (λ _. None) t name kind ≡ Some s → IsFresh s
+first-fresh t name (row.Plain type first) s e = subst IsFresh (same_Some (plain (first_value t first)) s e) (a_value (first_value t first))
+first-fresh t name (row.Link target true) s e = subst IsFresh (same_Some (strong target None) s e) (holding target)
+first-fresh t name (row.Link target false) s e = subst IsFresh (same_Some (weak target None) s e) (seeing target)
+first-fresh t name (row.Child type) s e = absurd (let clash : None ≡ Some s = e in cc)
+first-fresh t name (row.Alias owner property) s e = absurd (let clash : None ≡ Some s = e in cc)
 
 -- the slots of properties
 abbrev slots_for : TypeId → List Property → List (List ℕ × Slot)
-slots_for t props = filter_map (λ (p : Property). option_map (λ (s : Slot). (p.name, s)) (first_slot (λ _. None) t p.name p.kind)) props
+slots_for t props = filter_map (λ (p : Property). option_map (λ (s : Slot). (property_name p.name, s)) (first_slot (λ _. None) t (property_name p.name) p.kind)) props
 
 all-fresh : (t : TypeId) (props : List Property) → AllByRecursion (λ (s : List ℕ × Slot). IsFresh s.1) (slots_for t props)
 all-fresh t [] = tt
-all-fresh t (p ∷ props) = go (first_slot (λ _. None) t p.name p.kind) refl (all-fresh t props)
+all-fresh t (p ∷ props) = go (first_slot (λ _. None) t (property_name p.name) p.kind) refl (all-fresh t props)
   where
-    go : (o : Option Slot) → first_slot (λ _. None) t p.name p.kind ≡ o → AllByRecursion (λ (s : List ℕ × Slot). IsFresh s.1) (slots_for t props) → AllByRecursion (λ (s : List ℕ × Slot). IsFresh s.1) (slots_for t (p ∷ props))
+    go : (o : Option Slot) → first_slot (λ _. None) t (property_name p.name) p.kind ≡ o → AllByRecursion (λ (s : List ℕ × Slot). IsFresh s.1) (slots_for t props) → AllByRecursion (λ (s : List ℕ × Slot). IsFresh s.1) (slots_for t (p ∷ props))
     go None q rest = rw q rest
-    go (Some s) q rest = rw q (first-fresh t p.name p.kind s q, rest)
+    go (Some s) q rest = rw q (first-fresh t (property_name p.name) p.kind s q, rest)
 
 -- a slot that names no child, is no alias, and names only what is there
 pub record IsLone (b : Board) (s : Slot) : Type 0 where

@@ -11,7 +11,9 @@ use Rattle.qo_model.specs.Objects.{init_notes}
 use Rattle.qo_model.specs.Plug.{Spot, Wanted, clocked, counted, cut_attempt, drafted, passed, plug_attempt, rows_made, source_for, started, stood, with_new, with_plugged}
 use Rattle.qo_model.specs.References.{refs}
 use Rattle.qo_model.specs.Release.{finalise, put_in_order, unpin}
-use Rattle.qo_model.specs.Types.{Kind, Property, is_a, slots_of}
+use Rattle.qo_model.specs.Types.{is_a, slots_of}
+use Rattle.qo_model.specs.declared.properties.Property.{Property}
+use Rattle.qo_model.specs.declared.properties.RowKind.TheVariants as row
 use Rattle.qo_model.proofs.AttemptLemmas.{IsStar, LowRecord, LowSlot}
 use Rattle.qo_model.proofs.DraftEndsLemmas.{IsDraft, draft-begun, draft-free, draft-low, draft-rows, drafted-cut, drafted-ends, kid-ends, kid-free, kinds_in, unjoined-cut, unjoined-ends}
 use Rattle.qo_model.proofs.StepLemmas.{is_some-map}
@@ -120,7 +122,7 @@ passed-steps b t m q is h =
 pins-two : (n : ℕ) → 1 ≤ n → put_in_order n (1 ∷ []) ≡ 1 ∷ n ∷ []
 pins-two n low = let order : leb 1 n ≡ true = grind (arith, low) in rw (put_in_order, order) refl
 
-pub unjoined-steps : (b : Board) (t : TypeId) (ps : List Property) (p : Property) (k : TypeId) (qs : List Property) (ss : List (List ℕ × Slot)) (c : Board) (q : List ℕ) → slots_of t ≡ ps ++ p ∷ qs → p.kind ≡ Kind.child k → q ≡ put_in_order (b.born + 1) (1 ∷ []) → c ≡ rows_made (b.born + 1) t ps (with_new (fresh (b.born + 1) t) b) → IsStar (c.born + 1) (c.born + 1) ss [] → AtRest b → unpin (unpin (with_pins (put_in_order (c.born + 1) q) (with_new (record (fresh (c.born + 1) k) { slots = ss }) (with_pins q c))) (c.born + 1)) (b.born + 1) ≡ cut_attempt b t (suc (suc (length (kinds_in ps)))) false
+pub unjoined-steps : (b : Board) (t : TypeId) (ps : List Property) (p : Property) (k : TypeId) (qs : List Property) (ss : List (List ℕ × Slot)) (c : Board) (q : List ℕ) → slots_of t ≡ ps ++ p ∷ qs → p.kind ≡ row.Child k → q ≡ put_in_order (b.born + 1) (1 ∷ []) → c ≡ rows_made (b.born + 1) t ps (with_new (fresh (b.born + 1) t) b) → IsStar (c.born + 1) (c.born + 1) ss [] → AtRest b → unpin (unpin (with_pins (put_in_order (c.born + 1) q) (with_new (record (fresh (c.born + 1) k) { slots = ss }) (with_pins q c))) (c.born + 1)) (b.born + 1) ≡ cut_attempt b t (suc (suc (length (kinds_in ps)))) false
 unjoined-steps b t ps p k qs ss c q split is_kid is made star_is h =
     ap (λ (x : Board). unpin x (b.born + 1)) first
     ∙ let-free (record c { born = c.born + 1; notes = c.notes ++ init_notes (c.born + 1) k ++ ending (c.born + 1) k }) (b.born + 1) q pins is (ap (λ (x : ℕ). x == 0) (draft-free b t (kinds_in ps) c low (low-pins b h) draft))

@@ -13,7 +13,9 @@ use Rattle.qo_model.specs.FinalNotesRuns.{behind_write}
 use Rattle.qo_model.specs.Objects.{is_object_named, object_del, place_from}
 use Rattle.qo_model.specs.Properties.{link_target, link_written, linked, may_set, pointed_at, relinked, row_of_property, write, written, written_by}
 use Rattle.qo_model.specs.Release.{drop_slot}
-use Rattle.qo_model.specs.Types.{Kind, Property}
+use Rattle.qo_model.specs.declared.properties.Property.{Property}
+use Rattle.qo_model.specs.declared.properties.RowKind.{RowKind}
+use Rattle.qo_model.specs.declared.properties.RowKind.TheVariants as row
 use Rattle.qo_model.proofs.ReleaseLeavesLemmas.{let_go-leaves}
 use Rattle.qo_sound.proofs.FirmLemmas.{FitsKind}
 use Rattle.qo_sound.proofs.ViewLemmas.{AtRest}
@@ -53,25 +55,25 @@ link_written-rest b n i t s link e (val.Int v) h = h
 link_written-rest b n i t s link e (val.Uint v) h = h
 link_written-rest b n i t s link e val.Nothing h = h
 
-written-rest : (b : Board) (n i : ℕ) (kind : Kind) (s : Option Slot) → slot_at b n i ≡ s → (v : Val) → AtRest b → AtRest (behind_write b (written b n i kind s v))
-written-rest b n i (Kind.plain type first) (Some (plain old)) e v h = go (admits type v) refl
+written-rest : (b : Board) (n i : ℕ) (kind : RowKind) (s : Option Slot) → slot_at b n i ≡ s → (v : Val) → AtRest b → AtRest (behind_write b (written b n i kind s v))
+written-rest b n i (row.Plain type first) (Some (plain old)) e v h = go (admits type v) refl
   where
-    go : (t : Bool) → admits type v ≡ t → AtRest (behind_write b (written b n i (Kind.plain type first) (Some (plain old)) v))
+    go : (t : Bool) → admits type v ≡ t → AtRest (behind_write b (written b n i (row.Plain type first) (Some (plain old)) v))
     go true p = rw (written, p) (record { used = near-set b n i v old e h.used; pinned = set-pins b n i v ∙ h.pinned })
     go false p = rw (written, p) h
-written-rest b n i (Kind.link t holds) (Some (strong to target)) e v h = link_written-rest b n i to (strong to target) (holding target) e v h
-written-rest b n i (Kind.link t holds) (Some (weak to target)) e v h = link_written-rest b n i to (weak to target) (seeing target) e v h
-written-rest b n i (Kind.plain type first) None e v h = h
-written-rest b n i (Kind.plain type first) (Some (child m)) e v h = h
-written-rest b n i (Kind.plain type first) (Some (strong to target)) e v h = h
-written-rest b n i (Kind.plain type first) (Some (weak to target)) e v h = h
-written-rest b n i (Kind.plain type first) (Some (alias m property)) e v h = h
-written-rest b n i (Kind.link t holds) None e v h = h
-written-rest b n i (Kind.link t holds) (Some (plain old)) e v h = h
-written-rest b n i (Kind.link t holds) (Some (child m)) e v h = h
-written-rest b n i (Kind.link t holds) (Some (alias m property)) e v h = h
-written-rest b n i (Kind.child t) s e v h = h
-written-rest b n i (Kind.alias owner property) s e v h = h
+written-rest b n i (row.Link t holds) (Some (strong to target)) e v h = link_written-rest b n i to (strong to target) (holding target) e v h
+written-rest b n i (row.Link t holds) (Some (weak to target)) e v h = link_written-rest b n i to (weak to target) (seeing target) e v h
+written-rest b n i (row.Plain type first) None e v h = h
+written-rest b n i (row.Plain type first) (Some (child m)) e v h = h
+written-rest b n i (row.Plain type first) (Some (strong to target)) e v h = h
+written-rest b n i (row.Plain type first) (Some (weak to target)) e v h = h
+written-rest b n i (row.Plain type first) (Some (alias m property)) e v h = h
+written-rest b n i (row.Link t holds) None e v h = h
+written-rest b n i (row.Link t holds) (Some (plain old)) e v h = h
+written-rest b n i (row.Link t holds) (Some (child m)) e v h = h
+written-rest b n i (row.Link t holds) (Some (alias m property)) e v h = h
+written-rest b n i (row.Child t) s e v h = h
+written-rest b n i (row.Alias owner property) s e v h = h
 
 written_by-rest : (b : Board) (n i : ℕ) (row : Option Property) (v : Val) → AtRest b → AtRest (behind_write b (written_by b n i row v))
 written_by-rest b n i None v h = h

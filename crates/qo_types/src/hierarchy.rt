@@ -1,12 +1,14 @@
 //! The sixteen types: what each derives from, what it adds, and which of them are abstract.
 
-ghost use Rattle.std.specs.Prelude.{◌≡◌, find, map};
+ghost use Rattle.std.specs.Prelude.{◌≡◌, find};
 ghost use Rattle.std.specs.List.{list_any};
 ghost use Rattle.std.specs.Str.{bytes_eq};
 ghost use Rattle.qo_values.specs.Kinds.{type_name};
+ghost use Rattle.qo_model.specs.RowNames.{interface_name};
 ghost use Rattle.qo_model.specs.Types.{answers_to, chain, interfaces_of};
 ghost use Rattle.qo_types.specs.Rows.{is_abstract, type_ids};
 
+use qo_model::Interface;
 use qo_values::TypeId;
 
 /// All types, in row order.
@@ -80,16 +82,16 @@ pub(crate) fn ancestry(t: TypeId) -> &'static [TypeId]
 
 /// The interfaces that a type adds to those of its parent.
 #[tactic(auto, unfolding(qo_model::specs::Types::types))]
-pub(crate) fn interfaces(t: TypeId) -> &'static [&'static str]
-    ensures { map (λ s. s.now) result.now ≡ interfaces_of t }
+pub(crate) fn interfaces(t: TypeId) -> &'static [Interface]
+    ensures { result.now ≡ interfaces_of t }
 {
     match t {
-        TypeId::Machine => &["hotplug-handler", "resettable"],
-        TypeId::Device => &["resettable"],
-        TypeId::SlotBridge => &["hotplug-handler"],
-        TypeId::Bus => &["resettable"],
-        TypeId::MemoryBackend => &["user-creatable"],
-        TypeId::Tag => &["user-creatable"],
+        TypeId::Machine => &[Interface::HotplugHandler, Interface::Resettable],
+        TypeId::Device => &[Interface::Resettable],
+        TypeId::SlotBridge => &[Interface::HotplugHandler],
+        TypeId::Bus => &[Interface::Resettable],
+        TypeId::MemoryBackend => &[Interface::UserCreatable],
+        TypeId::Tag => &[Interface::UserCreatable],
         _ => &[],
     }
 }
@@ -105,15 +107,14 @@ pub(crate) fn is_abstract(t: TypeId) -> bool
     )
 }
 
-/// Whether a name is among some.
-fn is_among(names: &[&'static str], name: &str) -> bool
-    ensures { result ≡ list_any (λ s. bytes_eq name.now s.now) names.now }
+/// Whether a name is that of one of some interfaces.
+fn is_among(interfaces: &[Interface], name: &str) -> bool
+    ensures { result ≡ list_any (λ i. bytes_eq name.now (interface_name i)) interfaces.now }
 {
-    names.iter().any(|other| name == *other)
+    interfaces.iter().any(|interface| name == interface.name())
 }
 
 /// Whether a name is a type's own, or one of the interfaces that it adds.
-#[tactic(auto, using(crate::proofs::TableLemmas::list_any_map))]
 pub(crate) fn answers_to(t: TypeId, name: &str) -> bool
     ensures { result ≡ answers_to name.now t }
 {

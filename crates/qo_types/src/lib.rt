@@ -4,11 +4,9 @@
 #![tactic(auto)]
 
 mod hierarchy;
-mod rows;
 mod slots;
 mod table;
 #[cfg(test)]
 mod tests;
 
-pub use rows::{First, Mark, RowKind, SlotRow, TypeRow};
 pub use table::TypeTable;

@@ -1,27 +1,27 @@
 //! The properties that the objects of each type have, base first.
 
-ghost use Rattle.std.specs.Prelude.{◌≡◌, Some, find, map};
+ghost use Rattle.std.specs.Prelude.{◌≡◌, find};
 ghost use Rattle.std.specs.Str.{bytes_eq};
+ghost use Rattle.qo_model.specs.RowNames.{property_name};
 ghost use Rattle.qo_model.specs.Types.{slots_of};
-ghost use Rattle.qo_types.specs.Rows.{property_told};
 
-use crate::rows::{First, Mark, RowKind, SlotRow};
+use qo_model::{First, Mark, Property, PropertyName, RowKind};
 use qo_values::{BACKEND_SIZE_AT_FIRST, BACKEND_SIZE_MAX, DIMM_ALIGN, PropType, TypeId};
 
-const TYPE: SlotRow = SlotRow {
-    name: "type",
+const TYPE: Property = Property {
+    name: PropertyName::Type,
     kind: RowKind::Plain(PropType::Text, First::TypeName),
     mark: Mark::Never,
 };
 
-const REALIZED: SlotRow = SlotRow {
-    name: "realized",
+const REALIZED: Property = Property {
+    name: PropertyName::Realized,
     kind: RowKind::Plain(PropType::Bool, First::Bool(false)),
     mark: Mark::Never,
 };
 
-const PARENT_BUS: SlotRow = SlotRow {
-    name: "parent_bus",
+const PARENT_BUS: Property = Property {
+    name: PropertyName::ParentBus,
     kind: RowKind::Link {
         ty: TypeId::Bus,
         strong: true,
@@ -29,8 +29,8 @@ const PARENT_BUS: SlotRow = SlotRow {
     mark: Mark::Never,
 };
 
-const SLOT: SlotRow = SlotRow {
-    name: "slot",
+const SLOT: Property = Property {
+    name: PropertyName::Slot,
     kind: RowKind::Plain(
         PropType::Uint {
             lo: 0,
@@ -42,8 +42,8 @@ const SLOT: SlotRow = SlotRow {
     mark: Mark::Add,
 };
 
-const PEER: SlotRow = SlotRow {
-    name: "peer",
+const PEER: Property = Property {
+    name: PropertyName::Peer,
     kind: RowKind::Link {
         ty: TypeId::Device,
         strong: true,
@@ -51,8 +51,8 @@ const PEER: SlotRow = SlotRow {
     mark: Mark::Both,
 };
 
-const WATCH: SlotRow = SlotRow {
-    name: "watch",
+const WATCH: Property = Property {
+    name: PropertyName::Watch,
     kind: RowKind::Link {
         ty: TypeId::Device,
         strong: false,
@@ -60,35 +60,35 @@ const WATCH: SlotRow = SlotRow {
     mark: Mark::Both,
 };
 
-const CLK: SlotRow = SlotRow {
-    name: "clk",
+const CLK: Property = Property {
+    name: PropertyName::Clk,
     kind: RowKind::Child(TypeId::Clock),
     mark: Mark::Never,
 };
 
-const CLOCK_PERIOD: SlotRow = SlotRow {
-    name: "clock-period",
+const CLOCK_PERIOD: Property = Property {
+    name: PropertyName::ClockPeriod,
     kind: RowKind::Alias {
-        child: "clk",
-        of: "period",
+        child: PropertyName::Clk,
+        of: PropertyName::Period,
     },
     mark: Mark::Set,
 };
 
-const CHARDEV: SlotRow = SlotRow {
-    name: "chardev",
+const CHARDEV: Property = Property {
+    name: PropertyName::Chardev,
     kind: RowKind::Plain(PropType::Text, First::NoText),
     mark: Mark::Add,
 };
 
-const BUS: SlotRow = SlotRow {
-    name: "bus.0",
+const BUS: Property = Property {
+    name: PropertyName::Bus0,
     kind: RowKind::Child(TypeId::SlotBus),
     mark: Mark::Never,
 };
 
-const MEMDEV: SlotRow = SlotRow {
-    name: "memdev",
+const MEMDEV: Property = Property {
+    name: PropertyName::Memdev,
     kind: RowKind::Link {
         ty: TypeId::MemoryBackend,
         strong: true,
@@ -96,8 +96,8 @@ const MEMDEV: SlotRow = SlotRow {
     mark: Mark::Add,
 };
 
-const ADDR: SlotRow = SlotRow {
-    name: "addr",
+const ADDR: Property = Property {
+    name: PropertyName::Addr,
     kind: RowKind::Plain(
         PropType::Uint {
             lo: 0,
@@ -109,8 +109,8 @@ const ADDR: SlotRow = SlotRow {
     mark: Mark::Add,
 };
 
-const PERIOD: SlotRow = SlotRow {
-    name: "period",
+const PERIOD: Property = Property {
+    name: PropertyName::Period,
     kind: RowKind::Plain(
         PropType::Uint {
             lo: 0,
@@ -122,8 +122,8 @@ const PERIOD: SlotRow = SlotRow {
     mark: Mark::Set,
 };
 
-const MUL: SlotRow = SlotRow {
-    name: "mul",
+const MUL: Property = Property {
+    name: PropertyName::Mul,
     kind: RowKind::Plain(
         PropType::Uint {
             lo: 0,
@@ -135,8 +135,8 @@ const MUL: SlotRow = SlotRow {
     mark: Mark::Set,
 };
 
-const DIV: SlotRow = SlotRow {
-    name: "div",
+const DIV: Property = Property {
+    name: PropertyName::Div,
     kind: RowKind::Plain(
         PropType::Uint {
             lo: 0,
@@ -148,8 +148,8 @@ const DIV: SlotRow = SlotRow {
     mark: Mark::Set,
 };
 
-const SOURCE: SlotRow = SlotRow {
-    name: "source",
+const SOURCE: Property = Property {
+    name: PropertyName::Source,
     kind: RowKind::Link {
         ty: TypeId::Clock,
         strong: false,
@@ -157,8 +157,8 @@ const SOURCE: SlotRow = SlotRow {
     mark: Mark::Never,
 };
 
-const SIZE: SlotRow = SlotRow {
-    name: "size",
+const SIZE: Property = Property {
+    name: PropertyName::Size,
     kind: RowKind::Plain(
         PropType::Uint {
             lo: DIMM_ALIGN,
@@ -170,14 +170,14 @@ const SIZE: SlotRow = SlotRow {
     mark: Mark::Add,
 };
 
-const TEXT: SlotRow = SlotRow {
-    name: "text",
+const TEXT: Property = Property {
+    name: PropertyName::Text,
     kind: RowKind::Plain(PropType::Text, First::NoText),
     mark: Mark::Both,
 };
 
-const NUMBER: SlotRow = SlotRow {
-    name: "number",
+const NUMBER: Property = Property {
+    name: PropertyName::Number,
     kind: RowKind::Plain(
         PropType::Int {
             lo: i64::MIN,
@@ -188,14 +188,14 @@ const NUMBER: SlotRow = SlotRow {
     mark: Mark::Both,
 };
 
-const FLAG: SlotRow = SlotRow {
-    name: "flag",
+const FLAG: Property = Property {
+    name: PropertyName::Flag,
     kind: RowKind::Plain(PropType::Bool, First::Bool(false)),
     mark: Mark::Both,
 };
 
-const NEXT: SlotRow = SlotRow {
-    name: "next",
+const NEXT: Property = Property {
+    name: PropertyName::Next,
     kind: RowKind::Link {
         ty: TypeId::Object,
         strong: true,
@@ -203,8 +203,8 @@ const NEXT: SlotRow = SlotRow {
     mark: Mark::Both,
 };
 
-const SEEN: SlotRow = SlotRow {
-    name: "seen",
+const SEEN: Property = Property {
+    name: PropertyName::Seen,
     kind: RowKind::Link {
         ty: TypeId::Object,
         strong: false,
@@ -212,11 +212,11 @@ const SEEN: SlotRow = SlotRow {
     mark: Mark::Both,
 };
 
-static OBJECT: [SlotRow; 1] = [TYPE];
+static OBJECT: [Property; 1] = [TYPE];
 
-static DEVICE: [SlotRow; 6] = [TYPE, REALIZED, PARENT_BUS, SLOT, PEER, WATCH];
+static DEVICE: [Property; 6] = [TYPE, REALIZED, PARENT_BUS, SLOT, PEER, WATCH];
 
-static SLOT_DEVICE: [SlotRow; 8] = [
+static SLOT_DEVICE: [Property; 8] = [
     TYPE,
     REALIZED,
     PARENT_BUS,
@@ -227,7 +227,7 @@ static SLOT_DEVICE: [SlotRow; 8] = [
     CLOCK_PERIOD,
 ];
 
-static SLOT_UART: [SlotRow; 9] = [
+static SLOT_UART: [Property; 9] = [
     TYPE,
     REALIZED,
     PARENT_BUS,
@@ -239,7 +239,7 @@ static SLOT_UART: [SlotRow; 9] = [
     CHARDEV,
 ];
 
-static SLOT_BRIDGE: [SlotRow; 9] = [
+static SLOT_BRIDGE: [Property; 9] = [
     TYPE,
     REALIZED,
     PARENT_BUS,
@@ -251,18 +251,18 @@ static SLOT_BRIDGE: [SlotRow; 9] = [
     BUS,
 ];
 
-static MEM_DIMM: [SlotRow; 8] = [TYPE, REALIZED, PARENT_BUS, SLOT, PEER, WATCH, MEMDEV, ADDR];
+static MEM_DIMM: [Property; 8] = [TYPE, REALIZED, PARENT_BUS, SLOT, PEER, WATCH, MEMDEV, ADDR];
 
-static CLOCK: [SlotRow; 5] = [TYPE, PERIOD, MUL, DIV, SOURCE];
+static CLOCK: [Property; 5] = [TYPE, PERIOD, MUL, DIV, SOURCE];
 
-static MEMORY_BACKEND: [SlotRow; 2] = [TYPE, SIZE];
+static MEMORY_BACKEND: [Property; 2] = [TYPE, SIZE];
 
-static TAG: [SlotRow; 6] = [TYPE, TEXT, NUMBER, FLAG, NEXT, SEEN];
+static TAG: [Property; 6] = [TYPE, TEXT, NUMBER, FLAG, NEXT, SEEN];
 
 /// The properties of a type's objects, in slot order.
 #[tactic(auto, unfolding(qo_model::specs::Types::types))]
-pub(crate) fn slots(t: TypeId) -> &'static [SlotRow]
-    ensures { map property_told result.now ≡ map Some (slots_of t) }
+pub(crate) fn slots(t: TypeId) -> &'static [Property]
+    ensures { result.now ≡ slots_of t }
 {
     match t {
         TypeId::Object => &OBJECT,
@@ -285,8 +285,8 @@ pub(crate) fn slots(t: TypeId) -> &'static [SlotRow]
 }
 
 /// The first of some properties that has a name.
-pub(crate) fn first_named(rows: &[SlotRow], name: &str) -> Option<SlotRow>
-    ensures { result ≡ find (λ row. bytes_eq row.name.now name.now) rows.now }
+pub(crate) fn first_named(rows: &[Property], name: &str) -> Option<Property>
+    ensures { result ≡ find (λ row. bytes_eq (property_name row.name) name.now) rows.now }
 {
-    rows.iter().copied().find(|row| row.name == name)
+    rows.iter().copied().find(|row| row.name.as_str() == name)
 }

@@ -1,14 +1,14 @@
 //! The table of types, as the layers above ask it.
 
-ghost use Rattle.std.specs.Prelude.{◌≡◌, IfOk, Some, find, map, option_map};
+ghost use Rattle.std.specs.Prelude.{◌≡◌, IfOk, option_map};
 ghost use Rattle.std.specs.List.{slice_get};
-ghost use Rattle.std.specs.Str.{bytes_eq};
-ghost use Rattle.qo_model.specs.Types.{chain, has_finaliser, is_a, row_named, row_of, slots_of};
-ghost use Rattle.qo_types.specs.Rows.{listed, property_told, type_told, type_told_of};
+ghost use Rattle.qo_model.specs.Properties.{row_of_property};
+ghost use Rattle.qo_model.specs.Types.{chain, has_finaliser, interfaces_of, is_a, parent_of, row_named, slots_of};
+ghost use Rattle.qo_types.specs.Rows.{is_abstract, listed};
 
 use crate::hierarchy::{all_types, ancestry, answers_to, first_named, interfaces, is_abstract};
-use crate::rows::{SlotRow, TypeRow};
 use crate::slots::{self, slots};
+use qo_model::{Interface, Property};
 use qo_values::TypeId;
 use std::alloc::{AllocError, Global};
 
@@ -51,37 +51,45 @@ impl TypeTable {
         ancestry(t).get(i).copied()
     }
 
-    /// The row of a type.
-    pub fn row(&self, t: TypeId) -> TypeRow
-        ensures { Some (type_told result) ≡ option_map type_told_of (row_of t) }
+    /// The type that a type derives from; only `object` has none.
+    pub fn parent(&self, t: TypeId) -> Option<TypeId>
+        ensures { result ≡ parent_of t }
     {
-        TypeRow {
-            name: t.name(),
-            parent: self.chain(t, 1),
-            is_abstract: is_abstract(t),
-            interfaces: interfaces(t),
-        }
+        self.chain(t, 1)
+    }
+
+    /// Whether a type has no objects of its own.
+    pub fn is_abstract(&self, t: TypeId) -> bool
+        ensures { result ≡ is_abstract t }
+    {
+        is_abstract(t)
+    }
+
+    /// The interfaces that a type adds to those of its parent (docs/devel/qom.rst, "Interfaces").
+    pub fn interfaces(&self, t: TypeId) -> &'static [Interface]
+        ensures { result.now ≡ interfaces_of t }
+    {
+        interfaces(t)
     }
 
     /// The property at a place, from 0, among those that each object of a type has, base first;
     /// `None` behind the last.
-    pub fn prop(&self, t: TypeId, i: usize) -> Option<SlotRow>
-        ensures { option_map property_told result ≡ option_map Some (slice_get (slots_of t) i) }
+    pub fn prop(&self, t: TypeId, i: usize) -> Option<Property>
+        ensures { result ≡ slice_get (slots_of t) i }
     {
         slots(t).get(i).copied()
     }
 
     /// The properties that each object of a type has, base first.
-    pub fn props(&self, t: TypeId) -> &'static [SlotRow]
-        ensures { map property_told result.now ≡ map Some (slots_of t) }
+    pub fn props(&self, t: TypeId) -> &'static [Property]
+        ensures { result.now ≡ slots_of t }
     {
         slots(t)
     }
 
     /// The property of a name among those that each object of a type has.
-    pub fn property(&self, t: TypeId, name: &str) -> Option<SlotRow>
-        ensures { option_map property_told result
-            ≡ option_map Some (find (λ p. bytes_eq p.name name.now) (slots_of t)) }
+    pub fn property(&self, t: TypeId, name: &str) -> Option<Property>
+        ensures { result ≡ row_of_property t name.now }
     {
         slots::first_named(slots(t), name)
     }

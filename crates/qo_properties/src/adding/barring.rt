@@ -31,7 +31,7 @@ fn creatable(driver: &str) -> Result<TypeId, Code>
     let Some(kind) = TypeTable::board().find(driver) else {
         return Err(Code::E20);
     };
-    if TypeTable::board().row(kind).is_abstract {
+    if TypeTable::board().is_abstract(kind) {
         return Err(Code::E21);
     }
     if !TypeTable::board().is_a(kind, "user-creatable") {

@@ -1,22 +1,25 @@
 //! Filling the slots of a new object with what was given. What is to stand in each slot is settled
 //! before the object is made, so that it takes no memory behind that.
 
-ghost use Rattle.std.specs.Prelude.{◌≡◌, Bool, true, Some, None, ◌++◌, is_some, option_map, option_to_list, IfOk, IfSome, OnOk, List};
+ghost use Rattle.std.specs.Prelude.{◌≡◌, Bool, true, Some, None, ◌++◌, find, is_some, option_map, option_to_list, IfOk, IfSome, OnOk, List};
 ghost use Rattle.std.specs.List.{AllByRecursion, AllZip};
+ghost use Rattle.std.specs.Str.{bytes_eq};
 ghost use Rattle.qo_values.specs.declared.kinds.TypeId.{TypeId};
 ghost use Rattle.qo_model.specs.Board.{Board};
+ghost use Rattle.qo_model.specs.RowNames.{property_name};
 ghost use Rattle.qo_object.specs.declared.slots.Slot.TheVariants.{Link};
 ghost use Rattle.qo_object.specs.Slots.{Named};
 ghost use Rattle.qo_table.specs.Rows.{IsLive};
 ghost use Rattle.qo_heap.specs.Board.{Shows};
 ghost use Rattle.qo_heap.specs.Objects.{content_of, slots_of, with_edit};
-ghost use Rattle.qo_properties.specs.Fresh.{begun_row, new_slots, slot_of_row};
+ghost use Rattle.qo_properties.specs.Fresh.{begun, new_slots, slot_begun};
 ghost use Rattle.qo_properties.specs.Filling.{Fits, HasValue, IsGiven, filled_at, fits, fits_at, target_in, with_filled};
 
 use crate::adding::given::{given_val, linked_to};
 use crate::reading::values::copy_of;
 use qo_heap::{Heap, Oid, Steps};
-use qo_types::{RowKind, SlotRow, TypeTable};
+use qo_model::{Property, RowKind};
+use qo_types::TypeTable;
 use qo_values::{PropList, TypeId, Val};
 use std::alloc::{AllocError, Global};
 use std::sync::ledger::Ledger;
@@ -52,8 +55,8 @@ fn fill_kind<L: Ledger>(
     alloc: Global,
     steps: &mut Steps<L>,
 ) -> Result<Fill, AllocError>
-    ensures told { (b : Board) → Shows b heap.now → IfOk result (λ f. (t : TypeId) → IfSome (begun_row t kind) (HasValue b val.now f)) }
-    ensures fits { IfOk result (λ f. (t : TypeId) → IfSome (begun_row t kind) (λ s. fits f s ≡ true)) }
+    ensures told { (b : Board) → Shows b heap.now → IfOk result (λ f. (t : TypeId) → IfSome (begun t kind) (HasValue b val.now f)) }
+    ensures fits { IfOk result (λ f. (t : TypeId) → IfSome (begun t kind) (λ s. fits f s ≡ true)) }
     ensures live { IfOk result (λ f. IfSome (target_in f) (IsLive heap.now.rows)) }
 {
     match kind {
@@ -64,19 +67,26 @@ fn fill_kind<L: Ledger>(
     }
 }
 
+/// The first value given to the property that has this row; `None` where there is none.
+fn given_for<'a>(props: &'a PropList, row: Property) -> Option<&'a Val>
+    ensures { option_map (λ v. v.now) result ≡ option_map (λ p. p.1) (find (λ p. bytes_eq p.0 (property_name row.name)) props.now) }
+{
+    given_val(props, row.name.as_str())
+}
+
 /// What the slot of the property that has this row is filled with, by the properties given.
 fn fill_row<L: Ledger>(
     heap: &Heap,
-    row: SlotRow,
+    row: Property,
     props: &PropList,
     alloc: Global,
     steps: &mut Steps<L>,
 ) -> Result<Fill, AllocError>
-    ensures told { (b : Board) → Shows b heap.now → IfOk result (λ f. (t : TypeId) → IfSome (slot_of_row t row) (IsGiven b props.now f)) }
-    ensures fits { IfOk result (λ f. (t : TypeId) → IfSome (slot_of_row t row) (Fits f)) }
+    ensures told { (b : Board) → Shows b heap.now → IfOk result (λ f. (t : TypeId) → IfSome (slot_begun t row) (IsGiven b props.now f)) }
+    ensures fits { IfOk result (λ f. (t : TypeId) → IfSome (slot_begun t row) (Fits f)) }
     ensures live { IfOk result (λ f. IfSome (target_in f) (IsLive heap.now.rows)) }
 {
-    match given_val(props, row.name) {
+    match given_for(props, row) {
         Some(val) => fill_kind(heap, row.kind, val, alloc, steps),
         None => Ok(Fill::Nothing),
     }
@@ -84,7 +94,7 @@ fn fill_row<L: Ledger>(
 
 /// Whether a new object has a slot for a property with this row.
 fn begins(kind: RowKind) -> bool
-    ensures { (t : TypeId) → result ≡ is_some (begun_row t kind) }
+    ensures { (t : TypeId) → result ≡ is_some (begun t kind) }
 {
     match kind {
         RowKind::Plain(_, _) => true,
@@ -98,13 +108,13 @@ fn begins(kind: RowKind) -> bool
 fn plan_row<L: Ledger>(
     plan: &mut Vec<Fill>,
     heap: &Heap,
-    row: SlotRow,
+    row: Property,
     props: &PropList,
     alloc: Global,
     steps: &mut Steps<L>,
 ) -> Result<(), AllocError>
-    ensures told { (b : Board) → Shows b heap.now → OnOk result ((t : TypeId) (slots : List Named) → AllZip (IsGiven b props.now) plan.old.items slots → AllZip (IsGiven b props.now) plan.new.items (slots ++ option_to_list (slot_of_row t row))) }
-    ensures fits { OnOk result ((t : TypeId) (slots : List Named) → AllZip Fits plan.old.items slots → AllZip Fits plan.new.items (slots ++ option_to_list (slot_of_row t row))) }
+    ensures told { (b : Board) → Shows b heap.now → OnOk result ((t : TypeId) (slots : List Named) → AllZip (IsGiven b props.now) plan.old.items slots → AllZip (IsGiven b props.now) plan.new.items (slots ++ option_to_list (slot_begun t row))) }
+    ensures fits { OnOk result ((t : TypeId) (slots : List Named) → AllZip Fits plan.old.items slots → AllZip Fits plan.new.items (slots ++ option_to_list (slot_begun t row))) }
     ensures live { OnOk result (AllByRecursion (λ f. IfSome (target_in f) (IsLive heap.now.rows)) plan.old.items → AllByRecursion (λ f. IfSome (target_in f) (IsLive heap.now.rows)) plan.new.items) }
 {
     if begins(row.kind) {

@@ -4,15 +4,18 @@ ghost use Rattle.std.specs.Prelude.{◌≡◌, ℕ, Some, [], ◌∷◌, slice_g
 ghost use Rattle.qo_values.specs.Names.{IsName};
 ghost use Rattle.qo_model.specs.Board.{Board};
 ghost use Rattle.qo_model.specs.Changes.{with_fresh_slots};
+ghost use Rattle.qo_model.specs.Opening.{first_value};
+ghost use Rattle.qo_model.specs.RowNames.{property_name};
 ghost use Rattle.qo_model.specs.Types.{slots_of};
 ghost use Rattle.qo_table.specs.Rows.{IsLive};
 ghost use Rattle.qo_object.specs.declared.slots.Slot.TheVariants.{Plain, Link};
 ghost use Rattle.qo_heap.specs.Board.{Shows};
 ghost use Rattle.qo_heap.specs.Objects.{with_edit};
-ghost use Rattle.qo_properties.specs.Fresh.{first_slots, new_slots, slot_of_row, val_of, with_slots};
+ghost use Rattle.qo_properties.specs.Fresh.{first_slots, new_slots, slot_begun, with_slots};
 
 use qo_heap::{Heap, Oid, Steps};
-use qo_types::{First, RowKind, SlotRow, TypeTable};
+use qo_model::{First, Property, RowKind};
+use qo_types::TypeTable;
 use qo_values::{Name, PropType, Text, TypeId, Val};
 use std::alloc::{AllocError, Global};
 use std::sync::ledger::Ledger;
@@ -28,13 +31,12 @@ pub fn name_of(text: &str, alloc: Global) -> Result<Name, AllocError>
 
 /// What a plain property of an object of a type holds at first.
 fn first_val(kind: TypeId, first: First, alloc: Global) -> Result<Val, AllocError>
-    ensures { IfOk result (λ val. val ≡ val_of kind first) }
+    ensures { IfOk result (λ val. val ≡ first_value kind first) }
 {
     Ok(match first {
         First::TypeName => Val::Text(Text::from_string(String::from_str(alloc, kind.name())?)),
         First::Nothing => Val::Nothing,
         First::Bool(truth) => Val::Bool(truth),
-        First::Int(number) => Val::Int(number),
         First::Uint(number) => Val::Uint(number),
         First::NoText => Val::Text(Text::from_string(String::new(alloc))),
     })
@@ -46,24 +48,24 @@ fn add_row<L: Ledger>(
     heap: &mut Heap,
     o: Oid,
     kind: TypeId,
-    row: SlotRow,
+    row: Property,
     alloc: Global,
     steps: &mut Steps<L>,
 ) -> Result<(), AllocError>
     requires live { IsLive heap.old.rows o }
-    requires name { IsName row.name.now }
-    ensures ok { OnOk result (heap.new ≡ with_edit o.birth (with_slots (option_to_list (slot_of_row kind row))) heap.old) }
+    requires name { IsName (property_name row.name) }
+    ensures ok { OnOk result (heap.new ≡ with_edit o.birth (with_slots (option_to_list (slot_begun kind row))) heap.old) }
     ensures err { OnErr result (heap.new ≡ heap.old) }
 {
     match row.kind {
         RowKind::Plain(_, first) => {
-            let name = name_of(row.name, alloc)?;
+            let name = name_of(row.name.as_str(), alloc)?;
             let val = first_val(kind, first, alloc)?;
             heap.add_plain(o, name, val, steps)?;
             Ok(())
         }
         RowKind::Link { ty, strong } => {
-            let name = name_of(row.name, alloc)?;
+            let name = name_of(row.name.as_str(), alloc)?;
             heap.add_link(o, name, ty, strong, None, steps)?;
             Ok(())
         }

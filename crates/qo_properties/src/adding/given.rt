@@ -1,19 +1,20 @@
 //! The properties given to a new object: their values, and why they are refused.
 
-ghost use Rattle.std.specs.Prelude.{◌≡◌, IfSome, find, option_map};
+ghost use Rattle.std.specs.Prelude.{◌≡◌, IfSome, Some, find, option_map};
 ghost use Rattle.std.specs.Str.{bytes_eq};
 ghost use Rattle.qo_model.specs.Board.{Board};
-ghost use Rattle.qo_model.specs.Objects.{refusal_by, refusal_of};
+ghost use Rattle.qo_model.specs.Objects.{misfit, refusal_by, refusal_of};
 ghost use Rattle.qo_model.specs.Properties.{row_of_property};
 ghost use Rattle.qo_object.specs.Shown.{birth_of};
 ghost use Rattle.qo_table.specs.Rows.{IsLive};
 ghost use Rattle.qo_heap.specs.Board.{Shows};
 ghost use Rattle.qo_properties.specs.Changes.{refusal_in};
-ghost use Rattle.qo_properties.specs.Given.{link_misfit, linked_to, mark_refusal, plain_misfit, row_misfit};
+ghost use Rattle.qo_properties.specs.Given.{link_misfit, linked_to, plain_misfit};
 
 use crate::writing::writes::link_target;
 use qo_heap::{Heap, Oid, Steps};
-use qo_types::{Mark, RowKind, SlotRow, TypeTable};
+use qo_model::{Mark, Property, RowKind};
+use qo_types::TypeTable;
 use qo_values::{Code, Misfit, PropList, PropType, TypeId, Val};
 use std::sync::ledger::Ledger;
 
@@ -52,7 +53,7 @@ fn check_kind<L: Ledger>(
     val: &Val,
     steps: &mut Steps<L>,
 ) -> Result<(), Code>
-    ensures { (b : Board) → Shows b heap.now → refusal_in result ≡ row_misfit b kind val.now }
+    ensures { (b : Board) → Shows b heap.now → refusal_in result ≡ misfit b kind val.now }
 {
     match kind {
         RowKind::Plain(ty, _) => check_plain(ty, val),
@@ -65,11 +66,11 @@ fn check_kind<L: Ledger>(
 /// Why a value is refused for the property that has this row.
 fn check_row<L: Ledger>(
     heap: &Heap,
-    row: SlotRow,
+    row: Property,
     val: &Val,
     steps: &mut Steps<L>,
 ) -> Result<(), Code>
-    ensures { (b : Board) → Shows b heap.now → refusal_in result ≡ mark_refusal row.mark (row_misfit b row.kind val.now) }
+    ensures { (b : Board) → Shows b heap.now → refusal_in result ≡ refusal_by b (Some row) val.now }
 {
     match row.mark {
         Mark::Add => check_kind(heap, row.kind, val, steps),

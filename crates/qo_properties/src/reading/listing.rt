@@ -3,7 +3,7 @@
 ghost use Rattle.std.specs.Prelude.{◌≡◌, [], ◌∷◌, ◌++◌, map, OnOk, IfOk, IfSome};
 ghost use Rattle.std.specs.Option.{option_map_or};
 ghost use Rattle.qo_model.specs.Board.{Board as Tree, slot_named};
-ghost use Rattle.qo_model.specs.Listing.{listing, own_text, plain_word, type_text};
+ghost use Rattle.qo_model.specs.Listing.{listing, own_text, plain_word, row_word, type_text};
 ghost use Rattle.qo_model.specs.Access.{listing_at};
 ghost use Rattle.qo_values.specs.TypeTexts.{text_of};
 ghost use Rattle.qo_object.specs.Shown.{shown_slot};
@@ -11,13 +11,14 @@ ghost use Rattle.qo_object.specs.Slots.{target_of};
 ghost use Rattle.qo_table.specs.Rows.{IsLive};
 ghost use Rattle.qo_heap.specs.Board.{Shows};
 ghost use Rattle.qo_properties.specs.Reads.{Answers};
-ghost use Rattle.qo_properties.specs.Listed.{prop_told, word_of};
+ghost use Rattle.qo_properties.specs.Listed.{prop_told};
 
 use crate::reading::lookup::object_of;
 use crate::reading::naming::object_at;
 use crate::refusals::Refusal;
 use qo_heap::{Heap, Oid, Slot, Steps};
-use qo_types::{RowKind, TypeTable};
+use qo_model::{Property, RowKind};
+use qo_types::TypeTable;
 use qo_values::{Text, TypeId, TypeText};
 use std::alloc::{AllocError, Global};
 use std::sync::ledger::Ledger;
@@ -32,10 +33,10 @@ pub struct Prop {
 }
 
 /// What is told of the type of a property, by its row; only plain rows have a word.
-fn row_text(kind: RowKind) -> TypeText
-    ensures { text_of result ≡ word_of kind }
+fn row_text(row: Property) -> TypeText
+    ensures { text_of result ≡ row_word row }
 {
-    match kind {
+    match row.kind {
         RowKind::Plain(ty, _) => TypeText::Value(ty),
         _ => TypeText::Nothing,
     }
@@ -46,7 +47,7 @@ fn plain_text(kind: TypeId, name: &str) -> TypeText
     ensures { text_of result ≡ plain_word kind name.now }
 {
     match TypeTable::board().property(kind, name) {
-        Some(row) => row_text(row.kind),
+        Some(row) => row_text(row),
         None => TypeText::Nothing,
     }
 }

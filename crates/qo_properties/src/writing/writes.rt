@@ -4,7 +4,7 @@
 ghost use Rattle.std.specs.Prelude.{◌≡◌, true, false, Some, IfOk, IfSome, OnErr, option_map, option_and_then};
 ghost use Rattle.qo_slots.specs.declared.keys.Key.{Key};
 ghost use Rattle.qo_model.specs.Board.{Board as Tree, slot_at};
-ghost use Rattle.qo_model.specs.Properties.{link_target, pointed_at, relinked, write};
+ghost use Rattle.qo_model.specs.Properties.{link_target, pointed_at, relinked, write, written, written_by};
 ghost use Rattle.qo_model.specs.Access.{write_at};
 ghost use Rattle.qo_object.specs.Content.{empty_link_at};
 ghost use Rattle.qo_object.specs.Shown.{birth_of};
@@ -13,7 +13,7 @@ ghost use Rattle.qo_table.specs.Rows.{IsLive};
 ghost use Rattle.qo_heap.specs.Board.{Shows, pins_in};
 ghost use Rattle.qo_heap.specs.Objects.{content_of, slots_of};
 ghost use Rattle.qo_properties.specs.Claims.{KeepsBook};
-ghost use Rattle.qo_properties.specs.Writes.{Writes, is_link_at, is_plain_at, kind_written, link_type_at, no_target, row_written, target_told, to_link, to_plain};
+ghost use Rattle.qo_properties.specs.Writes.{Writes, is_link_at, is_plain_at, link_type_at, no_target, target_told, to_link, to_plain};
 
 use crate::reading::lookup::place_named;
 use crate::reading::naming::object_at;
@@ -21,8 +21,9 @@ use crate::reading::values::copy_of;
 use crate::refusals::Refusal;
 use qo_heap::{Heap, Oid, Slot, Steps};
 use qo_life::drop_hold;
+use qo_model::{Mark, Property, RowKind};
 use qo_paths::{PathError, resolve};
-use qo_types::{Mark, RowKind, SlotRow, TypeTable};
+use qo_types::TypeTable;
 use qo_values::{Code, Misfit, PropType, TypeId, Val};
 use std::alloc::Global;
 use std::sync::ledger::Ledger;
@@ -192,7 +193,7 @@ fn write_kind<L: Ledger>(
     steps: &mut Steps<L>,
 ) -> Result<(), Refusal>
     requires live { IsLive heap.old.rows o }
-    ensures written { (b : Tree) → Shows b heap.old → Writes heap.new result (kind_written b o.birth at kind val.now) }
+    ensures written { (b : Tree) → Shows b heap.old → Writes heap.new result (written b o.birth at kind (slot_at b o.birth at) val.now) }
     ensures err { OnErr result (heap.new ≡ heap.old) }
     ensures pins { pins_in heap.new.rows ≡ pins_in heap.old.rows }
     ensures book { KeepsBook heap.old heap.new }
@@ -211,13 +212,13 @@ fn write_row<L: Ledger>(
     heap: &mut Heap,
     o: Oid,
     at: usize,
-    row: SlotRow,
+    row: Property,
     val: &Val,
     alloc: Global,
     steps: &mut Steps<L>,
 ) -> Result<(), Refusal>
     requires live { IsLive heap.old.rows o }
-    ensures written { (b : Tree) → Shows b heap.old → Writes heap.new result (row_written b o.birth at row val.now) }
+    ensures written { (b : Tree) → Shows b heap.old → Writes heap.new result (written_by b o.birth at (Some row) val.now) }
     ensures err { OnErr result (heap.new ≡ heap.old) }
     ensures pins { pins_in heap.new.rows ≡ pins_in heap.old.rows }
     ensures book { KeepsBook heap.old heap.new }

@@ -1,5 +1,5 @@
 -- What is found by name has its own text, and an object that is not there has no slot.
-use Rattle.std.proofs.Common.{◌≡◌, ℕ, List, [], Some, None, ap, sym, ◌∙◌, Option}
+use Rattle.std.proofs.Common.{◌≡◌, ℕ, [], Some, None, ap, sym, ◌∙◌, Option}
 use Rattle.std.specs.Option.{option_map_or}
 use Rattle.std.specs.Str.{bytes_eq}
 use Rattle.qo_object.specs.Slots.{Named}
