@@ -7,27 +7,27 @@ use Rattle.qo_values.specs.declared.codes.Code.{Code}
 use Rattle.qo_values.specs.declared.kinds.TypeId.{TypeId}
 use Rattle.qo_model.specs.Board.{Board}
 use Rattle.qo_model.specs.declared.properties.Property.{Property}
-use Rattle.qo_properties.specs.Listed.{prop_told}
+use Rattle.qo_model.specs.Listing.{listing}
 use Rattle.qo_replies.specs.Properties.{properties_data}
 use Rattle.qo_commands.specs.Commands as defined
 use Rattle.qo_commands.specs.declared.commands.Body.{Body}
-use Rattle.qo_commands.specs.declared.commands.Body.TheVariants.{Empty, Status, Properties, Value}
+use Rattle.qo_commands.specs.declared.commands.Body.TheVariants.{Empty, Status, Listing, Value}
 use Rattle.qo_commands.specs.declared.commands.Done.{Done}
 
--- what is returned, as data
-abbrev pub body_data : Body → Data
-body_data Empty = defined.empty
-body_data (Status running) = defined.status_data running
-body_data (Properties props) = properties_data (map prop_told props.items)
-body_data (Value value) = view value
+-- what is returned, as data, where this board stands
+abbrev pub body_data : Board → Body → Data
+body_data b Empty = defined.empty
+body_data b (Status running) = defined.status_data running
+body_data b (Listing n) = properties_data (listing b n)
+body_data b (Value value) = view value
 
-abbrev pub data_of : Result Body Code → Result Data Code
-data_of (Ok body) = Ok (body_data body)
-data_of (Err code) = Err code
+abbrev pub data_of : Board → Result Body Code → Result Data Code
+data_of b (Ok body) = Ok (body_data b body)
+data_of b (Err code) = Err code
 
 -- an outcome that leaves this board
 abbrev pub done_of : Board → Done → defined.Done
-done_of b d = record { result = data_of d.result; board = b; events = d.events.items; ends = d.ends }
+done_of b d = record { result = data_of b d.result; board = b; events = option_to_list d.event; ends = d.ends }
 
 -- whether a number in what was returned has no text
 abbrev pub has_float_in : Result Data Code → Bool

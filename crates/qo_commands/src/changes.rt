@@ -29,12 +29,12 @@ pub fn is_change(request: &Request) -> bool
 }
 
 /// What a change comes to that returns nothing.
-fn outcome_of(alloc: Global, answer: Result<(), Refusal>) -> Result<Done, AllocError>
+fn outcome_of(answer: Result<(), Refusal>) -> Result<Done, AllocError>
     ensures { ComesTo answer result }
 {
     match answer {
-        Ok(()) => Ok(returned(alloc, Body::Empty)),
-        Err(Refusal::Refused(code)) => Ok(refused(alloc, code)),
+        Ok(()) => Ok(returned(Body::Empty)),
+        Err(Refusal::Refused(code)) => Ok(refused(code)),
         Err(Refusal::Memory) => Err(AllocError),
     }
 }
@@ -50,16 +50,16 @@ fn set<L: Ledger>(
 ) -> Result<Done, AllocError>
     ensures { (b : Tree) → Stands b board.old → Changes b (request.QomSet path.now name.now val.now) result board.new }
 {
-    outcome_of(alloc, board.qom_set(path, name, val, alloc, steps))
+    outcome_of(board.qom_set(path, name, val, alloc, steps))
 }
 
 /// Removes the object of an id.
-fn remove<L: Ledger>(alloc: Global, board: &mut Board, id: &str, steps: &mut Steps<L>) -> Done
+fn remove<L: Ledger>(board: &mut Board, id: &str, steps: &mut Steps<L>) -> Done
     ensures { (b : Tree) → Stands b board.old → Came b (request.ObjectDel id.now) result board.new }
 {
     match board.object_del(id, steps) {
-        Ok(()) => returned(alloc, Body::Empty),
-        Err(code) => refused(alloc, code),
+        Ok(()) => returned(Body::Empty),
+        Err(code) => refused(code),
     }
 }
 
@@ -74,16 +74,16 @@ fn add<L: Ledger>(
 ) -> Result<Done, AllocError>
     ensures { (b : Tree) → Stands b board.old → Changes b (request.ObjectAdd driver.now id.now props.now) result board.new }
 {
-    outcome_of(alloc, board.object_add(driver, id, props, alloc, steps))
+    outcome_of(board.object_add(driver, id, props, alloc, steps))
 }
 
 /// Cuts the strong links of the detached object of a birth.
-fn sever<L: Ledger>(alloc: Global, board: &mut Board, birth: u64, steps: &mut Steps<L>) -> Done
+fn sever<L: Ledger>(board: &mut Board, birth: u64, steps: &mut Steps<L>) -> Done
     ensures { (b : Tree) → Stands b board.old → Came b (request.XSever birth) result board.new }
 {
     match board.sever(birth, steps) {
-        Ok(()) => returned(alloc, Body::Empty),
-        Err(code) => refused(alloc, code),
+        Ok(()) => returned(Body::Empty),
+        Err(code) => refused(code),
     }
 }
 
@@ -108,8 +108,8 @@ pub fn change<L: Ledger>(
         Request::ObjectAdd { driver, id, props } => {
             add(alloc, board, driver.as_str(), id.as_str(), props, steps)
         }
-        Request::ObjectDel { id } => Ok(remove(alloc, board, id.as_str(), steps)),
-        Request::XSever { birth } => Ok(sever(alloc, board, *birth, steps)),
+        Request::ObjectDel { id } => Ok(remove(board, id.as_str(), steps)),
+        Request::XSever { birth } => Ok(sever(board, *birth, steps)),
         _ => unreachable!(),
     }
 }

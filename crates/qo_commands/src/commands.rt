@@ -15,7 +15,6 @@ use crate::notes::query_notes;
 use crate::types::{list_properties, list_types};
 use crate::values::get;
 use qo_heap::Steps;
-use qo_properties::Prop;
 use qo_realize::Board;
 use qo_replies::{Event, version};
 use qo_requests::Request;
@@ -31,8 +30,8 @@ pub enum Body {
     Empty,
     /// Whether the machine runs.
     Status(bool),
-    /// The properties of an object.
-    Properties(Vec<Prop>),
+    /// The properties of the object of a birth, as they stand on the board.
+    Listing(u64),
     /// A value of its own.
     Value(Value),
 }
@@ -42,45 +41,43 @@ pub enum Body {
 pub struct Done {
     /// What it returns, or the code that refuses it.
     pub result: Result<Body, Code>,
-    /// Its events, in order.
-    pub events: Vec<Event>,
+    /// Its event, if it has one.
+    pub event: Option<Event>,
     /// Whether it ends the run.
     pub ends: bool,
 }
 
 /// A command that returns something.
-pub(crate) fn returned(alloc: Global, body: Body) -> Done
-    ensures { (b : Tree) → done_of b result ≡ returned b (body_data body) }
+pub(crate) fn returned(body: Body) -> Done
+    ensures { (b : Tree) → done_of b result ≡ returned b (body_data b body) }
 {
     Done {
         result: Ok(body),
-        events: Vec::new(alloc),
+        event: None,
         ends: false,
     }
 }
 
 /// A command that is refused.
-pub(crate) fn refused(alloc: Global, code: Code) -> Done
+pub(crate) fn refused(code: Code) -> Done
     ensures { (b : Tree) → done_of b result ≡ refused_with b code }
 {
     Done {
         result: Err(code),
-        events: Vec::new(alloc),
+        event: None,
         ends: false,
     }
 }
 
 /// The run ends, and each session that commands is told so.
-fn quit(alloc: Global) -> Result<Done, AllocError>
-    ensures { (b : Tree) → IfOk result (λ d. done_of b d ≡ record { result = Ok empty; board = b; events = event.Shutdown false ∷ []; ends = true }) }
+fn quit() -> Done
+    ensures { (b : Tree) → done_of b result ≡ record { result = Ok empty; board = b; events = event.Shutdown false ∷ []; ends = true } }
 {
-    let mut events = Vec::new(alloc);
-    events.push(Event::Shutdown { guest: false })?;
-    Ok(Done {
+    Done {
         result: Ok(Body::Empty),
-        events,
+        event: Some(Event::Shutdown { guest: false }),
         ends: true,
-    })
+    }
 }
 
 /// A command that leaves the board. The error is want of memory.
@@ -95,7 +92,7 @@ pub fn ask<L: Ledger>(
     ensures { (b : Tree) → Stands b board.now → IfOk result (λ d. done_of b d ≡ performed b request.now) }
 {
     match request {
-        Request::QomList { path } => list(alloc, board, path.as_str(), steps),
+        Request::QomList { path } => Ok(list(board, path.as_str(), steps)),
         Request::QomGet { path, property } => {
             get(alloc, board, path.as_str(), property.as_str(), steps)
         }
@@ -104,15 +101,15 @@ pub fn ask<L: Ledger>(
             with_abstract,
         } => {
             let types = list_types(alloc, implements.as_ref(), with_abstract.unwrap_or(false))?;
-            Ok(returned(alloc, Body::Value(types)))
+            Ok(returned(Body::Value(types)))
         }
         Request::DeviceListProperties { typename } => list_properties(alloc, typename.as_str()),
         Request::XQueryNotes { from } => query_notes(alloc, board, *from),
         Request::XQueryDetached => query_detached(alloc, board, steps),
-        Request::QueryVersion => Ok(returned(alloc, Body::Value(version(alloc)?))),
-        Request::QueryCommands => Ok(returned(alloc, Body::Value(commands(alloc)?))),
-        Request::QueryStatus => Ok(returned(alloc, Body::Status(board.running()))),
-        Request::Quit => quit(alloc),
-        _ => Ok(refused(alloc, Code::E10)),
+        Request::QueryVersion => Ok(returned(Body::Value(version(alloc)?))),
+        Request::QueryCommands => Ok(returned(Body::Value(commands(alloc)?))),
+        Request::QueryStatus => Ok(returned(Body::Status(board.running()))),
+        Request::Quit => Ok(quit()),
+        _ => Ok(refused(Code::E10)),
     }
 }

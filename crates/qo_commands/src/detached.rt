@@ -54,5 +54,5 @@ pub(crate) fn query_detached<L: Ledger>(
 {
     let objects = board.detached(alloc, steps)?;
     let value = detached_list(alloc, &objects)?;
-    Ok(returned(alloc, Body::Value(value)))
+    Ok(returned(Body::Value(value)))
 }

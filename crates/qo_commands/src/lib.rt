@@ -16,3 +16,4 @@ mod values;
 pub use changes::{change, is_change};
 pub use commands::{Body, Done, ask};
 pub use events::drain;
+pub use listings::listing_text;

@@ -55,5 +55,5 @@ pub(crate) fn query_notes(alloc: Global, board: &Board, from: u64) -> Result<Don
 {
     let notes = board.notes(from, alloc)?;
     let value = told(alloc, board.notes_first(from), &notes, board.notes_total())?;
-    Ok(returned(alloc, Body::Value(value)))
+    Ok(returned(Body::Value(value)))
 }

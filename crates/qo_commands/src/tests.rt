@@ -3,11 +3,11 @@
 ghost use Rattle.std.specs.Prelude.{◌≡◌, ◌<◌, false, true};
 ghost use Rattle.qo_commands.specs.Changes.{is_change};
 
-use crate::{Body, Done, ask, change};
+use crate::{Body, Done, ask, change, listing_text};
 use qo_heap::Steps;
 use qo_realize::Board;
 use qo_requests::Request;
-use qo_values::{Code, PropList, PropType, Text, TypeText, Val};
+use qo_values::{Code, PropList, Text, Val};
 use std::alloc::{AllocError, Global};
 use std::marker::Brand;
 use std::sync::ledger::{Blank, Ledger};
@@ -30,7 +30,7 @@ fn tells<L: Ledger>(
 {
     let Done {
         result,
-        events: _,
+        event: _,
         ends: _,
     } = ask(alloc, board, request, steps)?;
     match result {
@@ -50,17 +50,14 @@ fn lists_type<L: Ledger>(
 {
     let Done {
         result,
-        events: _,
+        event: _,
         ends: _,
     } = ask(alloc, board, request, steps)?;
-    let Ok(Body::Properties(props)) = result else {
+    let Ok(Body::Listing(birth)) = result else {
         return Ok(false);
     };
-    let [prop] = props.as_slice() else {
-        return Ok(false);
-    };
-    let is_text = matches!(prop.ty, TypeText::Value(PropType::Text));
-    Ok(is_text && prop.name.as_str() == "type")
+    let listed = listing_text(alloc, board, birth, steps)?;
+    Ok(listed.as_str() == "[{\"name\":\"type\",\"type\":\"string\"}]")
 }
 
 /// Whether the opening board is read.
@@ -108,7 +105,7 @@ fn answer<L: Ledger>(
 {
     let Done {
         result,
-        events: _,
+        event: _,
         ends: _,
     } = change(alloc, board, request, steps)?;
     Ok(result.err())

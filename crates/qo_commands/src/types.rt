@@ -163,11 +163,11 @@ pub(crate) fn list_properties(alloc: Global, typename: &str) -> Result<Done, All
 {
     let types = TypeTable::board();
     let Some(t) = types.find(typename) else {
-        return Ok(refused(alloc, Code::E20));
+        return Ok(refused(Code::E20));
     };
     if !types.is_a(t, "device") {
-        return Ok(refused(alloc, Code::E22));
+        return Ok(refused(Code::E22));
     }
     let listing = row_listing(alloc, t)?;
-    Ok(returned(alloc, Body::Value(listing)))
+    Ok(returned(Body::Value(listing)))
 }

@@ -29,9 +29,9 @@ pub(crate) fn get<L: Ledger>(
     match board.qom_get(path, name, alloc, steps) {
         Ok(val) => {
             let value = to_json(alloc, &val)?;
-            Ok(returned(alloc, Body::Value(value)))
+            Ok(returned(Body::Value(value)))
         }
-        Err(Refusal::Refused(code)) => Ok(refused(alloc, code)),
+        Err(Refusal::Refused(code)) => Ok(refused(code)),
         Err(Refusal::Memory) => Err(AllocError),
     }
 }

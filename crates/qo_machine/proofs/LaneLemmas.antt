@@ -1,5 +1,5 @@
 -- The messages of a step go to lanes of the sixteen sessions.
-use Rattle.std.proofs.Common.{◌≡◌, ℕ, zero, suc, ◌<◌, ◌≤◌, Bool, true, false, if◌then◌else◌, List, [], ◌∷◌, ◌++◌, map, Ok, ap, ◌∙◌, append_assoc, refl, subst, sym, arith, nat_lt}
+use Rattle.std.proofs.Common.{◌≡◌, ℕ, zero, suc, ◌<◌, ◌≤◌, Bool, true, false, if◌then◌else◌, List, [], ◌∷◌, ◌++◌, map, option_to_list, Ok, ap, ◌∙◌, append_assoc, refl, subst, sym, arith, nat_lt}
 use Rattle.std.proofs.lemmas.Bool.{ltb-true}
 use Rattle.std.proofs.lemmas.Grind.{flat_map-append}
 use Rattle.qo_values.specs.declared.limits.TheConstants.{SESSIONS}
@@ -108,12 +108,12 @@ more_lanes a front b is p q = subst AreToLanes (sym is) (lanes_more a front p q)
 -- the messages that tell of what waited, of a command's own events, and its reply
 pub reply_sent : (at : Moment) (n : ℕ) (m mid : Seen) (r : Replied) (start told both outs : List Message) (waiting seen own : List Event) (text : List ℕ)
     → n < SESSIONS → ((b : Board) → state_at b mid ≡ state_at b m) → ((b : Board) → Stands b m.board → waiting ≡ map event_of b.events)
-    → told ≡ start ++ event_outs at (beside mid) seen → seen ≡ waiting → both ≡ told ++ event_outs at (beside mid) own → own ≡ r.events.items
+    → told ≡ start ++ event_outs at (beside mid) seen → seen ≡ waiting → both ≡ told ++ event_outs at (beside mid) own → own ≡ option_to_list r.event
     → r.text ≡ Ok text → outs ≡ both ++ (Session n, text) ∷ []
     → (front : List Message) × (outs ≡ start ++ front) × AreToLanes front × Tells at n m r front
 reply_sent at n m mid r start told both outs waiting seen own text below still waits tells sees adds owns has ends =
     let last : List Message = (Session n, text) ∷ [] in
-    let es : List Event = r.events.items in
+    let es : List Event = option_to_list r.event in
     let one : List Message = event_outs at (beside m) waiting in
     let two : List Message = event_outs at (beside m) es in
     let first : told ≡ start ++ one =

@@ -1,5 +1,5 @@
 -- One step of the machine.
-use Rattle.std.proofs.Common.{◌≡◌, ◌<◌, ◌+◌, ℕ, zero, suc, Bool, true, false, List, [], ◌∷◌, ◌++◌, length, map, refl, sym, subst, ◌∙◌, ap, append_assoc, Option, Result, Ok, Err, ◌⊎◌, inl, inr, IfOk, OnErr, OnOk, nat_lt, ◌≤◌, replicate, arith, slice_set, slice_index_or, take}
+use Rattle.std.proofs.Common.{◌≡◌, ◌<◌, ◌+◌, ℕ, zero, suc, Bool, true, false, List, [], ◌∷◌, ◌++◌, length, map, option_to_list, refl, sym, subst, ◌∙◌, ap, append_assoc, Option, Result, Ok, Err, ◌⊎◌, inl, inr, IfOk, OnErr, OnOk, nat_lt, ◌≤◌, replicate, arith, slice_set, slice_index_or, take}
 use Rattle.std.proofs.lemmas.Bool.{lt-ltb, ltb-true}
 use Rattle.std.proofs.lemmas.List.Elements.{filter-append}
 use Rattle.std.proofs.lemmas.Grind.{flat_map-append}
@@ -290,8 +290,8 @@ served_command at n m mid drained to request id r front came still tells empties
     let is : tells.0 ≡ reply id d.result = rw tells.1 at p.replied in
     command_done at n (state_at b m) request id front to
     (ap (λ (es : List Event). event_outs at (state_at b m) (waited ++ es) ++ (to_session n, reply id d.result) ∷ []) (sym p.events)
-    ∙ ap (λ (x : State). event_outs at x (waited ++ r.events.items) ++ (to_session n, reply id d.result) ∷ []) (sym (still b))
-    ∙ ap (λ (bytes : List ℕ). event_outs at (state_at b mid) (waited ++ r.events.items) ++ (to_session n, bytes) ∷ []) (sym is)
+    ∙ ap (λ (x : State). event_outs at x (waited ++ option_to_list r.event) ++ (to_session n, reply id d.result) ∷ []) (sym (still b))
+    ∙ ap (λ (bytes : List ℕ). event_outs at (state_at b mid) (waited ++ option_to_list r.event) ++ (to_session n, bytes) ∷ []) (sym is)
     ∙ sym (tells.2 d.board p.stands))
     (done_in n m mid drained to request id r came still empties stays move same b stands)) s here
 

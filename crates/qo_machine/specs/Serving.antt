@@ -1,5 +1,5 @@
 -- Items served one after another, whatever choices and whatever items come behind.
-use Rattle.std.specs.Prelude.{◌≡◌, ℕ, List, [], ◌∷◌, ◌++◌, map, Option, Ok, IfOk, ◌⊎◌}
+use Rattle.std.specs.Prelude.{◌≡◌, ℕ, List, [], ◌∷◌, ◌++◌, map, Option, option_to_list, Ok, IfOk, ◌⊎◌}
 use Rattle.qo_causes.specs.declared.hubs.Lane.TheVariants.{Session as to_session}
 use Rattle.qo_causes.specs.declared.inputs.Moment.{Moment}
 use Rattle.qo_framing.specs.declared.items.Item.{Item}
@@ -47,12 +47,12 @@ ServesFront at n s items m =
 -- a command came to what is defined, but for the events that wait: this is its reply, if there was memory for it, and its board stands
 pub record Came (b : Board) (request : Request) (id : Option (List ℕ)) (r : Replied) (v : Parts) : Type 0 where
   pub stands : Stands (performed b request).board v
-  pub events : r.events.items ≡ (performed b request).events
+  pub events : option_to_list r.event ≡ (performed b request).events
   pub ends : r.ends ≡ (performed b request).ends
   pub replied : IfOk r.text (λ text. text ≡ reply id (performed b request).result)
 
--- these messages tell of the events that wait on the board, and of those of a command, and are then its reply
+-- these messages tell of the events that wait on the board, and of the event of a command, if it has one, and are then its reply
 abbrev pub Tells : Moment → ℕ → Seen → Replied → List Message → Type 0
 Tells at n m r front =
     (text : List ℕ) × (r.text ≡ Ok text)
-    × ((b : Board) → Stands b m.board → front ≡ event_outs at (state_at b m) (map event_of b.events ++ r.events.items) ++ (to_session n, text) ∷ [])
+    × ((b : Board) → Stands b m.board → front ≡ event_outs at (state_at b m) (map event_of b.events ++ option_to_list r.event) ++ (to_session n, text) ∷ [])

@@ -53,8 +53,8 @@ fn close_where(sessions: &mut Vec<Session>, lost: &[bool; 16])
 pub(crate) struct Replied {
     /// The text of its reply; an error where there was no memory for it when the board was changed.
     pub(crate) text: Result<Chars, AllocError>,
-    /// Its own events, in order.
-    pub(crate) events: Vec<Event>,
+    /// Its own event, if it has one.
+    pub(crate) event: Option<Event>,
     /// Whether it ends the run.
     pub(crate) ends: bool,
 }
@@ -323,10 +323,10 @@ impl Machine {
         ensures came { (b : Tree) → Stands b self.now.board → IfOk result (λ r. Came b request.now (option_map (λ id. id.now) id.entry) r self.now.board) }
     {
         let done = ask(alloc, &self.board, request, steps)?;
-        let text = reply_text(alloc, id, &done.result)?;
+        let text = reply_text(alloc, &self.board, id, &done.result, steps)?;
         Ok(Replied {
             text: Ok(text),
-            events: done.events,
+            event: done.event,
             ends: done.ends,
         })
     }
@@ -349,9 +349,10 @@ impl Machine {
     {
         let empty = return_written(alloc, id, EMPTY)?;
         let done = change(alloc, &mut self.board, request, steps)?;
+        let text = changed_text(alloc, &self.board, id, empty, &done.result, steps);
         Ok(Replied {
-            text: changed_text(alloc, id, empty, &done.result),
-            events: done.events,
+            text,
+            event: done.event,
             ends: done.ends,
         })
     }

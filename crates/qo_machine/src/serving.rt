@@ -1,6 +1,6 @@
 //! Serving the items of a session: each makes exactly one reply, behind the events of its command.
 
-ghost use Rattle.std.specs.Prelude.{◌≡◌, ◌<◌, [], ◌∷◌, ◌++◌, List, option_map, IfOk, OnErr, OnOk};
+ghost use Rattle.std.specs.Prelude.{◌≡◌, ◌<◌, [], ◌∷◌, ◌++◌, List, option_map, option_to_list, IfOk, OnErr, OnOk};
 ghost use Rattle.qo_causes.specs.declared.hubs.Lane.TheVariants as Lane;
 ghost use Rattle.qo_replies.specs.Replies.{error_reply};
 ghost use Rattle.qo_values.specs.declared.codes.Code.TheVariants.{E99};
@@ -75,6 +75,22 @@ fn tell_all(
     Ok(())
 }
 
+/// Each session that commands is told of the event of a command, if it has one.
+fn tell_own(
+    machine: &Machine,
+    alloc: Global,
+    at: Moment,
+    event: Option<&Event>,
+    outs: &mut Outs,
+) -> Result<(), AllocError>
+    ensures { OnOk result (outs.new ≡ outs.old ++ event_outs at (beside machine.now) (option_to_list (option_map (λ e. e.now) event.entry))) }
+{
+    if let Some(event) = event {
+        tell(machine, alloc, at, event, outs)?;
+    }
+    Ok(())
+}
+
 /// A session is told that memory ran out for its command.
 fn tell_want(
     alloc: Global,
@@ -106,7 +122,7 @@ fn send_reply(
 {
     let waiting = machine.drain(alloc)?;
     tell_all(machine, alloc, at, &waiting, outs)?;
-    tell_all(machine, alloc, at, &reply.events, outs)?;
+    tell_own(machine, alloc, at, reply.event.as_ref(), outs)?;
     outs.push(session, reply.text?)?;
     Ok(())
 }

@@ -6,7 +6,6 @@ ghost use Rattle.qo_model.specs.Paths.{attached, place_of};
 ghost use Rattle.qo_heap.specs.Board.{Shows};
 
 use qo_heap::{Heap, Oid, Steps};
-use qo_values::Name;
 use std::sync::ledger::Ledger;
 
 /// The place of an object in the tree.
@@ -15,7 +14,7 @@ pub struct Place<'a> {
     /// The parent.
     pub parent: Oid,
     /// The name that the object has there.
-    pub name: &'a Name,
+    pub name: &'a str,
 }
 
 /// The place of an object; `None` exactly where it has no parent.

@@ -32,7 +32,7 @@ fn names_up<'a, L: Ledger>(
         let Some(place) = place_of(heap, at, steps) else {
             return Ok(None);
         };
-        names.push(place.name.as_str())?;
+        names.push(place.name)?;
         at = place.parent;
     }
     Ok(None)

@@ -34,30 +34,23 @@ own-child b v s n name key kind is what e =
 abbrev pub line : board.Board → ℕ → Named → List ℕ × List ℕ
 line b n t = (t.0, type_text b n (t.0, shown_slot t.1))
 
-abbrev pub lines_behind : board.Board → Objects → ℕ → ℕ → List (List ℕ × List ℕ)
-lines_behind b v n at = map (line b n) (drop at (slots_of v n))
-
 lines-shown : (b : board.Board) (n : ℕ) (slots : List Named) → map (λ (s : List ℕ × board.Slot). (s.0, type_text b n s)) (shown_slots slots) ≡ map (line b n) slots
 lines-shown b n [] = refl
 lines-shown b n (t ∷ slots) = ap (λ (l : List (List ℕ × List ℕ)). line b n t ∷ l) (lines-shown b n slots)
 
-pub lines-all : (b : board.Board) (v : Objects) → Shows b v → (n : ℕ) → listing b n ≡ lines_behind b v n 0
+lines-all : (b : board.Board) (v : Objects) → Shows b v → (n : ℕ) → listing b n ≡ map (line b n) (slots_of v n)
 lines-all b v s n = ap (map (λ (t : List ℕ × board.Slot). (t.0, type_text b n t))) (shows-slots b v s n) ∙ lines-shown b n (slots_of v n)
 
-module _ {X Y : Type 0} (f : X → Y) where
-  next-first : (xs : List X) (i : ℕ) (x : X) → Some x ≡ slice_get xs i → map f (drop i xs) ≡ f x ∷ map f (drop (suc i) xs)
-  next-first [] i x e = cc
-  next-first (y ∷ xs) zero x e = let same : x ≡ y = cc e in ap (λ (z : X). f z ∷ map f xs) (sym same)
-  next-first (y ∷ xs) (suc i) x e = next-first xs i x e
+at-mapped : {X Y : Type 0} (f : X → Y) (xs : List X) (i : ℕ) → slice_get (map f xs) i ≡ option_map f (slice_get xs i)
+at-mapped f [] i = refl
+at-mapped f (x ∷ xs) zero = refl
+at-mapped f (x ∷ xs) (suc i) = at-mapped f xs i
 
-  pub line-next : (xs : List X) (i : ℕ) (x : X) → Some x ≡ slice_get xs i → map f (drop i xs) ≡ f x ∷ map f (drop (i + 1) xs)
-  line-next xs i x e = let next : suc i ≡ i + 1 = omega arith in next-first xs i x e ∙ ap (λ (k : ℕ). f x ∷ map f (drop k xs)) next
-
-  pub line-last : (xs : List X) (i : ℕ) → None ≡ slice_get xs i → map f (drop i xs) ≡ []
-  line-last [] zero e = refl
-  line-last [] (suc i) e = refl
-  line-last (y ∷ xs) zero e = cc
-  line-last (y ∷ xs) (suc i) e = line-last xs i e
+-- what is listed at a place is told of the slot there
+pub line-at : (b : board.Board) (v : Objects) → Shows b v → (n i : ℕ) (o : Option Named) → o ≡ slice_get (slots_of v n) i → option_map (line b n) o ≡ slice_get (listing b n) i
+line-at b v s n i o is =
+    ap (option_map (line b n)) is ∙ sym (at-mapped (line b n) (slots_of v n) i)
+    ∙ sym (ap (λ (l : List (List ℕ × List ℕ)). slice_get l i) (lines-all b v s n))
 
 pub before-end : {X : Type 0} (xs : List X) (i : ℕ) (x : X) → Some x ≡ slice_get xs i → i < length xs
 before-end [] i x e = cc

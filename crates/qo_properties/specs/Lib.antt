@@ -4,7 +4,6 @@ pub mod Claims
 pub mod Filling
 pub mod Fresh
 pub mod Given
-pub mod Listed
 pub mod Pinned
 pub mod Reads
 pub mod Start

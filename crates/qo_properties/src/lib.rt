@@ -17,7 +17,7 @@ pub use adding::given::{check_given, given_val, linked_to};
 pub use adding::objects::{add_filled, add_object, attempt, make_child};
 pub use adding::start::make_all;
 pub use reading::detached::detached_list;
-pub use reading::listing::{Prop, list};
+pub use reading::listing::property_at;
 pub use reading::lookup::{child_place, object_of, place_named};
 pub use reading::naming::{object_at, path_text, target_text};
 pub use reading::values::{copy_of, get};

@@ -1,12 +1,13 @@
 //! The board.
 
 use qo_events::DeviceEvent;
-use qo_heap::{Heap, Steps};
+use qo_heap::{Heap, Oid, Steps};
 use qo_model::{Detached, Note};
 use qo_properties::{
-    Prop, Refusal, add_object, detached_list, get, list, make_all, remove, set, sever,
+    Refusal, add_object, detached_list, get, make_all, object_at, object_of, property_at, remove,
+    set, sever,
 };
-use qo_values::{Code, PropList, Val};
+use qo_values::{Code, PropList, TypeText, Val};
 use std::alloc::{AllocError, Global};
 use std::marker::Model;
 use std::sync::ledger::Ledger;
@@ -34,8 +35,13 @@ impl Model for Board {
 }
 
 impl Board {
-    ghost use Rattle.std.specs.Prelude.{◌≡◌, [], map, IfOk, OnErr};
-    ghost use Rattle.qo_model.specs.Access.{listing_at, read, write_at};
+    ghost use Rattle.std.specs.Prelude.{◌≡◌, ◌<◌, [], IfNone, IfOk, IfSome, OnErr, length, option_map, slice_get};
+    ghost use Rattle.qo_model.specs.Access.{read, write_at};
+    ghost use Rattle.qo_model.specs.Listing.{listing};
+    ghost use Rattle.qo_model.specs.Properties.{object_at};
+    ghost use Rattle.qo_heap.specs.Objects.{slots_of};
+    ghost use Rattle.qo_table.specs.Rows.{IsLive};
+    ghost use Rattle.qo_values.specs.TypeTexts.{text_of};
     ghost use Rattle.qo_model.specs.Board as model;
     ghost use Rattle.qo_model.specs.Detachment.{detached_told};
     ghost use Rattle.qo_model.specs.NoteReplies.{first_from, given_from};
@@ -43,7 +49,6 @@ impl Board {
     ghost use Rattle.qo_model.specs.Objects as objects;
     ghost use Rattle.qo_model.specs.Opening.{opening_board};
     ghost use Rattle.qo_notes.specs.Log as log;
-    ghost use Rattle.qo_properties.specs.Listed.{prop_told};
     ghost use Rattle.qo_properties.specs.Reads.{Answers};
     ghost use Rattle.qo_realize.specs.Answers.{Adds, IsAnswered, Writes};
     ghost use Rattle.qo_realize.specs.Stands.{Stands, StandsForSome};
@@ -76,17 +81,39 @@ impl Board {
         self.running
     }
 
-    /// The slots of the object at a path, in the order of adding (QEMU's QAPI, `qom-list`). Refused
-    /// with E15 where the path leads to no object, and E16 where to several.
-    pub fn qom_list<L: Ledger>(
-        &self,
-        path: &str,
-        alloc: Global,
-        steps: &mut Steps<L>,
-    ) -> Result<Vec<Prop>, Refusal>
-        ensures { (b : model.Board) → Stands b self.now → Answers (λ list. map prop_told list.items) result (listing_at b path.now) }
+    /// The object at a path, whose slots `qom-list` lists, by its birth. Refused with E15 where the
+    /// path leads to no object, and E16 where to several. It takes no memory.
+    pub fn qom_list<L: Ledger>(&self, path: &str, steps: &mut Steps<L>) -> Result<u64, Code>
+        ensures { (b : model.Board) → Stands b self.now → result ≡ object_at b path.now }
     {
-        list(&self.heap, path, alloc, steps)
+        match object_at(&self.heap, path, steps) {
+            Ok(o) => Ok(o.birth),
+            Err(code) => Err(code),
+        }
+    }
+
+    /// The object of a birth; `None` where there is none. It takes no memory.
+    pub fn object(&self, birth: u64) -> Option<Oid>
+        ensures born { IfSome result (λ o. o.birth ≡ birth) }
+        ensures live { IfSome result (IsLive self.now.objects.rows) }
+        ensures none { (b : model.Board) → Stands b self.now → IfNone result (listing b birth ≡ []) }
+    {
+        object_of(&self.heap, birth)
+    }
+
+    /// The slot of an object at a place, in the order of adding, as `qom-list` lists it: its name, and
+    /// what is told of its type. `None` past the end. It takes no memory.
+    pub fn property_at<L: Ledger>(
+        &self,
+        o: Oid,
+        at: usize,
+        steps: &mut Steps<L>,
+    ) -> Option<(&str, TypeText)>
+        requires { IsLive self.now.objects.rows o }
+        ensures listed { (b : model.Board) → Stands b self.now → option_map (λ p. (p.0.now, text_of p.1)) result ≡ slice_get (listing b o.birth) at }
+        ensures within { IfSome result (λ p. at < length (slots_of self.now.objects o.birth)) }
+    {
+        property_at(&self.heap, o, at, steps)
     }
 
     /// The value of the property of a name of the object at a path (QEMU's QAPI, `qom-get`). A

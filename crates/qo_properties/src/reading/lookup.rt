@@ -8,7 +8,6 @@ ghost use Rattle.qo_table.specs.Rows.{IsLive};
 ghost use Rattle.qo_heap.specs.Objects.{content_of, slots_of};
 
 use qo_heap::{Heap, Oid, Slot, Steps};
-use qo_values::Name;
 use std::sync::ledger::Ledger;
 
 /// The live object of a birth; `None` exactly where there is none.
@@ -35,11 +34,11 @@ pub fn place_named<L: Ledger>(
 }
 
 /// Whether a slot has a child under a name.
-fn is_child_named(name: &Name, what: &Slot, id: &str) -> bool
+fn is_child_named(name: &str, what: &Slot, id: &str) -> bool
     ensures { result ≡ is_object_named id.now (name.now, shown_slot what.now) }
 {
     match what {
-        Slot::Child(_) => name.as_str() == id,
+        Slot::Child(_) => name == id,
         _ => false,
     }
 }

@@ -23,7 +23,7 @@ pub loop-turn-preserved : goal.loop-turn-preserved
 loop-turn-preserved g c = λ b s.
     let below = within c.loop-turn._turn c.live-turn-end.result (length c.args.heap.now.rows) c.loop-turn-test.true c.live-turn-end.ensures in
     let grown : map text c.push.new.self.items ≡ map text c.loop-turn.names.items ++ c.in-Some.place.name.now ∷ [] =
-    ap (map text) c.in_ok-push.ensures.items ∙ map-append text c.loop-turn.names.items (c.as_str.result ∷ []) ∙ ap (λ (x : List ℕ). map text c.loop-turn.names.items ++ x ∷ []) c.as_str.ensures.value in
+    ap (map text) c.in_ok-push.ensures.items ∙ map-append text c.loop-turn.names.items (c.in-Some.place.name ∷ []) in
     rw grown (
     sym (steps-up b (length c.args.heap.now.rows) c.loop-turn._turn c.loop-turn.at.birth (map text c.loop-turn.names.items) (c.in-Some.place.parent.birth, c.in-Some.place.name.now) below (not-one c.loop-turn.at.birth c.if-at-eq1.false) (sym (c.in-Some.ensures b s)))
     ∙ c.loop-turn.invariant b s

@@ -13,13 +13,14 @@ pub returns : goal.returns
 returns g c =
     record {
       came = λ b stands.
-          let does = c.in_ok-done.ensures b (stands_in b c.self.inside.board c.args.self.now (seen_board c.self.view_is) stands) in
+          let here = stands_in b c.self.inside.board c.args.self.now (seen_board c.self.view_is) stands in
+          let does = c.in_ok-done.ensures b here in
           record {
             stands = subst (λ (x : Board). Stands x c.args.self.now.board) (ap (λ (d : Done). d.board) does) stands;
             events = ap (λ (d : Done). d.events) does;
             ends = ap (λ (d : Done). d.ends) does;
             replied =
-                c.in_ok-text.ensures (ap (λ (d : Done). has_float_in d.result) does ∙ no_float b c.args.request.now)
+                c.in_ok-text.ensures b here (ap (λ (d : Done). has_float_in d.result) does ∙ no_float b c.args.request.now)
                 ∙ ap (λ (d : Done). reply (option_map (λ id. id.now) c.args.id) d.result) does;
           };
     }

@@ -21,5 +21,5 @@ returns-clause-came g c = λ b stands.
           if_ok c.changed_text.result
           (λ text written.
           written (ap (λ (d : Done). has_float_in d.result) did.1 ∙ no_float b c.args.request.now)
-          ∙ ap (λ (d : Done). reply (option_map (λ id. id.now) c.args.id) d.result) did.1) c.changed_text.ensures;
+          ∙ ap (λ (d : Done). reply (option_map (λ id. id.now) c.args.id) d.result) did.1) (c.changed_text.ensures _ did.0);
     }
