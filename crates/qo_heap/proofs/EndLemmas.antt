@@ -1,5 +1,5 @@
 -- The final notes of an object, as they are added one after another.
-use Rattle.std.proofs.Common.{◌≡◌, refl, ap, sym, ◌∙◌, ℕ, ◌+◌, ◌<◌, ◌≤◌, Bool, true, false, cond, eqb, List, [], ◌∷◌, ◌++◌, map, filter, length, take, get_or, if◌then◌else◌, sum_by, count_by, Option, Some, None, is_some, option_map, IfSome, Result, Ok, Err, IfOk, IfErr, arith}
+use Rattle.std.proofs.Common.{◌≡◌, refl, ap, sym, ◌∙◌, ℕ, ◌+◌, ◌<◌, ◌≤◌, Bool, true, false, cond, eqb, List, [], ◌∷◌, ◌++◌, map, filter, length, take, get_or, if◌then◌else◌, sum_by, count_by, Option, Some, None, is_some, IfSome, Result, Ok, Err, IfOk, IfErr, arith}
 use Rattle.std.specs.List.{AllByRecursion}
 use Rattle.std.proofs.lemmas.Bool.{eqb-true, eq-eqb}
 use Rattle.std.proofs.lemmas.List.{take_more, take_all}
@@ -11,6 +11,7 @@ use Rattle.qo_object.specs.Slots.{holds, each_changed, forgotten_in}
 use Rattle.qo_object.specs.declared.slots.Slot.{Slot}
 use Rattle.qo_object.specs.declared.slots.Slot.TheVariants.{Plain, Child, Link, Alias}
 use Rattle.qo_table.specs.Rows.{Rows, IsLive, Rises, births, without}
+use Rattle.qo_table.proofs.RowsLemmas.{rises-lower}
 use Rattle.qo_notes.specs.Log.{Log, noted, noted_all}
 use Rattle.qo_notes.proofs.Logs.{parts_lem}
 use Rattle.qo_heap.specs.Objects.{HasPlaces, Objects, IsHeap, content_of, final_notes, has_path, refs_of, targets, forgets, with_kept_event}
@@ -24,6 +25,7 @@ use Rattle.qo_values.specs.declared.kinds.TypeId.{TypeId}
 use Rattle.qo_model.specs.declared.notes.Deed.TheVariants.{Final}
 use Rattle.qo_model.specs.declared.notes.Note.{Note}
 use Rattle.qo_model.specs.Types.{chain, has_finaliser}
+use Rattle.qo_model.proofs.StepLemmas.{is_some-map}
 
 -- the final notes for some types
 abbrev pub final_note : ℕ → TypeId → Note
@@ -102,16 +104,12 @@ live-without n (row ∷ rows) key live differs = go (eqb row.0.birth n) refl (eq
     go false a true b later = let here : row.0.index ≡ key.index = rw b at live in rw (a, b) here
     go false a false b later = rw (a, b) (later (rw b at live) differs)
 
-rises-less : (low above last : ℕ) (ns : List ℕ) → low ≤ above → Rises above ns last → Rises low ns last
-rises-less low above last [] le rises = omega arith
-rises-less low above last (n ∷ ns) le rises = let up : above < n = rises.0 in (omega arith, rises.1)
-
 rises-without : (n above last : ℕ) (rows : List (Key × Content)) → Rises above (births rows) last → Rises above (births (map (forgets n) (without n rows))) last
 rises-without n above last [] rises = rises
 rises-without n above last (row ∷ rows) rises = go (eqb row.0.birth n) refl (rises-without n row.0.birth last rows rises.1)
   where
     go : (b : Bool) → eqb row.0.birth n ≡ b → Rises row.0.birth (births (map (forgets n) (without n rows))) last → Rises above (births (map (forgets n) (without n (row ∷ rows)))) last
-    go true e rest = let up : above < row.0.birth = rises.0 in rw e (rises-less above row.0.birth last (births (map (forgets n) (without n rows))) (omega arith) rest)
+    go true e rest = let up : above < row.0.birth = rises.0 in rw e (rises-lower above row.0.birth last (births (map (forgets n) (without n rows))) (omega arith) rest)
     go false e rest = rw e (rises.0, rest)
 
 length-without : (n : ℕ) (rows : List (Key × Content)) → length (map (forgets n) (without n rows)) ≤ length rows
@@ -154,10 +152,6 @@ pub kept-spare : (w : Waiting) (e : Option DeviceEvent) → (with_kept_event e w
 kept-spare w None = refl
 kept-spare w (Some e) = refl
 
-some-mapped : {X Y : Type 0} (f : X → Y) (o : Option X) → is_some (option_map f o) ≡ is_some o
-some-mapped f None = refl
-some-mapped f (Some x) = refl
-
 -- the paths that are kept, by that of one object and those of the others
 paths-parts : (v : Objects) → IsHeap v → (n : ℕ) (c : Content) → content_of v n ≡ Some c → count_by has_path v.rows ≡ cond (is_some c.kept_path) 1 0 + count_by has_path (map (forgets n) (without n v.rows))
 paths-parts v good n c there = sum-ended (λ (row : Key × Content). cond {A = ℕ} (has_path row) 1 0) n (λ row. refl) 0 v.born v.rows good.rising c there (λ key. refl)
@@ -174,7 +168,7 @@ path-place v good places n c there = go c.kept_path (places ∙ paths-parts v go
 pub places-ended : (v : Objects) → IsHeap v → HasPlaces v → (n : ℕ) (c : Content) → content_of v n ≡ Some c → (with_kept_event (deleted_event (shown n c)) v.events).promised ≡ count_by has_path (map (forgets n) (without n v.rows))
 places-ended v good places n c there =
     let left : ℕ = count_by has_path (map (forgets n) (without n v.rows)) in
-    let event : is_some (deleted_event (shown n c)) ≡ is_some c.kept_path = some-mapped (λ (path : List ℕ). record { deleted = true; id = c.device_id; path = path }) c.kept_path in
+    let event : is_some (deleted_event (shown n c)) ≡ is_some c.kept_path = is_some-map (λ (path : List ℕ). record { deleted = true; id = c.device_id; path = path }) c.kept_path in
     kept-place v.events (deleted_event (shown n c)) left (places ∙ paths-parts v good n c there ∙ ap (λ (b : Bool). cond {A = ℕ} b 1 0 + left) (sym event))
 
 -- the heap with an object more

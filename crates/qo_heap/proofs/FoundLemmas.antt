@@ -36,7 +36,7 @@ found-none n (row ∷ rows) e = go (leb n row.0.birth) refl (found-none n rows)
         rw other (rest (rw p at e))
 
 -- behind a later birth there is none
-later-none : (n above last : ℕ) (rows : List (Key × Content)) → n ≤ above → Rises above (births rows) last → object_at rows n ≡ None
+pub later-none : (n above last : ℕ) (rows : List (Key × Content)) → n ≤ above → Rises above (births rows) last → object_at rows n ≡ None
 later-none n above last rows le rises = go (object_at rows n) refl
   where
     go : (o : Option Content) → object_at rows n ≡ o → object_at rows n ≡ None

@@ -1,5 +1,5 @@
 -- What a board shows, where an object is made and where its slots are added, pointed, set and cut.
-use Rattle.std.proofs.Common.{◌≡◌, refl, ap, sym, ◌∙◌, ℕ, zero, suc, ◌+◌, ◌<◌, ◌≤◌, true, false, leb, List, [], ◌∷◌, ◌++◌, remove, replicate, None, append_assoc, arith}
+use Rattle.std.proofs.Common.{◌≡◌, refl, ap, sym, ◌∙◌, ℕ, zero, suc, ◌+◌, ◌≤◌, true, false, leb, List, [], ◌∷◌, ◌++◌, remove, replicate, None, append_assoc, arith}
 use Rattle.std.specs.List.{AllByRecursion}
 use Rattle.std.proofs.lemmas.Bool.Decides.{nat_tests}
 use Rattle.std.proofs.lemmas.List.{map-append}
@@ -8,6 +8,7 @@ use Rattle.qo_values.specs.declared.properties.Val.{Val}
 use Rattle.qo_kinds.proofs.BodyLemmas.{fresh-registers}
 use Rattle.qo_slots.specs.declared.keys.Key.{Key}
 use Rattle.qo_table.specs.Rows.{Rises, births}
+use Rattle.qo_table.proofs.RowsLemmas.{rises-up}
 use Rattle.qo_model.specs.Board as board
 use Rattle.qo_model.specs.Changes.{make, point, set, cut, add, with_changed, with_cut, with_added}
 use Rattle.qo_model.specs.Changes as changes
@@ -23,14 +24,6 @@ use Rattle.qo_heap.specs.Board.{Shows, record_of, pins_in}
 use Rattle.qo_heap.proofs.ShowsEdits.{all-replicate, shows-edit}
 
 -- an object made
-
--- rising numbers end at or above where they begin
-rises-up : (above last : ℕ) (ns : List ℕ) → Rises above ns last → above ≤ last
-rises-up above last [] rises = rises
-rises-up above last (n ∷ ns) rises =
-    let up : above < n = rises.0 in
-    let rest = rises-up n last ns rises.1 in
-    omega arith
 
 pins-upto : (above last : ℕ) (rows : List (Key × Content)) → Rises above (births rows) last → AllByRecursion (λ m. m ≤ last) (pins_in rows)
 pins-upto above last [] rises = tt

@@ -14,6 +14,7 @@ use Rattle.qo_model.specs.Board as board
 use Rattle.qo_model.specs.References as references
 use Rattle.qo_model.specs.Paths as paths
 use Rattle.qo_model.specs.Release as release
+use Rattle.qo_model.proofs.StepLemmas.{is_some-map}
 use Rattle.qo_object.specs.declared.slots.Slot.{Slot}
 use Rattle.qo_object.specs.declared.slots.Slot.TheVariants.{Plain, Child, Link, Alias}
 use Rattle.qo_object.specs.Slots.{Named, slot_in, target_of, child_of, held, names_child}
@@ -40,12 +41,8 @@ found-shown n (row ∷ rows) = go (eqb row.0.birth n) refl (found-shown n rows)
 pub shows-record : (b : board.Board) (v : Objects) → Shows b v → (n : ℕ) → board.record_of b n ≡ option_map (shown n) (content_of v n)
 shows-record b v s n = ap (λ (rs : List board.Record). find (λ (r : board.Record). eqb r.birth n) rs) s.records ∙ found-shown n v.rows
 
-some-mapped : {A B : Type 0} (f : A → B) (o : Option A) → is_some (option_map f o) ≡ is_some o
-some-mapped f None = refl
-some-mapped f (Some x) = refl
-
 pub shows-live : (b : board.Board) (v : Objects) → Shows b v → (n : ℕ) → board.is_live b n ≡ is_some (content_of v n)
-shows-live b v s n = ap is_some (shows-record b v s n) ∙ some-mapped (shown n) (content_of v n)
+shows-live b v s n = ap is_some (shows-record b v s n) ∙ is_some-map (shown n) (content_of v n)
 
 -- a name that is live has its object
 live-there : (rows : List (Key × Content)) (key : Key) → IsLive rows key → is_some (object_at rows key.birth) ≡ true

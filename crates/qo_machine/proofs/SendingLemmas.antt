@@ -18,6 +18,7 @@ use Rattle.qo_causes.specs.declared.inputs.Input.{Input}
 use Rattle.qo_machine.specs.Machine.{Message}
 use Rattle.qo_machine.specs.Runs.{Told, told, cut_to, has_for, is_lost, lane_bytes, risen, transcript}
 use Rattle.qo_machine.specs.Sending.{AreToLanes, IsLane, Sent, SentFront}
+use Rattle.qo_machine.proofs.RunLemmas.{nothing_appended}
 
 -- One lane, over its flags: was its session lost, and is it the lane of the message.
 
@@ -223,10 +224,6 @@ err_failed start mi ni ms ns mg ng ml nl outs lane bytes text Failed lost is sam
 
 -- The messages of a step.
 
-append_none : (x : Option (List ℕ)) → x ≡ append_known x []
-append_none None = refl
-append_none (Some xs) = ap (λ (l : List ℕ). Some l) (sym (append-nil xs))
-
 none_among : (k n : ℕ) → slice_index_or (replicate k false) n false ≡ false
 none_among zero n = refl
 none_among (suc k) zero = refl
@@ -244,8 +241,8 @@ pub sent_none : (i : Option (List Input)) (s : Option (List ℕ)) (g : Lane → 
 sent_none i s g n =
     record {
       inputs = refl;
-      sent = append_none s;
-      lanes = ((λ l. 0), record { within = λ l. omega arith; lanes = λ l. rw (lane_not_lost l) (append_none (g l)) });
+      sent = nothing_appended s;
+      lanes = ((λ l. 0), record { within = λ l. omega arith; lanes = λ l. rw (lane_not_lost l) (nothing_appended (g l)) });
       losses = λ k. rw (none_lost k) (omega arith);
       untold = λ l f. absurd (true≢false (sym f ∙ lane_not_lost l));
       had = λ l f. absurd (true≢false (sym f ∙ lane_not_lost l));

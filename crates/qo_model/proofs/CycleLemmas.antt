@@ -21,7 +21,7 @@ abbrev births_at : List Record → List ℕ
 births_at rs = map (λ (r : Record). r.birth) rs
 
 -- a fact of each number holds of one that is among them
-all-at : (P : ℕ → Type 0) (xs : List ℕ) → AllByRecursion P xs → (n : ℕ) → among xs n ≡ true → P n
+pub all-at : (P : ℕ → Type 0) (xs : List ℕ) → AllByRecursion P xs → (n : ℕ) → among xs n ≡ true → P n
 all-at P [] h n e = cc
 all-at P (x ∷ xs) h n e = go (eqb n x) refl (all-at P xs h.1 n)
   where

@@ -35,7 +35,7 @@ births-graph_of b = go b.records
     go [] = refl
     go (r ∷ rs) = ap (λ (ns : List ℕ). r.birth ∷ ns) (go rs)
 
-child_of-without_value : (s : Slot) → child_of (without_value s) ≡ child_of s
+pub child_of-without_value : (s : Slot) → child_of (without_value s) ≡ child_of s
 child_of-without_value (plain v) = refl
 child_of-without_value (child n) = refl
 child_of-without_value (strong t target) = refl

@@ -12,6 +12,7 @@ pub mod FinalNotesRunsLemmas
 pub mod GraphLemmas
 pub mod OpeningLemmas
 pub mod PassedLemmas
+pub mod PinLemmas
 pub mod ReleaseKeepsLemmas
 pub mod ReleaseLeavesLemmas
 pub mod ReleaseLemmas

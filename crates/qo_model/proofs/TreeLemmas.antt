@@ -14,6 +14,7 @@ use Rattle.qo_model.specs.SoundGraph.{graph_of, Rises, SoundGraph, GraphFacts}
 use Rattle.qo_model.specs.Laws.{PathsLaw, FrameLaw}
 use Rattle.qo_model.proofs.DepthLemmas.{Leads-back, by_objects_is}
 use Rattle.qo_model.proofs.GraphLemmas.{among-above, children_at, children_of-graph_of, births-graph_of}
+use Rattle.qo_model.proofs.StepLemmas.{is_some-map}
 
 -- the place of n among records
 abbrev pub place_at : List Record → ℕ → Option (ℕ × List ℕ)
@@ -119,10 +120,6 @@ steps-local b n f g same = go (n == 1) refl (place_of b n) refl
     go true p o q = rw (p, steps_turn) refl
     go false p None q = rw (p, steps_turn, q) refl
     go false p (Some r) q = rw (p, steps_turn, q) (ap (option_map (λ (above : List ℕ). above ++ 47 ∷ r.1)) (same r.0 (asks b n r q)))
-
-is_some-map : {A B : Type 0} (f : A → B) (o : Option A) → is_some (option_map f o) ≡ is_some o
-is_some-map f None = refl
-is_some-map f (Some x) = refl
 
 -- to any depth the steps are there exactly where parents lead to birth 1
 abbrev SameTo : Board → ℕ → ℕ → Type 0

@@ -11,6 +11,7 @@ use Rattle.qo_model.specs.Board as board
 use Rattle.qo_model.specs.References as references
 use Rattle.qo_model.specs.Release as release
 use Rattle.qo_model.specs.Paths as paths
+use Rattle.qo_model.proofs.StepLemmas.{is_some-map}
 use Rattle.qo_object.specs.declared.slots.Slot.{Slot}
 use Rattle.qo_object.specs.declared.slots.Slot.TheVariants.{Plain, Child, Link, Alias}
 use Rattle.qo_object.specs.Slots.{Named, names_of, slot_in, target_of, held, holds, names_child, unless_born, forgotten_in, left_of, let_go_at, each_changed}
@@ -129,12 +130,8 @@ held_count-shown n c = go c.slots
         let rest : count_by (λ (t : List ℕ × board.Slot). is_some (board.held t.1)) (shown_slots slots) ≡ count_by (λ (t : Named). is_some (held t.1)) slots = go slots in
         rw (sum_by-cons (λ (t : List ℕ × board.Slot). cond {A = ℕ} (is_some (board.held t.1)) 1 0) (s.0, shown_slot s.1) (shown_slots slots), sum_by-cons (λ (t : Named). cond {A = ℕ} (is_some (held t.1)) 1 0) s slots, some-held s.1, rest) refl
 
-some-mapped : {A B : Type 0} (f : A → B) (o : Option A) → is_some (option_map f o) ≡ is_some o
-some-mapped f None = refl
-some-mapped f (Some x) = refl
-
 pub parent-shown : (n m : ℕ) (c : Content) → is_some (paths.place_in m (shown n c)) ≡ is_parent m c
-parent-shown n m c = some-mapped _ (find (λ s. paths.is_child m s.1) (shown_slots c.slots)) ∙ go c.slots
+parent-shown n m c = is_some-map _ (find (λ s. paths.is_child m s.1) (shown_slots c.slots)) ∙ go c.slots
   where
     one : (s : Slot) → paths.is_child m (shown_slot s) ≡ names_child m s
     one (Plain val) = refl

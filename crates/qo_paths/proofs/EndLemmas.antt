@@ -14,6 +14,7 @@ use Rattle.qo_model.specs.Types.{is_a}
 use Rattle.qo_model.specs.Paths.{attached, components, ends, is_absolute, is_of, next_of, only_of, resolve, the_one, several, walk}
 use Rattle.qo_heap.specs.Objects.{Objects, content_of}
 use Rattle.qo_heap.specs.Board.{Shows}
+use Rattle.qo_heap.proofs.FoundLemmas.{later-none}
 use Rattle.qo_heap.proofs.ShowsReads.{shows-births, shows-kind, shows-record}
 use Rattle.qo_paths.specs.Answers.{end_from, place_told}
 use Rattle.qo_paths.specs.declared.errors.PathError.TheVariants.{NotFound}
@@ -24,13 +25,6 @@ pub root-none : (rows : List (Key × Content)) → option_map (λ (row : Key × 
 root-none [] e = refl
 root-none (row ∷ rows) e = cc
 
-none-above : (n above last : ℕ) (rows : List (Key × Content)) → n ≤ above → Rises above (births rows) last → object_at rows n ≡ None
-none-above n above last [] le rises = refl
-none-above n above last (row ∷ rows) le rises =
-    let up : above < row.0.birth = rises.0 in
-    let other : eqb row.0.birth n ≡ false = grind arith in
-    rw other (none-above n row.0.birth last rows (omega arith) rises.1)
-
 pub root-later : (last : ℕ) (rows : List (Key × Content)) (key : Key) → Rises 0 (births rows) last → option_map (λ (row : Key × Content). row.0) (slice_get rows 0) ≡ Some key → eqb key.birth 1 ≡ false → object_at rows 1 ≡ None
 root-later last [] key rises e other = cc
 root-later last (row ∷ rows) key rises e other =
@@ -38,7 +32,7 @@ root-later last (row ∷ rows) key rises e other =
     let differs : eqb row.0.birth 1 ≡ false = rw same other in
     let up : 0 < row.0.birth = rises.0 in
     let above : 1 < row.0.birth = grind arith in
-    rw differs (none-above 1 row.0.birth last rows (omega arith) rises.1)
+    rw differs (later-none 1 row.0.birth last rows (omega arith) rises.1)
 
 -- where an object is not there, no path leads from it to an object of a type
 pub end-none : (b : Board) (v : Objects) → Shows b v → (n : ℕ) (parts : List (List ℕ)) (wanted : List ℕ) → content_of v n ≡ None → option_and_then (only_of b wanted) (walk b n parts) ≡ None

@@ -11,6 +11,7 @@ use Rattle.qo_kinds.proofs.BodyLemmas.{fresh-registers}
 use Rattle.qo_heap.specs.Objects.{without_kept, with_kept_event, without_device}
 use Rattle.qo_slots.specs.declared.keys.Key.{Key}
 use Rattle.qo_table.specs.Rows.{IsLive, Rises, births, edit, object_at, row_at, without}
+use Rattle.qo_table.proofs.RowsLemmas.{rises-up}
 use Rattle.qo_values.specs.Registers.{fresh_registers}
 use Rattle.qo_model.specs.Board as board
 use Rattle.qo_model.specs.Board.{Board}
@@ -92,13 +93,6 @@ Unnamed n slots = AllByRecursion (λ (s : Named). (key : Key) → target_of s.1 
 
 abbrev Apart : ℕ → List (Key × Content) → Type 0
 Apart n rows = AllByRecursion (λ (row : Key × Content). (eqb row.0.birth n ≡ false) × Unnamed n row.1.slots) rows
-
-rises-up : (above last : ℕ) (ns : List ℕ) → Rises above ns last → above ≤ last
-rises-up above last [] rises = rises
-rises-up above last (n ∷ ns) rises =
-    let up : above < n = rises.0 in
-    let rest = rises-up n last ns rises.1 in
-    omega arith
 
 upto : (m above last : ℕ) (rows : List (Key × Content)) (c : Content) → Rises above (births rows) last → object_at rows m ≡ Some c → m ≤ last
 upto m above last [] c rises e = cc

@@ -1,15 +1,15 @@
 -- That birth 1 alone is pinned, once, before and after the calls on a board.
-use Rattle.std.proofs.Common.{◌≡◌, refl, ap, sym, ◌∙◌, ℕ, zero, suc, ◌+◌, ◌<◌, ◌≤◌, ◌^◌, Bool, true, false, ◌==◌, eqb, nat_eq, leb, List, [], ◌∷◌, ◌++◌, length, replicate, Option, Some, None, arith}
+use Rattle.std.proofs.Common.{◌≡◌, refl, ap, sym, ◌∙◌, ℕ, zero, suc, ◌+◌, ◌<◌, ◌≤◌, ◌^◌, Bool, true, false, ◌==◌, eqb, nat_eq, List, [], ◌∷◌, ◌++◌, length, replicate, Option, Some, None, arith}
 use Rattle.std.specs.Option.{option_map_or}
 use Rattle.std.specs.List.{list_any}
-use Rattle.std.proofs.lemmas.Bool.{eqb-true, eq-eqb}
 use Rattle.qo_slots.specs.declared.keys.Key.{Key}
 use Rattle.qo_table.specs.Rows.{edit, object_at}
-use Rattle.qo_model.specs.Board.{Board, Slot, plain, child, strong, weak, alias, slot_at, slots_at}
+use Rattle.qo_model.specs.Board.{Board, slots_at}
 use Rattle.qo_model.specs.Opening.{opening_board}
 use Rattle.qo_model.specs.Objects.{severed_from}
 use Rattle.qo_model.specs.References.{refs}
-use Rattle.qo_model.specs.Release.{after, finalise, let_go, pin, put_in_order, unpin, without_first, without_pin}
+use Rattle.qo_model.specs.Release.{after, finalise, let_go, pin, put_in_order, without_first}
+use Rattle.qo_model.proofs.PinLemmas.{put-among, put-back, severed-pins, unpin-pins}
 use Rattle.qo_model.proofs.ReleaseLeavesLemmas.{let_go-leaves, release_leaves}
 use Rattle.qo_notes.specs.Log.{empty_log}
 use Rattle.qo_object.specs.Content.{Content}
@@ -18,7 +18,6 @@ use Rattle.qo_heap.specs.Objects.{Objects, pins_of, with_edit}
 use Rattle.qo_life.specs.Life.{Goes}
 use Rattle.qo_life.proofs.TreeLemmas.{tree, tree-shows}
 use Rattle.qo_properties.specs.Changes.{severed}
-use Rattle.qo_properties.proofs.SeverLemmas.{among-put}
 use Rattle.qo_properties.specs.Pinned.{OnlyRootPinned}
 
 length-more : (k m : ℕ) (xs : List ℕ) → length (replicate k m ++ xs) ≡ k + length xs
@@ -86,41 +85,9 @@ let_go-same n i v w goes =
 
 -- severing: the pin of meanwhile goes again
 
-severed-pins : (places i n : ℕ) (b : Board) → (severed_from places i n b).pins ≡ b.pins
-severed-pins zero i n b = refl
-severed-pins (suc places) i n b = go (slot_at b n i) refl (severed-pins places (suc i) n)
-  where
-    go : (o : Option Slot) → slot_at b n i ≡ o → ((d : Board) → (severed_from places (suc i) n d).pins ≡ d.pins) → (severed_from (suc places) i n b).pins ≡ b.pins
-    go None p rest = rw (severed_from, p) (rest b)
-    go (Some (plain v)) p rest = rw (severed_from, p) (rest b)
-    go (Some (child m)) p rest = rw (severed_from, p) (rest b)
-    go (Some (strong t target)) p rest = rw (severed_from, p) (rest (let_go b n i) ∙ (let_go-leaves b n i).pins)
-    go (Some (weak t target)) p rest = rw (severed_from, p) (rest b)
-    go (Some (alias m property)) p rest = rw (severed_from, p) (rest b)
-
--- a pin put in order and taken again
-pin-again : (n : ℕ) → without_first n (put_in_order n (1 ∷ [])) ≡ 1 ∷ []
-pin-again n = go (leb 1 n) refl
-  where
-    last : (t : Bool) → (1 == n) ≡ t → without_first n (1 ∷ n ∷ []) ≡ 1 ∷ []
-    last true p = rw p (ap (λ (m : ℕ). m ∷ []) (sym (eqb-true 1 n p)))
-    last false p = let here : (n == n) ≡ true = eq-eqb n n refl in rw (p, here) refl
-
-    go : (t : Bool) → leb 1 n ≡ t → without_first n (put_in_order n (1 ∷ [])) ≡ 1 ∷ []
-    go true p = rw p (last (1 == n) refl)
-    go false p = let here : (n == n) ≡ true = eq-eqb n n refl in rw (p, here) refl
-
-unpin-pins : (b : Board) (n : ℕ) → list_any (nat_eq n) b.pins ≡ true → (unpin b n).pins ≡ without_first n b.pins
-unfolding unpin
-unpin-pins b n pinned = rw (unpin, pinned) (go (refs (without_pin b n) n == 0) refl)
-  where
-    go : (t : Bool) → (refs (without_pin b n) n == 0) ≡ t → (after finalise (without_pin b n) (Some n)).pins ≡ without_first n b.pins
-    go true p = rw (after, p) (release_leaves (without_pin b n) n).pins
-    go false p = rw (after, p) refl
-
 pub severed-keeps : (n : ℕ) (b : Board) → b.pins ≡ 1 ∷ [] → (severed b n).pins ≡ 1 ∷ []
 unfolding pin
 severed-keeps n b only =
     let c : Board = severed_from (length (slots_at b n)) 0 n (pin b n) in
     let pins : c.pins ≡ put_in_order n (1 ∷ []) = severed-pins (length (slots_at b n)) 0 n (pin b n) ∙ ap (put_in_order n) only in
-    unpin-pins c n (ap (list_any (nat_eq n)) pins ∙ among-put n (1 ∷ [])) ∙ ap (without_first n) pins ∙ pin-again n
+    unpin-pins c n (ap (list_any (nat_eq n)) pins ∙ put-among n (1 ∷ [])) ∙ ap (without_first n) pins ∙ put-back n (1 ∷ []) (tt, tt)

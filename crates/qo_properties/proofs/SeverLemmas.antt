@@ -1,19 +1,20 @@
 -- The strong links of an object let go, while it is held from outside the tree.
-use Rattle.std.proofs.Common.{◌≡◌, refl, ap, sym, subst, ◌∙◌, ℕ, zero, suc, ◌+◌, ◌-◌, ◌<◌, Bool, true, false, not, ◌||◌, cond, leb, nat_eq, eqb, ◌==◌, List, [], ◌∷◌, length, count_by, Option, Some, None, option_map, arith}
+use Rattle.std.proofs.Common.{◌≡◌, refl, ap, sym, subst, ◌∙◌, ℕ, zero, suc, ◌+◌, ◌-◌, ◌<◌, Bool, true, false, not, cond, nat_eq, eqb, ◌==◌, List, [], ◌∷◌, length, count_by, Option, Some, None, option_map, arith}
 use Rattle.std.specs.List.{AllByRecursion, list_any}
 use Rattle.std.specs.Option.{option_map_or}
 use Rattle.std.proofs.lemmas.Bool.{eqb-true}
 use Rattle.std.proofs.lemmas.List.Sums.{sum_by-cons}
 use Rattle.qo_slots.specs.declared.keys.Key.{Key}
 use Rattle.qo_table.specs.Rows.{IsLive}
-use Rattle.qo_model.specs.Board.{Board, is_live, slot_at, slots_at, held, strong}
+use Rattle.qo_model.specs.Board.{Board, is_live, slot_at, slots_at, held}
 use Rattle.qo_model.specs.Board as board
 use Rattle.qo_model.specs.Objects.{severed_from}
 use Rattle.qo_model.specs.References.{refs}
-use Rattle.qo_model.specs.Release.{drop_slot, finish, let_go, pin, put_in_order, unpin}
+use Rattle.qo_model.specs.Release.{drop_slot, finish, let_go, pin, unpin}
 use Rattle.qo_model.specs.ReleaseKeeps.{KeepsRelease}
 use Rattle.qo_model.proofs.ReleaseKeepsLemmas.{after_keeps}
 use Rattle.qo_model.proofs.StepLemmas.{drop-live, finish-live}
+use Rattle.qo_model.proofs.PinLemmas.{put-among}
 use Rattle.qo_notes.specs.Log.{empty_log, noted_all}
 use Rattle.qo_object.specs.Content.{Content, with_pin}
 use Rattle.qo_object.specs.Shown.{shown_slot}
@@ -23,7 +24,6 @@ use Rattle.qo_object.specs.declared.slots.Slot.TheVariants.{Plain, Child, Link, 
 use Rattle.qo_heap.specs.Objects.{IsHeap, Objects, content_of, pins_of, slots_of, with_edit}
 use Rattle.qo_heap.proofs.BookLemmas.{book-edit}
 use Rattle.qo_heap.proofs.ShowsReads.{shows-live, shows-live_key, shows-pinned, shows-slot_at, shows-slots}
-use Rattle.std.proofs.Math.Bool.{or-true}
 use Rattle.qo_object.proofs.ShownLemmas.{length-shown}
 use Rattle.qo_heap.proofs.ShowsEdits.{shows-pin}
 use Rattle.qo_heap.proofs.ShowsLive.{content-edited, live-content}
@@ -161,17 +161,9 @@ goes-pin v good n c there =
       spare = refl;
     }
 
-pub among-put : (n : ℕ) (xs : List ℕ) → list_any (nat_eq n) (put_in_order n xs) ≡ true
-among-put n [] = let same : nat_eq n n ≡ true = grind arith in rw same refl
-among-put n (m ∷ ms) = go (leb m n) refl (among-put n ms)
-  where
-    go : (t : Bool) → leb m n ≡ t → list_any (nat_eq n) (put_in_order n ms) ≡ true → list_any (nat_eq n) (put_in_order n (m ∷ ms)) ≡ true
-    go true p rest = rw p (ap (λ (t : Bool). nat_eq n m || t) rest ∙ or-true (nat_eq n m))
-    go false p rest = let same : nat_eq n n ≡ true = grind arith in rw (p, same) refl
-
 held-pin : (b : Board) (n : ℕ) → is_live b n ≡ true → IsHeld n (pin b n)
 unfolding pin
-held-pin b n live = record { live = live; pinned = among-put n b.pins }
+held-pin b n live = record { live = live; pinned = put-among n b.pins }
 
 held-behind : (step : Board → Board) (v w : Objects) → Goes step v w → (n : ℕ) → IsHeld n (step (tree v)) → IsHeld n (tree w)
 held-behind step v w goes n h = subst (λ (b : Board). IsHeld n b) (tree-behind step v w goes) (record { live = h.live; pinned = h.pinned })

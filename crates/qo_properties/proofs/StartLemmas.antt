@@ -8,6 +8,7 @@ use Rattle.qo_values.specs.declared.kinds.TypeId.TheVariants.{Clock}
 use Rattle.qo_kinds.proofs.BodyLemmas.{fresh-bare}
 use Rattle.qo_slots.specs.declared.keys.Key.{Key}
 use Rattle.qo_table.specs.Rows.{IsLive, Rises, births, row_at}
+use Rattle.qo_table.proofs.RowsLemmas.{rises-up}
 use Rattle.qo_model.specs.Board as board
 use Rattle.qo_model.specs.Changes.{make, add, set, with_fresh_slots}
 use Rattle.qo_model.specs.Opening.{opening_board}
@@ -33,13 +34,6 @@ use Rattle.qo_properties.specs.Start.{IsMade, no_objects, with_new, with_new_chi
 
 abbrev Row : Type 0
 Row = Key × Content
-
-rises-up : (above last : ℕ) (ns : List ℕ) → Rises above ns last → above ≤ last
-rises-up above last [] rises = rises
-rises-up above last (n ∷ ns) rises =
-    let up : above < n = rises.0 in
-    let rest = rises-up n last ns rises.1 in
-    omega arith
 
 row-new : (above last : ℕ) (rows : List Row) (key : Key) (c : Content) → Rises above (births rows) last → last < key.birth → row_at (rows ++ (key, c) ∷ []) key.birth ≡ Some (key, c)
 row-new above last [] key c rises later = let here : eqb key.birth key.birth ≡ true = grind (arith, nat_tests) in rw here refl

@@ -19,6 +19,7 @@ use Rattle.qo_model.specs.SoundGraph.{Rises}
 use Rattle.qo_model.specs.Unplug.{is_named}
 use Rattle.qo_model.proofs.EditLemmas.{StandsAt, stands-at}
 use Rattle.qo_model.proofs.StepLemmas.{found_at}
+use Rattle.qo_model.proofs.PinLemmas.{IsUp}
 use Rattle.qo_sound.proofs.RecordLemmas.{above-none, births_at, edited-none}
 use Rattle.qo_sound.proofs.FirmLemmas.{Firm}
 use Rattle.qo_sound.proofs.FinishLemmas.{one_of}
@@ -27,7 +28,6 @@ use Rattle.qo_sound.proofs.MadeLemmas.{IsNew, grown, grown-firm, grown-old, new-
 use Rattle.qo_sound.proofs.AddedLemmas.{sum-added}
 use Rattle.qo_sound.proofs.DraftLemmas.{with_pins}
 use Rattle.qo_sound.proofs.PinnedLemmas.{created, let-go_up}
-use Rattle.qo_sound.proofs.UnplugLemmas.{IsUp}
 
 -- a new object gets its slots
 furnished : (c : Board) (k : TypeId) (q : List ℕ) → Firm c → with_fresh_slots (c.born + 1) k (with_pins q (with_new (fresh (c.born + 1) k) c)) ≡ with_pins q (with_new (fresh_record (c.born + 1) k) c)

@@ -19,8 +19,8 @@ use Rattle.qo_model.specs.Release.{after, edit, finalise, pin, put_in_order, unp
 use Rattle.qo_model.specs.Reset.{count, is_out, phased, plugged, post}
 use Rattle.qo_model.specs.Types.{slots_of}
 use Rattle.qo_model.specs.Unplug.{is_named, set_named}
+use Rattle.qo_model.proofs.PinLemmas.{IsUp, put-among, put-back}
 use Rattle.qo_sound.proofs.DraftLemmas.{with_pins, rows-blind}
-use Rattle.qo_sound.proofs.UnplugLemmas.{IsUp, put-among, put-back}
 
 -- what an object that has references gains by a pin, it loses with it
 pub unpin-kept : (c : Board) (n : ℕ) → IsUp c.pins → (refs c n == 0) ≡ false → unpin (pin c n) n ≡ c

@@ -1,14 +1,14 @@
 -- An object that is held from outside while its strong links are let go, and then no longer.
-use Rattle.std.proofs.Common.{nat_eq, ◌≡◌, refl, ap, sym, ◌∙◌, ℕ, zero, suc, ◌≤◌, leb, Bool, true, false, ◌==◌, eqb, List, [], ◌∷◌, length, Option, Some, None, arith}
+use Rattle.std.proofs.Common.{nat_eq, ◌≡◌, refl, ap, sym, ◌∙◌, ℕ, zero, suc, ◌≤◌, leb, Bool, true, false, ◌==◌, List, [], ◌∷◌, length, Option, Some, None, arith}
 use Rattle.std.specs.List.{list_any}
-use Rattle.std.proofs.lemmas.Bool.{eqb-true, eq-eqb}
+use Rattle.std.proofs.lemmas.Bool.{eqb-true}
 use Rattle.std.proofs.lemmas.List.Sums.{sum_by-cons}
 use Rattle.qo_model.specs.Board.{Board, Slot, plain, child, strong, weak, alias, is_live, slot_at, slots_at}
 use Rattle.qo_model.specs.Objects.{sever, severed_from}
 use Rattle.qo_model.specs.Paths.{attached}
 use Rattle.qo_model.specs.References.{refs}
-use Rattle.qo_model.specs.Release.{after, finalise, let_go, pin, put_in_order, unpin, without_first, without_pin}
-use Rattle.qo_model.proofs.ReleaseLeavesLemmas.{let_go-leaves, release_leaves}
+use Rattle.qo_model.specs.Release.{let_go, pin, put_in_order, unpin, without_first, without_pin}
+use Rattle.qo_model.proofs.PinLemmas.{put-among, put-back, severed-pins, unpin-pins}
 use Rattle.qo_sound.proofs.CountLemmas.{one_at, times}
 use Rattle.qo_sound.proofs.WorkLemmas.{Nearly, after-firm}
 use Rattle.qo_sound.proofs.ViewLemmas.{AtRest}
@@ -33,29 +33,6 @@ first-times n x apart (m ∷ ns) = go (m == n) refl (first-times n x apart ns)
         let none : one_at x m ≡ 0 = rw differs refl in
         rw (without_first, p) (omega (arith, none, sum_by-cons (one_at x) m ns))
     go false p rest = rw (without_first, p) (omega (arith, rest, sum_by-cons (one_at x) m ns, sum_by-cons (one_at x) m (without_first n ns)))
-
--- the pin of n beside that of birth 1, and without it again
-put-back : (n : ℕ) → without_first n (put_in_order n (1 ∷ [])) ≡ 1 ∷ []
-put-back n = go (leb 1 n) refl (1 == n) refl
-  where
-    own : (n == n) ≡ true
-    own = eq-eqb n n refl
-
-    go : (t : Bool) → leb 1 n ≡ t → (u : Bool) → (1 == n) ≡ u → without_first n (put_in_order n (1 ∷ [])) ≡ 1 ∷ []
-    go true p true q = rw (put_in_order, p, without_first, q) (ap (λ (k : ℕ). k ∷ []) (sym (eqb-true 1 n q)))
-    go true p false q = rw (put_in_order, p, without_first, q, own) refl
-    go false p u q = rw (put_in_order, p, without_first, own) refl
-
-put-among : (n : ℕ) → list_any (nat_eq n) (put_in_order n (1 ∷ [])) ≡ true
-put-among n = go (leb 1 n) refl (eqb n 1) refl
-  where
-    own : eqb n n ≡ true
-    own = eq-eqb n n refl
-
-    go : (t : Bool) → leb 1 n ≡ t → (u : Bool) → eqb n 1 ≡ u → list_any (nat_eq n) (put_in_order n (1 ∷ [])) ≡ true
-    go true p true q = rw (put_in_order, p, q) refl
-    go true p false q = rw (put_in_order, p, q, own) refl
-    go false p u q = rw (put_in_order, p, own) refl
 
 pub near-pin : (b : Board) (n : ℕ) → Nearly None b → Nearly None (pin b n)
 unfolding pin
@@ -91,31 +68,6 @@ near-unpin b n e h = rw (unpin, e) (after-firm (without_pin b n) (Some n) free)
           used = used;
         }
 
--- a release leaves the pins
-pub release-pins : (b : Board) (o : Option ℕ) → (after finalise b o).pins ≡ b.pins
-release-pins b None = refl
-release-pins b (Some m) = go (refs b m == 0) refl
-  where
-    go : (t : Bool) → (refs b m == 0) ≡ t → (after finalise b (Some m)).pins ≡ b.pins
-    go true p = rw (after, p) (release_leaves b m).pins
-    go false p = rw (after, p) refl
-
-pub unpin-pins : (b : Board) (n : ℕ) → list_any (nat_eq n) b.pins ≡ true → (unpin b n).pins ≡ without_first n b.pins
-unfolding unpin
-unpin-pins b n e = rw (unpin, e) (release-pins (without_pin b n) (Some n))
-
-severed-pins : (places i n : ℕ) (b : Board) → (severed_from places i n b).pins ≡ b.pins
-severed-pins zero i n b = refl
-severed-pins (suc places) i n b = go (slot_at b n i) refl (severed-pins places (suc i) n)
-  where
-    go : (s : Option Slot) → slot_at b n i ≡ s → ((c : Board) → (severed_from places (suc i) n c).pins ≡ c.pins) → (severed_from (suc places) i n b).pins ≡ b.pins
-    go None p rest = rw (severed_from, p) (rest b)
-    go (Some (plain v)) p rest = rw (severed_from, p) (rest b)
-    go (Some (child m)) p rest = rw (severed_from, p) (rest b)
-    go (Some (strong t target)) p rest = rw (severed_from, p) (rest (let_go b n i) ∙ (let_go-leaves b n i).pins)
-    go (Some (weak t target)) p rest = rw (severed_from, p) (rest b)
-    go (Some (alias m property)) p rest = rw (severed_from, p) (rest b)
-
 near-severed : (places i n : ℕ) (b : Board) → Nearly None b → Nearly None (severed_from places i n b)
 near-severed zero i n b h = h
 near-severed (suc places) i n b h = go (slot_at b n i) refl (near-severed places (suc i) n)
@@ -133,10 +85,10 @@ severed-rest : (b : Board) (n places : ℕ) → AtRest b → AtRest (unpin (seve
 severed-rest b n places h =
     let c : Board = severed_from places 0 n (pin b n) in
     let pins : c.pins ≡ put_in_order n (1 ∷ []) = severed-pins places 0 n (pin b n) ∙ pinned in
-    let there : list_any (nat_eq n) c.pins ≡ true = ap (list_any (nat_eq n)) pins ∙ put-among n in
+    let there : list_any (nat_eq n) c.pins ≡ true = ap (list_any (nat_eq n)) pins ∙ put-among n (1 ∷ []) in
     record {
       used = near-unpin c n there (near-severed places 0 n (pin b n) (near-pin b n h.used));
-      pinned = unpin-pins c n there ∙ ap (without_first n) pins ∙ put-back n;
+      pinned = unpin-pins c n there ∙ ap (without_first n) pins ∙ put-back n (1 ∷ []) (tt, tt);
     }
   where
     pinned : (pin b n).pins ≡ put_in_order n (1 ∷ [])

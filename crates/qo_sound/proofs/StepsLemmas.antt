@@ -18,6 +18,7 @@ use Rattle.qo_model.proofs.AttemptLemmas.{IsStar, LowRecord, LowSlot}
 use Rattle.qo_model.proofs.DraftEndsLemmas.{IsDraft, draft-begun, draft-free, draft-low, draft-rows, drafted-cut, drafted-ends, kid-ends, kid-free, kinds_in, unjoined-cut, unjoined-ends}
 use Rattle.qo_model.proofs.StepLemmas.{is_some-map}
 use Rattle.qo_model.proofs.PassedLemmas.{attempt-free, attempt-passed}
+use Rattle.qo_model.proofs.PinLemmas.{IsUp}
 use Rattle.qo_sound.proofs.RecordLemmas.{births_at}
 use Rattle.qo_sound.proofs.FirmLemmas.{AllLinked, Firm, FitsKind, Linked}
 use Rattle.qo_sound.proofs.WorkLemmas.{Nearly}
@@ -25,7 +26,6 @@ use Rattle.qo_sound.proofs.ViewLemmas.{AtRest}
 use Rattle.qo_sound.proofs.DraftLemmas.{Drafts, drafted-drafts, found-low, held_up, rows-blind, rows-pins, with_pins}
 use Rattle.qo_sound.proofs.KindsLemmas.{plug-kinds}
 use Rattle.qo_sound.proofs.PinnedLemmas.{let-free, let-free_up, let-go, passed-blind, passed-pins, steps-blind}
-use Rattle.qo_sound.proofs.UnplugLemmas.{IsUp}
 use Rattle.qo_sound.proofs.PlugLemmas.{IsPlace, plugged-rest, shut-above}
 
 -- an object that is there has references

@@ -1,10 +1,9 @@
 -- A device that is detached, with all that is below it: each step keeps the tree of the board sound.
-use Rattle.std.proofs.Common.{nat_eq, ◌≡◌, refl, ap, sym, subst, ◌∙◌, ℕ, zero, suc, ◌+◌, ◌≤◌, leb, Bool, true, false, not, ◌&&◌, ◌==◌, eqb, List, [], ◌∷◌, filter, length, slice_get, codes, Option, Some, None, option_map, arith}
-use Rattle.std.specs.Bool.{⊤}
-use Rattle.std.specs.List.{AllByRecursion, list_any}
+use Rattle.std.proofs.Common.{nat_eq, ◌≡◌, refl, ap, sym, subst, ◌∙◌, ℕ, zero, suc, ◌+◌, ◌≤◌, Bool, true, false, not, ◌&&◌, ◌==◌, List, [], ◌∷◌, filter, length, slice_get, codes, Option, Some, None, option_map, arith}
+use Rattle.std.specs.List.{list_any}
 use Rattle.std.specs.Option.{option_map_or}
 use Rattle.std.specs.Str.{bytes_eq}
-use Rattle.std.proofs.lemmas.Bool.{eqb-true, eq-eqb}
+use Rattle.std.proofs.lemmas.Bool.{eqb-true}
 use Rattle.std.proofs.lemmas.Option.{same_Some}
 use Rattle.std.proofs.lemmas.Slice.Eq.{bytes_eq-Decides}
 use Rattle.qo_values.specs.declared.births.TheConstants.{ANONYMOUS_BIRTH, PERIPHERAL_BIRTH}
@@ -23,6 +22,7 @@ use Rattle.qo_model.specs.Paths.{births, child_of, is_child}
 use Rattle.qo_model.specs.Release.{drop_slot, let_go, pin, put_in_order, unpin, without_first}
 use Rattle.qo_model.specs.SoundAliases.{is_clock_slot, is_open, PassesTo}
 use Rattle.qo_model.specs.Unplug.{apart_within, detach, disconnected, drained, each, first_of, is_bus_slot, is_child_slot, is_named, left_bus, let_go_where, lost_bus, lost_buses, unseen, unseen_named, names_kid, set_named, take_slot, take_where, taken_by, unheld, unnoticed, unrealize, unrealize_turn, unrealized_device, without_all}
+use Rattle.qo_model.proofs.PinLemmas.{IsUp, put-among, put-back, put-up, release-pins, unpin-pins}
 use Rattle.qo_model.proofs.ReleaseLeavesLemmas.{let_go-leaves}
 use Rattle.qo_sound.proofs.FirmLemmas.{Linked}
 use Rattle.qo_sound.proofs.FinishLemmas.{one_of}
@@ -30,7 +30,7 @@ use Rattle.qo_sound.proofs.SlotLemmas.{IsNoClock, no_child, other_name}
 use Rattle.qo_sound.proofs.WorkLemmas.{Nearly, after-firm}
 use Rattle.qo_sound.proofs.ViewLemmas.{AtRest}
 use Rattle.qo_sound.proofs.ChangeLemmas.{IsGentle, emptied-at, gentle-val, near-changed, near-drop, near-let_go, open-last, other-lasts}
-use Rattle.qo_sound.proofs.SeverLemmas.{near-pin, near-unpin, pin-pins, release-pins, unpin-pins}
+use Rattle.qo_sound.proofs.SeverLemmas.{near-pin, near-unpin, pin-pins}
 use Rattle.qo_sound.proofs.CutLemmas.{near-beside, near-cut, near-same_slots}
 
 -- where a search finds a slot
@@ -105,65 +105,6 @@ bus-apart m s e = go (is_clock_slot s) refl
         no : (u : Bool) → u && false ≡ true → ⊥
         no true k = cc
         no false k = cc
-
--- pins in order
-
-abbrev pub IsUp : List ℕ → Type 0
-IsUp [] = ⊤
-IsUp (m ∷ ms) = AllByRecursion (λ k. m ≤ k) ms × IsUp ms
-
-put-first : (n : ℕ) (ms : List ℕ) → AllByRecursion (λ k. n ≤ k) ms → put_in_order n ms ≡ n ∷ ms
-put-first n [] h = refl
-put-first n (m ∷ ms) h = go (leb m n) refl (put-first n ms h.1)
-  where
-    low : n ≤ m
-    low = h.0
-
-    go : (t : Bool) → leb m n ≡ t → put_in_order n ms ≡ n ∷ ms → put_in_order n (m ∷ ms) ≡ n ∷ m ∷ ms
-    go true p rest =
-        let same : m ≡ n = grind (arith, p, low) in
-        rw (put_in_order, p, rest) (ap (λ (k : ℕ). k ∷ n ∷ ms) same ∙ ap (λ (k : ℕ). n ∷ k ∷ ms) (sym same))
-    go false p rest = rw (put_in_order, p) refl
-
-all-low : (n m : ℕ) (ms : List ℕ) → n ≤ m → AllByRecursion (λ k. m ≤ k) ms → AllByRecursion (λ k. n ≤ k) ms
-all-low n m [] low h = tt
-all-low n m (k ∷ ms) low h = let here : m ≤ k = h.0 in (omega arith, all-low n m ms low h.1)
-
-pub put-back : (n : ℕ) (ms : List ℕ) → IsUp ms → without_first n (put_in_order n ms) ≡ ms
-put-back n [] up = let own : (n == n) ≡ true = eq-eqb n n refl in rw (put_in_order, without_first, own) refl
-put-back n (m ∷ ms) up = go (leb m n) refl (m == n) refl (put-back n ms up.1)
-  where
-    go : (t : Bool) → leb m n ≡ t → (u : Bool) → (m == n) ≡ u → without_first n (put_in_order n ms) ≡ ms → without_first n (put_in_order n (m ∷ ms)) ≡ m ∷ ms
-    go true p true q rest =
-        let same : m ≡ n = eqb-true m n q in
-        rw (put_in_order, p, without_first, q) (put-first n ms (subst (λ (x : ℕ). AllByRecursion (λ k. x ≤ k) ms) same up.0) ∙ ap (λ (x : ℕ). x ∷ ms) (sym same))
-    go true p false q rest = rw (put_in_order, p, without_first, q) (ap (λ (xs : List ℕ). m ∷ xs) rest)
-    go false p u q rest = let own : (n == n) ≡ true = eq-eqb n n refl in rw (put_in_order, p, without_first, own) refl
-
-put-all : (n x : ℕ) (ms : List ℕ) → x ≤ n → AllByRecursion (λ k. x ≤ k) ms → AllByRecursion (λ k. x ≤ k) (put_in_order n ms)
-put-all n x [] low h = (low, tt)
-put-all n x (m ∷ ms) low h = go (leb m n) refl (put-all n x ms low h.1)
-  where
-    go : (t : Bool) → leb m n ≡ t → AllByRecursion (λ k. x ≤ k) (put_in_order n ms) → AllByRecursion (λ k. x ≤ k) (put_in_order n (m ∷ ms))
-    go true p rest = rw (put_in_order, p) (h.0, rest)
-    go false p rest = rw (put_in_order, p) (low, h)
-
-put-up : (n : ℕ) (ms : List ℕ) → IsUp ms → IsUp (put_in_order n ms)
-put-up n [] up = (tt, tt)
-put-up n (m ∷ ms) up = go (leb m n) refl (put-up n ms up.1)
-  where
-    go : (t : Bool) → leb m n ≡ t → IsUp (put_in_order n ms) → IsUp (put_in_order n (m ∷ ms))
-    go true p rest = let low : m ≤ n = grind (arith, p) in rw (put_in_order, p) (put-all n m ms low up.0, rest)
-    go false p rest = let low : n ≤ m = grind (arith, p) in rw (put_in_order, p) ((low, all-low n m ms low up.0), up)
-
-pub put-among : (n : ℕ) (ms : List ℕ) → list_any (nat_eq n) (put_in_order n ms) ≡ true
-put-among n [] = let own : eqb n n ≡ true = eq-eqb n n refl in rw (put_in_order, own) refl
-put-among n (m ∷ ms) = go (leb m n) refl (eqb n m) refl (put-among n ms)
-  where
-    go : (t : Bool) → leb m n ≡ t → (u : Bool) → eqb n m ≡ u → list_any (nat_eq n) (put_in_order n ms) ≡ true → list_any (nat_eq n) (put_in_order n (m ∷ ms)) ≡ true
-    go true p true q rest = rw (put_in_order, p, q) refl
-    go true p false q rest = rw (put_in_order, p, q) rest
-    go false p u q rest = let own : eqb n n ≡ true = eq-eqb n n refl in rw (put_in_order, p, own) refl
 
 -- a device is held while something is done that keeps the board so
 held-pinned : (ps : List ℕ) → IsUp ps → (d : ℕ) (f : Board → Board) → ((qs : List ℕ) → IsUp qs → (c : Board) → Sits qs c → Sits qs (f c)) → (c : Board) → Sits ps c → Sits ps (unpin (f (pin c d)) d)

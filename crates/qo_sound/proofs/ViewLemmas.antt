@@ -6,14 +6,16 @@ use Rattle.std.proofs.lemmas.Bool.{eqb-true, eq-eqb}
 use Rattle.std.proofs.lemmas.List.Sums.{sum_by-cons}
 use Rattle.std.proofs.Math.Path.{fun_ext}
 use Rattle.qo_values.specs.declared.kinds.TypeId.{TypeId}
-use Rattle.qo_model.specs.Board.{Board, Record, Slot, plain, child, strong, weak, alias, record_of, kind_of, is_live, held}
+use Rattle.qo_model.specs.Board.{Board, Record, Slot, plain, child, strong, weak, alias, kind_of, is_live, held}
 use Rattle.qo_model.specs.Depth.{among, Leads}
 use Rattle.qo_model.specs.Paths.{births, child_of, children_in, children_of}
 use Rattle.qo_model.specs.References.{refs}
 use Rattle.qo_model.specs.SoundGraph.{graph_of, without_value, without_values, NamesLive, Rises, SoundGraph}
-use Rattle.qo_model.proofs.GraphLemmas.{births-graph_of, children_of-graph_of}
+use Rattle.qo_model.proofs.CycleLemmas.{all-at}
+use Rattle.qo_model.proofs.FinalNotesLemmas.{kind-live}
+use Rattle.qo_model.proofs.GraphLemmas.{births-graph_of, child_of-without_value, children_of-graph_of}
 use Rattle.qo_model.proofs.EditLemmas.{one_is}
-use Rattle.qo_model.proofs.StepLemmas.{found_at, live-among, is_some-map}
+use Rattle.qo_model.proofs.StepLemmas.{found_at, live-among}
 use Rattle.qo_model.specs.SoundAliases.{is_clock_slot, is_open, lasting, PassesTo}
 use Rattle.qo_sound.proofs.SlotLemmas.{clocks_in}
 use Rattle.qo_sound.specs.Kept.{SoundTree}
@@ -47,13 +49,6 @@ sum-graph_of : (f : List ℕ × Slot → ℕ) → ((s : List ℕ × Slot) → f 
 sum-graph_of f same [] = refl
 sum-graph_of f same (r ∷ rs) = omega (arith, sum-graph_of f same rs, sum-each_same f without_value same r.slots, sum_by-cons (λ (x : Record). sum_by f x.slots) (without_values r) (map without_values rs), sum_by-cons (λ (x : Record). sum_by f x.slots) r rs)
 
-child-without : (s : Slot) → child_of (without_value s) ≡ child_of s
-child-without (plain v) = refl
-child-without (child m) = refl
-child-without (strong t target) = refl
-child-without (weak t target) = refl
-child-without (alias m name) = refl
-
 held-without : (s : Slot) → held (without_value s) ≡ held s
 held-without (plain v) = refl
 held-without (child m) = refl
@@ -62,19 +57,16 @@ held-without (weak t target) = refl
 held-without (alias m name) = refl
 
 parents-graph_of : (b : Board) (x : ℕ) → sum_by (parents_in x) (map without_values b.records) ≡ parents_of b x
-parents-graph_of b x = sum-graph_of (one_child x) (one_child-same without_value child-without x) b.records
+parents-graph_of b x = sum-graph_of (one_child x) (one_child-same without_value child_of-without_value x) b.records
 
 refs-graph_of : (b : Board) (x : ℕ) → refs (graph_of b) x ≡ refs b x
 unfolding graph_of
 refs-graph_of b x = omega (arith, sum-graph_of (one_of x) (λ s. ap (one_is x) (held-without s.1)) b.records)
 
 -- what a slot names, by types
-live-kind : (b : Board) (n : ℕ) → is_some (kind_of b n) ≡ is_live b n
-live-kind b n = is_some-map (λ (r : Record). r.kind) (record_of b n)
-
 names-linked : (g : Board) (s : Slot) → NamesLive g (without_value s) → Linked (kind_of g) s
 names-linked g (plain v) h = tt
-names-linked g (child n) h = live-kind g n ∙ h
+names-linked g (child n) h = kind-live g n ∙ h
 names-linked g (strong t None) h = tt
 names-linked g (strong t (Some n)) h = h
 names-linked g (weak t None) h = tt
@@ -127,12 +119,12 @@ lasting-child r n e = go (is_open r.birth) refl
 
 linked-names : (g : Board) (r : Record) → AllByRecursion (λ (s : List ℕ × Slot). Linked (kind_of g) s.1) r.slots → (s : Slot) → Linked (kind_of g) s → PassesTo (lasting r) s → NamesLive g (without_value s)
 linked-names g r all (plain v) h own = tt
-linked-names g r all (child n) h own = sym (live-kind g n) ∙ h
+linked-names g r all (child n) h own = sym (kind-live g n) ∙ h
 linked-names g r all (strong t None) h own = tt
 linked-names g r all (strong t (Some n)) h own = h
 linked-names g r all (weak t None) h own = tt
 linked-names g r all (weak t (Some n)) h own = h
-linked-names g r all (alias n name) h own = sym (live-kind g n) ∙ child-linked (kind_of g) n r.slots all (lasting-child r n own)
+linked-names g r all (alias n name) h own = sym (kind-live g n) ∙ child-linked (kind_of g) n r.slots all (lasting-child r n own)
 
 -- a fact of each number that is among them
 all-from : (P : ℕ → Type 0) (ns : List ℕ) → ((n : ℕ) → among ns n ≡ true → P n) → AllByRecursion P ns
@@ -145,14 +137,6 @@ all-from P (n ∷ ns) h = (h n (rw (eq-eqb n n refl) refl), all-from P ns (λ m 
         go : (t : Bool) → eqb m n ≡ t → among (n ∷ ns) m ≡ true
         go true p = rw p refl
         go false p = rw p e
-
-all-at : (P : ℕ → Type 0) (xs : List ℕ) → AllByRecursion P xs → (n : ℕ) → among xs n ≡ true → P n
-all-at P [] h n e = cc
-all-at P (x ∷ xs) h n e = go (eqb n x) refl (all-at P xs h.1 n)
-  where
-    go : (t : Bool) → eqb n x ≡ t → (among xs n ≡ true → P n) → P n
-    go true p rest = subst P (sym (eqb-true n x p)) h.0
-    go false p rest = rest (rw p at e)
 
 same-children : (b : Board) → children_of (graph_of b) ≡ children_of b
 same-children b = fun_ext (children_of-graph_of b)

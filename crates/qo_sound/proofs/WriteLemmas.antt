@@ -17,11 +17,11 @@ use Rattle.qo_model.specs.declared.properties.Property.{Property}
 use Rattle.qo_model.specs.declared.properties.RowKind.{RowKind}
 use Rattle.qo_model.specs.declared.properties.RowKind.TheVariants as row
 use Rattle.qo_model.proofs.ReleaseLeavesLemmas.{let_go-leaves}
+use Rattle.qo_model.proofs.PinLemmas.{release-pins}
 use Rattle.qo_sound.proofs.FirmLemmas.{FitsKind}
 use Rattle.qo_sound.proofs.ViewLemmas.{AtRest}
 use Rattle.qo_sound.proofs.TargetLemmas.{FitsResult, target-fits}
 use Rattle.qo_sound.proofs.ChangeLemmas.{IsLink, holding, seeing, near-deleted, near-relinked, near-set}
-use Rattle.qo_sound.proofs.SeverLemmas.{release-pins}
 
 -- `object-del`
 pub object_del-rest : (b : Board) (id : List ℕ) → AtRest b → AtRest (object_del b id).board

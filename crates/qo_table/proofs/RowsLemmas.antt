@@ -232,6 +232,14 @@ at-end-of-front p q other (x ∷ xs) = by (p x) refl (at-end-of-front p q other 
     by false e rest = rw (e, other x, e) refl
 
 -- numbers that rise from above one rise from above a lower one
+-- rising numbers end at or above where they begin
+pub rises-up : (above last : ℕ) (ns : List ℕ) → Rises above ns last → above ≤ last
+rises-up above last [] rises = rises
+rises-up above last (n ∷ ns) rises =
+    let up : above < n = rises.0 in
+    let rest = rises-up n last ns rises.1 in
+    omega arith
+
 pub rises-lower : (low above last : ℕ) (ns : List ℕ) → low ≤ above → Rises above ns last → Rises low ns last
 rises-lower low above last [] le rises = omega arith
 rises-lower low above last (n ∷ ns) le rises = let up : above < n = rises.0 in (omega arith, rises.1)

@@ -37,7 +37,8 @@ less_from Less e = refl
 less_from Equal e = cc
 less_from Greater e = cc
 
-both_true : (a b : Bool) → (a && b) ≡ true → (a ≡ true) × (b ≡ true)
+-- both sides of a conjunction
+pub both_true : (a b : Bool) → (a && b) ≡ true → (a ≡ true) × (b ≡ true)
 both_true true b e = (refl, e)
 both_true false b e = cc
 
