@@ -66,7 +66,8 @@ types_no_float : (rows : List TypeRow) → items_have_float (items_of (map type_
 types_no_float [] = refl
 types_no_float (r ∷ rs) = by r.is_abstract r.parent (types_no_float rs)
   where
-    by : (a : Bool) (p : Option TypeId) → items_have_float (items_of (map type_data rs)) ≡ false → items_have_float (items_of (type_data (record r { is_abstract = a; parent = p }) ∷ map type_data rs)) ≡ false
+    by : (a : Bool) (p : Option TypeId) → items_have_float (items_of (map type_data rs)) ≡ false
+        → items_have_float (items_of (type_data (record r { is_abstract = a; parent = p }) ∷ map type_data rs)) ≡ false
     by true None rest = rest
     by true (Some parent) rest = rest
     by false None rest = rest

@@ -7,7 +7,8 @@ use Rattle.serde_json.specs.Data.{Data, array}
 use Rattle.serde_json.specs.View.{items_of}
 use Rattle.qo_values.specs.declared.codes.Code.TheVariants.{E20, E22}
 use Rattle.qo_values.specs.declared.kinds.TypeId.{TypeId}
-use Rattle.qo_values.specs.declared.kinds.TypeId.TheVariants.{Object, Container, Machine, Device, SlotDevice, SlotUart, SlotTimer, SlotBridge, MemDimm, Bus, SlotBus, MemBus, Clock, MemoryBackend, MemoryBackendRam, Tag}
+use Rattle.qo_values.specs.declared.kinds.TypeId.TheVariants.{Object, Container, Machine, Device, SlotDevice, SlotUart, SlotTimer, SlotBridge, MemDimm, Bus}
+use Rattle.qo_values.specs.declared.kinds.TypeId.TheVariants.{SlotBus, MemBus, Clock, MemoryBackend, MemoryBackendRam, Tag}
 use Rattle.qo_model.specs.Board.{Board}
 use Rattle.qo_model.specs.Objects.{may_add}
 use Rattle.qo_model.specs.Types.{TypeRow, is_a, parent_of, row_of, slots_of, types}
@@ -71,23 +72,33 @@ device-none b None is = refl
 device-none b (Some row) is = cc
 
 -- a property more
-pub rows-more : (rows slots : List Property) → rows ≡ slots → (i : ℕ) (d : Property) (before behind : List Data) → i < length rows → before ≡ map property_data (flat_map words_for_adding (take i slots)) → behind ≡ before ++ map property_data (words_for_adding (get_or rows i d)) → behind ≡ map property_data (flat_map words_for_adding (take (i + 1) slots))
+pub rows-more : (rows slots : List Property) → rows ≡ slots → (i : ℕ) (d : Property) (before behind : List Data) → i < length rows
+    → before ≡ map property_data (flat_map words_for_adding (take i slots)) → behind ≡ before ++ map property_data (words_for_adding (get_or rows i d))
+    → behind ≡ map property_data (flat_map words_for_adding (take (i + 1) slots))
 rows-more rows slots same i d before behind within is more =
     let p = get_or rows i d in
     more
-    ∙ ap (λ (l : List Data). l ++ map property_data (words_for_adding p)) (is ∙ ap (λ (l : List Property). map property_data (flat_map words_for_adding (take i l))) (sym same))
-    ∙ sym (ap (λ (l : List Property). map property_data (flat_map words_for_adding l)) (take_more rows i d within) ∙ ap (λ (l : List (List ℕ × List ℕ)). map property_data l) (flat_map-append words_for_adding (take i rows) (p ∷ []) ∙ ap (λ (l : List (List ℕ × List ℕ)). flat_map words_for_adding (take i rows) ++ l) (append-none (words_for_adding p))) ∙ map-append property_data (flat_map words_for_adding (take i rows)) (words_for_adding p))
+    ∙ ap (λ (l : List Data). l ++ map property_data (words_for_adding p))
+    (is ∙ ap (λ (l : List Property). map property_data (flat_map words_for_adding (take i l))) (sym same))
+    ∙ sym (ap (λ (l : List Property). map property_data (flat_map words_for_adding l)) (take_more rows i d within)
+    ∙ ap (λ (l : List (List ℕ × List ℕ)). map property_data l)
+    (flat_map-append words_for_adding (take i rows) (p ∷ [])
+    ∙ ap (λ (l : List (List ℕ × List ℕ)). flat_map words_for_adding (take i rows) ++ l) (append-none (words_for_adding p)))
+    ∙ map-append property_data (flat_map words_for_adding (take i rows)) (words_for_adding p))
     ∙ ap (λ (l : List Property). map property_data (flat_map words_for_adding (take (i + 1) l))) same
   where
     append-none : (l : List (List ℕ × List ℕ)) → l ++ [] ≡ l
     append-none [] = refl
     append-none (x ∷ l) = ap (λ (m : List (List ℕ × List ℕ)). x ∷ m) (append-none l)
 
-pub rows-all : (rows : List Property) (t : TypeId) → rows ≡ slots_of t → (i : ℕ) → length rows ≤ i → map property_data (flat_map words_for_adding (take i (slots_of t))) ≡ map property_data (adding_properties t)
+pub rows-all : (rows : List Property) (t : TypeId) → rows ≡ slots_of t → (i : ℕ) → length rows ≤ i
+    → map property_data (flat_map words_for_adding (take i (slots_of t))) ≡ map property_data (adding_properties t)
 rows-all rows t same i high =
     let past : length (slots_of t) ≤ i = omega (arith, ap (λ (l : List Property). length l) same) in
-    ap (λ (l : List Property). map property_data (flat_map words_for_adding l)) (take_all i (slots_of t) past) ∙ ap (λ (l : List (List ℕ × List ℕ)). map property_data l) (words-all (slots_of t))
+    ap (λ (l : List Property). map property_data (flat_map words_for_adding l)) (take_all i (slots_of t) past)
+    ∙ ap (λ (l : List (List ℕ × List ℕ)). map property_data l) (words-all (slots_of t))
 
 -- a property is told of where the adding command writes it
-pub row-pushed : (p : Property) (text : List ℕ) (before behind : List Data) → may_add p.mark ≡ true → text ≡ kind_word p.kind → behind ≡ before ++ property_data (property_name p.name, text) ∷ [] → behind ≡ before ++ map property_data (words_for_adding p)
+pub row-pushed : (p : Property) (text : List ℕ) (before behind : List Data) → may_add p.mark ≡ true → text ≡ kind_word p.kind
+    → behind ≡ before ++ property_data (property_name p.name, text) ∷ [] → behind ≡ before ++ map property_data (words_for_adding p)
 row-pushed p text before behind may is more = rw (may, ← is) more

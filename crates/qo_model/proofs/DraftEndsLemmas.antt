@@ -90,7 +90,9 @@ kids-low j m [] le = tt
 kids-low j m (k ∷ ks) le = (omega (arith, le), kids-low j (suc m) ks (omega (arith, le)))
 
 -- a new further object names nothing
-bare-slots : (n : ℕ) (t : TypeId) (ps : List Property) → AllByRecursion (λ (s : List ℕ × Slot). BareSlot n s.1) (filter_map (λ (p : Property). option_map (λ (s : Slot). (property_name p.name, s)) (first_slot (λ _. None) t (property_name p.name) p.kind)) ps)
+bare-slots : (n : ℕ) (t : TypeId) (ps : List Property)
+    → AllByRecursion (λ (s : List ℕ × Slot). BareSlot n s.1)
+    (filter_map (λ (p : Property). option_map (λ (s : Slot). (property_name p.name, s)) (first_slot (λ _. None) t (property_name p.name) p.kind)) ps)
 bare-slots n t [] = tt
 bare-slots n t (p ∷ ps) = go (first_slot (λ _. None) t (property_name p.name) p.kind) refl (bare-slots n t ps)
   where
@@ -101,7 +103,11 @@ bare-slots n t (p ∷ ps) = go (first_slot (λ _. None) t (property_name p.name)
     bare (row.Child type) s e = absurd (let clash : None ≡ Some s = e in cc)
     bare (row.Alias owner property) s e = absurd (let clash : None ≡ Some s = e in cc)
 
-    go : (o : Option Slot) → first_slot (λ _. None) t (property_name p.name) p.kind ≡ o → AllByRecursion (λ (s : List ℕ × Slot). BareSlot n s.1) (filter_map (λ (q : Property). option_map (λ (s : Slot). (property_name q.name, s)) (first_slot (λ _. None) t (property_name q.name) q.kind)) ps) → AllByRecursion (λ (s : List ℕ × Slot). BareSlot n s.1) (filter_map (λ (q : Property). option_map (λ (s : Slot). (property_name q.name, s)) (first_slot (λ _. None) t (property_name q.name) q.kind)) (p ∷ ps))
+    go : (o : Option Slot) → first_slot (λ _. None) t (property_name p.name) p.kind ≡ o
+        → AllByRecursion (λ (s : List ℕ × Slot). BareSlot n s.1)
+        (filter_map (λ (q : Property). option_map (λ (s : Slot). (property_name q.name, s)) (first_slot (λ _. None) t (property_name q.name) q.kind)) ps)
+        → AllByRecursion (λ (s : List ℕ × Slot). BareSlot n s.1)
+        (filter_map (λ (q : Property). option_map (λ (s : Slot). (property_name q.name, s)) (first_slot (λ _. None) t (property_name q.name) q.kind)) (p ∷ ps))
     go None e rest = rw e rest
     go (Some s) e rest = rw e (bare p.kind s e, rest)
 
@@ -182,12 +188,24 @@ module _ (b : Board) (n : ℕ) (t : TypeId) (low : AllByRecursion (LowRecord n) 
       Rest : Type 0
       Rest = (x : List TypeId) (e : Board) → IsDraft b n t x e → IsDraft b n t (x ++ kinds_in ps) (rows_made n t ps e)
 
-      go : (kind : RowKind) → p.kind ≡ kind → ((x : List TypeId) (e : Board) → IsDraft b n t x e → IsDraft b n t (x ++ kinds_in ps) (rows_made n t ps e)) → IsDraft b n t (ks ++ kinds_in (p ∷ ps)) (rows_made n t (p ∷ ps) c)
-      go (row.Plain type first) e rest = rw e (rest ks (row_made n t (property_name p.name) (row.Plain type first) c) (draft-slot (property_name p.name) (plain (first_value t first)) ks c (λ lo. tt) h))
-      go (row.Link target true) e rest = rw e (rest ks (row_made n t (property_name p.name) (row.Link target true) c) (draft-slot (property_name p.name) (strong target None) ks c (λ lo. tt) h))
-      go (row.Link target false) e rest = rw e (rest ks (row_made n t (property_name p.name) (row.Link target false) c) (draft-slot (property_name p.name) (weak target None) ks c (λ lo. (tt, tt)) h))
-      go (row.Child type) e rest = rw e (subst (λ (x : List TypeId). IsDraft b n t x (rows_made n t ps (with_kid n (property_name p.name) type c))) (append_assoc ks (type ∷ []) (kinds_in ps)) (rest (ks ++ type ∷ []) (with_kid n (property_name p.name) type c) (draft-kid (property_name p.name) type ks c h)))
-      go (row.Alias owner of) e rest = rw e (rest ks (aliased n (property_name p.name) (property_name of) (owned c n (property_name owner)) c) (draft-alias (property_name p.name) (property_name of) (owned c n (property_name owner)) ks c h))
+      go : (kind : RowKind) → p.kind ≡ kind → ((x : List TypeId) (e : Board) → IsDraft b n t x e → IsDraft b n t (x ++ kinds_in ps) (rows_made n t ps e))
+          → IsDraft b n t (ks ++ kinds_in (p ∷ ps)) (rows_made n t (p ∷ ps) c)
+      go (row.Plain type first) e rest =
+          rw e (rest ks (row_made n t (property_name p.name) (row.Plain type first) c)
+          (draft-slot (property_name p.name) (plain (first_value t first)) ks c (λ lo. tt) h))
+      go (row.Link target true) e rest =
+          rw e (rest ks (row_made n t (property_name p.name) (row.Link target true) c)
+          (draft-slot (property_name p.name) (strong target None) ks c (λ lo. tt) h))
+      go (row.Link target false) e rest =
+          rw e (rest ks (row_made n t (property_name p.name) (row.Link target false) c)
+          (draft-slot (property_name p.name) (weak target None) ks c (λ lo. (tt, tt)) h))
+      go (row.Child type) e rest =
+          rw e (subst (λ (x : List TypeId). IsDraft b n t x (rows_made n t ps (with_kid n (property_name p.name) type c)))
+          (append_assoc ks (type ∷ []) (kinds_in ps))
+          (rest (ks ++ type ∷ []) (with_kid n (property_name p.name) type c) (draft-kid (property_name p.name) type ks c h)))
+      go (row.Alias owner of) e rest =
+          rw e (rest ks (aliased n (property_name p.name) (property_name of) (owned c n (property_name owner)) c)
+          (draft-alias (property_name p.name) (property_name of) (owned c n (property_name owner)) ks c h))
 
 -- the device as it begins
 pub draft-begun : (b : Board) (t : TypeId) → IsDraft b (b.born + 1) t [] (with_new (fresh (b.born + 1) t) b)
@@ -407,7 +425,10 @@ drop-born m j [] k e = let same : m ≡ j = omega (arith, e) in ap (λ (i : ℕ)
 drop-born m j (x ∷ ks) k e = drop-born (suc m) j ks k (omega (arith, e))
 
 -- an attempt that was cut where a further object was made and not joined
-pub unjoined-cut : (b : Board) (t : TypeId) (ps : List Property) (p : Property) (k : TypeId) (qs : List Property) → slots_of t ≡ ps ++ p ∷ qs → p.kind ≡ row.Child k → with_ended b (born_from (b.born + 1) (t ∷ kinds_in ps ++ k ∷ [])) [] ((b.born + 1 + length (kinds_in ps) + 1, k) ∷ device_last (born_from (b.born + 1) (t ∷ kinds_in ps))) ≡ cut_attempt b t (suc (suc (length (kinds_in ps)))) false
+pub unjoined-cut : (b : Board) (t : TypeId) (ps : List Property) (p : Property) (k : TypeId) (qs : List Property) → slots_of t ≡ ps ++ p ∷ qs
+    → p.kind ≡ row.Child k → with_ended b (born_from (b.born + 1) (t ∷ kinds_in ps ++ k ∷ [])) []
+    ((b.born + 1 + length (kinds_in ps) + 1, k) ∷ device_last (born_from (b.born + 1) (t ∷ kinds_in ps)))
+    ≡ cut_attempt b t (suc (suc (length (kinds_in ps)))) false
 unjoined-cut b t ps p k qs split is = ap₂ (λ (os es : List (ℕ × TypeId)). with_ended b os [] es) objects order
   where
     ks : List TypeId

@@ -1,13 +1,17 @@
 -- Worked rows: what the table of types and the opening board give, by computing.
-use Rattle.std.proofs.Common.{◌≡◌, refl, ℕ, List, [], ◌∷◌, ◌++◌, map, filter, codes, true, false, not, ◌&&◌, if◌then◌else◌, Option, Some, None}
+use Rattle.std.proofs.Common.{◌≡◌, refl, ℕ, zero, suc, List, [], ◌∷◌, ◌++◌, length, map, filter, codes}
+use Rattle.std.proofs.Common.{true, false, not, ◌&&◌, if◌then◌else◌, Option, Some, None, option_map}
 use Rattle.std.specs.Str.{bytes_eq}
-use Rattle.qo_values.specs.declared.kinds.TypeId.TheVariants.{Object, Container, Device, SlotDevice, SlotUart, SlotBridge, MemDimm, SlotBus, Clock, MemoryBackend, MemoryBackendRam, Tag}
+use Rattle.qo_values.specs.Kinds.{type_name}
+use Rattle.qo_values.specs.declared.kinds.TypeId.{TypeId}
+use Rattle.qo_values.specs.declared.kinds.TypeId.TheVariants.{Object, Container, Machine, Device, SlotDevice, SlotUart, SlotTimer, SlotBridge, MemDimm}
+use Rattle.qo_values.specs.declared.kinds.TypeId.TheVariants.{Bus, SlotBus, MemBus, Clock, MemoryBackend, MemoryBackendRam, Tag}
 use Rattle.qo_model.specs.Board.{Board}
 use Rattle.qo_model.specs.Listing.{listing}
 use Rattle.qo_model.specs.Opening.{opening_board, opening_records, fresh_record, slots_with}
 use Rattle.qo_model.specs.Paths.{canonical, steps_to, attached, resolve_absolute, components, walk}
 use Rattle.qo_model.specs.References.{refs}
-use Rattle.qo_model.specs.Types.{TypeRow, types, type_line, chain, is_a, slots_of, inits, finals}
+use Rattle.qo_model.specs.Types.{TypeRow, row_named, types, type_line, chain, is_a, slots_of, inits, finals}
 use Rattle.qo_model.specs.RowNames.{property_name}
 use Rattle.qo_model.specs.declared.properties.Property.{Property}
 
@@ -39,6 +43,34 @@ chain-of-uart : chain SlotUart ≡ SlotUart ∷ SlotDevice ∷ Device ∷ Object
 unfolding types
 chain-of-uart = refl
 
+-- a chain by names: the row of a name, that of its parent's name, and so on
+abbrev chain_named : ℕ → List ℕ → List TypeId
+chain_named zero name = []
+chain_named (suc steps) name =
+    elim (row_named name) [
+      | None ↦ []
+      | Some row ↦ row.id ∷ elim (option_map type_name row.parent) [ None ↦ [] | Some parent ↦ chain_named steps parent ]
+    ]
+
+chains-by-names : (t : TypeId) → chain_named (length types) (type_name t) ≡ chain t
+unfolding types
+chains-by-names Object = refl
+chains-by-names Container = refl
+chains-by-names Machine = refl
+chains-by-names Device = refl
+chains-by-names SlotDevice = refl
+chains-by-names SlotUart = refl
+chains-by-names SlotTimer = refl
+chains-by-names SlotBridge = refl
+chains-by-names MemDimm = refl
+chains-by-names Bus = refl
+chains-by-names SlotBus = refl
+chains-by-names MemBus = refl
+chains-by-names Clock = refl
+chains-by-names MemoryBackend = refl
+chains-by-names MemoryBackendRam = refl
+chains-by-names Tag = refl
+
 bridge-is-resettable : is_a SlotBridge (codes "resettable") ≡ true
 unfolding types
 bridge-is-resettable = refl
@@ -47,7 +79,9 @@ bus-is-no-device : is_a SlotBus (codes "device") ≡ false
 unfolding types
 bus-is-no-device = refl
 
-slots-of-uart : map (λ (p : Property). (property_name p.name)) (slots_of SlotUart) ≡ codes "type" ∷ codes "realized" ∷ codes "parent_bus" ∷ codes "slot" ∷ codes "peer" ∷ codes "watch" ∷ codes "clk" ∷ codes "clock-period" ∷ codes "chardev" ∷ []
+slots-of-uart : map (λ (p : Property). property_name p.name) (slots_of SlotUart)
+    ≡ codes "type" ∷ codes "realized" ∷ codes "parent_bus" ∷ codes "slot" ∷ codes "peer" ∷ codes "watch"
+    ∷ codes "clk" ∷ codes "clock-period" ∷ codes "chardev" ∷ []
 unfolding types
 slots-of-uart = refl
 

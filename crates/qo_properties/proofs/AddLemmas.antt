@@ -295,11 +295,15 @@ newest-beside v w u o key c f good birth live is change =
 begun-bare : (t : TypeId) (p : Property) (slots : List Named) → count_by (λ (s : Named). is_some (held s.1)) (cons_option (slot_begun t p) slots) ≡ count_by (λ (s : Named). is_some (held s.1)) slots
 begun-bare t p slots = go p.kind refl
   where
-    go : (k : RowKind) → p.kind ≡ k → count_by (λ (s : Named). is_some (held s.1)) (cons_option (slot_begun t p) slots) ≡ count_by (λ (s : Named). is_some (held s.1)) slots
-    go (row.Plain type first) e = rw e (omega (arith, sum_by-cons (λ (s : Named). cond {A = ℕ} (is_some (held s.1)) 1 0) (property_name p.name, Plain (first_value t first)) slots))
+    go : (k : RowKind) → p.kind ≡ k → count_by (λ (s : Named). is_some (held s.1)) (cons_option (slot_begun t p) slots)
+        ≡ count_by (λ (s : Named). is_some (held s.1)) slots
+    go (row.Plain type first) e =
+        rw e (omega (arith, sum_by-cons (λ (s : Named). cond {A = ℕ} (is_some (held s.1)) 1 0) (property_name p.name, Plain (first_value t first)) slots))
     go (row.Child child) e = rw e refl
-    go (row.Link target true) e = rw e (omega (arith, sum_by-cons (λ (s : Named). cond {A = ℕ} (is_some (held s.1)) 1 0) (property_name p.name, Link target true None) slots))
-    go (row.Link target false) e = rw e (omega (arith, sum_by-cons (λ (s : Named). cond {A = ℕ} (is_some (held s.1)) 1 0) (property_name p.name, Link target false None) slots))
+    go (row.Link target true) e =
+        rw e (omega (arith, sum_by-cons (λ (s : Named). cond {A = ℕ} (is_some (held s.1)) 1 0) (property_name p.name, Link target true None) slots))
+    go (row.Link target false) e =
+        rw e (omega (arith, sum_by-cons (λ (s : Named). cond {A = ℕ} (is_some (held s.1)) 1 0) (property_name p.name, Link target false None) slots))
     go (row.Alias owner property) e = rw e refl
 
 all-bare : (t : TypeId) (ps : List Property) → count_by (λ (s : Named). is_some (held s.1)) (filter_map (slot_begun t) ps) ≡ 0

@@ -1,5 +1,6 @@
 -- The row of a type that a name gives, and what it refuses.
-use Rattle.std.proofs.Common.{◌≡◌, refl, ap, sym, subst, ◌∙◌, ap₂, ◌<◌, ◌≤◌, leb, nat_lt, cond, Bool, true, false, ◌||◌, List, [], ◌∷◌, length, ℕ, codes, find, Option, Some, None, is_some, option_map, arith}
+use Rattle.std.proofs.Common.{◌≡◌, refl, ap, sym, subst, ◌∙◌, ap₂, ◌<◌, ◌≤◌, leb, nat_lt, cond, Bool, true, false, ◌||◌, List, [], ◌∷◌, length, ℕ, codes, find}
+use Rattle.std.proofs.Common.{Option, Some, None, is_some, option_map, arith}
 use Rattle.std.specs.List.{AllByRecursion, list_all, list_any}
 use Rattle.qo_values.specs.Ids.{is_id, is_id_byte, is_letter}
 use Rattle.qo_values.specs.Names.{IsName, is_name_byte}
@@ -50,7 +51,8 @@ row-own name row e = found-has (λ (r : TypeRow). row_of r.id ≡ Some r) (λ (r
 
 -- what the row of a type says, where a name gives the type
 module _ (name : List ℕ) (t : TypeId) (is : Some t ≡ option_map (λ (x : TypeRow). x.id) (row_named name)) where
-  by_row : (P : Option TypeRow → Type 0) → ((row : TypeRow) → row_named name ≡ Some row → row.id ≡ t → is_abstract t ≡ row.is_abstract → P (Some row)) → P (row_named name)
+  by_row : (P : Option TypeRow → Type 0) → ((row : TypeRow) → row_named name ≡ Some row → row.id ≡ t → is_abstract t ≡ row.is_abstract → P (Some row))
+      → P (row_named name)
   by_row P given = go (row_named name) refl
     where
       go : (o : Option TypeRow) → row_named name ≡ o → P o

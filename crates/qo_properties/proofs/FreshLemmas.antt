@@ -148,13 +148,15 @@ name-at t i p at = named-of (property_name p.name) (passes-at (λ (q : Property)
 
 -- the slots of properties as they are shown, also of the first ones alone
 abbrev pub of_rows : TypeId → List Property → List (List ℕ × board.Slot)
-of_rows t ps = filter_map (λ (p : Property). option_map (λ (s : board.Slot). (property_name p.name, s)) (first_slot (λ _. None) t (property_name p.name) p.kind)) ps
+of_rows t ps =
+    filter_map (λ (p : Property). option_map (λ (s : board.Slot). (property_name p.name, s)) (first_slot (λ _. None) t (property_name p.name) p.kind)) ps
 
 pub new-shown : (t : TypeId) (ps : List Property) → shown_slots (filter_map (slot_begun t) ps) ≡ of_rows t ps
 new-shown t [] = refl
 new-shown t (p ∷ ps) = go p.kind refl (new-shown t ps)
   where
-    go : (k : RowKind) → p.kind ≡ k → shown_slots (filter_map (slot_begun t) ps) ≡ of_rows t ps → shown_slots (filter_map (slot_begun t) (p ∷ ps)) ≡ of_rows t (p ∷ ps)
+    go : (k : RowKind) → p.kind ≡ k → shown_slots (filter_map (slot_begun t) ps) ≡ of_rows t ps
+        → shown_slots (filter_map (slot_begun t) (p ∷ ps)) ≡ of_rows t (p ∷ ps)
     go (row.Plain type first) is rest = rw is (ap (λ ss. (property_name p.name, board.plain (first_value t first)) ∷ ss) rest)
     go (row.Child type) is rest = rw is rest
     go (row.Link target true) is rest = rw is (ap (λ ss. (property_name p.name, board.strong target None) ∷ ss) rest)

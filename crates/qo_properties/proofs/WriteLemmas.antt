@@ -1,5 +1,6 @@
 -- What is written to the board, by its heap.
-use Rattle.std.proofs.Common.{◌≡◌, refl, ap, sym, ◌∙◌, ℕ, zero, suc, Bool, true, false, cond, nat_lt, List, [], ◌∷◌, Option, Some, None, is_some, IfSome, option_map}
+use Rattle.std.proofs.Common.{◌≡◌, refl, ap, sym, ◌∙◌, ℕ, zero, suc, Bool, true, false, cond, nat_lt, List, [], ◌∷◌, Option, Some, None, is_some, IfSome}
+use Rattle.std.proofs.Common.{option_map}
 use Rattle.std.specs.Prelude.{position, Result, Ok, Err}
 use Rattle.std.specs.List.{position_or_len}
 use Rattle.std.specs.Option.{option_and_then, option_map_or}
@@ -58,10 +59,13 @@ module _ (b : board.Board) (v : Objects) (s : Shows b v) (n : ℕ) (name : List 
       ap (λ (o : Option ℕ). elim o [ None ↦ Err E17 | Some j ↦ written_by b n j (option_and_then (λ t. row_of_property t name) (board.kind_of b n)) val ]) (shows-place_of b v s n name ∙ sym there)
       ∙ ap (λ (o : Option TypeId). written_by b n i (option_and_then (λ t. row_of_property t name) o) val) (shows-kind b v s n ∙ is)
 
-  pub write-no_row : (i : ℕ) (kind : TypeId) → Some i ≡ position (λ (t : Named). bytes_eq name t.0) (heap.slots_of v n) → option_map (λ (c : Content). c.kind) (content_of v n) ≡ Some kind → None ≡ row_of_property kind name → Err E18 ≡ write b n name val
+  pub write-no_row : (i : ℕ) (kind : TypeId) → Some i ≡ position (λ (t : Named). bytes_eq name t.0) (heap.slots_of v n)
+      → option_map (λ (c : Content). c.kind) (content_of v n) ≡ Some kind → None ≡ row_of_property kind name → Err E18 ≡ write b n name val
   write-no_row i kind there is none = sym (by-place i kind there is ∙ ap (λ (o : Option Property). written_by b n i o val) (sym none))
 
-  pub write-row : (i : ℕ) (kind : TypeId) (r : Property) → Some i ≡ position (λ (t : Named). bytes_eq name t.0) (heap.slots_of v n) → option_map (λ (c : Content). c.kind) (content_of v n) ≡ Some kind → Some r ≡ row_of_property kind name → written_by b n i (Some r) val ≡ write b n name val
+  pub write-row : (i : ℕ) (kind : TypeId) (r : Property) → Some i ≡ position (λ (t : Named). bytes_eq name t.0) (heap.slots_of v n)
+      → option_map (λ (c : Content). c.kind) (content_of v n) ≡ Some kind → Some r ≡ row_of_property kind name
+      → written_by b n i (Some r) val ≡ write b n name val
   write-row i kind r there is its = sym (by-place i kind there is ∙ ap (λ (o : Option Property). written_by b n i o val) (sym its))
 
 -- what stands in the slot that is written

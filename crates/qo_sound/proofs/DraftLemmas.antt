@@ -109,10 +109,16 @@ pub record Drafts (b : Board) (n : ℕ) (t : TypeId) (ps : List Property) (c : B
   pub upward : (x y : ℕ) → n ≤ x → leads (children_of c) x y ≡ true → n < y
 
 -- names that stay free where one more is taken
-free-more : (name : List ℕ) (s : Slot) (slots : List (List ℕ × Slot)) (ps : List Property) → AllByRecursion (λ (p : Property). AllByRecursion (λ x. bytes_eq x (property_name p.name) ≡ false) (names_in slots)) ps → AllByRecursion (λ x. bytes_eq name x ≡ false) (row_names ps) → AllByRecursion (λ (p : Property). AllByRecursion (λ x. bytes_eq x (property_name p.name) ≡ false) (names_in (slots ++ (name, s) ∷ []))) ps
+free-more : (name : List ℕ) (s : Slot) (slots : List (List ℕ × Slot)) (ps : List Property)
+    → AllByRecursion (λ (p : Property). AllByRecursion (λ x. bytes_eq x (property_name p.name) ≡ false) (names_in slots)) ps
+    → AllByRecursion (λ x. bytes_eq name x ≡ false) (row_names ps)
+    → AllByRecursion (λ (p : Property). AllByRecursion (λ x. bytes_eq x (property_name p.name) ≡ false) (names_in (slots ++ (name, s) ∷ []))) ps
 free-more name s slots [] h k = tt
-free-more name s slots (p ∷ ps) h k =
-    (subst (AllByRecursion (λ x. bytes_eq x (property_name p.name) ≡ false)) (sym (map-append (λ (x : List ℕ × Slot). x.0) slots ((name, s) ∷ []))) (all-append (λ x. bytes_eq x (property_name p.name) ≡ false) (names_in slots) (name ∷ []) h.0 (k.0, tt)), free-more name s slots ps h.1 k.1)
+free-more name s slots (p ∷ ps) h k = (
+  subst (AllByRecursion (λ x. bytes_eq x (property_name p.name) ≡ false)) (sym (map-append (λ (x : List ℕ × Slot). x.0) slots ((name, s) ∷ [])))
+      (all-append (λ x. bytes_eq x (property_name p.name) ≡ false) (names_in slots) (name ∷ []) h.0 (k.0, tt)),
+  free-more name s slots ps h.1 k.1,
+)
 
 -- the object that was changed, and the others
 own-record : (n : ℕ) (change : Record → Record) → ((r : Record) → (change r).birth ≡ r.birth) → (rs : List Record) (owner : Record) → found_at n rs ≡ Some owner → found_at n (map (edited n change) rs) ≡ Some (change owner)
@@ -159,7 +165,8 @@ module _ (b : Board) (n : ℕ) (t : TypeId) (absent : record_of b n ≡ None) (n
       go true p = absurd (let clash : Some r ≡ None = sym e ∙ ap (record_of b) (eqb-true x n p) ∙ absent in cc)
 
   -- a slot more that names no child
-  drafts-slot : (p : Property) (ps : List Property) (c : Board) (s : Slot) → child_of s ≡ None → HoldsNone s → Linked (kind_of c) s → (h : Drafts b n t (p ∷ ps) c) → PassesTo (lasting h.owner) s → Drafts b n t ps (add n (property_name p.name) s c)
+  drafts-slot : (p : Property) (ps : List Property) (c : Board) (s : Slot) → child_of s ≡ None → HoldsNone s → Linked (kind_of c) s
+      → (h : Drafts b n t (p ∷ ps) c) → PassesTo (lasting h.owner) s → Drafts b n t ps (add n (property_name p.name) s c)
   unfolding add IsDistinct
   drafts-slot p ps c s none holds links h passes =
       record {
@@ -176,24 +183,31 @@ module _ (b : Board) (n : ℕ) (t : TypeId) (absent : record_of b n ≡ None) (n
         alone =
             let nothing : one_child n (property_name p.name, s) ≡ 0 = none-child n s none in
             omega (arith, h.alone, nothing, sum-added (one_child n) n (property_name p.name) s c.records h.near.firm.rising h.owner h.found);
-        upward = λ x y le e. h.upward x y le (edited-leads n (with_added (property_name p.name) s) (λ r. refl) (λ r. refl) c (λ r z q k. rw (children-added (property_name p.name) s r.slots none) at k) x y e);
+        upward =
+            λ x y le e. h.upward x y le (edited-leads n (with_added (property_name p.name) s) (λ r. refl) (λ r. refl) c
+            (λ r z q k. rw (children-added (property_name p.name) s r.slots none) at k) x y e);
       }
 
   -- a further object is made and joined
-  drafts-kid : (p : Property) (ps : List Property) (c : Board) (of : TypeId) → Drafts b n t (p ∷ ps) c → Drafts b n t ps (with_kid n (property_name p.name) of c)
+  drafts-kid : (p : Property) (ps : List Property) (c : Board) (of : TypeId) → Drafts b n t (p ∷ ps) c
+      → Drafts b n t ps (with_kid n (property_name p.name) of c)
   unfolding add IsDistinct
   drafts-kid p ps c of h =
       record {
         near = named-near g n (c.born + 1) (property_name p.name) bare near_g;
         owner = with_added (property_name p.name) (child (c.born + 1)) h.owner;
-        found = own-record n (with_added (property_name p.name) (child (c.born + 1))) (λ r. refl) g.records h.owner (grown-old c k notes h.near.firm new n h.owner h.found);
+        found =
+            own-record n (with_added (property_name p.name) (child (c.born + 1))) (λ r. refl) g.records h.owner
+            (grown-old c k notes h.near.firm new n h.owner h.found);
         kind = h.kind;
         low = omega (arith, low);
         free = free-more (property_name p.name) (child (c.born + 1)) h.owner.slots ps h.free.1 h.apart.0;
         apart = h.apart.1;
         clocked = h.clocked.1;
         empty = all-append (λ (x : List ℕ × Slot). HoldsNone x.1) h.owner.slots ((property_name p.name, child (c.born + 1)) ∷ []) h.empty (tt, tt);
-        old = λ x r e. other-record n (with_added (property_name p.name) (child (c.born + 1))) (λ y. refl) g.records x r (differs x r e) (grown-old c k notes h.near.firm new x r (h.old x r e));
+        old =
+            λ x r e. other-record n (with_added (property_name p.name) (child (c.born + 1))) (λ y. refl) g.records x r (differs x r e)
+            (grown-old c k notes h.near.firm new x r (h.old x r e));
         alone =
             let other : (c.born + 1 == n) ≡ false = grind (arith, low) in
             let nothing : one_child n (property_name p.name, child (c.born + 1)) ≡ 0 = rw other refl in
@@ -254,7 +268,8 @@ module _ (b : Board) (n : ℕ) (t : TypeId) (absent : record_of b n ≡ None) (n
         upward = h.upward;
       }
 
-  drafts-alias : (p : Property) (ps : List Property) (c : Board) (owner property : List ℕ) → bytes_eq owner (codes "clk") ≡ true → Drafts b n t (p ∷ ps) c → (o : Option ℕ) → owned c n owner ≡ o → Drafts b n t ps (aliased n (property_name p.name) property o c)
+  drafts-alias : (p : Property) (ps : List Property) (c : Board) (owner property : List ℕ) → bytes_eq owner (codes "clk") ≡ true → Drafts b n t (p ∷ ps) c
+      → (o : Option ℕ) → owned c n owner ≡ o → Drafts b n t ps (aliased n (property_name p.name) property o c)
   drafts-alias p ps c owner property clock h None e = drafts-skip p ps c h
   drafts-alias p ps c owner property clock h (Some m) e = drafts-slot p ps c (alias m property) refl tt tt h passes
     where
@@ -277,7 +292,8 @@ module _ (b : Board) (n : ℕ) (t : TypeId) (absent : record_of b n ≡ None) (n
       go (row.Link target true) e = rw e (drafts-slot p ps c (strong target None) refl tt tt h tt)
       go (row.Link target false) e = rw e (drafts-slot p ps c (weak target None) refl tt tt h tt)
       go (row.Child type) e = rw e (drafts-kid p ps c type h)
-      go (row.Alias owner of) e = rw e (drafts-alias p ps c (property_name owner) (property_name of) (rw e at h.clocked.0) h (owned c n (property_name owner)) refl)
+      go (row.Alias owner of) e =
+          rw e (drafts-alias p ps c (property_name owner) (property_name of) (rw e at h.clocked.0) h (owned c n (property_name owner)) refl)
 
   pub drafts-rows : (ps : List Property) (c : Board) → Drafts b n t ps c → Drafts b n t [] (rows_made n t ps c)
   drafts-rows [] c h = h
@@ -377,7 +393,8 @@ unfolding add
 rows-blind q n t [] c = refl
 rows-blind q n t (p ∷ ps) c = ap (rows_made n t ps) (by p.kind) ∙ rows-blind q n t ps (row_made n t (property_name p.name) p.kind c)
   where
-    joined : (o : Option ℕ) (property : List ℕ) → aliased n (property_name p.name) property o (with_pins q c) ≡ with_pins q (aliased n (property_name p.name) property o c)
+    joined : (o : Option ℕ) (property : List ℕ)
+        → aliased n (property_name p.name) property o (with_pins q c) ≡ with_pins q (aliased n (property_name p.name) property o c)
     joined None property = refl
     joined (Some m) property = refl
 

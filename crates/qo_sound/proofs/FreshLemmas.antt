@@ -39,13 +39,16 @@ first-fresh t name (row.Alias owner property) s e = absurd (let clash : None ≡
 
 -- the slots of properties
 abbrev slots_for : TypeId → List Property → List (List ℕ × Slot)
-slots_for t props = filter_map (λ (p : Property). option_map (λ (s : Slot). (property_name p.name, s)) (first_slot (λ _. None) t (property_name p.name) p.kind)) props
+slots_for t props =
+    filter_map (λ (p : Property). option_map (λ (s : Slot). (property_name p.name, s)) (first_slot (λ _. None) t (property_name p.name) p.kind)) props
 
 all-fresh : (t : TypeId) (props : List Property) → AllByRecursion (λ (s : List ℕ × Slot). IsFresh s.1) (slots_for t props)
 all-fresh t [] = tt
 all-fresh t (p ∷ props) = go (first_slot (λ _. None) t (property_name p.name) p.kind) refl (all-fresh t props)
   where
-    go : (o : Option Slot) → first_slot (λ _. None) t (property_name p.name) p.kind ≡ o → AllByRecursion (λ (s : List ℕ × Slot). IsFresh s.1) (slots_for t props) → AllByRecursion (λ (s : List ℕ × Slot). IsFresh s.1) (slots_for t (p ∷ props))
+    go : (o : Option Slot) → first_slot (λ _. None) t (property_name p.name) p.kind ≡ o
+        → AllByRecursion (λ (s : List ℕ × Slot). IsFresh s.1) (slots_for t props)
+        → AllByRecursion (λ (s : List ℕ × Slot). IsFresh s.1) (slots_for t (p ∷ props))
     go None q rest = rw q rest
     go (Some s) q rest = rw q (first-fresh t (property_name p.name) p.kind s q, rest)
 

@@ -122,7 +122,11 @@ passed-steps b t m q is h =
 pins-two : (n : ℕ) → 1 ≤ n → put_in_order n (1 ∷ []) ≡ 1 ∷ n ∷ []
 pins-two n low = let order : leb 1 n ≡ true = grind (arith, low) in rw (put_in_order, order) refl
 
-pub unjoined-steps : (b : Board) (t : TypeId) (ps : List Property) (p : Property) (k : TypeId) (qs : List Property) (ss : List (List ℕ × Slot)) (c : Board) (q : List ℕ) → slots_of t ≡ ps ++ p ∷ qs → p.kind ≡ row.Child k → q ≡ put_in_order (b.born + 1) (1 ∷ []) → c ≡ rows_made (b.born + 1) t ps (with_new (fresh (b.born + 1) t) b) → IsStar (c.born + 1) (c.born + 1) ss [] → AtRest b → unpin (unpin (with_pins (put_in_order (c.born + 1) q) (with_new (record (fresh (c.born + 1) k) { slots = ss }) (with_pins q c))) (c.born + 1)) (b.born + 1) ≡ cut_attempt b t (suc (suc (length (kinds_in ps)))) false
+pub unjoined-steps : (b : Board) (t : TypeId) (ps : List Property) (p : Property) (k : TypeId) (qs : List Property) (ss : List (List ℕ × Slot)) (c : Board)
+    (q : List ℕ) → slots_of t ≡ ps ++ p ∷ qs → p.kind ≡ row.Child k → q ≡ put_in_order (b.born + 1) (1 ∷ [])
+    → c ≡ rows_made (b.born + 1) t ps (with_new (fresh (b.born + 1) t) b) → IsStar (c.born + 1) (c.born + 1) ss [] → AtRest b
+    → unpin (unpin (with_pins (put_in_order (c.born + 1) q) (with_new (record (fresh (c.born + 1) k) { slots = ss }) (with_pins q c))) (c.born + 1))
+    (b.born + 1) ≡ cut_attempt b t (suc (suc (length (kinds_in ps)))) false
 unjoined-steps b t ps p k qs ss c q split is_kid is made star_is h =
     ap (λ (x : Board). unpin x (b.born + 1)) first
     ∙ let-free (record c { born = c.born + 1; notes = c.notes ++ init_notes (c.born + 1) k ++ ending (c.born + 1) k }) (b.born + 1) q pins is (ap (λ (x : ℕ). x == 0) (draft-free b t (kinds_in ps) c low (low-pins b h) draft))

@@ -55,7 +55,8 @@ link_written-rest b n i t s link e (val.Int v) h = h
 link_written-rest b n i t s link e (val.Uint v) h = h
 link_written-rest b n i t s link e val.Nothing h = h
 
-written-rest : (b : Board) (n i : ℕ) (kind : RowKind) (s : Option Slot) → slot_at b n i ≡ s → (v : Val) → AtRest b → AtRest (behind_write b (written b n i kind s v))
+written-rest : (b : Board) (n i : ℕ) (kind : RowKind) (s : Option Slot) → slot_at b n i ≡ s → (v : Val) → AtRest b
+    → AtRest (behind_write b (written b n i kind s v))
 written-rest b n i (row.Plain type first) (Some (plain old)) e v h = go (admits type v) refl
   where
     go : (t : Bool) → admits type v ≡ t → AtRest (behind_write b (written b n i (row.Plain type first) (Some (plain old)) v))

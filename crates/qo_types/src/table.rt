@@ -52,6 +52,7 @@ impl TypeTable {
     }
 
     /// The type that a type derives from; only `object` has none.
+    #[tactic(auto, using(crate::proofs::TableLemmas::parent_in))]
     pub fn parent(&self, t: TypeId) -> Option<TypeId>
         ensures { result ≡ parent_of t }
     {
