@@ -3,3 +3,6 @@ pub mod LineLemmas
 pub mod ReadingLemmas
 pub mod RecordLemmas
 pub mod StreamLemmas
+pub mod WindowLemmas
+pub mod ReplayLemmas
+pub mod CoverLemmas

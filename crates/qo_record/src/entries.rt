@@ -1,8 +1,9 @@
 //! Entries of a recorded stream, each read from the front of bytes.
 
-ghost use Rattle.std.specs.Prelude.{◌≡◌, codes, option_map, IfOk, IfSome};
+ghost use Rattle.std.specs.Prelude.{◌≡◌, ◌≤◌, codes, length, option_map, IfOk, IfSome};
 ghost use Rattle.qo_record.specs.Record.{bytes_at, entry_at, entry_of, guest_at, moment_behind, open_at, shut_at, step_at};
 ghost use Rattle.qo_record.specs.Spelling.{FitsPiece, opened_by};
+ghost use Rattle.qo_record.specs.Windows.{first_entry};
 ghost use Rattle.qo_record.specs.Streams.{FitsSaid, entry_said, entry_taken, said_by, said_what};
 
 use crate::reading::{behind, moment_at, number_until, piece_at, session_until};
@@ -233,4 +234,32 @@ pub(crate) fn first_of<'a>(
         opened: opened_by(*opened, entry.said),
         rest: entry.rest,
     }))
+}
+
+/// The first of some bytes as an input, the sessions that are open behind it, and how many bytes it has.
+#[derive(Drop)]
+pub(crate) struct First {
+    pub(crate) input: Input,
+    pub(crate) opened: [bool; 16],
+    pub(crate) size: usize,
+}
+
+/// The entry at the front of the bytes, as an input.
+pub(crate) fn first_in(
+    alloc: Global,
+    opened: &[bool; 16],
+    bytes: &[u8],
+) -> Result<Option<First>, AllocError>
+    ensures entry { IfOk result (λ found. option_map (first_entry bytes.now) found ≡ entry_at opened.now bytes.now) }
+    ensures opened { IfOk result (λ found. IfSome found (λ f. f.opened ≡ opened_by opened.now f.input.what)) }
+    ensures within { IfOk result (λ found. IfSome found (λ f. f.size ≤ length bytes.now)) }
+{
+    match first_of(alloc, opened, bytes)? {
+        Some(taken) => Ok(Some(First {
+            input: taken.input,
+            opened: taken.opened,
+            size: bytes.len() - taken.rest.len(),
+        })),
+        None => Ok(None),
+    }
 }

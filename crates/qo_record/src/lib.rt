@@ -4,11 +4,16 @@
 mod entries;
 pub mod laws;
 mod lines;
+mod readers;
 mod reading;
+mod replay_hub;
 mod streams;
 mod whole_hub;
+mod windows;
 
+pub use replay_hub::{ReplayHub, Unmade};
 pub use whole_hub::WholeHub;
+pub use windows::AHEAD_BYTES;
 
 #[cfg(test)]
 mod tests;

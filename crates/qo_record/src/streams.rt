@@ -86,7 +86,7 @@ impl Stream {
 }
 
 /// The end of the inputs, at the moment 0.000000.
-fn the_end() -> Input
+pub(crate) fn the_end() -> Input
     ensures { result ≡ record { at = record { seconds = 0; micros = 0 }; what = What.End } }
 {
     Input {
