@@ -1,14 +1,15 @@
 -- What the bytes that were taken say of the inputs that were given.
 use Rattle.std.proofs.Common.{◌≡◌, ℕ, ◌+◌, ◌-◌, ◌≤◌, ◌<◌, Bool, true, false, List, [], ◌∷◌, ◌++◌, length, take, drop, refl, sym, ◌∙◌, ap}
-use Rattle.std.proofs.Common.{arith, length-append, append_assoc, append-nil, ◌⊎◌, inl, inr, Option, None, Some}
+use Rattle.std.proofs.Common.{arith, length-append, append_assoc, append-nil, ◌⊎◌, inl, inr, Option, None, Some, option_map}
 use Rattle.std.proofs.Math.Seq.{take-append_seam}
-use Rattle.std.proofs.lemmas.List.{length-take-le, take-append-drop, take-append-le}
+use Rattle.std.proofs.lemmas.List.{append_cancel_right, length-take-le, take-append-drop, take-append-le}
+use Rattle.std.specs.Io.KnownBytes.{prepend_known}
 use Rattle.qo_causes.specs.declared.inputs.Input.{Input}
-use Rattle.qo_record.proofs.ReadingLemmas.{behind_is}
-use Rattle.qo_record.proofs.RecordLemmas.{entries_parted, goes_on}
+use Rattle.qo_record.proofs.ReadingLemmas.{behind_is, none_some, some_is}
+use Rattle.qo_record.proofs.RecordLemmas.{entries_parted, goes_on, nothing_left}
 use Rattle.qo_record.specs.Reading.{behind}
-use Rattle.qo_record.specs.Record.{Read, entries_from, stream_inputs}
-use Rattle.qo_record.specs.Replays.{inputs_from, read_from, stream_behind}
+use Rattle.qo_record.specs.Record.{Read, entries_from, stopped, stream_inputs}
+use Rattle.qo_record.specs.Replays.{Gave, Progress, ahead_of, inputs_ahead, inputs_from, read_from, stream_behind, unread, with_front}
 use Rattle.qo_record.specs.Spelling.{entries_text, header, none_open, opened_by_all}
 
 -- a whole stream, read
@@ -116,3 +117,52 @@ covered bytes held given before last all few parts single =
     let size : length (take n bytes) ≡ n = length-take-le n bytes within in
     let p = covered_by bytes (take n bytes) (drop n bytes) given before last all (sym (take-append-drop n bytes)) (λ some. omega (arith, some, size, few, length-append bytes held)) parts single in
     (p.0, p.1 ∙ ap (λ (l : List ℕ). stream_inputs l ++ p.0) (sym front))
+
+-- What was given of a stream of which nothing was read before.
+
+none_ahead : (headed : Bool) (opened : List Bool) → read_from headed opened [] ≡ stopped []
+none_ahead true opened = nothing_left opened
+none_ahead false opened = refl
+
+-- the bytes that were read are the entries that were given, and no more
+pub given_whole : (p : Progress) (left_old left_new : Option (List ℕ)) (bytes : List ℕ) (given : List Input) →
+    Gave unread p left_old left_new bytes given → stream_read bytes ≡ record { inputs = given; left = [] }
+given_whole p left_old left_new bytes given h =
+    ap stream_read (sym (append-nil bytes)) ∙ h.gave [] ∙ ap (with_front given) (none_ahead p.headed p.opened)
+    ∙ ap (λ (l : List Input). record { inputs = l; left = [] }) (append-nil given)
+
+-- they are the first of the inputs, with any bytes behind them
+pub given_first : (p : Progress) (left_old left_new : Option (List ℕ)) (bytes : List ℕ) (given : List Input) (more : List ℕ) →
+    Gave unread p left_old left_new bytes given → stream_inputs (bytes ++ more) ≡ given ++ inputs_from p.headed p.opened more
+given_first p left_old left_new bytes given more h =
+    sym (read_inputs false none_open (bytes ++ more)) ∙ ap (λ (r : Read). r.inputs) (h.gave more)
+    ∙ ap (λ (l : List Input). given ++ l) (read_inputs p.headed p.opened more)
+
+-- the bytes that were taken stand at the front
+pub taken_is : (p : Progress) (left_old left_new : Option (List ℕ)) (bytes : List ℕ) (given : List Input) →
+    Gave unread p left_old left_new bytes given → left_old ≡ prepend_known (bytes ++ p.held) left_new
+taken_is p left_old left_new bytes given h = go left_old left_new h.took
+  where
+    go : (old new : Option (List ℕ)) → ahead_of [] old ≡ prepend_known bytes (ahead_of p.held new) → old ≡ prepend_known (bytes ++ p.held) new
+    go None None e = refl
+    go None (Some rest) e = absurd (none_some e)
+    go (Some all) None e = absurd (none_some (sym e))
+    go (Some all) (Some rest) e = e ∙ ap (λ (l : List ℕ). Some l) (sym (append_assoc bytes p.held rest))
+
+-- what the inputs that are left say of those that were taken
+pub record TookInputs (p : Progress) (all : List ℕ) (left : Option (List ℕ)) (given taken : List Input) : Type 0 where
+  pub rest : List Input
+  pub left_is : inputs_ahead p left ≡ Some rest
+  pub all_is : stream_inputs all ≡ taken ++ rest
+  pub given_is : given ≡ taken
+
+pub took_inputs : (p : Progress) (all : List ℕ) (left : Option (List ℕ)) (bytes : List ℕ) (given taken : List Input) →
+    Gave unread p (Some all) left bytes given → Some (stream_inputs all) ≡ option_map (λ (rest : List Input). taken ++ rest) (inputs_ahead p left) →
+    TookInputs p all left given taken
+took_inputs p all None bytes given taken h took = absurd (none_some (sym took))
+took_inputs p all (Some more) bytes given taken h took =
+    let rest : List Input = inputs_from p.headed p.opened (p.held ++ more) in
+    let split : stream_inputs all ≡ given ++ rest =
+    ap stream_inputs (some_is h.took) ∙ given_first p (Some all) (Some more) bytes given (p.held ++ more) h in
+    let is : stream_inputs all ≡ taken ++ rest = some_is took in
+    record { rest = rest; left_is = refl; all_is = is; given_is = append_cancel_right given taken rest (sym split ∙ is) }

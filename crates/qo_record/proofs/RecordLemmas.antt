@@ -132,7 +132,7 @@ stream_longest bytes =
 pub streams_are_longest : StreamsAreLongest
 streams_are_longest bytes rest h = subst ReadsLongest (sym h) (stream_longest rest)
 
-nothing_left : (opened : List Bool) → entries_from opened [] ≡ stopped []
+pub nothing_left : (opened : List Bool) → entries_from opened [] ≡ stopped []
 unfolding entries_from
 nothing_left opened = refl
 

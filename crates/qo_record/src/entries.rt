@@ -4,7 +4,7 @@ ghost use Rattle.std.specs.Prelude.{◌≡◌, ◌≤◌, codes, length, option_
 ghost use Rattle.qo_record.specs.Record.{bytes_at, entry_at, entry_of, guest_at, moment_behind, open_at, shut_at, step_at};
 ghost use Rattle.qo_record.specs.Spelling.{FitsPiece, opened_by};
 ghost use Rattle.qo_record.specs.Windows.{first_entry};
-ghost use Rattle.qo_record.specs.Streams.{FitsSaid, entry_said, entry_taken, said_by, said_what};
+ghost use Rattle.qo_record.specs.Streams.{FitsSaid, entry_said, said_by, said_what};
 
 use crate::reading::{behind, moment_at, number_until, piece_at, session_until};
 use qo_causes::{Chunk, Input, Moment, What};
@@ -36,12 +36,12 @@ struct Entry<'a> {
     rest: &'a [u8],
 }
 
-/// An entry as an input, the sessions that are open behind it, and the bytes behind it.
+/// The first entry of some bytes as an input, the sessions that are open behind it, and how many bytes it has.
 #[derive(Drop)]
-pub(crate) struct Taken<'a> {
+pub(crate) struct First {
     pub(crate) input: Input,
     pub(crate) opened: [bool; 16],
-    pub(crate) rest: &'a [u8],
+    pub(crate) size: usize,
 }
 
 /// A session that opens, where it is not open.
@@ -217,35 +217,7 @@ fn what_of(alloc: Global, said: Said) -> Result<What, AllocError>
 }
 
 /// The entry at the front of the bytes, as an input.
-pub(crate) fn first_of<'a>(
-    alloc: Global,
-    opened: &[bool; 16],
-    bytes: &'a [u8],
-) -> Result<Option<Taken<'a>>, AllocError>
-    ensures entry { IfOk result (λ found. option_map entry_taken found ≡ entry_at opened.now bytes.now) }
-    ensures opened { IfOk result (λ found. IfSome found (λ t. t.opened ≡ opened_by opened.now t.input.what)) }
-{
-    let Some(entry) = entry_at(opened, bytes) else {
-        return Ok(None);
-    };
-    let what = what_of(alloc, entry.said)?;
-    Ok(Some(Taken {
-        input: Input { at: entry.at, what },
-        opened: opened_by(*opened, entry.said),
-        rest: entry.rest,
-    }))
-}
-
-/// The first of some bytes as an input, the sessions that are open behind it, and how many bytes it has.
-#[derive(Drop)]
-pub(crate) struct First {
-    pub(crate) input: Input,
-    pub(crate) opened: [bool; 16],
-    pub(crate) size: usize,
-}
-
-/// The entry at the front of the bytes, as an input.
-pub(crate) fn first_in(
+pub(crate) fn first_of(
     alloc: Global,
     opened: &[bool; 16],
     bytes: &[u8],
@@ -254,12 +226,13 @@ pub(crate) fn first_in(
     ensures opened { IfOk result (λ found. IfSome found (λ f. f.opened ≡ opened_by opened.now f.input.what)) }
     ensures within { IfOk result (λ found. IfSome found (λ f. f.size ≤ length bytes.now)) }
 {
-    match first_of(alloc, opened, bytes)? {
-        Some(taken) => Ok(Some(First {
-            input: taken.input,
-            opened: taken.opened,
-            size: bytes.len() - taken.rest.len(),
-        })),
-        None => Ok(None),
-    }
+    let Some(entry) = entry_at(opened, bytes) else {
+        return Ok(None);
+    };
+    let what = what_of(alloc, entry.said)?;
+    Ok(Some(First {
+        input: Input { at: entry.at, what },
+        opened: opened_by(*opened, entry.said),
+        size: bytes.len() - entry.rest.len(),
+    }))
 }

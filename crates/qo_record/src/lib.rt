@@ -1,4 +1,4 @@
-//! Recorded streams: how their entries are spelled and read, and the hub over a stream in memory.
+//! Recorded streams: how their entries are spelled and read, and the hub over a source and a sink.
 #![tactic(auto)]
 
 mod entries;
@@ -7,12 +7,9 @@ mod lines;
 mod readers;
 mod reading;
 mod replay_hub;
-mod streams;
-mod whole_hub;
 mod windows;
 
 pub use replay_hub::{ReplayHub, Unmade};
-pub use whole_hub::WholeHub;
 pub use windows::AHEAD_BYTES;
 
 #[cfg(test)]

@@ -6,11 +6,10 @@ ghost use Rattle.qo_causes.specs.Hub.{AtEnd, ButNextFailed, NextGives, OnNextFai
 ghost use Rattle.qo_record.specs.Replays.{Went, ahead_of, bad_ahead, inputs_ahead, unread};
 ghost use Rattle.qo_record.specs.Windows.{BeginsWithHeader, EntryFound, HeaderFound, HeaderIn, IsFirst, LookedFor, More};
 
-use crate::entries::{First, first_in};
+use crate::entries::{First, first_of};
 use crate::reading::behind;
-use crate::streams::the_end;
 use crate::windows::Window;
-use qo_causes::{Failed, Input, NextError, Source};
+use qo_causes::{Failed, Input, Moment, NextError, Source, What};
 use std::alloc::{AllocError, Global};
 use std::marker::Model;
 
@@ -90,7 +89,7 @@ fn find_entry<S: Source>(
     ensures looked { LookedFor (S.faults source.old) (S.faults source.new) result }
 {
     loop {
-        match first_in(alloc, opened, window.held()) {
+        match first_of(alloc, opened, window.held()) {
             Ok(Some(first)) => return Ok(Some(first)),
             Ok(None) => {}
             Err(AllocError) => return Err(NextError::Memory),
@@ -100,6 +99,19 @@ fn find_entry<S: Source>(
             Ok(false) => return Ok(None),
             Err(Failed) => return Err(NextError::Failed),
         }
+    }
+}
+
+/// The end of the inputs, at the moment 0.000000.
+fn the_end() -> Input
+    ensures { result ≡ record { at = record { seconds = 0; micros = 0 }; what = What.End } }
+{
+    Input {
+        at: Moment {
+            seconds: 0,
+            micros: 0,
+        },
+        what: What::End,
     }
 }
 
