@@ -1,4 +1,2 @@
-pub mod CallLemmas
 pub mod ComplaintLemmas
-pub mod ReadLemmas
 pub mod ReplayLemmas

@@ -1,19 +1,26 @@
 -- What a run over the inputs of a stream did.
-use Rattle.std.proofs.Common.{◌≡◌, ℕ, ◌+◌, ◌<◌, ◌≤◌, Bool, true, false, if◌then◌else◌, ◌||◌, List, [], ◌∷◌, ◌++◌, length, refl, sym, ◌∙◌, ap, subst, arith, append_assoc, length-append, Option, None, Some, option_map, slice_index_or}
+use Rattle.std.proofs.Common.{◌≡◌, ℕ, ◌+◌, ◌<◌, ◌≤◌, Bool, true, false, if◌then◌else◌, ◌||◌, List, [], ◌∷◌, ◌++◌, length, take, refl, sym, ◌∙◌}
+use Rattle.std.proofs.Common.{ap, subst, arith, append_assoc, Option, None, Some, IfSome, option_map, slice_index_or}
+use Rattle.std.proofs.Math.Seq.{take-append_seam}
 use Rattle.std.proofs.lemmas.Bool.{true≢false}
 use Rattle.std.proofs.lemmas.List.{append-nil}
 use Rattle.std.specs.List.{cons_option}
+use Rattle.std.specs.Io.KnownBytes.{prepend_known}
 use Rattle.qo_causes.specs.Hub.{AtEnd, is_end}
 use Rattle.qo_causes.specs.declared.hubs.Lane.{Lane}
 use Rattle.qo_causes.specs.declared.inputs.Input.{Input}
-use Rattle.qo_machine.proofs.RunLemmas.{has_end_ends}
+use Rattle.qo_machine.proofs.RunLemmas.{has_end_ends, nothing_appended}
 use Rattle.qo_machine.specs.Machine.{opening}
-use Rattle.qo_machine.specs.Runs.{CutRun, EndsAtLast, RunMeets, Turn, Turns, has_end, last_input, risen, risen_by, state_after, told, turn_inputs}
+use Rattle.qo_machine.specs.Runs.{CutRun, OpenRun, RunMeets, Turn, has_end, last_input, risen, risen_by, state_after, told, turn_inputs}
 use Rattle.qo_machine.specs.declared.running.Ending.{Ending}
 use Rattle.qo_machine.specs.declared.running.Ending.TheVariants as ending
-use Rattle.qo_record.proofs.RecordLemmas.{inputs_are_few}
+use Rattle.qo_record.proofs.CoverLemmas.{covered, given_first, given_whole, taken_is, took_inputs}
+use Rattle.qo_record.proofs.ReadingLemmas.{none_some}
 use Rattle.qo_record.specs.Record.{bad_place, stream_inputs}
-use Rattle.compose.specs.Replay.{DidRun, EndedReplay, IsCut, NoneLost, OpenReplay}
+use Rattle.qo_record.specs.Replays.{Gave, Progress, Replaying, Went, bad_ahead, inputs_ahead, inputs_from, told_place, unread}
+use Rattle.compose.specs.Replay.{DidReplay, IsCut, NoneLost, OpenReplay, Replayed, TakePart, TakeToBad, TakeToEnd, TakeToLimit, place_of, status_of}
+use Rattle.compose.specs.declared.statuses.Status.{Status}
+use Rattle.compose.specs.declared.statuses.Status.TheVariants.{Memory}
 
 -- No session is lost where no count rises.
 
@@ -53,77 +60,179 @@ each_taken (t ∷ ts) none =
     let ends = no_end (is_end t.input.what) (has_end ts) none in
     omega (arith, first_length (is_end t.input.what) t.input (turn_inputs ts) ends.0, each_taken ts ends.1)
 
--- a list that is told, split
-split : (xs front : List Input) (m : Option (List Input)) → Some xs ≡ option_map (λ (r : List Input). front ++ r) m → (back : List Input) × (m ≡ Some back) × (xs ≡ front ++ back)
-split xs front None h = cc
-split xs front (Some back) h = (back, refl, cc)
-
 by_going : (e : Bool) → (e ≡ true → ⊥) → e ≡ false
 by_going true h = absurd (h refl)
 by_going false h = refl
 
--- The run as a replay of the stream.
+going_on : (ts : List Turn) → (state_after opening ts).ended ≡ false → has_end ts ≡ false
+going_on ts on = by_going (has_end ts) (λ over. true≢false (sym (has_end_ends ts opening over) ∙ on))
 
-some_is : (ps qs : List Input) → Some ps ≡ Some qs → ps ≡ qs
-some_is ps qs e = cc
+-- A last turn takes one input, or none.
 
--- a run that has ended
-ended : (bytes : List ℕ) (xs ys : List Input) (bad : Option ℕ) (os ns : Option (List ℕ)) (og ng : Lane → Option (List ℕ)) (ts : List Turn) → Turns opening (told (Some xs) os og (λ n. 0)) (told (Some ys) ns ng (λ n. 0)) ts → xs ≡ stream_inputs bytes → bad ≡ bad_place bytes → EndsAtLast ts → (has_end ts ≡ true → AtEnd (Some ys) (Some bad) None) → EndedReplay bytes os ns ts ys
-ended bytes xs ys bad os ns og ng ts h is place last over =
+one_input : (e : Bool) (i : Input) → length (cons_option (if e then None else Some i) []) ≤ 1
+one_input true i = omega arith
+one_input false i = omega arith
+
+one_taken : (last : Option Turn) → length (last_input last) ≤ 1
+one_taken None = omega arith
+one_taken (Some t) = one_input (is_end t.input.what) t.input
+
+taken_twice : (a b c : Option (List Input)) (xs ys : List Input) → a ≡ option_map (λ (r : List Input). xs ++ r) b →
+    b ≡ option_map (λ (r : List Input). ys ++ r) c → a ≡ option_map (λ (r : List Input). (xs ++ ys) ++ r) c
+taken_twice a b None xs ys p q = p ∙ ap (option_map (λ (r : List Input). xs ++ r)) q
+taken_twice a b (Some zs) xs ys p q =
+    p ∙ ap (option_map (λ (r : List Input). xs ++ r)) q ∙ ap (λ (l : List Input). Some l) (sym (append_assoc xs ys zs))
+
+taken_all : (a b : Option (List Input)) (xs : List Input) → a ≡ option_map (λ (r : List Input). xs ++ r) b →
+    a ≡ option_map (λ (r : List Input). (xs ++ []) ++ r) b
+taken_all a b xs took = took ∙ ap (λ (l : List Input). option_map (λ (r : List Input). l ++ r) b) (sym (append-nil xs))
+
+-- What is told of the record.
+
+no_place : (n : Option ℕ) → option_map told_place n ≡ None → n ≡ None
+no_place None h = refl
+no_place (Some n) h = absurd (none_some (sym h))
+
+none_left : (inputs : Option (List Input)) (rest : List Input) → inputs ≡ Some rest → IfSome inputs (λ (r : List Input). r ≡ []) → rest ≡ []
+none_left inputs rest is h = subst (λ (i : Option (List Input)). IfSome i (λ (r : List Input). r ≡ [])) is h
+
+abbrev Read : Progress → Option (List ℕ) → Option (List ℕ) → List ℕ → List Input → Type 0
+Read p left_old left_new bytes given = Gave unread p left_old left_new bytes given
+
+abbrev Took : Progress → Option (List ℕ) → Option (List ℕ) → List Input → Type 0
+Took p left_old left_new taken = inputs_ahead unread left_old ≡ option_map (λ (rest : List Input). taken ++ rest) (inputs_ahead p left_new)
+
+to_end : (p : Progress) (lo ln : Option (List ℕ)) (bytes : List ℕ) (given : List Input) (ts : List Turn) → Read p lo ln bytes given →
+    Took p lo ln (turn_inputs ts) → (has_end ts ≡ true → AtEnd (inputs_ahead p ln) (bad_ahead unread lo) None) → IfSome lo (TakeToEnd ts)
+to_end p None ln bytes given ts read took over = tt
+to_end p (Some all) ln bytes given ts read took over =
+    let t = took_inputs p all ln bytes given (turn_inputs ts) read took in
+    (t.rest, t.all_is, λ e. (none_left (inputs_ahead p ln) t.rest t.left_is (over e).0, no_place (bad_place all) (over e).1))
+
+to_bad : (p : Progress) (lo ln : Option (List ℕ)) (bytes : List ℕ) (given : List Input) (ts : List Turn) (n : ℕ) → Read p lo ln bytes given →
+    Took p lo ln (turn_inputs ts) → AtEnd (inputs_ahead p ln) (bad_ahead unread lo) (Some n) → IfSome lo (TakeToBad ts n)
+to_bad p None ln bytes given ts n read took over = tt
+to_bad p (Some all) ln bytes given ts n read took over =
+    let t = took_inputs p all ln bytes given (turn_inputs ts) read took in
+    let none = none_left (inputs_ahead p ln) t.rest t.left_is over.0 in
+    (sym (append-nil (turn_inputs ts)) ∙ ap (λ (r : List Input). turn_inputs ts ++ r) (sym none) ∙ sym t.all_is, over.1)
+
+to_limit : (p : Progress) (lo ln : Option (List ℕ)) (bytes : List ℕ) (given : List Input) (ts : List Turn) → Read p lo ln bytes given →
+    Took p lo ln (turn_inputs ts) → length (turn_inputs ts) ≡ 1000000000 → IfSome lo (TakeToLimit ts)
+to_limit p None ln bytes given ts read took size = tt
+to_limit p (Some all) ln bytes given ts read took size =
+    let t = took_inputs p all ln bytes given (turn_inputs ts) read took in
+    (sym (ap (λ (k : ℕ). take k (stream_inputs all)) (sym size) ∙ ap (take (length (turn_inputs ts))) t.all_is ∙ take-append_seam (turn_inputs ts) t.rest), size)
+
+part_of : (p : Progress) (lo ln : Option (List ℕ)) (bytes : List ℕ) (given : List Input) (ts : List Turn) (last : Option Turn) →
+    length p.held < 65700 → Read p lo ln bytes given → Took p lo ln (turn_inputs ts ++ last_input last) → IfSome lo (TakePart (bytes ++ p.held) ts last)
+part_of p None ln bytes given ts last few read took = tt
+part_of p (Some all) ln bytes given ts last few read took =
+    let t = took_inputs p all ln bytes given (turn_inputs ts ++ last_input last) read took in
+    let held : List Input = inputs_from p.headed p.opened p.held in
     record {
-      inputs = sym is ∙ some_is xs (turn_inputs ts ++ ys) h.took;
-      last = last;
-      end = λ e. ((over e).0, sym place ∙ (over e).1);
-      lost = none_lost ts h.losses;
-      put = h.sent;
+      front = (t.rest, t.all_is);
+      stand = (held, given_first p (Some all) ln bytes given p.held read ∙ ap (λ (l : List Input). l ++ held) t.given_is);
+      covers =
+          covered bytes p.held given (turn_inputs ts) (last_input last) (given_whole p (Some all) ln bytes given read) few t.given_is (one_taken last);
     }
 
--- a run that has not
-going : (bytes : List ℕ) (xs ys : List Input) (os ns : Option (List ℕ)) (og ng : Lane → Option (List ℕ)) (ts : List Turn) → Turns opening (told (Some xs) os og (λ n. 0)) (told (Some ys) ns ng (λ n. 0)) ts → xs ≡ stream_inputs bytes → ys ≡ [] → (state_after opening ts).ended ≡ false → OpenReplay bytes os ns ts
-going bytes xs ys os ns og ng ts h is none on =
-    record {
-      inputs = sym (append-nil (turn_inputs ts)) ∙ ap (λ (r : List Input). turn_inputs ts ++ r) (sym none) ∙ sym (some_is xs (turn_inputs ts ++ ys) h.took) ∙ is;
-      going = on;
-      lost = none_lost ts h.losses;
-      put = h.sent;
-    }
+-- The run as a replay of the record.
 
-cut : (limit : ℕ) (bytes : List ℕ) (xs ys : List Input) (os ns : Option (List ℕ)) (og ng : Lane → Option (List ℕ)) → xs ≡ stream_inputs bytes → CutRun limit (told (Some xs) os og (λ n. 0)) (told (Some ys) ns ng (λ n. 0)) → IsCut bytes os ns
-cut limit bytes xs ys os ns og ng is h =
+open_run : (oi ni : Option (List Input)) (ho hn : Option (List ℕ)) (og ng : Lane → Option (List ℕ)) (ts : List Turn) →
+    OpenRun (told oi ho og (λ n. 0)) (told ni hn ng (λ n. 0)) ts → OpenReplay ho hn ts
+open_run oi ni ho hn og ng ts h = record { going = h.1; lost = none_lost ts h.0.losses; put = h.0.sent }
+
+cut_run : (p : Progress) (lo ln ho hn : Option (List ℕ)) (bytes : List ℕ) (given : List Input) (og ng : Lane → Option (List ℕ)) →
+    length p.held < 65700 → Read p lo ln bytes given →
+    CutRun 1000000000 (told (inputs_ahead unread lo) ho og (λ n. 0)) (told (inputs_ahead p ln) hn ng (λ n. 0)) → IsCut lo (bytes ++ p.held) ho hn
+cut_run p lo ln ho hn bytes given og ng few read h =
     let whole_part = h.3.0 in
     let cut_part = h.4 in
-    let first_split = split xs (turn_inputs h.1) h.0.inputs whole_part.took in
-    let last_split = split first_split.0 (last_input h.2) (Some ys) (sym first_split.1 ∙ cut_part.took) in (
+    let took = taken_twice (inputs_ahead unread lo) h.0.inputs (inputs_ahead p ln) (turn_inputs h.1) (last_input h.2) whole_part.took cut_part.took in (
       h.1,
       h.2,
-      last_split.0,
       record {
-        inputs =
-            sym is ∙ first_split.2 ∙ ap (λ (r : List Input). turn_inputs h.1 ++ r) last_split.2 ∙ sym (append_assoc (turn_inputs h.1) (last_input h.2) last_split.0);
         going = h.3.1;
+        few = h.5;
         lost = none_lost h.1 (λ n. omega (arith, whole_part.losses n, cut_part.losses n));
         put = (h.0.sent, whole_part.sent, cut_part.sent);
       },
+      part_of p lo ln bytes given h.1 h.2 few read took,
     )
 
-pub run_did : (bytes : List ℕ) (e : Ending) (limit : ℕ) (xs ys : List Input) (bad : Option ℕ) (os ns : Option (List ℕ)) (og ng : Lane → Option (List ℕ)) → length bytes ≤ 16777216 → 16777216 < limit → xs ≡ stream_inputs bytes → bad ≡ bad_place bytes → (e ≡ ending.NextFailed → ⊥) → RunMeets e limit (told (Some xs) os og (λ n. 0)) (told (Some ys) ns ng (λ n. 0)) (Some bad) → DidRun e bytes os ns
-run_did bytes ending.Done limit xs ys bad os ns og ng short far is place fault h =
-    (h.0, ys, ended bytes xs ys bad os ns og ng h.0 h.1 is place h.2 h.4)
-run_did bytes (ending.Bad n) limit xs ys bad os ns og ng short far is place fault h =
-    (h.0, going bytes xs ys os ns og ng h.0 h.1.0 is h.3.0 h.1.1, sym place ∙ h.3.1)
-run_did bytes ending.SendFailed limit xs ys bad os ns og ng short far is place fault h = cut limit bytes xs ys os ns og ng is h
-run_did bytes ending.Memory limit xs ys bad os ns og ng short far is place fault h = cut limit bytes xs ys os ns og ng is h
-run_did bytes ending.NextFailed limit xs ys bad os ns og ng short far is place fault h = absurd (fault refl)
-run_did bytes ending.Limit limit xs ys bad os ns og ng short far is place fault h =
-    let ends : has_end h.0 ≡ false = by_going (has_end h.0) (λ over. true≢false (sym (has_end_ends h.0 opening over) ∙ h.1.1)) in
-    let parts = split xs (turn_inputs h.0) (Some ys) h.1.0.took in
-    absurd (omega (arith, each_taken h.0 ends, h.2, ap length (sym is ∙ parts.2), length-append (turn_inputs h.0) parts.0, (inputs_are_few bytes).1))
+did : (e : Ending) (p : Progress) (lo ln ho hn : Option (List ℕ)) (bytes : List ℕ) (given : List Input) (og ng : Lane → Option (List ℕ)) →
+    length p.held < 65700 → Read p lo ln bytes given →
+    RunMeets e 1000000000 (told (inputs_ahead unread lo) ho og (λ n. 0)) (told (inputs_ahead p ln) hn ng (λ n. 0)) (bad_ahead unread lo) →
+    DidReplay (status_of e) lo (bytes ++ p.held) ho hn (place_of e)
+did ending.Done p lo ln ho hn bytes given og ng few read h = (
+  h.0,
+  record { last = h.2; few = h.3; lost = none_lost h.0 h.1.losses; put = h.1.sent },
+  to_end p lo ln bytes given h.0 read h.1.took h.4,
+)
+did (ending.Bad n) p lo ln ho hn bytes given og ng few read h = (
+  h.0,
+  open_run (inputs_ahead unread lo) (inputs_ahead p ln) ho hn og ng h.0 h.1,
+  h.2,
+  to_bad p lo ln bytes given h.0 n read h.1.0.took h.3,
+)
+did ending.Limit p lo ln ho hn bytes given og ng few read h =
+    let size : length (turn_inputs h.0) ≡ 1000000000 = each_taken h.0 (going_on h.0 h.1.1) ∙ h.2 in (
+      h.0,
+      open_run (inputs_ahead unread lo) (inputs_ahead p ln) ho hn og ng h.0 h.1,
+      h.2,
+      to_limit p lo ln bytes given h.0 read h.1.0.took size,
+    )
+did ending.NextFailed p lo ln ho hn bytes given og ng few read h =
+    let took = taken_all (inputs_ahead unread lo) (inputs_ahead p ln) (turn_inputs h.0) h.1.0.took in (
+      h.0,
+      open_run (inputs_ahead unread lo) (inputs_ahead p ln) ho hn og ng h.0 h.1,
+      h.2,
+      part_of p lo ln bytes given h.0 None few read took,
+    )
+did ending.SendFailed p lo ln ho hn bytes given og ng few read h = cut_run p lo ln ho hn bytes given og ng few read h
+did ending.Memory p lo ln ho hn bytes given og ng few read h = cut_run p lo ln ho hn bytes given og ng few read h
 
--- the same at a sink that was given, and the one that comes back
-pub did_at : (bytes : List ℕ) (e : Ending) (os ns held_old held_new : Option (List ℕ)) → os ≡ held_old → held_new ≡ ns → DidRun e bytes os ns → DidRun e bytes held_old held_new
-did_at bytes e os ns held_old held_new p q h =
-    subst (λ (x : Option (List ℕ)). DidRun e bytes x held_new) p (subst (λ (y : Option (List ℕ)). DidRun e bytes os y) (sym q) h)
+-- what a run over a fresh hub did
+pub replayed : (e : Ending) (q p : Progress) (lo ln ho hn : Option (List ℕ)) (og ng : Lane → Option (List ℕ)) →
+    q ≡ unread → length p.held < 65700 → Went q p lo ln →
+    RunMeets e 1000000000 (told (inputs_ahead q lo) ho og (λ n. 0)) (told (inputs_ahead p ln) hn ng (λ n. 0)) (bad_ahead q lo) →
+    (taken : List ℕ) × Replayed (status_of e) lo ln ho hn taken (place_of e)
+replayed e q p lo ln ho hn og ng fresh few went meets =
+    let w : Went unread p lo ln = subst (λ (r : Progress). Went r p lo ln) fresh went in
+    let m = subst (λ (r : Progress). RunMeets e 1000000000 (told (inputs_ahead r lo) ho og (λ n. 0)) (told (inputs_ahead p ln) hn ng (λ n. 0)) (bad_ahead r lo)) fresh meets in
+    (w.0 ++ p.held, record { took = taken_is p lo ln w.0 w.1 w.2; did = did e p lo ln ho hn w.0 w.1 og ng few w.2 m })
 
--- what is told
-pub told_is : {A : Type 0} {x y : A} → Some x ≡ Some y → x ≡ y
-told_is e = cc
+-- nothing was done for want of memory
+nothing_taken : (left : Option (List ℕ)) → left ≡ prepend_known [] left
+nothing_taken None = refl
+nothing_taken (Some bytes) = refl
+
+nothing_told : (left : Option (List ℕ)) → IfSome left (TakePart [] [] None)
+nothing_told None = tt
+nothing_told (Some bytes) = record { front = (stream_inputs bytes, refl); stand = ([], refl); covers = ([], refl) }
+
+pub not_made : (left held : Option (List ℕ)) → Replayed Memory left left held held [] 0
+not_made left held =
+    record {
+      took = nothing_taken left;
+      did = (
+        [],
+        None,
+        record { going = refl; few = omega arith; lost = tt; put = (held, nothing_appended held, (0, omega arith, nothing_appended held)) },
+        nothing_told left,
+      );
+    }
+
+-- the same of a hub that was made and given up
+pub hub_replayed : {S K : Type 0} (left : S → Option (List ℕ)) (held : K → Option (List ℕ)) (e : Ending) (status : Status) (place : ℕ) →
+    (hub new : Replaying S K) (source source_new : S) (sink sink_new : K) (og ng : Lane → Option (List ℕ)) →
+    hub ≡ record { source = source; sink = sink; read = unread } → status ≡ status_of e → place ≡ place_of e →
+    source_new ≡ new.source → sink_new ≡ new.sink → length new.read.held < 65700 → Went hub.read new.read (left hub.source) (left new.source) →
+    RunMeets e 1000000000 (told (inputs_ahead hub.read (left hub.source)) (held hub.sink) og (λ n. 0))
+    (told (inputs_ahead new.read (left new.source)) (held new.sink) ng (λ n. 0)) (bad_ahead hub.read (left hub.source)) →
+    (taken : List ℕ) × Replayed status (left source) (left source_new) (held sink) (held sink_new) taken place
+hub_replayed {S} {K} left held e status place hub new source source_new sink sink_new og ng made st pl so si few went meets =
+    let fresh = ap (λ (h : Replaying S K). h.read) made in
+    let h = replayed e hub.read new.read (left hub.source) (left new.source) (held hub.sink) (held new.sink) og ng fresh few went meets in
+    rw (st, pl, so, si, sym (ap (λ (h : Replaying S K). h.source) made), sym (ap (λ (h : Replaying S K). h.sink) made)) h

@@ -1,5 +1,4 @@
 pub mod Exits
-pub mod Reads
 pub mod Replay
 pub mod Views
 pub mod Words

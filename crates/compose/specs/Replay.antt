@@ -1,5 +1,5 @@
 -- What the top call does, by its status.
-use Rattle.std.specs.Prelude.{◌≡◌, ℕ, ◌<◌, ◌↔◌, ◌⊎◌, true, false, List, [], ◌∷◌, ◌++◌, length, Option, Some, None, IfSome, IsSome, decimal, codes, slice_index_or}
+use Rattle.std.specs.Prelude.{◌≡◌, ℕ, ◌+◌, ◌-◌, ◌<◌, ◌≤◌, ◌⊎◌, true, false, List, [], ◌∷◌, ◌++◌, length, take, Option, Some, None, IfSome, option_to_list, decimal, codes, slice_index_or}
 use Rattle.std.specs.List.{AllByRecursion}
 use Rattle.std.specs.Io.KnownBytes.{append_known, prepend_known}
 use Rattle.qo_causes.specs.Bytes.{AppendsPrefix}
@@ -10,7 +10,9 @@ use Rattle.qo_machine.specs.Runs.{EndsAtLast, Turn, has_end, last_input, last_ou
 use Rattle.qo_machine.specs.declared.running.Ending.{Ending}
 use Rattle.qo_machine.specs.declared.running.Ending.TheVariants as ending
 use Rattle.qo_record.specs.Record.{bad_place, stream_inputs}
-use Rattle.compose.specs.declared.reads.TheConstants.{INPUT_BYTES_MAX}
+use Rattle.qo_record.specs.Replays.{told_bad}
+use Rattle.qo_record.specs.declared.windows.TheConstants.{AHEAD_BYTES}
+use Rattle.qo_values.specs.declared.limits.TheConstants.{INPUTS_MAX}
 use Rattle.compose.specs.declared.statuses.Status.{Status}
 use Rattle.compose.specs.declared.statuses.Status.TheVariants.{Done, Usage, BadRecord, Memory, ReadFault, WriteFault, HubFault, InputLimit}
 
@@ -18,46 +20,58 @@ use Rattle.compose.specs.declared.statuses.Status.TheVariants.{Done, Usage, BadR
 abbrev pub NoneLost : List Turn → Type 0
 NoneLost turns = AllByRecursion (λ (t : Turn). (n : ℕ) → slice_index_or t.lost n false ≡ false) turns
 
--- a run that has ended with its last turn, at the end of a whole stream or by a command before; the whole transcript was put
-pub record EndedReplay (bytes : List ℕ) (held_old held_new : Option (List ℕ)) (turns : List Turn) (rest : List Input) : Type 0 where
-  pub inputs : stream_inputs bytes ≡ turn_inputs turns ++ rest
+-- a run that has ended with its last turn, and not before; the whole transcript was put
+pub record EndedReplay (held_old held_new : Option (List ℕ)) (turns : List Turn) : Type 0 where
   pub last : EndsAtLast turns
-  pub end : has_end turns ≡ true → (rest ≡ []) × (bad_place bytes ≡ None)
+  pub few : length turns ≤ INPUTS_MAX
   pub lost : NoneLost turns
   pub put : held_new ≡ append_known held_old (transcript (outs_of opening turns))
 
--- a run of all that is read of a stream, which has not ended; the whole transcript was put
-pub record OpenReplay (bytes : List ℕ) (held_old held_new : Option (List ℕ)) (turns : List Turn) : Type 0 where
-  pub inputs : turn_inputs turns ≡ stream_inputs bytes
+-- a run that has not ended; the whole transcript was put
+pub record OpenReplay (held_old held_new : Option (List ℕ)) (turns : List Turn) : Type 0 where
   pub going : (state_after opening turns).ended ≡ false
   pub lost : NoneLost turns
   pub put : held_new ≡ append_known held_old (transcript (outs_of opening turns))
 
--- a run of a front of the stream, which has not ended before its last turn; a front of its transcript was put, and at least all of it but for that turn, if there is one
-pub record CutReplay (bytes : List ℕ) (held_old held_new : Option (List ℕ)) (turns : List Turn) (last : Option Turn) (rest : List Input) : Type 0 where
-  pub inputs : stream_inputs bytes ≡ (turn_inputs turns ++ last_input last) ++ rest
+-- a run that has not ended before its last turn; a front of its transcript was put, and at least all of it but for that turn, if there is one
+pub record CutReplay (held_old held_new : Option (List ℕ)) (turns : List Turn) (last : Option Turn) : Type 0 where
   pub going : (state_after opening turns).ended ≡ false
+  pub few : length turns + length (option_to_list last) ≤ INPUTS_MAX
   pub lost : NoneLost turns
   pub put : (held : Option (List ℕ)) × (held ≡ append_known held_old (transcript (outs_of opening turns))) × AppendsPrefix held held_new (transcript (last_outs (state_after opening turns) last))
 
--- the source is at its end, where it tells what it has left
-abbrev pub IsAtEnd : Option (List ℕ) → Type 0
-IsAtEnd left = IfSome left (λ more. more ≡ [])
+-- some inputs begin with others
+abbrev pub BeginsWith : List Input → List Input → Type 0
+BeginsWith inputs front = (more : List Input) × (inputs ≡ front ++ more)
 
-abbrev pub IsCut : List ℕ → Option (List ℕ) → Option (List ℕ) → Type 0
-IsCut bytes held_old held_new =
-    (turns : List Turn) × (last : Option Turn) × (rest : List Input) × CutReplay bytes held_old held_new turns last rest
+-- the turns take the inputs of a record up to the one at which the run ended, or all of them and the end, there being no bad place
+abbrev pub TakeToEnd : List Turn → List ℕ → Type 0
+TakeToEnd turns bytes =
+    (rest : List Input) × (stream_inputs bytes ≡ turn_inputs turns ++ rest) × (has_end turns ≡ true → (rest ≡ []) × (bad_place bytes ≡ None))
 
--- what a run of these bytes did, by how it ended
-abbrev pub DidRun : Ending → List ℕ → Option (List ℕ) → Option (List ℕ) → Type 0
-DidRun ending.Done bytes held_old held_new =
-    (turns : List Turn) × (rest : List Input) × EndedReplay bytes held_old held_new turns rest
-DidRun (ending.Bad n) bytes held_old held_new =
-    (turns : List Turn) × OpenReplay bytes held_old held_new turns × (bad_place bytes ≡ Some n)
-DidRun ending.SendFailed bytes held_old held_new = IsCut bytes held_old held_new
-DidRun ending.Memory bytes held_old held_new = IsCut bytes held_old held_new
-DidRun ending.NextFailed bytes held_old held_new = ⊥
-DidRun ending.Limit bytes held_old held_new = ⊥
+-- they take all inputs of a record, whose bad place is told so
+abbrev pub TakeToBad : List Turn → ℕ → List ℕ → Type 0
+TakeToBad turns place bytes = (turn_inputs turns ≡ stream_inputs bytes) × (told_bad bytes ≡ Some place)
+
+-- they take the first inputs of a record, as many as a run may take
+abbrev pub TakeToLimit : List Turn → List ℕ → Type 0
+TakeToLimit turns bytes = (turn_inputs turns ≡ take INPUTS_MAX (stream_inputs bytes)) × (length (turn_inputs turns) ≡ INPUTS_MAX)
+
+-- the inputs whose entries end so many bytes or more before the end of these
+abbrev pub inputs_before : List ℕ → List Input
+inputs_before taken = stream_inputs (take (length taken - AHEAD_BYTES) taken)
+
+-- the inputs are a front of those of a record, and their entries stand in the bytes that were taken of it; the turns but for the
+-- last take at least those whose entries end AHEAD_BYTES or more before the end of the bytes taken
+pub record TakePart (taken : List ℕ) (turns : List Turn) (last : Option Turn) (bytes : List ℕ) : Type 0 where
+  pub front : BeginsWith (stream_inputs bytes) (turn_inputs turns ++ last_input last)
+  pub stand : BeginsWith (stream_inputs taken) (turn_inputs turns ++ last_input last)
+  pub covers : BeginsWith (turn_inputs turns) (inputs_before taken)
+
+-- a run of a front of the record, if the source tells it, that was cut in its last turn
+abbrev pub IsCut : Option (List ℕ) → List ℕ → Option (List ℕ) → Option (List ℕ) → Type 0
+IsCut bytes taken held_old held_new =
+    (turns : List Turn) × (last : Option Turn) × CutReplay held_old held_new turns last × IfSome bytes (TakePart taken turns last)
 
 -- the status of a run by how it ended, and the place that it tells
 abbrev pub status_of : Ending → Status
@@ -72,18 +86,20 @@ abbrev pub place_of : Ending → ℕ
 place_of (ending.Bad n) = n
 place_of e = 0
 
--- what was done with the bytes that were taken, by the status; the source has this left
-abbrev pub DidReplay : Status → List ℕ → Option (List ℕ) → Option (List ℕ) → Option (List ℕ) → Type 0
-DidReplay Done bytes left held_old held_new =
-    (turns : List Turn) × (rest : List Input) × EndedReplay bytes held_old held_new turns rest × IsAtEnd left
-DidReplay BadRecord bytes left held_old held_new =
-    (turns : List Turn) × OpenReplay bytes held_old held_new turns × IsSome (bad_place bytes) × IsAtEnd left
-DidReplay InputLimit bytes left held_old held_new = held_new ≡ held_old
-DidReplay ReadFault bytes left held_old held_new = held_new ≡ held_old
-DidReplay WriteFault bytes left held_old held_new = IsCut bytes held_old held_new
-DidReplay Memory bytes left held_old held_new = IsCut bytes held_old held_new
-DidReplay Usage bytes left held_old held_new = ⊥
-DidReplay HubFault bytes left held_old held_new = ⊥
+-- what was done with a record, if the source tells it, of which these bytes were taken, by the status; this is the place that is told
+abbrev pub DidReplay : Status → Option (List ℕ) → List ℕ → Option (List ℕ) → Option (List ℕ) → ℕ → Type 0
+DidReplay Done bytes taken held_old held_new place =
+    (turns : List Turn) × EndedReplay held_old held_new turns × IfSome bytes (TakeToEnd turns)
+DidReplay BadRecord bytes taken held_old held_new place =
+    (turns : List Turn) × OpenReplay held_old held_new turns × (length turns < INPUTS_MAX) × IfSome bytes (TakeToBad turns place)
+DidReplay InputLimit bytes taken held_old held_new place =
+    (turns : List Turn) × OpenReplay held_old held_new turns × (length turns ≡ INPUTS_MAX) × IfSome bytes (TakeToLimit turns)
+DidReplay ReadFault bytes taken held_old held_new place =
+    (turns : List Turn) × OpenReplay held_old held_new turns × (length turns < INPUTS_MAX) × IfSome bytes (TakePart taken turns None)
+DidReplay WriteFault bytes taken held_old held_new place = IsCut bytes taken held_old held_new
+DidReplay Memory bytes taken held_old held_new place = IsCut bytes taken held_old held_new
+DidReplay Usage bytes taken held_old held_new place = ⊥
+DidReplay HubFault bytes taken held_old held_new place = ⊥
 
 -- the line that tells a status, where the bad place is this one; none for Done
 abbrev pub line_of : Status → ℕ → List ℕ
@@ -101,8 +117,7 @@ line_of InputLimit place = codes "compose: input limit" ++ 10 ∷ []
 abbrev pub Complained : Option (List ℕ) → Option (List ℕ) → ℕ → ℕ → List ℕ → Type 0
 Complained old new before now line = ((new ≡ append_known old line) × (now ≡ before)) ⊎ (AppendsPrefix old new line × Rose before now)
 
--- `replay`: it took these bytes from the source, and did this with them
-pub record Replayed (status : Status) (left_old left_new held_old held_new : Option (List ℕ)) (bytes : List ℕ) : Type 0 where
-  pub took : left_old ≡ prepend_known bytes left_new
-  pub limit : (status ≡ InputLimit) ↔ (INPUT_BYTES_MAX < length bytes)
-  pub did : DidReplay status bytes left_new held_old held_new
+-- `replay`: these bytes were taken from the source, and this was done with the record that it had ahead; this is the place that is told
+pub record Replayed (status : Status) (left_old left_new held_old held_new : Option (List ℕ)) (taken : List ℕ) (place : ℕ) : Type 0 where
+  pub took : left_old ≡ prepend_known taken left_new
+  pub did : DidReplay status left_old taken held_old held_new place

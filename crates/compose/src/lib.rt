@@ -4,7 +4,6 @@
 mod calls;
 mod complaints;
 mod no_hub;
-mod reads;
 mod replays;
 mod statuses;
 mod words;

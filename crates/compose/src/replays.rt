@@ -1,26 +1,67 @@
 //! Replays a recorded stream.
 
-ghost use Rattle.std.specs.Prelude.{◌≡◌, ◌≢◌, ◌≤◌, length};
+ghost use Rattle.std.specs.Prelude.{◌≡◌, ◌≢◌, ℕ, List};
 ghost use Rattle.qo_causes.specs.Cause.{Rose};
-ghost use Rattle.qo_machine.specs.declared.running.Ending.TheVariants as Ending;
-ghost use Rattle.compose.specs.Replay.{DidRun};
-ghost use Rattle.compose.specs.declared.reads.TheConstants.{INPUT_BYTES_MAX};
+ghost use Rattle.compose.specs.Replay.{Replayed, place_of, status_of};
 
-use qo_causes::Sink;
+use crate::statuses::{Ran, Status};
+use qo_causes::{Sink, Source};
 use qo_machine::{Ending, run};
-use qo_record::WholeHub;
+use qo_record::{ReplayHub, Unmade};
 use qo_values::INPUTS_MAX;
 use std::alloc::Global;
 
-/// Runs the inputs of a stream, and puts the transcript into a sink.
-pub(crate) fn run_bytes<K: Sink>(alloc: Global, bytes: Vec<u8>, sink: K) -> (Ending, K)
-    requires { length bytes.items ≤ INPUT_BYTES_MAX }
-    ensures did { DidRun result.0 bytes.items (K.held sink) (K.held result.1) }
-    ensures count { K.faults sink ≤ K.faults result.1 }
-    ensures cause { result.0 ≡ Ending.SendFailed → Rose (K.faults sink) (K.faults result.1) }
-    ensures quiet { result.0 ≢ Ending.SendFailed → K.faults result.1 ≡ K.faults sink }
+/// The status of a run that ended so.
+fn status_of(ending: Ending) -> Status
+    ensures { result ≡ status_of ending }
 {
-    let mut hub = WholeHub::new(bytes, sink);
-    let ending = run(alloc, &mut hub, INPUTS_MAX);
-    (ending, hub.into_sink())
+    match ending {
+        Ending::Done => Status::Done,
+        Ending::Bad(_) => Status::BadRecord,
+        Ending::Memory => Status::Memory,
+        Ending::NextFailed => Status::ReadFault,
+        Ending::SendFailed => Status::WriteFault,
+        Ending::Limit => Status::InputLimit,
+    }
+}
+
+/// The bad place of a run that ended so, or 0.
+fn place_of(ending: Ending) -> u64
+    ensures { result ≡ place_of ending }
+{
+    match ending {
+        Ending::Bad(place) => place,
+        _ => 0,
+    }
+}
+
+/// Replays the recorded stream of a source into a sink, and gives the bad place, or 0.
+pub(crate) fn replay<S: Source, K: Sink>(alloc: Global, source: S, sink: K) -> (Ran<S, K>, u64)
+    ensures replayed { (taken : List ℕ) × Replayed result.0.status (S.left source) (S.left result.0.source) (K.held sink) (K.held result.0.sink) taken result.1 }
+    ensures read_cause { result.0.status ≡ Status.ReadFault → Rose (S.faults source) (S.faults result.0.source) }
+    ensures write_cause { result.0.status ≡ Status.WriteFault → Rose (K.faults sink) (K.faults result.0.sink) }
+    ensures read_quiet { result.0.status ≢ Status.ReadFault → S.faults result.0.source ≡ S.faults source }
+    ensures write_quiet { result.0.status ≢ Status.WriteFault → K.faults result.0.sink ≡ K.faults sink }
+    ensures other { (result.0.status ≢ Status.Usage) × (result.0.status ≢ Status.HubFault) }
+{
+    match ReplayHub::new(alloc, source, sink) {
+        Ok(mut hub) => {
+            let ending = run(alloc, &mut hub, INPUTS_MAX);
+            let (source, sink) = hub.into_parts();
+            let ran = Ran {
+                status: status_of(ending),
+                source,
+                sink,
+            };
+            (ran, place_of(ending))
+        }
+        Err(Unmade { source, sink }) => {
+            let ran = Ran {
+                status: Status::Memory,
+                source,
+                sink,
+            };
+            (ran, 0)
+        }
+    }
 }

@@ -171,14 +171,29 @@ fn nothing_else_is_served_before_the_negotiation(rt: HostRuntime) -> Result<(), 
 #[test]
 fn each_failing_take_is_a_read_fault(rt: HostRuntime) -> Result<(), Fail> {
     let record = joined(rt.alloc(), &[OPEN, NEGOTIATE, LIST_ROOT])?;
-    for number in 1..3u64 {
-        let left = call(rt.alloc(), &["replay"], record.as_bytes(), &[number], &[])?;
-        assert_eq!(rt; left.status, Status::ReadFault, "at take {number}");
-        assert_eq!(rt; left.held.as_slice(), b"".as_slice());
-        assert_eq!(rt; left.told.as_slice(), b"compose: read fault\n".as_slice());
-    }
+    let left = call(rt.alloc(), &["replay"], record.as_bytes(), &[1], &[])?;
+    assert_eq!(rt; left.status, Status::ReadFault);
+    assert_eq!(rt; left.held.as_slice(), b"".as_slice());
+    assert_eq!(rt; left.told.as_slice(), b"compose: read fault\n".as_slice());
+    // All of the record comes with the first take.
+    let left = call(rt.alloc(), &["replay"], record.as_bytes(), &[2], &[])?;
+    let whole = joined(rt.alloc(), &[GREETING, EMPTY, ROOT])?;
+    assert_eq!(rt; left.status, Status::ReadFault);
+    assert_eq!(rt; left.held.as_slice(), whole.as_bytes());
+    assert_eq!(rt; left.told.as_slice(), b"compose: read fault\n".as_slice());
     let left = call(rt.alloc(), &["replay"], record.as_bytes(), &[3], &[])?;
     assert_eq!(rt; left.status, Status::Done);
+    Ok(())
+}
+
+#[test]
+fn messages_are_answered_before_the_next_take(rt: HostRuntime) -> Result<(), Fail> {
+    let record = joined(rt.alloc(), &[OPEN, NEGOTIATE, "bytes 1.0"])?;
+    let left = call(rt.alloc(), &["replay"], record.as_bytes(), &[2], &[])?;
+    let want = joined(rt.alloc(), &[GREETING, EMPTY])?;
+    assert_eq!(rt; left.status, Status::ReadFault);
+    assert_eq!(rt; left.held.as_slice(), want.as_bytes());
+    assert_eq!(rt; left.told.as_slice(), b"compose: read fault\n".as_slice());
     Ok(())
 }
 
@@ -226,17 +241,34 @@ fn other_words_are_no_order(rt: HostRuntime) -> Result<(), Fail> {
     Ok(())
 }
 
+/// A record in which session 0 opens, and the guest writes so many pieces of 65,536 bytes.
+fn long_record(alloc: Global, pieces: usize) -> Result<Vec<u8>, Fail> {
+    let mut piece = Vec::from_slice(alloc, b"guest 1.000000 65536\n")?;
+    piece.resize(65_557, b'x')?;
+    piece.push(b'\n')?;
+    let mut record = Vec::from_slice(alloc, OPEN.as_bytes())?;
+    for _ in 0..pieces {
+        record.extend_from_slice(&piece)?;
+    }
+    Ok(record)
+}
+
 #[test]
-fn one_byte_too_many_is_the_input_limit(rt: HostRuntime) -> Result<(), Fail> {
-    let mut record = Vec::from_slice(rt.alloc(), b"qrec 1\n")?;
-    record.resize(16_777_216, b'x')?;
+fn long_records_are_read_through(rt: HostRuntime) -> Result<(), Fail> {
+    let mut record = long_record(rt.alloc(), 257)?;
+    record.extend_from_slice(NEGOTIATE.as_bytes())?;
+    let want = joined(rt.alloc(), &[GREETING, EMPTY])?;
     let left = call(rt.alloc(), &["replay"], record.as_slice(), &[], &[])?;
-    assert_eq!(rt; left.status, Status::BadRecord);
+    assert_eq!(rt; left.status, Status::Done);
+    assert_eq!(rt; left.held.as_slice(), want.as_bytes());
     record.push(b'x')?;
     let left = call(rt.alloc(), &["replay"], record.as_slice(), &[], &[])?;
-    assert_eq!(rt; left.status, Status::InputLimit);
-    assert_eq!(rt; left.held.as_slice(), b"".as_slice());
-    assert_eq!(rt; left.told.as_slice(), b"compose: input limit\n".as_slice());
+    assert_eq!(rt; left.status, Status::BadRecord);
+    assert_eq!(rt; left.held.as_slice(), want.as_bytes());
+    assert_eq!(rt;
+        left.told.as_slice(),
+        b"compose: bad record at byte 16848480\n".as_slice()
+    );
     Ok(())
 }
 

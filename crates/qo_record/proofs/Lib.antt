@@ -2,4 +2,6 @@ pub mod EntryLemmas
 pub mod LineLemmas
 pub mod ReadingLemmas
 pub mod RecordLemmas
-pub mod StreamLemmas
+pub mod WindowLemmas
+pub mod ReplayLemmas
+pub mod CoverLemmas

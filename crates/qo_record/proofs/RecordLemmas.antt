@@ -65,9 +65,9 @@ entries_some opened bytes e h =
 
 -- The bytes are the entries and what is left, and the entries may stand.
 
-record IsParted (opened : List Bool) (bytes : List ℕ) (r : Read) : Type 0 where
-  parts : bytes ≡ entries_text r.inputs ++ r.left
-  fit : FitAll opened r.inputs
+pub record IsParted (opened : List Bool) (bytes : List ℕ) (r : Read) : Type 0 where
+  pub parts : bytes ≡ entries_text r.inputs ++ r.left
+  pub fit : FitAll opened r.inputs
 
 within_parted : (n : ℕ) (opened : List Bool) (bytes : List ℕ) → IsParted opened bytes (entries_within n opened bytes)
 within_parted zero opened bytes = record { parts = refl; fit = tt }
@@ -85,9 +85,15 @@ within_parted (suc n) opened bytes = go (entry_at opened bytes) refl (within_par
           fit = (t.1, behind.fit);
         }
 
-entries_parted : (opened : List Bool) (bytes : List ℕ) → IsParted opened bytes (entries_from opened bytes)
+pub entries_parted : (opened : List Bool) (bytes : List ℕ) → IsParted opened bytes (entries_from opened bytes)
 unfolding entries_from
 entries_parted opened bytes = within_parted (length bytes) opened bytes
+
+-- no more is left than there was
+pub left_few : (opened : List Bool) (bytes : List ℕ) → length ((entries_from opened bytes).left) ≤ length bytes
+left_few opened bytes =
+    let r : Read = entries_from opened bytes in
+    omega (arith, ap (length {A = ℕ}) (entries_parted opened bytes).parts, length-append (entries_text r.inputs) r.left)
 
 -- Reading goes on behind entries that may stand.
 
@@ -126,7 +132,7 @@ stream_longest bytes =
 pub streams_are_longest : StreamsAreLongest
 streams_are_longest bytes rest h = subst ReadsLongest (sym h) (stream_longest rest)
 
-nothing_left : (opened : List Bool) → entries_from opened [] ≡ stopped []
+pub nothing_left : (opened : List Bool) → entries_from opened [] ≡ stopped []
 unfolding entries_from
 nothing_left opened = refl
 

@@ -1,9 +1,10 @@
 //! Entries of a recorded stream, each read from the front of bytes.
 
-ghost use Rattle.std.specs.Prelude.{◌≡◌, codes, option_map, IfOk, IfSome};
+ghost use Rattle.std.specs.Prelude.{◌≡◌, ◌≤◌, codes, length, option_map, IfOk, IfSome};
 ghost use Rattle.qo_record.specs.Record.{bytes_at, entry_at, entry_of, guest_at, moment_behind, open_at, shut_at, step_at};
 ghost use Rattle.qo_record.specs.Spelling.{FitsPiece, opened_by};
-ghost use Rattle.qo_record.specs.Streams.{FitsSaid, entry_said, entry_taken, said_by, said_what};
+ghost use Rattle.qo_record.specs.Windows.{first_entry};
+ghost use Rattle.qo_record.specs.Streams.{FitsSaid, entry_said, said_by, said_what};
 
 use crate::reading::{behind, moment_at, number_until, piece_at, session_until};
 use qo_causes::{Chunk, Input, Moment, What};
@@ -35,12 +36,12 @@ struct Entry<'a> {
     rest: &'a [u8],
 }
 
-/// An entry as an input, the sessions that are open behind it, and the bytes behind it.
+/// The first entry of some bytes as an input, the sessions that are open behind it, and how many bytes it has.
 #[derive(Drop)]
-pub(crate) struct Taken<'a> {
+pub(crate) struct First {
     pub(crate) input: Input,
     pub(crate) opened: [bool; 16],
-    pub(crate) rest: &'a [u8],
+    pub(crate) size: usize,
 }
 
 /// A session that opens, where it is not open.
@@ -216,21 +217,22 @@ fn what_of(alloc: Global, said: Said) -> Result<What, AllocError>
 }
 
 /// The entry at the front of the bytes, as an input.
-pub(crate) fn first_of<'a>(
+pub(crate) fn first_of(
     alloc: Global,
     opened: &[bool; 16],
-    bytes: &'a [u8],
-) -> Result<Option<Taken<'a>>, AllocError>
-    ensures entry { IfOk result (λ found. option_map entry_taken found ≡ entry_at opened.now bytes.now) }
-    ensures opened { IfOk result (λ found. IfSome found (λ t. t.opened ≡ opened_by opened.now t.input.what)) }
+    bytes: &[u8],
+) -> Result<Option<First>, AllocError>
+    ensures entry { IfOk result (λ found. option_map (first_entry bytes.now) found ≡ entry_at opened.now bytes.now) }
+    ensures opened { IfOk result (λ found. IfSome found (λ f. f.opened ≡ opened_by opened.now f.input.what)) }
+    ensures within { IfOk result (λ found. IfSome found (λ f. f.size ≤ length bytes.now)) }
 {
     let Some(entry) = entry_at(opened, bytes) else {
         return Ok(None);
     };
     let what = what_of(alloc, entry.said)?;
-    Ok(Some(Taken {
+    Ok(Some(First {
         input: Input { at: entry.at, what },
         opened: opened_by(*opened, entry.said),
-        rest: entry.rest,
+        size: bytes.len() - entry.rest.len(),
     }))
 }

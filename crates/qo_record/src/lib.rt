@@ -1,14 +1,16 @@
-//! Recorded streams: how their entries are spelled and read, and the hub over a stream in memory.
+//! Recorded streams: how their entries are spelled and read, and the hub over a source and a sink.
 #![tactic(auto)]
 
 mod entries;
 pub mod laws;
 mod lines;
+mod readers;
 mod reading;
-mod streams;
-mod whole_hub;
+mod replay_hub;
+mod windows;
 
-pub use whole_hub::WholeHub;
+pub use replay_hub::{ReplayHub, Unmade};
+pub use windows::AHEAD_BYTES;
 
 #[cfg(test)]
 mod tests;

@@ -1,17 +1,35 @@
 //! Streams with ample memory: which entries are read, where the reading stops, and the transcript's lines.
 
-use crate::WholeHub;
-use qo_causes::{ByteSink, Hub, Input, Lane, Moment, NextError, SendError, Sink, What};
+ghost use Rattle.std.specs.Prelude.{Some};
+
+use crate::{ReplayHub, Unmade};
+use qo_causes::{
+    ByteSink, ByteSource, Failed, Hub, Input, Lane, Moment, NextError, SendError, Source, What,
+};
 use std::test::Fail;
 
-/// A hub over these bytes, whose sink has room for 64 bytes and fails at its second put.
-fn hub(rt: &HostRuntime, bytes: &[u8]) -> Result<WholeHub<ByteSink>, Fail> {
+/// A source of these bytes, of whose takes those of these numbers fail.
+fn source_of(rt: &HostRuntime, bytes: &[u8], takes: &[u64]) -> Result<ByteSource, Fail> {
+    let fails = takes.to_vec(rt.alloc())?;
+    Ok(ByteSource::new(bytes.to_vec(rt.alloc())?, fails))
+}
+
+/// A hub over a source, whose sink has room for 64 bytes and fails at its second put.
+fn hub_over<S: Source + Drop>(rt: &HostRuntime, source: S) -> Result<ReplayHub<S, ByteSink>, Fail> {
     let sink = ByteSink::new(rt.alloc(), 64, vec![in rt.alloc(); 2]?)?;
-    Ok(WholeHub::new(bytes.to_vec(rt.alloc())?, sink))
+    match ReplayHub::new(rt.alloc(), source, sink) {
+        Ok(hub) => Ok(hub),
+        Err(Unmade { source: _, sink: _ }) => Err("there was no memory for the hub".into()),
+    }
+}
+
+/// A hub over a source of these bytes.
+fn hub(rt: &HostRuntime, bytes: &[u8]) -> Result<ReplayHub<ByteSource, ByteSink>, Fail> {
+    hub_over(rt, source_of(rt, bytes, &[])?)
 }
 
 /// Where a hub stops behind so many inputs: its bad place, or none at the end.
-fn stop_of<K: Sink>(hub: &mut WholeHub<K>, count: usize) -> Result<Option<u64>, Fail> {
+fn stop_of<H: Hub>(hub: &mut H, count: usize) -> Result<Option<u64>, Fail> {
     for _ in 0..count {
         if let What::End = hub.next()?.what {
             return Err("the end came early".into());
@@ -173,15 +191,22 @@ fn sessions_open_and_shut_in_turn(rt: HostRuntime) -> Result<(), Fail> {
     Ok(())
 }
 
-/// A stream with one piece of so many bytes, whose number is spelled so.
-fn stream_of_piece(rt: &HostRuntime, number: &[u8], len: usize) -> Result<Vec<u8>, Fail> {
-    let mut bytes = b"qrec 1\nguest 0.000000 ".to_vec(rt.alloc())?;
+/// Adds an entry of the guest with so many bytes, whose number is spelled so.
+fn add_piece(bytes: &mut Vec<u8>, number: &[u8], len: usize) -> Result<(), Fail> {
+    bytes.extend_from_slice(b"guest 0.000000 ")?;
     bytes.extend_from_slice(number)?;
     bytes.push(b'\n')?;
     for _ in 0..len {
         bytes.push(b'x')?;
     }
     bytes.push(b'\n')?;
+    Ok(())
+}
+
+/// A stream with one piece of so many bytes, whose number is spelled so.
+fn stream_of_piece(rt: &HostRuntime, number: &[u8], len: usize) -> Result<Vec<u8>, Fail> {
+    let mut bytes = b"qrec 1\n".to_vec(rt.alloc())?;
+    add_piece(&mut bytes, number, len)?;
     Ok(bytes)
 }
 
@@ -204,8 +229,64 @@ fn messages_go_into_the_sink_as_lines(rt: HostRuntime) -> Result<(), Fail> {
     assert!(rt; hub.send(Lane::Session(0), b"three\r\n").is_ok());
     assert!(rt; hub.send(Lane::Guest, b"four\n").is_ok());
     assert_eq!(rt;
-        hub.into_sink().held(),
+        hub.into_parts().1.held(),
         b"15 one\r\n0 three\r\ng four\n".as_slice()
     );
+    Ok(())
+}
+
+/// A source that gives one byte a take.
+#[derive(Drop)]
+struct Drip {
+    inner: ByteSource,
+}
+
+impl Source for Drip {
+    ghost left = { λ s. Some s.inner.bytes };
+
+    ghost faults = { λ s. s.inner.faults };
+
+    fn take(&mut self, buf: &mut [u8]) -> Result<usize, Failed> {
+        let room = buf.len().min(1);
+        self.inner.take(&mut buf[..room])
+    }
+}
+
+#[test]
+fn entries_come_byte_by_byte(rt: HostRuntime) -> Result<(), Fail> {
+    let inner = source_of(&rt, EACH_KIND, &[])?;
+    let mut drip = hub_over(&rt, Drip { inner })?;
+    assert_eq!(rt; stop_of(&mut drip, 5)?, None);
+    let inner = source_of(&rt, b"qrec 1\nopen 1.000000 0\nbytes 1.0", &[])?;
+    let mut cut = hub_over(&rt, Drip { inner })?;
+    assert_eq!(rt; stop_of(&mut cut, 1)?, Some(23));
+    Ok(())
+}
+
+#[test]
+fn entries_of_the_largest_size_follow_each_other(rt: HostRuntime) -> Result<(), Fail> {
+    let mut bytes = stream_of_piece(&rt, b"65536", 65_536)?;
+    add_piece(&mut bytes, b"65536", 65_536)?;
+    bytes.extend_from_slice(b"step 0.000000 1\nwrong")?;
+    let mut hub = hub(&rt, &bytes)?;
+    assert_eq!(rt; guest_size(&hub.next()?.what), 65_536);
+    assert_eq!(rt; guest_size(&hub.next()?.what), 65_536);
+    assert_eq!(rt; stop_of(&mut hub, 1)?, Some(131_139));
+    Ok(())
+}
+
+#[test]
+fn whole_entries_are_given_before_a_take(rt: HostRuntime) -> Result<(), Fail> {
+    let source = source_of(&rt, b"qrec 1\nopen 1.000000 0\nstep 1.000000 5\nste", &[2])?;
+    let mut hub = hub_over(&rt, source)?;
+    assert!(rt; matches!(hub.next()?.what, What::Open(0)));
+    assert!(rt; hub.send(Lane::Session(0), b"one\r\n").is_ok());
+    assert!(rt; matches!(hub.next()?.what, What::Step(5)));
+    assert!(rt; matches!(hub.next(), Err(NextError::Failed)));
+    assert!(rt; matches!(hub.next(), Err(NextError::Bad(39))));
+    assert_eq!(rt; hub.into_parts().1.held(), b"0 one\r\n".as_slice());
+    let mut broken = hub_over(&rt, source_of(&rt, b"qrec 1\n", &[1])?)?;
+    assert!(rt; matches!(broken.next(), Err(NextError::Failed)));
+    assert!(rt; matches!(broken.next()?.what, What::End));
     Ok(())
 }

@@ -1,0 +1,80 @@
+-- What the code that reads from a source finds.
+use Rattle.std.specs.Prelude.{ℕ, ◌≡◌, ◌+◌, ◌<◌, ◌≤◌, ◌⊎◌, Bool, true, false, List, [], ◌++◌, length, take, drop, Option, None, Some, Result, Ok, Err, IfSome}
+use Rattle.std.specs.Io.KnownBytes.{prepend_known}
+use Rattle.qo_causes.specs.Cause.{Rose}
+use Rattle.qo_causes.specs.declared.hubs.NextError.{NextError}
+use Rattle.qo_causes.specs.declared.hubs.NextError.TheVariants.{Failed as NextFailed, Bad, Memory}
+use Rattle.qo_causes.specs.declared.inputs.Input.{Input}
+use Rattle.qo_record.specs.Reading.{behind}
+use Rattle.qo_record.specs.Record.{entry_at}
+use Rattle.qo_record.specs.Replays.{ahead_of}
+use Rattle.qo_record.specs.Spelling.{header, opened_by}
+use Rattle.qo_record.specs.declared.entries.First.{First}
+use Rattle.qo_record.specs.declared.readers.Front.{Front}
+use Rattle.qo_record.specs.declared.readers.Front.TheVariants.{Header, Other, Short}
+
+-- the bytes of a window: those from one place to another
+abbrev pub between : List ℕ → ℕ → ℕ → List ℕ
+between bytes at end = drop at (take end bytes)
+
+-- a source gave so many bytes, which stand in a buffer from this place on, and nothing to a buffer with room only at its end
+abbrev pub TakesBehind : {E : Type 0} → Option (List ℕ) → Option (List ℕ) → Result ℕ E → List ℕ → ℕ → Type 0
+TakesBehind old new (Ok n) buffer end =
+    (old ≡ prepend_known (between buffer end (end + n)) new) × (n ≡ 0 → end < length buffer → IfSome new (λ left. left ≡ []))
+TakesBehind old new (Err e) buffer end = new ≡ old
+
+-- an entry at the front of some bytes, and the bytes behind it
+abbrev pub first_entry : List ℕ → First → Input × List ℕ
+first_entry bytes f = (f.input, drop f.size bytes)
+
+-- a take gave so many bytes more, or there are none
+abbrev pub Filled : {E : Type 0} → List ℕ → List ℕ → Option (List ℕ) → Result ℕ E → Type 0
+Filled old new left (Ok n) = (length new ≡ length old + n) × (n ≡ 0 → (new ≡ old) × IfSome left (λ more. more ≡ []))
+Filled old new left (Err e) = new ≡ old
+
+-- more bytes were taken for the entry at the front, or there is no room for any, or there are none
+abbrev pub More : {E : Type 0} → List ℕ → List ℕ → Option (List ℕ) → Result Bool E → Type 0
+More old new left (Ok true) = length old < length new
+More old new left (Ok false) = (new ≡ old) × ((length new ≡ 65699) ⊎ IfSome left (λ more. more ≡ []))
+More old new left (Err e) = new ≡ old
+
+-- some bytes begin with the header
+abbrev pub BeginsWithHeader : List ℕ → Type 0
+BeginsWithHeader bytes = (more : List ℕ) × (bytes ≡ header ++ more)
+
+-- what the first bytes of a stream are
+abbrev pub HeaderIn : List ℕ → Front → Type 0
+HeaderIn bytes Header = BeginsWithHeader bytes
+HeaderIn bytes Other = (more : List ℕ) → behind header (bytes ++ more) ≡ None
+HeaderIn bytes Short = (behind header bytes ≡ None) × (length bytes ≤ 7)
+
+-- the header stands at the front of what is held, or is not ahead
+abbrev pub HeaderFound : {E : Type 0} → List ℕ → Option (List ℕ) → Result Bool E → Type 0
+HeaderFound held left (Ok true) = BeginsWithHeader held
+HeaderFound held left (Ok false) = IfSome (ahead_of held left) (λ bytes. behind header bytes ≡ None)
+HeaderFound held left (Err e) = Unit {0}
+
+-- it is the first entry of some bytes, while these sessions are open
+pub record IsFirst (opened : List Bool) (bytes : List ℕ) (f : First) : Type 0 where
+  pub entry : entry_at opened bytes ≡ Some (first_entry bytes f)
+  pub opens : f.opened ≡ opened_by opened f.input.what
+  pub within : f.size ≤ length bytes
+
+-- no entry stands ahead; where nothing is held nothing is left
+abbrev pub NoEntry : List Bool → List ℕ → List ℕ → Type 0
+NoEntry opened held left = (entry_at opened (held ++ left) ≡ None) × (held ≡ [] → left ≡ [])
+
+-- the first entry is held, or none stands ahead
+abbrev pub EntryFound : List Bool → List ℕ → Option (List ℕ) → Result (Option First) NextError → Type 0
+EntryFound opened held left (Ok (Some f)) = IsFirst opened held f
+EntryFound opened held left (Ok None) = IfSome left (NoEntry opened held)
+EntryFound opened held left (Err (Bad n)) = ⊥
+EntryFound opened held left (Err NextFailed) = Unit {0}
+EntryFound opened held left (Err Memory) = Unit {0}
+
+-- the count of faults rose where the source failed, and is as before where it did not
+abbrev pub LookedFor : ℕ → ℕ → Result (Option First) NextError → Type 0
+LookedFor before now (Ok f) = now ≡ before
+LookedFor before now (Err (Bad n)) = now ≡ before
+LookedFor before now (Err NextFailed) = Rose before now
+LookedFor before now (Err Memory) = now ≡ before
