@@ -2,3 +2,4 @@ pub mod CallLemmas
 pub mod ComplaintLemmas
 pub mod ReadLemmas
 pub mod ReplayLemmas
+pub mod WordLemmas

@@ -1,5 +1,6 @@
 pub mod Exits
 pub mod Reads
 pub mod Replay
+pub mod Serve
 pub mod Views
 pub mod Words

@@ -6,6 +6,7 @@ mod complaints;
 mod no_hub;
 mod reads;
 mod replays;
+mod serves;
 mod statuses;
 mod words;
 
@@ -20,3 +21,5 @@ mod object_rows;
 mod rows;
 #[cfg(test)]
 mod tests;
+#[cfg(test)]
+mod word_rows;
