@@ -2,5 +2,6 @@ pub mod Exits
 pub mod Reads
 pub mod Replay
 pub mod Serve
+pub mod Types
 pub mod Views
 pub mod Words

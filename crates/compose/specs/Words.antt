@@ -80,4 +80,4 @@ built None = None
 built (Some replay) = Some replay
 built (Some (serve path connections)) = Some (serve path connections)
 built (Some (demo seed steps)) = None
-built (Some types) = None
+built (Some types) = Some types

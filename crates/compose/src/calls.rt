@@ -7,13 +7,15 @@ ghost use Rattle.qo_record.specs.Record.{bad_place};
 ghost use Rattle.compose.specs.Reads.{read_status};
 ghost use Rattle.compose.specs.Replay.{Complained, Replayed, line_of, place_of, status_of};
 ghost use Rattle.compose.specs.Serve.{Served, asks_hub};
-ghost use Rattle.compose.specs.Words.{built, order, replay as a_replay, serve as a_serve};
+ghost use Rattle.compose.specs.Types.{ToldTypes};
+ghost use Rattle.compose.specs.Words.{built, order, replay as a_replay, serve as a_serve, types as a_types};
 
 use crate::complaints::complain;
 use crate::reads::{ReadError, read_all};
 use crate::replays::run_bytes;
 use crate::serves::serve;
 use crate::statuses::{Ran, Status};
+use crate::type_lines::tell_types;
 use crate::words::{Order, order_in};
 use qo_causes::{Hub, Sink, Source};
 use qo_machine::Ending;
@@ -88,9 +90,9 @@ fn replay<S: Source, K: Sink>(alloc: Global, mut source: S, sink: K) -> (Ran<S, 
 ///
 /// `replay` reads a recorded stream from `source` to its end, runs it on a new machine, and puts the
 /// transcript into `sink`. `serve` lets the hub begin at a path with so many connections, and runs a new
-/// machine over it. The words of `demo` and `types` are orders, but these commands are not built yet. One
-/// line goes to `complaints` for each status but `Done`; a fault there changes no status. What an order does
-/// not use is left as it was.
+/// machine over it. `types` puts the line of each type into `sink`. The words of `demo` are an order, but it
+/// is not built yet. One line goes to `complaints` for each status but `Done`; a fault there changes no
+/// status. What an order does not use is left as it was.
 ///
 /// - `Usage`: exactly where the words are no order, or one whose command is not built; nothing was read.
 /// - `BadRecord`: the run came to the bad place, which the line shows.
@@ -105,7 +107,7 @@ pub fn compose<S: Source, K: Sink, E: Sink, H: Hub>(
     alloc: Global,
     words: &[String],
     source: S,
-    sink: K,
+    mut sink: K,
     complaints: &mut E,
     hub: &mut H,
 ) -> Ran<S, K>
@@ -113,6 +115,7 @@ pub fn compose<S: Source, K: Sink, E: Sink, H: Hub>(
     ensures refused { built (order (map string_bytes words.now)) ≡ None → (result.source ≡ source) × (result.sink ≡ sink) × Complained (E.held complaints.old) (E.held complaints.new) (E.faults complaints.old) (E.faults complaints.new) (line_of Status.Usage 0) }
     ensures replay { order (map string_bytes words.now) ≡ Some a_replay → (bytes : List ℕ) × Replayed result.status (S.left source) (S.left result.source) (K.held sink) (K.held result.sink) bytes × Complained (E.held complaints.old) (E.held complaints.new) (E.faults complaints.old) (E.faults complaints.new) (line_of result.status (unwrap_or (bad_place bytes) 0)) }
     ensures serve { (path : List ℕ) (connections : ℕ) → order (map string_bytes words.now) ≡ Some (a_serve path connections) → (place : ℕ) × Served path connections result.status place (H.asked hub.old) (H.asked hub.new) (told (H.inputs hub.old) (H.sent hub.old) (H.got hub.old) (H.losses hub.old)) (told (H.inputs hub.new) (H.sent hub.new) (H.got hub.new) (H.losses hub.new)) (H.bad hub.old) × (result.source ≡ source) × (result.sink ≡ sink) × Complained (E.held complaints.old) (E.held complaints.new) (E.faults complaints.old) (E.faults complaints.new) (line_of result.status place) }
+    ensures types { order (map string_bytes words.now) ≡ Some a_types → ToldTypes result.status (K.held sink) (K.held result.sink) × (result.source ≡ source) × Complained (E.held complaints.old) (E.held complaints.new) (E.faults complaints.old) (E.faults complaints.new) (line_of result.status 0) }
     ensures read_cause { result.status ≡ Status.ReadFault → Rose (S.faults source) (S.faults result.source) }
     ensures write_cause { result.status ≡ Status.WriteFault → Rose (K.faults sink) (K.faults result.sink) }
     ensures read_quiet { result.status ≢ Status.ReadFault → S.faults result.source ≡ S.faults source }
@@ -137,7 +140,16 @@ pub fn compose<S: Source, K: Sink, E: Sink, H: Hub>(
                 sink,
             }
         }
-        Some(Order::Demo { .. }) | Some(Order::Types) | None => {
+        Some(Order::Types) => {
+            let status = tell_types(alloc, &mut sink);
+            complain(complaints, status, 0);
+            Ran {
+                status,
+                source,
+                sink,
+            }
+        }
+        Some(Order::Demo { .. }) | None => {
             complain(complaints, Status::Usage, 0);
             Ran {
                 status: Status::Usage,

@@ -8,6 +8,7 @@ mod reads;
 mod replays;
 mod serves;
 mod statuses;
+mod type_lines;
 mod words;
 
 pub use calls::compose;

@@ -1,6 +1,6 @@
 //! The words that are orders, the words that are none, and sessions that are served over a hub in memory.
 
-use crate::tests::call;
+use crate::tests::{call, call_with_room};
 use crate::words::{Order, order_in};
 use crate::{Ran, Status, compose};
 use qo_causes::{ByteSink, ByteSource, Chunk, Input, Lane, Moment, ScriptHub, What};
@@ -206,5 +206,43 @@ fn a_hub_that_does_not_begin_is_a_fault(rt: HostRuntime) -> Result<(), Fail> {
     assert_eq!(rt; told.as_slice(), b"compose: hub fault\n".as_slice());
     assert_eq!(rt; hub.asked(), None);
     assert_eq!(rt; hub.lane(Lane::Session(0)), b"".as_slice());
+    Ok(())
+}
+
+/// The types, as the profile has them.
+const TYPES: &[u8] = b"\
+object - abstract -
+container object plain -
+machine object plain hotplug-handler,resettable
+device object abstract resettable
+slot-device device abstract -
+slot-uart slot-device plain -
+slot-timer slot-device plain -
+slot-bridge slot-device plain hotplug-handler
+mem-dimm device plain -
+bus object abstract resettable
+slot-bus bus plain -
+mem-bus bus plain -
+clock object plain -
+memory-backend object abstract user-creatable
+memory-backend-ram memory-backend plain -
+tag object plain user-creatable
+";
+
+#[test]
+fn types_are_told(rt: HostRuntime) -> Result<(), Fail> {
+    let left = call(rt.alloc(), &["types"], b"", &[1], &[])?;
+    assert_eq!(rt; left.status, Status::Done);
+    assert_eq!(rt; left.held.as_slice(), TYPES);
+    assert!(rt; left.told.is_empty());
+    let left = call_with_room(rt.alloc(), &["types"], b"", &[1], &[], 100)?;
+    assert_eq!(rt; left.status, Status::WriteFault);
+    assert_eq!(rt; left.held.as_slice(), &TYPES[..100]);
+    assert_eq!(rt; left.told.as_slice(), b"compose: write fault\n".as_slice());
+    let seed = ["demo", "--seed", "1", "--steps", "0"];
+    assert_eq!(rt;
+        call(rt.alloc(), &seed, b"", &[], &[])?.status,
+        Status::Usage
+    );
     Ok(())
 }
