@@ -227,6 +227,33 @@ def test_a_hundred(path):
         server.ends_well()
 
 
+def test_tap(path):
+    """What `qrec tap` records of clients is replayed to what they were sent, with the cuts that they made."""
+    tapped, record = path.with_name("tapped"), path.with_name("record")
+    words = [TOP / "tools" / "qrec", "tap", tapped, path]
+    with Server(path, 2) as server, record.open("wb") as out, subprocess.Popen(words, stdout=out) as tap, contextlib.ExitStack() as ends:
+        ends.callback(tap.kill)
+        got = []
+        for name in ["one", "two"]:
+            with Client(tapped) as client:
+                got.append(client.line())
+                for command in ["qmp_capabilities", "query-version", "query-status"]:
+                    client.asks(command)
+                    got.append(client.line())
+                client.asks("object-add", **{"qom-type": "tag", "id": name})
+                got.append(client.line())
+                client.socket.shutdown(socket.SHUT_WR)
+                assert client.is_shut()
+        server.ends_well()
+        tap.terminate()
+        assert tap.wait(SECONDS) == 0 and not tapped.exists()
+    replayed = subprocess.run([PROGRAM, "replay"], input=record.read_bytes(), capture_output=True, timeout=SECONDS, check=True)
+    assert [json.loads(line[2:]) for line in replayed.stdout.splitlines()] == got
+    session = subprocess.run([TOP / "tools" / "qrec", "read"], input=record.read_bytes(), capture_output=True, check=True)
+    words = [line.split()[1] for line in session.stdout.decode().splitlines()]
+    assert words == ["open", *["raw"] * 4, "shut"] * 2, words
+
+
 def main():
     """Runs the tests whose names have one of the words, or all, and returns the exit status."""
     if not PROGRAM.exists():
