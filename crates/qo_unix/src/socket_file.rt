@@ -48,9 +48,9 @@ impl SocketFile {
         if path.is_empty() || path.len() > PATH_MAX {
             return Err(io::Error::from(ErrorKind::InvalidInput));
         }
-        let listener = bind(rt, path)?;
         self.path.clear();
         self.path.push_str(path)?;
+        let listener = bind(rt, path)?;
         self.made = Some(Identity::of(&fs::symlink_metadata(rt, path)?));
         Ok(listener)
     }
