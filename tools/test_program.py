@@ -9,6 +9,24 @@ import sys
 TOP = pathlib.Path(__file__).resolve().parent.parent
 HOME = TOP / "crates" / "compose_program"
 PROGRAM = HOME / "out" / "compose_program"
+TYPES = b"""\
+object - abstract -
+container object plain -
+machine object plain hotplug-handler,resettable
+device object abstract resettable
+slot-device device abstract -
+slot-uart slot-device plain -
+slot-timer slot-device plain -
+slot-bridge slot-device plain hotplug-handler
+mem-dimm device plain -
+bus object abstract resettable
+slot-bus bus plain -
+mem-bus bus plain -
+clock object plain -
+memory-backend object abstract user-creatable
+memory-backend-ram memory-backend plain -
+tag object plain user-creatable
+"""
 USAGE = b"usage: compose replay | serve --socket PATH --connections N | demo --seed N --steps K | types\n"
 
 
@@ -34,6 +52,12 @@ def main():
         ("a whole stream", ["replay"], cycle, 0, transcript, b""),
         ("a bad place behind it", ["replay"], cycle + b"shut 0.000000\n", 3, transcript, bad),
         ("no stream", ["replay"], b"", 3, b"", b"compose: bad record at byte 0\n"),
+        ("the types", ["types"], cycle, 0, TYPES, b""),
+        ("types and a word too many", ["types", "--help"], b"", 2, b"", USAGE),
+        ("no connections", ["serve", "--connections", "0", "--socket", "s"], b"", 2, b"", USAGE),
+        ("no path", ["serve", "--socket=", "--connections", "1"], b"", 2, b"", USAGE),
+        ("a command that is not built", ["demo", "--seed", "1", "--steps", "0"], b"", 2, b"", USAGE),
+        ("a socket in no folder", ["serve", "--socket", "no/such/folder", "--connections", "1"], b"", 7, b"", b"compose: hub fault\n"),
     ]
     return any([differs(*run) for run in runs])
 

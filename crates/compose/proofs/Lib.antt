@@ -1,2 +1,4 @@
 pub mod ComplaintLemmas
 pub mod ReplayLemmas
+pub mod TypeLemmas
+pub mod WordLemmas

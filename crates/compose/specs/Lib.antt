@@ -1,4 +1,6 @@
 pub mod Exits
 pub mod Replay
+pub mod Serve
+pub mod Types
 pub mod Views
 pub mod Words

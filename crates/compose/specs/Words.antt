@@ -1,13 +1,83 @@
 -- The words behind the program's name.
-use Rattle.std.specs.Prelude.{ℕ, if◌then◌else◌, List, [], ◌∷◌, Option, Some, None, codes}
+use Rattle.std.specs.Prelude.{ℕ, ◌-◌, ◌^◌, ◌==◌, Bool, true, false, if◌then◌else◌, List, [], ◌∷◌, length, Option, Some, None, codes}
 use Rattle.std.specs.Str.{bytes_eq}
+use Rattle.qo_record.specs.Reading.{◌>>=◌, behind, next_of, or_else}
 
--- what the program is asked to do
+-- what the program is asked to do; a socket has a path and a number of connections, a demo a seed and a number of steps
 pub data Order : Type 0 where
   replay : Order
+  serve : List ℕ → ℕ → Order
+  demo : ℕ → ℕ → Order
+  types : Order
+
+-- further digits, to the end
+abbrev pub digits_on : ℕ → ℕ → List ℕ → Option ℕ
+digits_on last n [] = Some n
+digits_on last n (b ∷ bytes) = next_of last n b >>= λ next. digits_on last next bytes
+
+-- a number up to the last, in digits without a leading zero
+abbrev pub number : ℕ → List ℕ → Option ℕ
+number last [] = None
+number last (b ∷ bytes) =
+    if b == 48 then (if length bytes == 0 then Some 0 else None)
+    else (next_of last 0 b >>= λ first. digits_on last first bytes)
+
+-- a value is not empty and begins with no `-`
+abbrev pub is_value : List ℕ → Bool
+is_value [] = false
+is_value (b ∷ bytes) = if b == 45 then false else true
+
+-- a text as a value, and the words behind it
+abbrev pub value_then : List ℕ → List (List ℕ) → Option (List ℕ × List (List ℕ))
+value_then text words = if is_value text then Some (text, words) else None
+
+-- the value of an option at the front of the words, which is the next word or follows `=`, and the words behind it
+abbrev pub option_at : List ℕ → List (List ℕ) → Option (List ℕ × List (List ℕ))
+option_at name [] = None
+option_at name (word ∷ []) = behind name word >>= λ more. (behind (codes "=") more >>= λ text. value_then text [])
+option_at name (word ∷ next ∷ words) =
+    if bytes_eq word name then value_then next words
+    else (behind name word >>= λ more. (behind (codes "=") more >>= λ text. value_then text (next ∷ words)))
+
+-- the values of two options, in this order, with nothing behind them
+abbrev pub both : List ℕ → List ℕ → List (List ℕ) → Option (List ℕ × List ℕ)
+both first second words =
+    option_at first words >>= λ x. (option_at second x.1 >>= λ y. (if length y.1 == 0 then Some (x.0, y.0) else None))
+
+-- the values of two options, in either order
+abbrev pub options : List ℕ → List ℕ → List (List ℕ) → Option (List ℕ × List ℕ)
+options first second words = or_else (both first second words) (both second first words >>= λ x. Some (x.1, x.0))
+
+-- one word and no more
+abbrev pub alone : Order → List (List ℕ) → Option Order
+alone o words = if length words == 0 then Some o else None
+
+-- `serve`, whose connections are 1 to 1,000
+abbrev pub serve_in : List (List ℕ) → Option Order
+serve_in words =
+    options (codes "--socket") (codes "--connections") words
+    >>= λ x. (number 1000 x.1 >>= λ n. (if n == 0 then None else Some (serve x.0 n)))
+
+-- `demo`, whose seed is below 2^64, and whose steps are at most 1,000,000
+abbrev pub demo_in : List (List ℕ) → Option Order
+demo_in words =
+    options (codes "--seed") (codes "--steps") words
+    >>= λ x. (number (2 ^ 64 - 1) x.0 >>= λ seed. (number 1000000 x.1 >>= λ steps. Some (demo seed steps)))
 
 -- the order that the words are, or none
 abbrev pub order : List (List ℕ) → Option Order
 order [] = None
-order (word ∷ []) = if bytes_eq word (codes "replay") then Some replay else None
-order (word ∷ more ∷ words) = None
+order (word ∷ words) =
+    if bytes_eq word (codes "replay") then alone replay words
+    else if bytes_eq word (codes "types") then alone types words
+    else if bytes_eq word (codes "serve") then serve_in words
+    else if bytes_eq word (codes "demo") then demo_in words
+    else None
+
+-- the order, where its command is built
+abbrev pub built : Option Order → Option Order
+built None = None
+built (Some replay) = Some replay
+built (Some (serve path connections)) = Some (serve path connections)
+built (Some (demo seed steps)) = None
+built (Some types) = Some types

@@ -1,13 +1,18 @@
 //! The top call.
 
-ghost use Rattle.std.specs.Prelude.{◌≡◌, ◌≢◌, ◌↔◌, ℕ, List, None, Some, map, string_bytes};
+ghost use Rattle.std.specs.Prelude.{◌≡◌, ◌≢◌, ◌↔◌, ◌⊎◌, ℕ, false, List, None, Some, map, string_bytes};
 ghost use Rattle.qo_causes.specs.Cause.{Rose};
+ghost use Rattle.qo_machine.specs.Runs.{told};
 ghost use Rattle.compose.specs.Replay.{Complained, Replayed, line_of};
-ghost use Rattle.compose.specs.Words.{order, replay as a_replay};
+ghost use Rattle.compose.specs.Serve.{Served, asks_hub};
+ghost use Rattle.compose.specs.Types.{ToldTypes};
+ghost use Rattle.compose.specs.Words.{built, order, replay as a_replay, serve as a_serve, types as a_types};
 
 use crate::complaints::complain;
 use crate::replays::replay;
+use crate::serves::serve;
 use crate::statuses::{Ran, Status};
+use crate::type_lines::tell_types;
 use crate::words::{Order, order_in};
 use qo_causes::{Hub, Sink, Source};
 use std::alloc::Global;
@@ -15,37 +20,45 @@ use std::alloc::Global;
 /// Runs `compose` on its words, the words behind the program's name.
 ///
 /// `replay` runs the recorded stream of `source` on a new machine, entry by entry as it comes, and puts each message
-/// into `sink` at once. All other words are no order yet. One line goes to `complaints` for each status but `Done`;
-/// a fault there changes no status. The hub is not used yet.
+/// into `sink` at once. `serve` lets the hub begin at a path with so many connections, and runs a new machine over it.
+/// `types` puts the line of each type into `sink`. The words of `demo` are an order, but it is not built yet. One line
+/// goes to `complaints` for each status but `Done`; a fault there changes no status. What an order does not use is left
+/// as it was.
 ///
-/// - `Done`: the run has ended, at the end of the stream or by a command before; its whole transcript was put.
-/// - `Usage`: exactly where the words are no order; nothing was read.
+/// - `Done`: the run has ended, at the end of its inputs or by a command before; its whole transcript was put or sent.
+/// - `Usage`: exactly where the words are no order, or one whose command is not built; nothing was read.
 /// - `BadRecord`: the run came to the bad place, which the line shows; the whole transcript was put.
 /// - `InputLimit`: the run has taken 1,000,000,000 inputs and has not ended; its whole transcript was put.
 /// - `ReadFault`, `WriteFault`: only where the count of faults of the source or the sink rose; by any other
 ///   status that count is as before.
-/// - `Memory`: memory ran out.
+/// - `HubFault`: only by `serve`, and only where a count of faults of the hub rose: it did not begin, gave no
+///   input, or sent no message; by any other status these counts are as before.
+/// - `Memory`: memory ran out; what was put or sent is a front of what the run sends.
 ///
-/// With `ReadFault`, `WriteFault` and `Memory` the run is over a front of the stream, which has at least each entry that
-/// ends 65,700 bytes or more before the last byte taken. The whole transcript of these was put, and of the run a front;
-/// with `ReadFault` all of it.
+/// With `ReadFault`, `WriteFault` and `Memory` of `replay` the run is over a front of the stream, which has at least each
+/// entry that ends 65,700 bytes or more before the last byte taken. The whole transcript of these was put, and of the run
+/// a front; with `ReadFault` all of it.
 pub fn compose<S: Source, K: Sink, E: Sink, H: Hub>(
     alloc: Global,
     words: &[String],
     source: S,
-    sink: K,
+    mut sink: K,
     complaints: &mut E,
-    _hub: &mut H,
+    hub: &mut H,
 ) -> Ran<S, K>
-    ensures usage { (result.status ≡ Status.Usage) ↔ (order (map string_bytes words.now) ≡ None) }
-    ensures refused { order (map string_bytes words.now) ≡ None → (result.source ≡ source) × (result.sink ≡ sink) × Complained (E.held complaints.old) (E.held complaints.new) (E.faults complaints.old) (E.faults complaints.new) (line_of Status.Usage 0) }
+    ensures usage { (result.status ≡ Status.Usage) ↔ (built (order (map string_bytes words.now)) ≡ None) }
+    ensures refused { built (order (map string_bytes words.now)) ≡ None → (result.source ≡ source) × (result.sink ≡ sink) × Complained (E.held complaints.old) (E.held complaints.new) (E.faults complaints.old) (E.faults complaints.new) (line_of Status.Usage 0) }
     ensures replay { order (map string_bytes words.now) ≡ Some a_replay → (taken : List ℕ) × (place : ℕ) × Replayed result.status (S.left source) (S.left result.source) (K.held sink) (K.held result.sink) taken place × Complained (E.held complaints.old) (E.held complaints.new) (E.faults complaints.old) (E.faults complaints.new) (line_of result.status place) }
+    ensures serve { (path : List ℕ) (connections : ℕ) → order (map string_bytes words.now) ≡ Some (a_serve path connections) → (place : ℕ) × Served path connections result.status place (H.asked hub.old) (H.asked hub.new) (told (H.inputs hub.old) (H.sent hub.old) (H.got hub.old) (H.losses hub.old)) (told (H.inputs hub.new) (H.sent hub.new) (H.got hub.new) (H.losses hub.new)) (H.bad hub.old) × (result.source ≡ source) × (result.sink ≡ sink) × Complained (E.held complaints.old) (E.held complaints.new) (E.faults complaints.old) (E.faults complaints.new) (line_of result.status place) }
+    ensures types { order (map string_bytes words.now) ≡ Some a_types → ToldTypes result.status (K.held sink) (K.held result.sink) × (result.source ≡ source) × Complained (E.held complaints.old) (E.held complaints.new) (E.faults complaints.old) (E.faults complaints.new) (line_of result.status 0) }
     ensures read_cause { result.status ≡ Status.ReadFault → Rose (S.faults source) (S.faults result.source) }
     ensures write_cause { result.status ≡ Status.WriteFault → Rose (K.faults sink) (K.faults result.sink) }
     ensures read_quiet { result.status ≢ Status.ReadFault → S.faults result.source ≡ S.faults source }
     ensures write_quiet { result.status ≢ Status.WriteFault → K.faults result.sink ≡ K.faults sink }
-    ensures no_hub_fault { result.status ≢ Status.HubFault }
-    ensures hub { _hub.new ≡ _hub.old }
+    ensures hub_cause { result.status ≡ Status.HubFault → Rose (H.next_faults hub.old) (H.next_faults hub.new) ⊎ Rose (H.send_faults hub.old) (H.send_faults hub.new) }
+    ensures hub_quiet { result.status ≢ Status.HubFault → (H.next_faults hub.new ≡ H.next_faults hub.old) × (H.send_faults hub.new ≡ H.send_faults hub.old) }
+    ensures hub_later { H.later hub.old hub.new }
+    ensures hub_kept { asks_hub (order (map string_bytes words.now)) ≡ false → (hub.new ≡ hub.old) × (result.status ≢ Status.HubFault) }
 {
     match order_in(words) {
         Some(Order::Replay) => {
@@ -53,7 +66,25 @@ pub fn compose<S: Source, K: Sink, E: Sink, H: Hub>(
             complain(complaints, ran.status, place);
             ran
         }
-        None => {
+        Some(Order::Serve { path, connections }) => {
+            let (status, place) = serve(alloc, path, connections, hub);
+            complain(complaints, status, place);
+            Ran {
+                status,
+                source,
+                sink,
+            }
+        }
+        Some(Order::Types) => {
+            let status = tell_types(alloc, &mut sink);
+            complain(complaints, status, 0);
+            Ran {
+                status,
+                source,
+                sink,
+            }
+        }
+        Some(Order::Demo { .. }) | None => {
             complain(complaints, Status::Usage, 0);
             Ran {
                 status: Status::Usage,

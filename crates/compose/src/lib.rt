@@ -5,7 +5,9 @@ mod calls;
 mod complaints;
 mod no_hub;
 mod replays;
+mod serves;
 mod statuses;
+mod type_lines;
 mod words;
 
 pub use calls::compose;
@@ -19,3 +21,5 @@ mod object_rows;
 mod rows;
 #[cfg(test)]
 mod tests;
+#[cfg(test)]
+mod word_rows;

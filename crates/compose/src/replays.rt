@@ -26,7 +26,7 @@ fn status_of(ending: Ending) -> Status
 }
 
 /// The bad place of a run that ended so, or 0.
-fn place_of(ending: Ending) -> u64
+pub(crate) fn place_of(ending: Ending) -> u64
     ensures { result ≡ place_of ending }
 {
     match ending {

@@ -234,7 +234,7 @@ fn other_words_are_no_order(rt: HostRuntime) -> Result<(), Fail> {
         assert_eq!(rt; left.status, Status::Usage);
         assert_eq!(rt; left.told.as_slice(), usage.as_bytes());
     }
-    for word in ["Replay", "replay ", "serve", "types", "--help", ""] {
+    for word in ["Replay", "replay ", "serve", "demo", "--help", ""] {
         let left = call(rt.alloc(), &[word], b"qrec 1\n", &[1], &[1])?;
         assert_eq!(rt; left.status, Status::Usage);
     }

@@ -1,8 +1,9 @@
-//! The program `compose`: the top call over standard input, output and error.
+//! The program `compose`: the top call over standard input, output and error, and a Unix socket.
 #![tactic(auto)]
 
-use compose::{NoHub, Ran, compose, out_of_memory};
+use compose::{Ran, compose, out_of_memory};
 use qo_causes::{StdSink, StdSource};
+use qo_unix::UnixHub;
 use std::process::ExitCode;
 use std::{env, io};
 
@@ -28,7 +29,9 @@ fn main(rt: HostRuntime) -> io::Result<ExitCode> {
     };
     let source = StdSource::new(rt.reader());
     let sink = StdSink::new(io::writer(&rt));
-    let mut hub = NoHub;
+    let Ok(mut hub) = UnixHub::new(rt.clone()?) else {
+        return Ok(ExitCode::from(out_of_memory(&mut complaints).code()));
+    };
     let Ran {
         status,
         source: _,

@@ -1,0 +1,248 @@
+//! The words that are orders, the words that are none, and sessions that are served over a hub in memory.
+
+use crate::tests::{call, call_with_room};
+use crate::words::{Order, order_in};
+use crate::{Ran, Status, compose};
+use qo_causes::{ByteSink, ByteSource, Chunk, Input, Lane, Moment, ScriptHub, What};
+use std::alloc::Global;
+use std::test::Fail;
+
+/// The words between single spaces; two spaces have an empty word between them.
+fn words_of(alloc: Global, line: &str) -> Result<Vec<String>, Fail> {
+    let mut words = Vec::new(alloc);
+    for word in line.split(' ') {
+        words.push(String::from_str(alloc, word)?)?;
+    }
+    Ok(words)
+}
+
+/// Lines that are `serve` at the path `s` with these connections.
+const SERVES: &[(&str, u32)] = &[
+    ("serve --socket s --connections 1", 1),
+    ("serve --connections 1000 --socket s", 1_000),
+    ("serve --socket=s --connections=20", 20),
+    ("serve --connections=7 --socket s", 7),
+    ("serve --socket s --connections=7", 7),
+    ("serve --socket=s --connections 7", 7),
+];
+
+/// Lines that are `demo` with these numbers.
+const DEMOS: &[(&str, u64, u32)] = &[
+    ("demo --seed 1 --steps 0", 1, 0),
+    (
+        "demo --steps 1000000 --seed=18446744073709551615",
+        u64::MAX,
+        1_000_000,
+    ),
+    ("demo --steps=0 --seed=0", 0, 0),
+];
+
+/// Lines that are no order.
+const NO_ORDERS: &[&str] = &[
+    "",
+    "Replay",
+    "repla",
+    "replays",
+    " replay",
+    "replay ",
+    "replay replay",
+    "replay -h",
+    "-h",
+    "--help",
+    "--",
+    "type",
+    "types types",
+    "types --",
+    "-- types",
+    "serve",
+    "demo",
+    "serve -h",
+    "serve --help",
+    "serve s 1",
+    "serve --socket s",
+    "serve --connections 1",
+    "serve --socket s --socket s",
+    "serve --socket s --connections",
+    "serve --connections 1 --socket",
+    "serve --connections 1 --socket=",
+    "serve --connections 1 --socket ",
+    "serve --socket --connections 1",
+    "serve --socket -s --connections 1",
+    "serve --socket=-s --connections 1",
+    "serve --socket - --connections 1",
+    "serve --socket -- --connections 1",
+    "serve --connections -- 1 --socket s",
+    "serve -- --socket s --connections 1",
+    "serve --sock s --connections 1",
+    "serve --sockets s --connections 1",
+    "serve --socket s --conn 1",
+    "serve -socket s --connections 1",
+    "serve --Socket s --connections 1",
+    "serve --socket s --connections 1 more",
+    "serve --socket s --connections 1 --connections 1",
+    "serve --socket s --connections 0",
+    "serve --socket s --connections 1001",
+    "serve --socket s --connections 01",
+    "serve --socket s --connections +1",
+    "serve --socket s --connections 0x1",
+    "serve --socket s --connections 1.0",
+    "serve --socket s --connections=",
+    "serve --socket s --seed 1",
+    "demo --seed 1 --seed 1 --steps 0",
+    "demo --seed 18446744073709551616 --steps 0",
+    "demo --seed 1 --steps 1000001",
+    "demo --seed 00 --steps 0",
+    "demo --seed -1 --steps 0",
+];
+
+#[test]
+fn words_are_orders_or_usage(rt: HostRuntime) -> Result<(), Fail> {
+    for (line, wanted) in SERVES {
+        let words = words_of(rt.alloc(), line)?;
+        let Some(Order::Serve { path, connections }) = order_in(words.as_slice()) else {
+            assert!(rt; false, "at {line}");
+            return Ok(());
+        };
+        assert_eq!(rt; path, "s", "at {line}");
+        assert_eq!(rt; connections, *wanted, "at {line}");
+    }
+    for (line, seed_wanted, steps_wanted) in DEMOS {
+        let words = words_of(rt.alloc(), line)?;
+        let Some(Order::Demo { seed, steps }) = order_in(words.as_slice()) else {
+            assert!(rt; false, "at {line}");
+            return Ok(());
+        };
+        assert_eq!(rt; seed, *seed_wanted, "at {line}");
+        assert_eq!(rt; steps, *steps_wanted, "at {line}");
+    }
+    for line in NO_ORDERS {
+        let words = words_of(rt.alloc(), line)?;
+        assert!(rt; order_in(words.as_slice()).is_none(), "at {line}");
+    }
+    let types = words_of(rt.alloc(), "types")?;
+    assert!(rt; matches!(order_in(types.as_slice()), Some(Order::Types)));
+    assert_eq!(rt;
+        call(rt.alloc(), &[], b"qrec 1\n", &[], &[])?.status,
+        Status::Usage
+    );
+    Ok(())
+}
+
+/// What a session sends.
+const SAID: &[u8] = b"{\"execute\":\"qmp_capabilities\"}{\"execute\":\"quit\"}";
+
+/// What it is sent.
+const SENT: &str =
+    "{\"QMP\":{\"capabilities\":[],\"version\":{\"package\":\"compose\",\"qemu\":{\"major\":1,\"micro\":0,\"minor\":0}}}}\r\n{\"return\":{}}\r\n{\"data\":{\"guest\":false,\"reason\":\"host-qmp-quit\"},\"event\":\"SHUTDOWN\",\"timestamp\":{\"microseconds\":5,\"seconds\":9}}\r\n{\"return\":{}}\r\n";
+
+/// A hub in memory of one session, whose calls of these numbers fail.
+fn hub_of(alloc: Global, nexts: &[u64], sends: &[u64]) -> Result<ScriptHub, Fail> {
+    let at = Moment {
+        seconds: 9,
+        micros: 5,
+    };
+    let said = Chunk::from_vec(Vec::from_slice(alloc, SAID)?);
+    let mut inputs = Vec::new(alloc);
+    inputs.push(Input {
+        at,
+        what: What::Open(0),
+    })?;
+    inputs.push(Input {
+        at,
+        what: What::Bytes(0, said),
+    })?;
+    inputs.push(Input {
+        at,
+        what: What::Shut(0),
+    })?;
+    let (nexts, sends) = (
+        Vec::from_slice(alloc, nexts)?,
+        Vec::from_slice(alloc, sends)?,
+    );
+    Ok(ScriptHub::new(alloc, inputs, 4_096, nexts, sends, Vec::new(alloc))?)
+}
+
+/// The status of `serve` over a hub, and what was complained.
+fn served(alloc: Global, line: &str, hub: &mut ScriptHub) -> Result<(Status, Vec<u8>), Fail> {
+    let words = words_of(alloc, line)?;
+    let source = ByteSource::new(Vec::new(alloc), Vec::new(alloc));
+    let sink = ByteSink::new(alloc, 16, Vec::new(alloc))?;
+    let mut complaints = ByteSink::new(alloc, 256, Vec::new(alloc))?;
+    let Ran {
+        status,
+        source: _,
+        sink: _,
+    } = compose(alloc, words.as_slice(), source, sink, &mut complaints, hub);
+    Ok((status, Vec::from_slice(alloc, complaints.held())?))
+}
+
+#[test]
+fn a_hub_is_served(rt: HostRuntime) -> Result<(), Fail> {
+    let mut hub = hub_of(rt.alloc(), &[], &[])?;
+    let (status, told) = served(rt.alloc(), "serve --connections 3 --socket s", &mut hub)?;
+    assert_eq!(rt; status, Status::Done);
+    assert!(rt; told.is_empty());
+    assert_eq!(rt; hub.asked(), Some(("s", 3)));
+    assert_eq!(rt; hub.lane(Lane::Session(0)), SENT.as_bytes());
+
+    let faults: &[(&[u64], &[u64])] = &[(&[1], &[]), (&[2], &[]), (&[], &[1]), (&[], &[4])];
+    for (nexts, sends) in faults {
+        let mut hub = hub_of(rt.alloc(), nexts, sends)?;
+        let (status, told) = served(rt.alloc(), "serve --socket=s --connections=1", &mut hub)?;
+        assert_eq!(rt; status, Status::HubFault);
+        assert_eq!(rt; told.as_slice(), b"compose: hub fault\n".as_slice());
+        assert_eq!(rt; hub.asked(), Some(("s", 1)));
+    }
+    Ok(())
+}
+
+#[test]
+fn a_hub_that_does_not_begin_is_a_fault(rt: HostRuntime) -> Result<(), Fail> {
+    let mut hub = hub_of(rt.alloc(), &[], &[])?;
+    let long = "p".repeat(rt.alloc(), 4_097)?;
+    let line = format!(in rt.alloc(); "serve --connections 1 --socket {long}")?;
+    let (status, told) = served(rt.alloc(), line.as_str(), &mut hub)?;
+    assert_eq!(rt; status, Status::HubFault);
+    assert_eq!(rt; told.as_slice(), b"compose: hub fault\n".as_slice());
+    assert_eq!(rt; hub.asked(), None);
+    assert_eq!(rt; hub.lane(Lane::Session(0)), b"".as_slice());
+    Ok(())
+}
+
+/// The types, as the profile has them.
+const TYPES: &[u8] = b"\
+object - abstract -
+container object plain -
+machine object plain hotplug-handler,resettable
+device object abstract resettable
+slot-device device abstract -
+slot-uart slot-device plain -
+slot-timer slot-device plain -
+slot-bridge slot-device plain hotplug-handler
+mem-dimm device plain -
+bus object abstract resettable
+slot-bus bus plain -
+mem-bus bus plain -
+clock object plain -
+memory-backend object abstract user-creatable
+memory-backend-ram memory-backend plain -
+tag object plain user-creatable
+";
+
+#[test]
+fn types_are_told(rt: HostRuntime) -> Result<(), Fail> {
+    let left = call(rt.alloc(), &["types"], b"", &[1], &[])?;
+    assert_eq!(rt; left.status, Status::Done);
+    assert_eq!(rt; left.held.as_slice(), TYPES);
+    assert!(rt; left.told.is_empty());
+    let left = call_with_room(rt.alloc(), &["types"], b"", &[1], &[], 100)?;
+    assert_eq!(rt; left.status, Status::WriteFault);
+    assert_eq!(rt; left.held.as_slice(), &TYPES[..100]);
+    assert_eq!(rt; left.told.as_slice(), b"compose: write fault\n".as_slice());
+    let seed = ["demo", "--seed", "1", "--steps", "0"];
+    assert_eq!(rt;
+        call(rt.alloc(), &seed, b"", &[], &[])?.status,
+        Status::Usage
+    );
+    Ok(())
+}

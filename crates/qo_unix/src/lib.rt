@@ -1,0 +1,9 @@
+//! A hub over a Unix socket: the clients that connect, one behind the other, are session 0.
+#![tactic(auto)]
+
+mod socket_file;
+#[cfg(test)]
+mod tests;
+mod unix_hub;
+
+pub use unix_hub::UnixHub;
