@@ -1,10 +1,14 @@
 -- What `types` puts.
-use Rattle.std.specs.Prelude.{◌≡◌, ℕ, if◌then◌else◌, List, [], ◌∷◌, flat_map, codes, Option, unwrap_or}
+use Rattle.std.specs.Prelude.{◌≡◌, ℕ, if◌then◌else◌, List, [], ◌∷◌, flat_map, codes, map, Option}
 use Rattle.std.specs.List.{join_with_byte}
 use Rattle.std.specs.Io.KnownBytes.{append_known}
 use Rattle.qo_causes.specs.Bytes.{AppendsPrefix}
-use Rattle.qo_model.specs.Types.{names_text, type_line, types}
-use Rattle.qo_types.specs.Rows.{Told}
+use Rattle.std.specs.Option.{option_map_or}
+use Rattle.qo_values.specs.Kinds.{type_name}
+use Rattle.qo_values.specs.declared.kinds.TypeId.{TypeId}
+use Rattle.qo_model.specs.RowNames.{interface_name}
+use Rattle.qo_model.specs.Types.{interfaces_of, names_text, parent_of, type_line, types}
+use Rattle.qo_types.specs.Rows.{is_abstract}
 use Rattle.compose.specs.declared.statuses.Status.{Status}
 use Rattle.compose.specs.declared.statuses.Status.TheVariants.{Done, Usage, BadRecord, Memory, ReadFault, WriteFault, HubFault, InputLimit}
 
@@ -12,10 +16,13 @@ use Rattle.compose.specs.declared.statuses.Status.TheVariants.{Done, Usage, BadR
 abbrev pub type_lines : List ℕ
 type_lines = flat_map type_line types
 
--- the line of what a row tells, without its end
-abbrev pub line_told : Told → List ℕ
-line_told r =
-    join_with_byte 32 (r.name ∷ unwrap_or r.parent (codes "-") ∷ (if r.is_abstract then codes "abstract" else codes "plain") ∷ names_text r.interfaces ∷ [])
+-- the line of a type as it is told part by part, without its end (for proofs alone)
+abbrev pub line_told : TypeId → List ℕ
+line_told t =
+    join_with_byte 32 (
+    type_name t ∷ option_map_or type_name (parent_of t) (codes "-") ∷ (if is_abstract t then codes "abstract" else codes "plain")
+    ∷ names_text (map interface_name (interfaces_of t)) ∷ []
+    )
 
 -- `types`, by its status: the lines were put, or a front of them, or nothing
 abbrev pub ToldTypes : Status → Option (List ℕ) → Option (List ℕ) → Type 0

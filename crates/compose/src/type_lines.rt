@@ -2,13 +2,14 @@
 
 ghost use Rattle.std.specs.Prelude.{◌≡◌, ◌≢◌, ◌≤◌, ◌++◌, [], ◌∷◌, IfOk, OnOk, flat_map, filter_map, map, string_bytes};
 ghost use Rattle.qo_causes.specs.Cause.{Rose};
+ghost use Rattle.qo_model.specs.RowNames.{interface_name};
 ghost use Rattle.qo_model.specs.Types.{names_text, row_of, type_line};
-ghost use Rattle.qo_types.specs.Rows.{type_told};
 ghost use Rattle.compose.specs.Types.{ToldTypes, line_told, type_lines};
 
 use crate::statuses::Status;
 use qo_causes::{Failed, Sink, put_all};
-use qo_types::{TypeRow, TypeTable};
+use qo_model::Interface;
+use qo_types::TypeTable;
 use qo_values::TypeId;
 use std::alloc::{AllocError, Global};
 
@@ -22,24 +23,37 @@ fn names_of(alloc: Global, names: &[&str]) -> Result<String, AllocError>
     names.join(alloc, ",")
 }
 
-/// The line of a row, without its end.
-fn line_of(alloc: Global, row: TypeRow) -> Result<String, AllocError>
-    ensures { IfOk result (λ text. string_bytes text ≡ line_told (type_told row)) }
+/// The names of interfaces.
+fn interface_names(alloc: Global, interfaces: &[Interface]) -> Result<Vec<&'static str>, AllocError>
+    ensures { IfOk result (λ names. map (λ name. name.now) names.items ≡ map interface_name interfaces.now) }
 {
-    let parent = match row.parent {
+    let mut names = Vec::new(alloc);
+    for interface in interfaces {
+        names.push(interface.name())?;
+    }
+    Ok(names)
+}
+
+/// The line of a type, without its end.
+fn line_of(alloc: Global, t: TypeId) -> Result<String, AllocError>
+    ensures { IfOk result (λ text. string_bytes text ≡ line_told t) }
+{
+    let table = TypeTable::board();
+    let parent = match table.parent(t) {
         Some(parent) => parent.name(),
         None => "-",
     };
-    let kind = if row.is_abstract { "abstract" } else { "plain" };
-    let interfaces = names_of(alloc, row.interfaces)?;
-    [row.name, parent, kind, interfaces.as_str()].join(alloc, " ")
+    let kind = if table.is_abstract(t) { "abstract" } else { "plain" };
+    let names = interface_names(alloc, table.interfaces(t))?;
+    let interfaces = names_of(alloc, &names)?;
+    [t.name(), parent, kind, interfaces.as_str()].join(alloc, " ")
 }
 
 /// Adds the line of a type.
 fn add_line(alloc: Global, lines: &mut String, t: TypeId) -> Result<(), AllocError>
     ensures { OnOk result (string_bytes lines.new ≡ string_bytes lines.old ++ flat_map type_line (filter_map row_of (t ∷ []))) }
 {
-    let line = line_of(alloc, TypeTable::board().row(t))?;
+    let line = line_of(alloc, t)?;
     lines.push_str(line.as_str())?;
     lines.push('\n')
 }
