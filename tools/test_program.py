@@ -5,6 +5,7 @@ crates/compose_program, whose stored run ends in a bad place."""
 import pathlib
 import subprocess
 import sys
+import threading
 
 TOP = pathlib.Path(__file__).resolve().parent.parent
 HOME = TOP / "crates" / "compose_program"
@@ -41,6 +42,31 @@ def differs(name, words, given, status, printed, complained):
     return True
 
 
+def answers_late():
+    """Whether a reply does not come while the pipe of its record is still open; says which."""
+    greeting = b'0 {"QMP":{"capabilities":[],"version":{"package":"compose","qemu":{"major":1,"micro":0,"minor":0}}}}\r\n'
+    steps = [
+        (b"qrec 1\nopen 1.000000 0\n", greeting),
+        (b'bytes 1.000000 0 30\n{"execute":"qmp_capabilities"}\n', b'0 {"return":{}}\r\n'),
+        (b'bytes 1.000000 0 26\n{"execute":"query-status"}\n', b'0 {"return":{"running":true,"status":"running"}}\r\n'),
+    ]
+    with subprocess.Popen([PROGRAM, "replay"], stdin=subprocess.PIPE, stdout=subprocess.PIPE) as ran:
+        patience = threading.Timer(20, ran.kill)
+        patience.start()
+        got = []
+        for sent, _ in steps:
+            ran.stdin.write(sent)
+            ran.stdin.flush()
+            got.append(ran.stdout.readline())
+        ran.stdin.close()
+        status = ran.wait()
+        patience.cancel()
+    if got == [wanted for _, wanted in steps] and status == 0:
+        return False
+    print(f"an open pipe: got {got}, and status {status}", file=sys.stderr)
+    return True
+
+
 def main():
     cycle = (TOP / "examples" / "cycle.qrec").read_bytes()
     transcript = (HOME / "stdout").read_bytes()
@@ -59,7 +85,7 @@ def main():
         ("a command that is not built", ["demo", "--seed", "1", "--steps", "0"], b"", 2, b"", USAGE),
         ("a socket in no folder", ["serve", "--socket", "no/such/folder", "--connections", "1"], b"", 7, b"", b"compose: hub fault\n"),
     ]
-    return any([differs(*run) for run in runs])
+    return any([*[differs(*run) for run in runs], answers_late()])
 
 
 sys.exit(main())
