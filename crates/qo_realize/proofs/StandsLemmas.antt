@@ -1,10 +1,16 @@
 -- What stands beside the objects stays with each call on them.
-use Rattle.std.proofs.Common.{◌≡◌, refl, ap, sym, subst, ◌∙◌, ap₂, ℕ, Bool, List, [], Result, Ok, Err, OnErr, inl, inr, map, true}
+use Rattle.std.proofs.Common.{◌≡◌, refl, ap, sym, subst, ◌∙◌, ap₂, ℕ, Bool, List, [], Option, None, Some, IfNone, Result, Ok, Err, OnErr, inl, inr, map, true}
 use Rattle.qo_values.specs.declared.codes.Code.{Code}
 use Rattle.qo_values.specs.declared.properties.Val.{Val}
 use Rattle.qo_model.specs.declared.notes.Note.{Note}
 use Rattle.qo_model.specs.Access.{write_at}
-use Rattle.qo_model.specs.Board.{Board}
+use Rattle.std.specs.Option.{option_map_or}
+use Rattle.qo_events.specs.Waiting.{told}
+use Rattle.qo_object.specs.Content.{Content}
+use Rattle.qo_object.specs.Shown.{shown_slots}
+use Rattle.qo_model.specs.Board.{Board, Slot}
+use Rattle.qo_model.specs.Listing.{listing, type_text}
+use Rattle.qo_heap.proofs.ShowsReads.{shows-slots}
 use Rattle.qo_model.specs.FinalNotesRuns.{added, behind_write, deleted, severed, wrote}
 use Rattle.qo_model.specs.NoteReplies.{first_from, given_from}
 use Rattle.qo_model.specs.Notes.{kept_of, total_of}
@@ -17,7 +23,7 @@ use Rattle.qo_notes.specs.Log as log
 use Rattle.qo_notes.specs.Log.{IsLogOf, Log}
 use Rattle.qo_heap.specs.Board.{Shows}
 use Rattle.qo_heap.specs.Book.{IsBook}
-use Rattle.qo_heap.specs.Objects.{Objects, no_objects_made}
+use Rattle.qo_heap.specs.Objects.{Objects, content_of, no_objects_made}
 use Rattle.qo_properties.specs.Adding as properties
 use Rattle.qo_properties.specs.Changes as changes
 use Rattle.qo_properties.specs.Claims.{KeepsBook}
@@ -131,3 +137,28 @@ first-told notes l h start = ap (log.first_from start) (log-of notes l h)
 
 pub notes-told : (notes : List Note) (l : Log) → IsLogOf notes l → (start : ℕ) → log.given_from start l ≡ given_from start notes
 notes-told notes l h start = ap (log.given_from start) (log-of notes l h)
+
+-- the events that waited were let go
+pub cleared-stands : (b : Board) (anonymous : ℕ) (running : Bool) (v : Objects) → Stands b (seen anonymous running v)
+    → Stands (record b { events = [] }) (seen anonymous running (record v { events = told v.events }))
+cleared-stands b anonymous running v s =
+    record {
+      shows = record { records = s.shows.records; born = s.shows.born; pins = s.shows.pins; notes = s.shows.notes; events = refl; now = s.shows.now };
+      anonymous = s.anonymous;
+      running = s.running;
+      holds = s.holds;
+      pending = s.pending;
+      notices = s.notices;
+      rings = s.rings;
+      book = s.book;
+    }
+
+-- an object that is not there lists nothing
+pub listing-none : (b : Board) (v : Objects) → Shows b v → (n : ℕ) → content_of v n ≡ None → listing b n ≡ []
+listing-none b v s n none =
+    ap (map (λ (t : List ℕ × Slot). (t.0, type_text b n t)))
+    (shows-slots b v s n ∙ ap (λ (o : Option Content). shown_slots (option_map_or (λ (c : Content). c.slots) o [])) none)
+
+pub none-listed : {T : Type 0} (o : Option T) (b : Board) (v : Objects) → Shows b v → (n : ℕ) → IfNone o (content_of v n ≡ None) → IfNone o (listing b n ≡ [])
+none-listed None b v s n none = listing-none b v s n none
+none-listed (Some x) b v s n none = tt

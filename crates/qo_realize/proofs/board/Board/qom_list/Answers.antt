@@ -1,9 +1,15 @@
-use Rattle.std.proofs.Common.{sym, subst}
+-- The object at a path, by its birth.
+use Rattle.std.proofs.Common.{sym, subst, ap, ◌∙◌}
 use Rattle.qo_realize.specs.Parts.{Parts}
 use Rattle.qo_realize.specs.Stands.{Stands}
 use Rattle.qo_realize.proofs.board.Board.qom_list.Goals as goal
 
-pub returns : goal.returns
-returns g c = λ b s.
+pub returns-in-Ok : goal.returns-in-Ok
+returns-in-Ok g c = λ b s.
     let seen = subst (λ (p : Parts). Stands b p) (sym c.self.view_is) s in
-    c.list.ensures b seen.shows
+    c.in-Ok.ensures.object b seen.shows
+
+pub returns-in-Err : goal.returns-in-Err
+returns-in-Err g c = λ b s.
+    let seen = subst (λ (p : Parts). Stands b p) (sym c.self.view_is) s in
+    c.in-Err.ensures.object b seen.shows
