@@ -1,5 +1,5 @@
 -- Lists of types and of properties, as they are made one after another.
-use Rattle.std.proofs.Common.{◌≡◌, refl, ap, sym, ◌∙◌, ℕ, ◌+◌, ◌<◌, ◌≤◌, Bool, true, false, cond, if◌then◌else◌, List, [], ◌∷◌, ◌++◌, map, filter, filter_map, flat_map, length, take, get_or, zero, suc, codes, Option, Some, None, option_map, IfSome, arith}
+use Rattle.std.proofs.Common.{◌≡◌, refl, ap, sym, ◌∙◌, ℕ, ◌+◌, ◌<◌, ◌≤◌, Bool, true, false, cond, if◌then◌else◌, List, [], ◌∷◌, ◌++◌, map, filter, filter_map, flat_map, length, slice_get, take, get_or, zero, suc, codes, Option, Some, None, option_map, IfSome, arith}
 use Rattle.std.proofs.lemmas.List.{map-append, take_more, take_all}
 use Rattle.std.proofs.lemmas.List.Concat.{flat_map-append}
 use Rattle.std.proofs.lemmas.List.Elements.{filter_map-append}
@@ -102,3 +102,19 @@ rows-all rows t same i high =
 pub row-pushed : (p : Property) (text : List ℕ) (before behind : List Data) → may_add p.mark ≡ true → text ≡ kind_word p.kind
     → behind ≡ before ++ property_data (property_name p.name, text) ∷ [] → behind ≡ before ++ map property_data (words_for_adding p)
 row-pushed p text before behind may is more = rw (may, ← is) more
+
+-- one more of a list's front, and all of it
+module _ {X : Type 0} where
+  front-next : (xs : List X) (i : ℕ) (x : X) → Some x ≡ slice_get xs i → take (suc i) xs ≡ take i xs ++ x ∷ []
+  front-next [] i x is = cc
+  front-next (y ∷ xs) zero x is = let same : x ≡ y = cc is in ap (λ (z : X). z ∷ []) (sym same)
+  front-next (y ∷ xs) (suc i) x is = ap (λ (l : List X). y ∷ l) (front-next xs i x is)
+
+  pub front-more : (xs : List X) (i : ℕ) (x : X) → Some x ≡ slice_get xs i → take (i + 1) xs ≡ take i xs ++ x ∷ []
+  front-more xs i x is = let next : i + 1 ≡ suc i = omega arith in ap (λ (k : ℕ). take k xs) next ∙ front-next xs i x is
+
+  pub front-all : (xs : List X) (i : ℕ) → None ≡ slice_get xs i → take i xs ≡ xs
+  front-all [] zero is = refl
+  front-all [] (suc i) is = refl
+  front-all (y ∷ xs) zero is = cc
+  front-all (y ∷ xs) (suc i) is = ap (λ (l : List X). y ∷ l) (front-all xs i is)

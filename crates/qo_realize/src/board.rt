@@ -35,7 +35,7 @@ impl Model for Board {
 }
 
 impl Board {
-    ghost use Rattle.std.specs.Prelude.{◌≡◌, ◌<◌, [], IfNone, IfOk, IfSome, OnErr, length, option_map, slice_get};
+    ghost use Rattle.std.specs.Prelude.{◌≡◌, ◌<◌, ◌^◌, [], IfNone, IfOk, IfSome, OnErr, length, option_map, slice_get};
     ghost use Rattle.qo_model.specs.Access.{read, write_at};
     ghost use Rattle.qo_model.specs.Listing.{listing};
     ghost use Rattle.qo_model.specs.Properties.{object_at};
@@ -112,6 +112,7 @@ impl Board {
         requires { IsLive self.now.objects.rows o }
         ensures listed { (b : model.Board) → Stands b self.now → option_map (λ p. (p.0.now, text_of p.1)) result ≡ slice_get (listing b o.birth) at }
         ensures within { IfSome result (λ p. at < length (slots_of self.now.objects o.birth)) }
+        ensures few { IfSome result (λ p. at < 2 ^ 32) }
     {
         property_at(&self.heap, o, at, steps)
     }

@@ -1,6 +1,6 @@
 //! Listing the slots of objects (QEMU's QAPI, `qom-list`; the type texts are the profile's).
 
-ghost use Rattle.std.specs.Prelude.{◌≡◌, ◌<◌, [], IfSome, length, option_map, slice_get};
+ghost use Rattle.std.specs.Prelude.{◌≡◌, ◌<◌, ◌^◌, [], IfSome, length, option_map, slice_get};
 ghost use Rattle.std.specs.Option.{option_map_or};
 ghost use Rattle.qo_model.specs.Board.{Board as Tree, slot_named};
 ghost use Rattle.qo_model.specs.Listing.{listing, own_text, plain_word, row_word, type_text};
@@ -102,6 +102,7 @@ pub fn property_at<'h, L: Ledger>(
     requires { IsLive heap.now.rows o }
     ensures listed { (b : Tree) → Shows b heap.now → option_map (λ p. (p.0.now, text_of p.1)) result ≡ slice_get (listing b o.birth) at }
     ensures within { IfSome result (λ p. at < length (slots_of heap.now o.birth)) }
+    ensures few { IfSome result (λ p. at < 2 ^ 32) }
 {
     heap.facts();
     let Some(slot) = heap.slot_at(o, at, steps) else {

@@ -7,8 +7,8 @@ use Rattle.qo_machine.proofs.MachineLemmas.{if_ok, seen_board, stands_in}
 use Rattle.qo_machine.specs.Machine.{reply}
 use Rattle.qo_machine.proofs.machines.Machine.change.Goals as goal
 
-pub changed_text-requires : goal.changed_text-requires
-changed_text-requires g c = c.in_ok-empty.ensures empty empty_written
+pub changed_text-text-requires : goal.changed_text-text-requires
+changed_text-text-requires g c = c.in_ok-empty.ensures empty empty_written
 
 pub returns-clause-came : goal.returns-clause-came
 returns-clause-came g c = λ b stands.
@@ -18,8 +18,8 @@ returns-clause-came g c = λ b stands.
       events = ap (λ (d : Done). d.events) did.1;
       ends = ap (λ (d : Done). d.ends) did.1;
       replied =
-          if_ok c.changed_text.result
+          if_ok c.changed_text-text.result
           (λ text written.
           written (ap (λ (d : Done). has_float_in d.result) did.1 ∙ no_float b c.args.request.now)
-          ∙ ap (λ (d : Done). reply (option_map (λ id. id.now) c.args.id) d.result) did.1) (c.changed_text.ensures _ did.0);
+          ∙ ap (λ (d : Done). reply (option_map (λ id. id.now) c.args.id) d.result) did.1) (c.changed_text-text.ensures _ did.0);
     }
