@@ -8,6 +8,7 @@ ghost use Rattle.qo_record.specs.Windows.{BeginsWithHeader, EntryFound, HeaderFo
 
 use crate::entries::{First, first_of};
 use crate::reading::behind;
+use crate::waiting::is_wrong;
 use crate::windows::Window;
 use qo_causes::{Failed, Input, Moment, NextError, Source, What};
 use std::alloc::{AllocError, Global};
@@ -91,7 +92,11 @@ fn find_entry<S: Source>(
     loop {
         match first_of(alloc, opened, window.held()) {
             Ok(Some(first)) => return Ok(Some(first)),
-            Ok(None) => {}
+            Ok(None) => {
+                if is_wrong(opened, window.held()) {
+                    return Ok(None);
+                }
+            }
             Err(AllocError) => return Err(NextError::Memory),
         }
         match take_more(window, source) {
