@@ -121,8 +121,10 @@ to_limit : (p : Progress) (lo ln : Option (List ℕ)) (bytes : List ℕ) (given 
     Took p lo ln (turn_inputs ts) → length (turn_inputs ts) ≡ 1000000000 → IfSome lo (TakeToLimit ts)
 to_limit p None ln bytes given ts read took size = tt
 to_limit p (Some all) ln bytes given ts read took size =
-    let t = took_inputs p all ln bytes given (turn_inputs ts) read took in
-    (sym (ap (λ (k : ℕ). take k (stream_inputs all)) (sym size) ∙ ap (take (length (turn_inputs ts))) t.all_is ∙ take-append_seam (turn_inputs ts) t.rest), size)
+    let t = took_inputs p all ln bytes given (turn_inputs ts) read took in (
+      sym (ap (λ (k : ℕ). take k (stream_inputs all)) (sym size) ∙ ap (take (length (turn_inputs ts))) t.all_is ∙ take-append_seam (turn_inputs ts) t.rest),
+      size,
+    )
 
 part_of : (p : Progress) (lo ln : Option (List ℕ)) (bytes : List ℕ) (given : List Input) (ts : List Turn) (last : Option Turn) →
     length p.held < 65700 → Read p lo ln bytes given → Took p lo ln (turn_inputs ts ++ last_input last) → IfSome lo (TakePart (bytes ++ p.held) ts last)
@@ -200,7 +202,8 @@ pub replayed : (e : Ending) (q p : Progress) (lo ln ho hn : Option (List ℕ)) (
     (taken : List ℕ) × Replayed (status_of e) lo ln ho hn taken (place_of e)
 replayed e q p lo ln ho hn og ng fresh few went meets =
     let w : Went unread p lo ln = subst (λ (r : Progress). Went r p lo ln) fresh went in
-    let m = subst (λ (r : Progress). RunMeets e 1000000000 (told (inputs_ahead r lo) ho og (λ n. 0)) (told (inputs_ahead p ln) hn ng (λ n. 0)) (bad_ahead r lo)) fresh meets in
+    let m = subst (λ (r : Progress). RunMeets e 1000000000 (told (inputs_ahead r lo) ho og (λ n. 0)) (told (inputs_ahead p ln) hn ng (λ n. 0))
+    (bad_ahead r lo)) fresh meets in
     (w.0 ++ p.held, record { took = taken_is p lo ln w.0 w.1 w.2; did = did e p lo ln ho hn w.0 w.1 og ng few w.2 m })
 
 -- nothing was done for want of memory

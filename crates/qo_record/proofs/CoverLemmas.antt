@@ -30,7 +30,13 @@ behind_size : (bytes : List ℕ) (r : Option (List ℕ)) → behind header bytes
 behind_size bytes None h some = absurd (omega (arith, some))
 behind_size bytes (Some rest) h some =
     let r : Read = entries_from none_open rest in
-    omega (arith, ap (length {A = ℕ}) (behind_is header bytes rest h), length-append header rest, ap (length {A = ℕ}) (entries_parted none_open rest).parts, length-append (entries_text r.inputs) r.left)
+    omega (
+      arith,
+      ap (length {A = ℕ}) (behind_is header bytes rest h),
+      length-append header rest,
+      ap (length {A = ℕ}) (entries_parted none_open rest).parts,
+      length-append (entries_text r.inputs) r.left,
+    )
 
 stream_size : (bytes : List ℕ) → 0 < length ((stream_read bytes).inputs) →
     length bytes ≡ 7 + length (entries_text ((stream_read bytes).inputs)) + length ((stream_read bytes).left)
@@ -115,7 +121,13 @@ covered bytes held given before last all few parts single =
     let within : n ≤ length bytes = omega (arith, length-append bytes held, few) in
     let front : take n (bytes ++ held) ≡ take n bytes = take-append-le n bytes held within in
     let size : length (take n bytes) ≡ n = length-take-le n bytes within in
-    let p = covered_by bytes (take n bytes) (drop n bytes) given before last all (sym (take-append-drop n bytes)) (λ some. omega (arith, some, size, few, length-append bytes held)) parts single in
+    let p = covered_by bytes (take n bytes) (drop n bytes) given before last all (sym (take-append-drop n bytes)) (λ some. omega (
+      arith,
+      some,
+      size,
+      few,
+      length-append bytes held,
+    )) parts single in
     (p.0, p.1 ∙ ap (λ (l : List ℕ). stream_inputs l ++ p.0) (sym front))
 
 -- What was given of a stream of which nothing was read before.

@@ -1,5 +1,6 @@
 -- An entry is read exactly where it is spelled and may stand.
-use Rattle.std.proofs.Common.{◌≡◌, ℕ, ◌-◌, ◌/◌, ◌^◌, ◌≤◌, ◌==◌, ◌||◌, nat_lt, ◌⊎◌, inl, inr, Bool, false, List, [], ◌∷◌, ◌++◌, length, take, drop, refl, sym, ◌∙◌, ap, subst, arith, codes, length-append, append_assoc, Option, None, Some, decimal}
+use Rattle.std.proofs.Common.{◌≡◌, ℕ, ◌-◌, ◌/◌, ◌^◌, ◌≤◌, ◌==◌, ◌||◌, nat_lt, ◌⊎◌, inl, inr, Bool, false, List, [], ◌∷◌, ◌++◌, length, take, drop}
+use Rattle.std.proofs.Common.{refl, sym, ◌∙◌, ap, subst, arith, codes, length-append, append_assoc, Option, None, Some, decimal}
 use Rattle.std.proofs.Math.Seq.{take-append_seam, drop-append_seam}
 use Rattle.std.proofs.lemmas.Bool.Decides.{nat_tests}
 use Rattle.std.proofs.lemmas.List.{take-append-drop, length-take-le}
@@ -11,7 +12,8 @@ use Rattle.qo_record.specs.Laws.{EntriesAreSpelled}
 use Rattle.qo_record.specs.Reading.{◌>>=◌, or_else, behind, digits_of, number_until}
 use Rattle.qo_record.specs.Record.{bytes_at, entry_at, entry_of, guest_at, moment_at, moment_behind, open_at, piece_at, piece_of, shut_at, step_at}
 use Rattle.qo_record.specs.Spelling.{Fits, FitsMoment, FitsPiece, FitsWhat, entry_text, is_open, last_digits, moment_text, piece_text, rest_text, word_text}
-use Rattle.qo_record.proofs.ReadingLemmas.{behind_again, behind_is, bind_some, digits_are_last, last_are_digits, number_again, number_taken, some_is, when_false, when_true}
+use Rattle.qo_record.proofs.ReadingLemmas.{behind_again, behind_is, bind_some, digits_are_last, last_are_digits, number_again, number_taken, some_is}
+use Rattle.qo_record.proofs.ReadingLemmas.{when_false, when_true}
 
 -- A moment, and the space behind it.
 
@@ -30,9 +32,10 @@ moment_taken bytes m h =
     let below : t.0.0 / 1000000 ≡ 0 = micros.0 in
     subst (λ (y : Moment × List ℕ). FitsMoment y.0 × (bytes ≡ moment_text y.0 ++ 32 ∷ y.1)) made ((omega (arith, seconds.0), omega (arith, below)), whole)
 
-moment_again : (m : Moment) (rest : List ℕ) → FitsMoment m → moment_at (moment_text m ++ 32 ∷ rest) ≡ Some (m, rest)
+pub moment_again : (m : Moment) (rest : List ℕ) → FitsMoment m → moment_at (moment_text m ++ 32 ∷ rest) ≡ Some (m, rest)
 moment_again m rest fits =
-    let spelled : moment_text m ++ 32 ∷ rest ≡ decimal m.seconds ++ 46 ∷ (last_digits 6 m.micros ++ 32 ∷ rest) = append_assoc (decimal m.seconds) (46 ∷ last_digits 6 m.micros) (32 ∷ rest) in
+    let spelled : moment_text m ++ 32 ∷ rest ≡ decimal m.seconds ++ 46 ∷ (last_digits 6 m.micros ++ 32 ∷ rest) = append_assoc (decimal m.seconds)
+    (46 ∷ last_digits 6 m.micros) (32 ∷ rest) in
     let seconds = number_again 46 (2 ^ 63 - 1) m.seconds (last_digits 6 m.micros ++ 32 ∷ rest) (omega arith) (omega arith) (omega (arith, fits.0)) in
     let none : m.micros / 10 ^ 6 ≡ 0 = omega (arith, fits.1) in
     let micros : digits_of 6 0 (last_digits 6 m.micros ++ 32 ∷ rest) ≡ Some (m.micros, 32 ∷ rest) =
@@ -134,7 +137,9 @@ IsRead opened bytes e = (bytes ≡ entry_text e.0 ++ e.1) × Fits opened e.0
 entry_spelled : (word at said rest : List ℕ) → (word ++ (at ++ 32 ∷ said)) ++ rest ≡ word ++ (at ++ 32 ∷ (said ++ rest))
 entry_spelled word at said rest = append_assoc word (at ++ 32 ∷ said) rest ∙ ap (λ (l : List ℕ). word ++ l) (append_assoc at (32 ∷ said) rest)
 
-of_word : (word : List ℕ) (what_at : List ℕ → Option (What × List ℕ)) (opened : List Bool) (bytes : List ℕ) (e : Input × List ℕ) → ((left : List ℕ) (w : What × List ℕ) → what_at left ≡ Some w → IsWhat word opened left w.0 w.1) → entry_of word what_at bytes ≡ Some e → IsRead opened bytes e
+of_word : (word : List ℕ) (what_at : List ℕ → Option (What × List ℕ)) (opened : List Bool) (bytes : List ℕ) (e : Input × List ℕ) →
+    ((left : List ℕ) (w : What × List ℕ) → what_at left ≡ Some w → IsWhat word opened left w.0 w.1) → entry_of word what_at bytes ≡ Some e →
+    IsRead opened bytes e
 of_word word what_at opened bytes e taken h =
     let t = bind_some (moment_behind word bytes) _ e h in
     let s = bind_some (behind word bytes) (λ (rest : List ℕ). moment_at rest) t.0 t.1 in
@@ -173,7 +178,8 @@ entry_taken opened bytes e h =
 record IsAgain (what_at : List ℕ → Option (What × List ℕ)) (what : What) (rest : List ℕ) : Type 0 where
   read : what_at (rest_text what ++ rest) ≡ Some (what, rest)
 
-word_again : (what_at : List ℕ → Option (What × List ℕ)) (at : Moment) (what : What) (rest : List ℕ) → FitsMoment at → IsAgain what_at what rest → entry_of (word_text what) what_at (word_text what ++ (moment_text at ++ 32 ∷ (rest_text what ++ rest))) ≡ Some (record { at = at; what = what }, rest)
+word_again : (what_at : List ℕ → Option (What × List ℕ)) (at : Moment) (what : What) (rest : List ℕ) → FitsMoment at → IsAgain what_at what rest → entry_of
+    (word_text what) what_at (word_text what ++ (moment_text at ++ 32 ∷ (rest_text what ++ rest))) ≡ Some (record { at = at; what = what }, rest)
 word_again what_at at what rest moment again =
     rw (behind_again (word_text what) (moment_text at ++ 32 ∷ (rest_text what ++ rest)), moment_again at (rest_text what ++ rest) moment, again.read) refl
 
@@ -189,7 +195,8 @@ shut_again opened s rest fits =
 
 bytes_again : (opened : List Bool) (s : ℕ) (piece rest : List ℕ) → FitsWhat opened (Bytes s piece) → IsAgain (bytes_at opened) (Bytes s piece) rest
 bytes_again opened s piece rest fits =
-    let said : (decimal s ++ 32 ∷ piece_text piece) ++ rest ≡ decimal s ++ 32 ∷ (piece_text piece ++ rest) = append_assoc (decimal s) (32 ∷ piece_text piece) rest in
+    let said : (decimal s ++ 32 ∷ piece_text piece) ++ rest ≡ decimal s ++ 32 ∷ (piece_text piece ++ rest) = append_assoc (decimal s)
+    (32 ∷ piece_text piece) rest in
     record {
       read =
           rw (said, number_again 32 15 s (piece_text piece ++ rest) (omega arith) (omega arith) fits.0, fits.1, piece_again piece rest fits.2) refl;
@@ -211,7 +218,8 @@ pub entry_again : (opened : List Bool) (i : Input) (rest : List ℕ) → Fits op
 unfolding entry_at
 entry_again opened i rest fits = ap (entry_at opened) (entry_spelled (word_text i.what) (moment_text i.at) (rest_text i.what) rest) ∙ go i.what fits.1
   where
-    go : (what : What) → FitsWhat opened what → entry_at opened (word_text what ++ (moment_text i.at ++ 32 ∷ (rest_text what ++ rest))) ≡ Some (record { at = i.at; what = what }, rest)
+    go : (what : What) → FitsWhat opened what → entry_at opened (word_text what ++ (moment_text i.at ++ 32 ∷ (rest_text what ++ rest))) ≡ Some
+        (record { at = i.at; what = what }, rest)
     go (Open s) h = first_of_two _ _ _ (word_again (open_at opened) i.at (Open s) rest fits.0 (open_again opened s rest h))
     go (Bytes s piece) h = first_of_two _ _ _ (word_again (bytes_at opened) i.at (Bytes s piece) rest fits.0 (bytes_again opened s piece rest h))
     go (Shut s) h = first_of_two _ _ _ (word_again (shut_at opened) i.at (Shut s) rest fits.0 (shut_again opened s rest h))

@@ -5,3 +5,4 @@ pub mod RecordLemmas
 pub mod WindowLemmas
 pub mod ReplayLemmas
 pub mod CoverLemmas
+pub mod WaitingLemmas

@@ -1,5 +1,6 @@
 -- The transcript's line of a message, put in two parts.
-use Rattle.std.proofs.Common.{◌≡◌, ℕ, ◌+◌, ◌/◌, ◌%◌, ◌<◌, ◌≤◌, List, [], ◌∷◌, ◌++◌, length, take, sym, ◌∙◌, ap, arith, length-append, append_assoc, decimal, Option, Result}
+use Rattle.std.proofs.Common.{◌≡◌, ℕ, ◌+◌, ◌/◌, ◌%◌, ◌<◌, ◌≤◌, List, [], ◌∷◌, ◌++◌, length, take, sym, ◌∙◌, ap, arith, length-append, append_assoc}
+use Rattle.std.proofs.Common.{decimal, Option, Result}
 use Rattle.std.proofs.Math.Seq.{take-append-add}
 use Rattle.std.proofs.lemmas.Fmt.{decimal_digit, decimal_step}
 use Rattle.std.proofs.lemmas.List.{take-append-le}
@@ -26,7 +27,8 @@ hundreds_digits n least below =
     ∙ ap (λ (k : ℕ). (48 + k) ∷ (48 + (n / 10) % 10) ∷ (48 + n % 10) ∷ []) (omega arith)
 
 -- what was put, by another name
-pub puts_same : {T E : Type 0} (old new : Option (List ℕ)) (r : Result T E) (xs ys : List ℕ) → xs ≡ ys → PutsAll old new r (ys ++ 32 ∷ []) → PutsAll old new r (xs ++ 32 ∷ [])
+pub puts_same : {T E : Type 0} (old new : Option (List ℕ)) (r : Result T E) (xs ys : List ℕ) → xs ≡ ys → PutsAll old new r (ys ++ 32 ∷ []) →
+    PutsAll old new r (xs ++ 32 ∷ [])
 puts_same old new r xs ys same h = rw same h
 
 -- a line is its lane, a space and its bytes
@@ -34,7 +36,8 @@ line_is : (lane : Lane) (bytes : List ℕ) → line lane bytes ≡ (lane_text la
 line_is lane bytes = sym (append_assoc (lane_text lane) (32 ∷ []) bytes)
 
 -- where the first part failed, a front of it is there
-pub line_cut : (old new : Option (List ℕ)) (lane : Lane) (bytes : List ℕ) → AppendsPrefix old new (lane_text lane ++ 32 ∷ []) → AppendsPrefix old new (line lane bytes)
+pub line_cut : (old new : Option (List ℕ)) (lane : Lane) (bytes : List ℕ) → AppendsPrefix old new (lane_text lane ++ 32 ∷ []) →
+    AppendsPrefix old new (line lane bytes)
 line_cut old new lane bytes p = (
   p.0,
   omega (arith, p.1, ap (length {A = ℕ}) (line_is lane bytes), length-append (lane_text lane ++ 32 ∷ []) bytes),
@@ -42,7 +45,8 @@ line_cut old new lane bytes p = (
 )
 
 -- where the second failed, the first and a front of it are
-pub bytes_cut : (old mid new : Option (List ℕ)) (lane : Lane) (bytes : List ℕ) → mid ≡ append_known old (lane_text lane ++ 32 ∷ []) → AppendsPrefix mid new bytes → AppendsPrefix old new (line lane bytes)
+pub bytes_cut : (old mid new : Option (List ℕ)) (lane : Lane) (bytes : List ℕ) → mid ≡ append_known old (lane_text lane ++ 32 ∷ []) →
+    AppendsPrefix mid new bytes → AppendsPrefix old new (line lane bytes)
 bytes_cut old mid new lane bytes is p =
     let name = lane_text lane ++ 32 ∷ [] in (
       length name + p.0,

@@ -1,5 +1,7 @@
 -- Each reader of a part takes what is spelled so, and reads it again whatever follows.
-use Rattle.std.proofs.Common.{◌≡◌, ℕ, zero, suc, ◌+◌, ◌-◌, ◌*◌, ◌/◌, ◌%◌, ◌^◌, ◌<◌, ◌≤◌, ◌==◌, ◌&&◌, nat_le, ◌⊎◌, inl, inr, Bool, true, false, if◌then◌else◌, List, [], ◌∷◌, ◌++◌, length, take, drop, refl, sym, ◌∙◌, ap, subst, arith, append_assoc, Option, None, Some, decimal}
+use Rattle.std.proofs.Common.{◌≡◌, ℕ, zero, suc, ◌+◌, ◌-◌, ◌*◌, ◌/◌, ◌%◌, ◌^◌, ◌<◌, ◌≤◌, ◌==◌, ◌&&◌, nat_le, ◌⊎◌, inl, inr, Bool, true, false}
+use Rattle.std.proofs.Common.{if◌then◌else◌, List, [], ◌∷◌, ◌++◌, length, take, drop, refl, sym, ◌∙◌, ap, subst, arith, append_assoc, Option, None}
+use Rattle.std.proofs.Common.{Some, decimal}
 use Rattle.std.proofs.Math.Nat.{div-div-eq-div-mul, div-le_self, pow-suc}
 use Rattle.std.proofs.Math.Seq.{take-append_seam, drop-append_seam}
 use Rattle.std.proofs.lemmas.Bool.Decides.{nat_tests}
@@ -67,7 +69,8 @@ digit_takes : (last n byte more : ℕ) → IsTaken last n byte more → next_of 
 digit_takes last n byte more t = grind (arith, nat_tests, t.low, t.high, t.sum, t.fits)
 
 -- further digits are those behind the digits so far
-digits_taken : (stop last : ℕ) (bytes : List ℕ) (n : ℕ) (x : ℕ × List ℕ) → last < 2 ^ 64 → 0 < n → n ≤ last → digits_until stop last n bytes ≡ Some x → (x.0 ≤ last) × (decimal n ++ bytes ≡ decimal x.0 ++ stop ∷ x.1)
+digits_taken : (stop last : ℕ) (bytes : List ℕ) (n : ℕ) (x : ℕ × List ℕ) → last < 2 ^ 64 → 0 < n → n ≤ last → digits_until stop last n bytes ≡ Some x →
+    (x.0 ≤ last) × (decimal n ++ bytes ≡ decimal x.0 ++ stop ∷ x.1)
 digits_taken stop last [] n x wide some few h = absurd (none_some h)
 digits_taken stop last (b ∷ bytes) n x wide some few h =
     elim (if_some (b == stop) (Some (n, bytes)) (next_of last n b >>= λ next. digits_until stop last next bytes) x h) [
@@ -89,7 +92,8 @@ digits_taken stop last (b ∷ bytes) n x wide some few h =
     ]
 
 -- a number that was read is spelled so
-pub number_taken : (stop last : ℕ) (bytes : List ℕ) (x : ℕ × List ℕ) → last < 2 ^ 64 → number_until stop last bytes ≡ Some x → (x.0 ≤ last) × (bytes ≡ decimal x.0 ++ stop ∷ x.1)
+pub number_taken : (stop last : ℕ) (bytes : List ℕ) (x : ℕ × List ℕ) → last < 2 ^ 64 → number_until stop last bytes ≡ Some x →
+    (x.0 ≤ last) × (bytes ≡ decimal x.0 ++ stop ∷ x.1)
 number_taken stop last [] x wide h = absurd (none_some h)
 number_taken stop last (b ∷ bytes) x wide h =
     elim (if_some (b == 48) (behind (stop ∷ []) bytes >>= λ rest. Some (0, rest)) (next_of last 0 b >>= λ first. digits_until stop last first bytes) x h) [
@@ -115,8 +119,10 @@ number_taken stop last (b ∷ bytes) x wide h =
     ]
 
 -- the digits of a number are read, whatever follows
-digits_again : (stop last : ℕ) → stop < 48 → (n : ℕ) → n < 2 ^ 64 → 0 < n → n ≤ last → (tail : List ℕ) → number_until stop last (decimal n ++ tail) ≡ digits_until stop last n tail
-digits_again stop last small n wide = decimal_by_steps (λ k ds. 0 < k → k ≤ last → (tail : List ℕ) → number_until stop last (ds ++ tail) ≡ digits_until stop last k tail) one more n wide
+digits_again : (stop last : ℕ) → stop < 48 → (n : ℕ) → n < 2 ^ 64 → 0 < n → n ≤ last → (tail : List ℕ) →
+    number_until stop last (decimal n ++ tail) ≡ digits_until stop last n tail
+digits_again stop last small n wide = decimal_by_steps (λ k ds. 0 < k → k ≤ last → (tail : List ℕ) → number_until stop last
+    (ds ++ tail) ≡ digits_until stop last k tail) one more n wide
   where
     one : (k : ℕ) → k < 10 → 0 < k → k ≤ last → (tail : List ℕ) → number_until stop last (((48 + k) ∷ []) ++ tail) ≡ digits_until stop last k tail
     one k below some few tail =
@@ -124,7 +130,9 @@ digits_again stop last small n wide = decimal_by_steps (λ k ds. 0 < k → k ≤
         let made = digit_takes last 0 (48 + k) k (record { low = omega arith; high = omega arith; sum = omega arith; fits = few }) in
         rw (other, made) refl
 
-    more : (k : ℕ) (ds : List ℕ) → 10 ≤ k → (0 < k / 10 → k / 10 ≤ last → (tail : List ℕ) → number_until stop last (ds ++ tail) ≡ digits_until stop last (k / 10) tail) → 0 < k → k ≤ last → (tail : List ℕ) → number_until stop last ((ds ++ ((48 + k % 10) ∷ [])) ++ tail) ≡ digits_until stop last k tail
+    more : (k : ℕ) (ds : List ℕ) → 10 ≤ k →
+        (0 < k / 10 → k / 10 ≤ last → (tail : List ℕ) → number_until stop last (ds ++ tail) ≡ digits_until stop last (k / 10) tail) → 0 < k → k ≤ last →
+        (tail : List ℕ) → number_until stop last ((ds ++ ((48 + k % 10) ∷ [])) ++ tail) ≡ digits_until stop last k tail
     more k ds large front some few tail =
         let other : ((48 + k % 10) == stop) ≡ false = grind (arith, nat_tests) in
         let made = digit_takes last (k / 10) (48 + k % 10) k (record { low = omega arith; high = omega arith; sum = omega arith; fits = few }) in

@@ -1,5 +1,6 @@
 -- The entries of a stream are the longest list of whole ones.
-use Rattle.std.proofs.Common.{◌≡◌, ℕ, zero, suc, ◌<◌, ◌≤◌, Bool, false, List, [], ◌∷◌, ◌++◌, length, drop, refl, sym, ◌∙◌, ap, subst, arith, length-append, append_assoc, append-nil, Option, None, Some}
+use Rattle.std.proofs.Common.{◌≡◌, ℕ, zero, suc, ◌<◌, ◌≤◌, Bool, false, List, [], ◌∷◌, ◌++◌, length, drop, refl, sym, ◌∙◌, ap, subst, arith}
+use Rattle.std.proofs.Common.{length-append, append_assoc, append-nil, Option, None, Some}
 use Rattle.std.specs.List.{AllByRecursion}
 use Rattle.qo_causes.specs.Hub.{is_end}
 use Rattle.qo_causes.specs.declared.inputs.Input.{Input}
@@ -29,7 +30,8 @@ within_none : (n : ℕ) (opened : List Bool) (bytes : List ℕ) → entry_at ope
 within_none zero opened bytes h = refl
 within_none (suc n) opened bytes h = rw h refl
 
-within_some : (n : ℕ) (opened : List Bool) (bytes : List ℕ) (e : Input × List ℕ) → entry_at opened bytes ≡ Some e → entries_within (suc n) opened bytes ≡ with_first e.0 (entries_within n (opened_by opened e.0.what) e.1)
+within_some : (n : ℕ) (opened : List Bool) (bytes : List ℕ) (e : Input × List ℕ) → entry_at opened bytes ≡ Some e →
+    entries_within (suc n) opened bytes ≡ with_first e.0 (entries_within n (opened_by opened e.0.what) e.1)
 within_some n opened bytes e h = rw h refl
 
 within_empty : (n : ℕ) (opened : List Bool) (bytes : List ℕ) → length bytes ≤ 0 → entries_within n opened bytes ≡ stopped bytes
@@ -40,12 +42,15 @@ within_empty n opened bytes empty = go (entry_at opened bytes) refl
     go (Some e) h = absurd (omega (arith, entry_shorter opened bytes e h))
 
 -- it makes no difference how many entries are allowed, if they are as many as there are bytes
-within_same : (n m : ℕ) (opened : List Bool) (bytes : List ℕ) → length bytes ≤ n → length bytes ≤ m → entries_within n opened bytes ≡ entries_within m opened bytes
+within_same : (n m : ℕ) (opened : List Bool) (bytes : List ℕ) → length bytes ≤ n → length bytes ≤ m →
+    entries_within n opened bytes ≡ entries_within m opened bytes
 within_same zero m opened bytes few enough = sym (within_empty m opened bytes few)
 within_same (suc n) zero opened bytes few enough = within_empty (suc n) opened bytes enough
 within_same (suc n) (suc m) opened bytes few enough = go (entry_at opened bytes) refl (within_same n m)
   where
-    go : (r : Option (Input × List ℕ)) → entry_at opened bytes ≡ r → ((now : List Bool) (rest : List ℕ) → length rest ≤ n → length rest ≤ m → entries_within n now rest ≡ entries_within m now rest) → entries_within (suc n) opened bytes ≡ entries_within (suc m) opened bytes
+    go : (r : Option (Input × List ℕ)) → entry_at opened bytes ≡ r →
+        ((now : List Bool) (rest : List ℕ) → length rest ≤ n → length rest ≤ m → entries_within n now rest ≡ entries_within m now rest) →
+        entries_within (suc n) opened bytes ≡ entries_within (suc m) opened bytes
     go None h same = within_none (suc n) opened bytes h ∙ sym (within_none (suc m) opened bytes h)
     go (Some e) h same =
         let less = entry_shorter opened bytes e h in
@@ -56,7 +61,8 @@ pub entries_none : (opened : List Bool) (bytes : List ℕ) → entry_at opened b
 unfolding entries_from
 entries_none opened bytes h = within_none (length bytes) opened bytes h
 
-pub entries_some : (opened : List Bool) (bytes : List ℕ) (e : Input × List ℕ) → entry_at opened bytes ≡ Some e → entries_from opened bytes ≡ with_first e.0 (entries_from (opened_by opened e.0.what) e.1)
+pub entries_some : (opened : List Bool) (bytes : List ℕ) (e : Input × List ℕ) → entry_at opened bytes ≡ Some e →
+    entries_from opened bytes ≡ with_first e.0 (entries_from (opened_by opened e.0.what) e.1)
 unfolding entries_from
 entries_some opened bytes e h =
     let less = entry_shorter opened bytes e h in
@@ -73,7 +79,8 @@ within_parted : (n : ℕ) (opened : List Bool) (bytes : List ℕ) → IsParted o
 within_parted zero opened bytes = record { parts = refl; fit = tt }
 within_parted (suc n) opened bytes = go (entry_at opened bytes) refl (within_parted n)
   where
-    go : (r : Option (Input × List ℕ)) → entry_at opened bytes ≡ r → ((now : List Bool) (rest : List ℕ) → IsParted now rest (entries_within n now rest)) → IsParted opened bytes (entries_within (suc n) opened bytes)
+    go : (r : Option (Input × List ℕ)) → entry_at opened bytes ≡ r → ((now : List Bool) (rest : List ℕ) → IsParted now rest (entries_within n now rest)) →
+        IsParted opened bytes (entries_within (suc n) opened bytes)
     go None h again = subst (λ (r : Read). IsParted opened bytes r) (sym (within_none (suc n) opened bytes h)) record { parts = refl; fit = tt }
     go (Some e) h again =
         let t = entry_taken opened bytes e h in
@@ -100,7 +107,8 @@ left_few opened bytes =
 abbrev with_front : List Input → Read → Read
 with_front inputs r = record { inputs = inputs ++ r.inputs; left = r.left }
 
-pub goes_on : (inputs : List Input) (opened : List Bool) (rest : List ℕ) → FitAll opened inputs → entries_from opened (entries_text inputs ++ rest) ≡ with_front inputs (entries_from (opened_by_all opened inputs) rest)
+pub goes_on : (inputs : List Input) (opened : List Bool) (rest : List ℕ) → FitAll opened inputs →
+    entries_from opened (entries_text inputs ++ rest) ≡ with_front inputs (entries_from (opened_by_all opened inputs) rest)
 goes_on [] opened rest fit = refl
 goes_on (i ∷ inputs) opened rest fit =
     let left : List ℕ = entries_text inputs ++ rest in
@@ -161,12 +169,22 @@ text_few : (inputs : List Input) → length inputs ≤ length (entries_text inpu
 text_few [] = omega arith
 text_few (i ∷ inputs) = omega (arith, text_some i, text_few inputs, length-append (entry_text i) (entries_text inputs))
 
-few_behind : (r : Option (List ℕ)) (size : ℕ) → ((rest : List ℕ) → r ≡ Some rest → length rest ≤ size) → AllByRecursion (λ (i : Input). is_end i.what ≡ false) (inputs_behind r) × (length (inputs_behind r) ≤ size)
+few_behind : (r : Option (List ℕ)) (size : ℕ) → ((rest : List ℕ) → r ≡ Some rest → length rest ≤ size) →
+    AllByRecursion (λ (i : Input). is_end i.what ≡ false) (inputs_behind r) × (length (inputs_behind r) ≤ size)
 few_behind None size h = (tt, omega arith)
 few_behind (Some rest) size h =
     let r : Read = entries_from none_open rest in
-    let p = entries_parted none_open rest in
-    (none_ends r.inputs none_open p.fit, omega (arith, h rest refl, text_few r.inputs, ap (length {A = ℕ}) p.parts, length-append (entries_text r.inputs) r.left))
+    let p = entries_parted none_open rest in (
+      none_ends r.inputs none_open p.fit,
+      omega (
+        arith,
+        h rest refl,
+        text_few r.inputs,
+        ap (length {A = ℕ}) p.parts,
+        length-append
+            (entries_text r.inputs) r.left,
+      ),
+    )
 
 pub inputs_are_few : InputsAreFew
 inputs_are_few bytes =

@@ -1,5 +1,7 @@
 -- A stream that is read on from a source.
-use Rattle.std.proofs.Common.{◌≡◌, ℕ, ◌+◌, ◌^◌, ◌≤◌, ◌<◌, Bool, true, false, List, [], ◌∷◌, ◌++◌, length, take, drop, refl, sym, ◌∙◌, ap, subst, arith, length-append, length-drop, append_assoc, append-nil, ◌⊎◌, inl, inr, Option, None, Some, option_map, IfSome, decimal}
+use Rattle.std.proofs.Common.{◌≡◌, ℕ, ◌+◌, ◌^◌, ◌≤◌, ◌<◌, Bool, true, false, List, [], ◌∷◌, ◌++◌, length, take, drop, refl, sym, ◌∙◌, ap, subst}
+use Rattle.std.proofs.Common.{arith, length-append, length-drop, append_assoc, append-nil, ◌⊎◌, inl, inr, Option, None, Some, option_map, IfSome}
+use Rattle.std.proofs.Common.{decimal}
 use Rattle.std.proofs.Math.Seq.{take-append_seam}
 use Rattle.std.proofs.lemmas.Fmt.{length-decimal-le}
 use Rattle.std.proofs.lemmas.List.{take-append-drop, take-append-le}
@@ -14,22 +16,36 @@ use Rattle.qo_record.proofs.ReadingLemmas.{behind_again, behind_is, none_some}
 use Rattle.qo_record.proofs.RecordLemmas.{entries_none, entries_some, left_few, not_end}
 use Rattle.qo_record.specs.Reading.{behind}
 use Rattle.qo_record.specs.Record.{Read, entries_from, entry_at, place_before}
-use Rattle.qo_record.specs.Replays.{Progress, Replaying, Went, ahead_of, bad_ahead, bad_from, inputs_ahead, inputs_from, place_from, told_place, took_none, went_nowhere, went_then}
+use Rattle.qo_record.specs.Replays.{Progress, Replaying, Went, ahead_of, bad_ahead, bad_from, inputs_ahead, inputs_from, place_from, told_place}
+use Rattle.qo_record.specs.Replays.{took_none, went_nowhere, went_then}
 use Rattle.qo_record.specs.Windows.{BeginsWithHeader, IsFirst, NoEntry, first_entry}
-use Rattle.qo_record.specs.Spelling.{Fits, FitsMoment, FitsPiece, FitsWhat, entry_text, header, last_digits, moment_text, none_open, opened_by, piece_text, rest_text, word_text}
+use Rattle.qo_record.specs.Spelling.{Fits, FitsMoment, FitsPiece, FitsWhat, entry_text, header, last_digits, moment_text, none_open, opened_by}
+use Rattle.qo_record.specs.Spelling.{piece_text, rest_text, word_text}
 use Rattle.qo_record.specs.declared.entries.First.{First}
 
 -- How long an entry is.
 
-moment_short : (m : Moment) → FitsMoment m → length (moment_text m) ≤ 26
+pub moment_short : (m : Moment) → FitsMoment m → length (moment_text m) ≤ 26
 moment_short m fits =
-    omega (arith, length-append (decimal m.seconds) (46 ∷ last_digits 6 m.micros), length-decimal-le 19 m.seconds (omega arith) (omega (arith, fits.0)) (omega (arith, fits.0)))
+    omega (
+      arith,
+      length-append (decimal m.seconds) (46 ∷ last_digits 6 m.micros),
+      length-decimal-le 19 m.seconds (omega arith) (omega (arith, fits.0))
+          (omega (arith, fits.0)),
+    )
 
 piece_short : (piece : List ℕ) → FitsPiece piece → length (piece_text piece) ≤ 65543
 piece_short piece fits =
-    omega (arith, fits.1, length-append (decimal (length piece)) (10 ∷ (piece ++ 10 ∷ [])), length-append piece (10 ∷ []), length-decimal-le 5 (length piece) (omega arith) (omega (arith, fits.1)) (omega (arith, fits.1)))
+    omega (
+      arith,
+      fits.1,
+      length-append (decimal (length piece)) (10 ∷ (piece ++ 10 ∷ [])),
+      length-append piece (10 ∷ []),
+      length-decimal-le 5
+          (length piece) (omega arith) (omega (arith, fits.1)) (omega (arith, fits.1)),
+    )
 
-session_short : (s : ℕ) → s ≤ 15 → length (decimal s) ≤ 2
+pub session_short : (s : ℕ) → s ≤ 15 → length (decimal s) ≤ 2
 session_short s few = length-decimal-le 2 s (omega arith) (omega (arith, few)) (omega (arith, few))
 
 rest_short : (opened : List Bool) (what : What) → FitsWhat opened what → length (rest_text what) ≤ 65546
@@ -42,7 +58,7 @@ rest_short opened (Step ns) fits =
     omega (arith, length-append (decimal ns) (10 ∷ []), length-decimal-le 19 ns (omega arith) (omega (arith, fits.1)) (omega (arith, fits.1)))
 rest_short opened End fits = absurd fits
 
-word_short : (what : What) → length (word_text what) ≤ 6
+pub word_short : (what : What) → length (word_text what) ≤ 6
 word_short (Open s) = omega arith
 word_short (Bytes s piece) = omega arith
 word_short (Shut s) = omega arith
@@ -52,19 +68,28 @@ word_short End = omega arith
 
 pub entry_short : (opened : List Bool) (i : Input) → Fits opened i → length (entry_text i) ≤ 65579
 entry_short opened i fits =
-    omega (arith, word_short i.what, moment_short i.at fits.0, rest_short opened i.what fits.1, length-append (word_text i.what) (moment_text i.at ++ 32 ∷ rest_text i.what), length-append (moment_text i.at) (32 ∷ rest_text i.what))
+    omega (
+      arith,
+      word_short i.what,
+      moment_short i.at fits.0,
+      rest_short opened i.what fits.1,
+      length-append (word_text i.what)
+          (moment_text i.at ++ 32 ∷ rest_text i.what),
+      length-append (moment_text i.at) (32 ∷ rest_text i.what),
+    )
 
 -- What a front decides.
 
 -- an entry is read again with more bytes behind it
-pub entry_more : (opened : List Bool) (bytes more : List ℕ) (e : Input × List ℕ) → entry_at opened bytes ≡ Some e → entry_at opened (bytes ++ more) ≡ Some (e.0, e.1 ++ more)
+pub entry_more : (opened : List Bool) (bytes more : List ℕ) (e : Input × List ℕ) → entry_at opened bytes ≡ Some e →
+    entry_at opened (bytes ++ more) ≡ Some (e.0, e.1 ++ more)
 entry_more opened bytes more e h =
     let t = entry_taken opened bytes e h in
     ap (λ (l : List ℕ). entry_at opened (l ++ more)) t.0 ∙ ap (entry_at opened) (append_assoc (entry_text e.0) e.1 more)
     ∙ entry_again opened e.0 (e.1 ++ more) t.1
 
 -- a front that is no longer than the first part is in it
-front_within : (front rest held more : List ℕ) → held ++ more ≡ front ++ rest → length front ≤ length held → held ≡ front ++ drop (length front) held
+pub front_within : (front rest held more : List ℕ) → held ++ more ≡ front ++ rest → length front ≤ length held → held ≡ front ++ drop (length front) held
 front_within front rest held more same few =
     let is : take (length front) held ≡ front =
     sym (take-append-le (length front) held more few) ∙ ap (take (length front)) same ∙ take-append_seam front rest in
@@ -83,7 +108,8 @@ none_late opened held more full none = go (entry_at opened (held ++ more)) refl
         absurd (none_some (sym none ∙ ap (entry_at opened) is ∙ entry_again opened e.0 (drop (length text) held) t.1))
 
 -- where no more is taken for an entry, none is found
-pub none_found : (opened : List Bool) (held now : List ℕ) (left : Option (List ℕ)) → now ≡ held → (length now ≡ 65699) ⊎ IfSome left (λ (more : List ℕ). more ≡ []) → entry_at opened held ≡ None → IfSome left (NoEntry opened now)
+pub none_found : (opened : List Bool) (held now : List ℕ) (left : Option (List ℕ)) → now ≡ held →
+    (length now ≡ 65699) ⊎ IfSome left (λ (more : List ℕ). more ≡ []) → entry_at opened held ≡ None → IfSome left (NoEntry opened now)
 none_found opened held now None same stop none = tt
 none_found opened held now (Some more) same (inl full) none =
     (none_late opened now more (omega (arith, full)) (ap (entry_at opened) same ∙ none), λ e. absurd (omega (arith, full, ap (length {A = ℕ}) e)))
@@ -114,24 +140,28 @@ fresh held place opened = record { held = held; headed = false; place = place; o
 abbrev headed : List ℕ → ℕ → List Bool → Progress
 headed held place opened = record { held = held; headed = true; place = place; opened = opened }
 
-place_seven : (size whole : ℕ) (left : List ℕ) → whole ≡ size + 7 → length left ≤ size → place_from 7 size left ≡ option_map told_place (place_before whole left)
+place_seven : (size whole : ℕ) (left : List ℕ) → whole ≡ size + 7 → length left ≤ size →
+    place_from 7 size left ≡ option_map told_place (place_before whole left)
 place_seven size whole [] same few = refl
 place_seven size whole (b ∷ left) same few = ap (λ (n : ℕ). Some (told_place n)) (omega arith)
 
 bad_passed : (place : ℕ) (opened : List Bool) (more : List ℕ) → bad_from true 7 none_open more ≡ bad_from false place opened (header ++ more)
 bad_passed place opened more =
-    place_seven (length more) (length (header ++ more)) ((entries_from none_open more).left) (omega (arith, length-append header more)) (left_few none_open more)
+    place_seven (length more) (length (header ++ more)) ((entries_from none_open more).left) (omega (arith, length-append header more))
+    (left_few none_open more)
 
 fresh_is : (p : Progress) (more : List ℕ) → p.headed ≡ false → p.held ≡ header ++ more → p ≡ fresh (header ++ more) p.place p.opened
 fresh_is p more none is =
     ap (λ (b : Bool). record { held = p.held; headed = b; place = p.place; opened = p.opened }) none
     ∙ ap (λ (l : List ℕ). fresh l p.place p.opened) is
 
-bad_at_header : (place : ℕ) (opened : List Bool) (more : List ℕ) (left : Option (List ℕ)) → bad_ahead (headed more 7 none_open) left ≡ bad_ahead (fresh (header ++ more) place opened) left
+bad_at_header : (place : ℕ) (opened : List Bool) (more : List ℕ) (left : Option (List ℕ)) →
+    bad_ahead (headed more 7 none_open) left ≡ bad_ahead (fresh (header ++ more) place opened) left
 bad_at_header place opened more None = refl
 bad_at_header place opened more (Some rest) = ap (λ (n : Option ℕ). Some n) (bad_passed place opened (more ++ rest))
 
-pub header_bad : (p : Progress) (held : List ℕ) (left : Option (List ℕ)) → p.headed ≡ false → BeginsWithHeader p.held → held ≡ drop 7 p.held → bad_ahead (headed held 7 none_open) left ≡ bad_ahead p left
+pub header_bad : (p : Progress) (held : List ℕ) (left : Option (List ℕ)) → p.headed ≡ false → BeginsWithHeader p.held → held ≡ drop 7 p.held →
+    bad_ahead (headed held 7 none_open) left ≡ bad_ahead p left
 header_bad p held left none there is =
     let rest : held ≡ there.0 = is ∙ ap (drop 7) there.1 in
     ap (λ (l : List ℕ). bad_ahead (headed l 7 none_open) left) rest ∙ bad_at_header p.place p.opened there.0 left
@@ -141,7 +171,8 @@ took_header : (more : List ℕ) (left : Option (List ℕ)) → ahead_of (header 
 took_header more None = refl
 took_header more (Some rest) = refl
 
-pub header_went : (p : Progress) (held : List ℕ) (left : Option (List ℕ)) → p.headed ≡ false → BeginsWithHeader p.held → held ≡ drop 7 p.held → Went p (headed held 7 none_open) left left
+pub header_went : (p : Progress) (held : List ℕ) (left : Option (List ℕ)) → p.headed ≡ false → BeginsWithHeader p.held → held ≡ drop 7 p.held →
+    Went p (headed held 7 none_open) left left
 header_went p held left none there is =
     let rest : there.0 ≡ held = sym (is ∙ ap (drop 7) there.1) in
     subst (λ (q : Progress). Went q (headed held 7 none_open) left left) (sym (fresh_is p there.0 none there.1))
@@ -150,16 +181,21 @@ header_went p held left none there is =
 
 -- An entry is passed.
 
-entry_inputs : (held rest : List ℕ) (opened : List Bool) (i : Input) (left : Option (List ℕ)) → entry_at opened held ≡ Some (i, rest) → option_map (inputs_from true opened) (ahead_of held left) ≡ option_map (λ (l : List Input). i ∷ l) (option_map (inputs_from true (opened_by opened i.what)) (ahead_of rest left))
+entry_inputs : (held rest : List ℕ) (opened : List Bool) (i : Input) (left : Option (List ℕ)) → entry_at opened held ≡ Some (i, rest) →
+    option_map (inputs_from true opened) (ahead_of held left) ≡ option_map (λ (l : List Input). i ∷ l) (option_map (inputs_from true
+    (opened_by opened i.what)) (ahead_of rest left))
 entry_inputs held rest opened i None h = refl
 entry_inputs held rest opened i (Some more) h =
     ap (λ (r : Read). Some r.inputs) (entries_some opened (held ++ more) (i, rest ++ more) (entry_more opened held more (i, rest) h))
 
-place_passed : (place size before now : ℕ) (left : List ℕ) → before ≡ size + now → length left ≤ now → place_from (told_place (place + size)) now left ≡ place_from place before left
+place_passed : (place size before now : ℕ) (left : List ℕ) → before ≡ size + now → length left ≤ now →
+    place_from (told_place (place + size)) now left ≡ place_from place before left
 place_passed place size before now [] same few = refl
 place_passed place size before now (b ∷ left) same few = ap (λ (n : ℕ). Some n) (omega arith)
 
-entry_bad : (held rest : List ℕ) (opened : List Bool) (i : Input) (place size : ℕ) (left : Option (List ℕ)) → entry_at opened held ≡ Some (i, rest) → length held ≡ size + length rest → option_map (bad_from true (told_place (place + size)) (opened_by opened i.what)) (ahead_of rest left) ≡ option_map (bad_from true place opened) (ahead_of held left)
+entry_bad : (held rest : List ℕ) (opened : List Bool) (i : Input) (place size : ℕ) (left : Option (List ℕ)) → entry_at opened held ≡ Some (i, rest) →
+    length held ≡ size + length rest → option_map (bad_from true (told_place (place + size)) (opened_by opened i.what)) (ahead_of rest left) ≡ option_map
+    (bad_from true place opened) (ahead_of held left)
 entry_bad held rest opened i place size None h parts = refl
 entry_bad held rest opened i place size (Some more) h parts =
     let now : List Bool = opened_by opened i.what in
@@ -167,14 +203,16 @@ entry_bad held rest opened i place size (Some more) h parts =
     let same : left ≡ (entries_from opened (held ++ more)).left =
     sym (ap (λ (r : Read). r.left) (entries_some opened (held ++ more) (i, rest ++ more) (entry_more opened held more (i, rest) h))) in
     ap (λ (n : Option ℕ). Some n)
-    (place_passed place size (length (held ++ more)) (length (rest ++ more)) left (omega (arith, parts, length-append held more, length-append rest more)) (left_few now (rest ++ more))
+    (place_passed place size (length (held ++ more)) (length (rest ++ more)) left (omega (arith, parts, length-append held more, length-append rest more))
+    (left_few now (rest ++ more))
     ∙ ap (place_from place (length (held ++ more))) same)
 
 took_entry : (text rest : List ℕ) (left : Option (List ℕ)) → ahead_of (text ++ rest) left ≡ prepend_known text (ahead_of rest left)
 took_entry text rest None = refl
 took_entry text rest (Some more) = ap (λ (l : List ℕ). Some l) (append_assoc text rest more)
 
-entry_went : (held rest : List ℕ) (opened : List Bool) (i : Input) (place now : ℕ) (left : Option (List ℕ)) → entry_at opened held ≡ Some (i, rest) → Went (headed held place opened) (headed rest now (opened_by opened i.what)) left left
+entry_went : (held rest : List ℕ) (opened : List Bool) (i : Input) (place now : ℕ) (left : Option (List ℕ)) → entry_at opened held ≡ Some (i, rest) →
+    Went (headed held place opened) (headed rest now (opened_by opened i.what)) left left
 entry_went held rest opened i place now left h =
     let t = entry_taken opened held (i, rest) h in
     let text : List ℕ = entry_text i in (
@@ -193,7 +231,9 @@ abbrev passed : Progress → First → Progress
 passed p f = headed (drop f.size p.held) (told_place (p.place + f.size)) (opened_by p.opened f.input.what)
 
 -- the progress behind an entry, as the code has it
-pub passed_is : (p : Progress) (f : First) (held : List ℕ) (flag : Bool) (place : ℕ) → flag ≡ true → IsFirst p.opened p.held f → held ≡ drop f.size p.held → place ≡ told_place (p.place + f.size) → record { held = held; headed = flag; place = place; opened = f.opened } ≡ passed p f
+pub passed_is : (p : Progress) (f : First) (held : List ℕ) (flag : Bool)
+    (place : ℕ) → flag ≡ true → IsFirst p.opened p.held f → held ≡ drop f.size p.held → place ≡ told_place
+    (p.place + f.size) → record { held = held; headed = flag; place = place; opened = f.opened } ≡ passed p f
 passed_is p f held flag place on first is moved =
     ap (λ (b : Bool). record { held = held; headed = b; place = place; opened = f.opened }) on ∙ ap (λ (l : List ℕ). headed l place f.opened) is
     ∙ ap (λ (n : ℕ). headed (drop f.size p.held) n f.opened) moved
@@ -202,11 +242,13 @@ passed_is p f held flag place on first is moved =
 pub first_some : (p : Progress) (f : First) → IsFirst p.opened p.held f → is_end f.input.what ≡ false
 first_some p f first = not_end p.opened f.input.what (entry_taken p.opened p.held (first_entry p.held f) first.entry).1.1
 
-pub first_inputs : (p : Progress) (f : First) (left : Option (List ℕ)) → p.headed ≡ true → IsFirst p.opened p.held f → inputs_ahead p left ≡ option_map (λ (l : List Input). f.input ∷ l) (inputs_ahead (passed p f) left)
+pub first_inputs : (p : Progress) (f : First) (left : Option (List ℕ)) → p.headed ≡ true → IsFirst p.opened p.held f →
+    inputs_ahead p left ≡ option_map (λ (l : List Input). f.input ∷ l) (inputs_ahead (passed p f) left)
 first_inputs p f left on first =
     ap (λ (q : Progress). inputs_ahead q left) (headed_is p on) ∙ entry_inputs p.held (drop f.size p.held) p.opened f.input left first.entry
 
-pub first_bad : (p : Progress) (f : First) (left : Option (List ℕ)) → p.headed ≡ true → IsFirst p.opened p.held f → bad_ahead (passed p f) left ≡ bad_ahead p left
+pub first_bad : (p : Progress) (f : First) (left : Option (List ℕ)) → p.headed ≡ true → IsFirst p.opened p.held f →
+    bad_ahead (passed p f) left ≡ bad_ahead p left
 first_bad p f left on first =
     entry_bad p.held (drop f.size p.held) p.opened f.input p.place f.size left first.entry (omega (arith, length-drop f.size p.held, first.within))
     ∙ ap (λ (q : Progress). bad_ahead q left) (sym (headed_is p on))
@@ -221,7 +263,8 @@ first_went p f left on first =
 abbrev holding : Progress → List ℕ → Progress
 holding p held = record { held = held; headed = p.headed; place = p.place; opened = p.opened }
 
-pub filled_went : (p : Progress) (held : List ℕ) (left_old left_new : Option (List ℕ)) → ahead_of held left_new ≡ ahead_of p.held left_old → Went p (holding p held) left_old left_new
+pub filled_went : (p : Progress) (held : List ℕ) (left_old left_new : Option (List ℕ)) → ahead_of held left_new ≡ ahead_of p.held left_old →
+    Went p (holding p held) left_old left_new
 filled_went p held left_old left_new same =
     ([], [], record { took = sym same ∙ took_none (ahead_of held left_new); gave = λ more. refl })
 
@@ -231,18 +274,23 @@ empty_is : (l : List ℕ) → length l ≡ 0 → l ≡ []
 empty_is [] none = refl
 empty_is (b ∷ l) none = absurd (omega arith)
 
-at_end : (held : List ℕ) (place : ℕ) (opened : List Bool) (left : Option (List ℕ)) → held ≡ [] → IfSome left (NoEntry opened held) → AtEnd (option_map (inputs_from true opened) (ahead_of held left)) (option_map (bad_from true place opened) (ahead_of held left)) None
+at_end : (held : List ℕ) (place : ℕ) (opened : List Bool) (left : Option (List ℕ)) → held ≡ [] → IfSome left (NoEntry opened held) →
+    AtEnd (option_map (inputs_from true opened) (ahead_of held left)) (option_map (bad_from true place opened) (ahead_of held left)) None
 at_end held place opened None none h = (tt, tt)
 at_end held place opened (Some more) none h =
     let stop = entries_none opened (held ++ more) h.0 in
-    let all : held ++ more ≡ [] = rw (none, h.1 none) refl in
-    (ap (λ (r : Read). r.inputs) stop, ap (λ (r : Read). place_from place (length (held ++ more)) r.left) stop ∙ ap (place_from place (length (held ++ more))) all)
+    let all : held ++ more ≡ [] = rw (none, h.1 none) refl in (
+      ap (λ (r : Read). r.inputs) stop,
+      ap (λ (r : Read). place_from place (length (held ++ more)) r.left) stop ∙ ap (place_from place (length
+          (held ++ more))) all,
+    )
 
 place_here : (place : ℕ) (bytes : List ℕ) → place < 2 ^ 64 → 0 < length bytes → place_from place (length bytes) bytes ≡ Some place
 place_here place [] within some = absurd (omega arith)
 place_here place (b ∷ bytes) within some = ap (λ (n : ℕ). Some n) (omega arith)
 
-at_bad : (held : List ℕ) (place : ℕ) (opened : List Bool) (left : Option (List ℕ)) → place < 2 ^ 64 → 0 < length held → IfSome left (NoEntry opened held) → AtEnd (option_map (inputs_from true opened) (ahead_of held left)) (option_map (bad_from true place opened) (ahead_of held left)) (Some place)
+at_bad : (held : List ℕ) (place : ℕ) (opened : List Bool) (left : Option (List ℕ)) → place < 2 ^ 64 → 0 < length held → IfSome left (NoEntry opened held) →
+    AtEnd (option_map (inputs_from true opened) (ahead_of held left)) (option_map (bad_from true place opened) (ahead_of held left)) (Some place)
 at_bad held place opened None within some h = (tt, tt)
 at_bad held place opened (Some more) within some h =
     let stop = entries_none opened (held ++ more) h.0 in (
@@ -251,21 +299,25 @@ at_bad held place opened (Some more) within some h =
           ∙ place_here place (held ++ more) within (omega (arith, length-append held more)),
     )
 
-pub inputs_same : (p : Progress) (held : List ℕ) (left_old left_new : Option (List ℕ)) → ahead_of held left_new ≡ ahead_of p.held left_old → inputs_ahead (holding p held) left_new ≡ inputs_ahead p left_old
+pub inputs_same : (p : Progress) (held : List ℕ) (left_old left_new : Option (List ℕ)) → ahead_of held left_new ≡ ahead_of p.held left_old →
+    inputs_ahead (holding p held) left_new ≡ inputs_ahead p left_old
 inputs_same p held left_old left_new same = ap (option_map (inputs_from p.headed p.opened)) same
 
-bad_same : (p : Progress) (held : List ℕ) (left_old left_new : Option (List ℕ)) → ahead_of held left_new ≡ ahead_of p.held left_old → bad_ahead (holding p held) left_new ≡ bad_ahead p left_old
+bad_same : (p : Progress) (held : List ℕ) (left_old left_new : Option (List ℕ)) → ahead_of held left_new ≡ ahead_of p.held left_old →
+    bad_ahead (holding p held) left_new ≡ bad_ahead p left_old
 bad_same p held left_old left_new same = ap (option_map (bad_from p.headed p.place p.opened)) same
 
 -- no entry stands behind what is held
-pub end_there : (p : Progress) (held : List ℕ) (left_old left_new : Option (List ℕ)) → p.headed ≡ true → ahead_of held left_new ≡ ahead_of p.held left_old → length held ≡ 0 → IfSome left_new (NoEntry p.opened held) → AtEnd (inputs_ahead p left_old) (bad_ahead p left_old) None
+pub end_there : (p : Progress) (held : List ℕ) (left_old left_new : Option (List ℕ)) → p.headed ≡ true → ahead_of held left_new ≡ ahead_of p.held left_old →
+    length held ≡ 0 → IfSome left_new (NoEntry p.opened held) → AtEnd (inputs_ahead p left_old) (bad_ahead p left_old) None
 end_there p held left_old left_new on same none h =
     subst (λ (xs : Option (List Input)). AtEnd xs (bad_ahead p left_old) None) (inputs_same p held left_old left_new same)
     (subst (λ (b : Option (Option ℕ)). AtEnd (inputs_ahead (holding p held) left_new) b None) (bad_same p held left_old left_new same)
     (subst (λ (q : Progress). AtEnd (inputs_ahead (holding q held) left_new) (bad_ahead (holding q held) left_new) None) (sym (headed_is p on))
     (at_end held p.place p.opened left_new (empty_is held none) h)))
 
-pub bad_there : (p : Progress) (held : List ℕ) (left_old left_new : Option (List ℕ)) → p.headed ≡ true → ahead_of held left_new ≡ ahead_of p.held left_old → 0 < length held → p.place < 2 ^ 64 → IfSome left_new (NoEntry p.opened held) → AtEnd (inputs_ahead p left_old) (bad_ahead p left_old) (Some p.place)
+pub bad_there : (p : Progress) (held : List ℕ) (left_old left_new : Option (List ℕ)) → p.headed ≡ true → ahead_of held left_new ≡ ahead_of p.held left_old →
+    0 < length held → p.place < 2 ^ 64 → IfSome left_new (NoEntry p.opened held) → AtEnd (inputs_ahead p left_old) (bad_ahead p left_old) (Some p.place)
 bad_there p held left_old left_new on same some within h =
     subst (λ (xs : Option (List Input)). AtEnd xs (bad_ahead p left_old) (Some p.place)) (inputs_same p held left_old left_new same)
     (subst (λ (b : Option (Option ℕ)). AtEnd (inputs_ahead (holding p held) left_new) b (Some p.place)) (bad_same p held left_old left_new same)
@@ -274,24 +326,32 @@ bad_there p held left_old left_new on same some within h =
 
 -- The same, where the progress is known by another name.
 
-pub filled_at : (q p : Progress) (held : List ℕ) (left_old left_new : Option (List ℕ)) → q ≡ p → ahead_of held left_new ≡ ahead_of q.held left_old → Went p (holding q held) left_old left_new
+pub filled_at : (q p : Progress) (held : List ℕ) (left_old left_new : Option (List ℕ)) → q ≡ p → ahead_of held left_new ≡ ahead_of q.held left_old →
+    Went p (holding q held) left_old left_new
 filled_at q p held left_old left_new is same =
     subst (λ (r : Progress). Went r (holding q held) left_old left_new) is (filled_went q held left_old left_new same)
 
-pub filled_then : (q p c : Progress) (held : List ℕ) (left_old left_new : Option (List ℕ)) → q ≡ p → ahead_of held left_new ≡ ahead_of q.held left_old → Went (holding q held) c left_new left_new → Went p c left_old left_new
+pub filled_then : (q p c : Progress) (held : List ℕ) (left_old left_new : Option (List ℕ)) → q ≡ p → ahead_of held left_new ≡ ahead_of q.held left_old →
+    Went (holding q held) c left_new left_new → Went p c left_old left_new
 filled_then q p c held left_old left_new is same behind =
     went_then p (holding q held) c left_old left_new left_new (filled_at q p held left_old left_new is same) behind
 
-pub end_at : (q p : Progress) (held : List ℕ) (left_old left_new : Option (List ℕ)) → q ≡ p → p.headed ≡ true → ahead_of held left_new ≡ ahead_of q.held left_old → length held ≡ 0 → IfSome left_new (NoEntry q.opened held) → (inputs_ahead (holding q held) left_new ≡ inputs_ahead p left_old) × AtEnd (inputs_ahead p left_old) (bad_ahead p left_old) None
+pub end_at : (q p : Progress) (held : List ℕ) (left_old left_new : Option (List ℕ)) → q ≡ p → p.headed ≡ true →
+    ahead_of held left_new ≡ ahead_of q.held left_old → length held ≡ 0 → IfSome left_new (NoEntry q.opened held) → (inputs_ahead
+    (holding q held) left_new ≡ inputs_ahead p left_old) × AtEnd (inputs_ahead p left_old) (bad_ahead p left_old) None
 end_at q p held left_old left_new is on same none h =
-    subst (λ (r : Progress). (inputs_ahead (holding q held) left_new ≡ inputs_ahead r left_old) × AtEnd (inputs_ahead r left_old) (bad_ahead r left_old) None) is (
+    subst (λ (r : Progress). (inputs_ahead (holding q held) left_new ≡ inputs_ahead r left_old) × AtEnd (inputs_ahead r left_old)
+    (bad_ahead r left_old) None) is (
       inputs_same q held left_old left_new same,
       end_there q held left_old left_new (ap (λ (r : Progress). r.headed) is ∙ on) same none h,
     )
 
-pub bad_at : (q p : Progress) (held : List ℕ) (left_old left_new : Option (List ℕ)) → q ≡ p → p.headed ≡ true → ahead_of held left_new ≡ ahead_of q.held left_old → 0 < length held → q.place < 2 ^ 64 → IfSome left_new (NoEntry q.opened held) → (inputs_ahead (holding q held) left_new ≡ inputs_ahead p left_old) × AtEnd (inputs_ahead p left_old) (bad_ahead p left_old) (Some q.place)
+pub bad_at : (q p : Progress) (held : List ℕ) (left_old left_new : Option (List ℕ)) → q ≡ p → p.headed ≡ true →
+    ahead_of held left_new ≡ ahead_of q.held left_old → 0 < length held → q.place < 2 ^ 64 → IfSome left_new (NoEntry q.opened held) → (inputs_ahead
+    (holding q held) left_new ≡ inputs_ahead p left_old) × AtEnd (inputs_ahead p left_old) (bad_ahead p left_old) (Some q.place)
 bad_at q p held left_old left_new is on same some within h =
-    subst (λ (r : Progress). (inputs_ahead (holding q held) left_new ≡ inputs_ahead r left_old) × AtEnd (inputs_ahead r left_old) (bad_ahead r left_old) (Some q.place)) is (
+    subst (λ (r : Progress). (inputs_ahead (holding q held) left_new ≡ inputs_ahead r left_old) × AtEnd (inputs_ahead r left_old) (bad_ahead r left_old)
+    (Some q.place)) is (
       inputs_same q held left_old left_new same,
       bad_there q held left_old left_new (ap (λ (r : Progress). r.headed) is ∙ on) same some within h,
     )

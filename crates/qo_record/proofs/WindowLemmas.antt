@@ -1,5 +1,6 @@
 -- What a window holds after a take.
-use Rattle.std.proofs.Common.{◌≡◌, ℕ, ◌+◌, ◌-◌, ◌≤◌, Bool, List, ◌++◌, length, take, drop, refl, sym, ◌∙◌, ap, arith, length-append, append_assoc, Option, None, Some, Result, Ok, Err, IfOk}
+use Rattle.std.proofs.Common.{◌≡◌, ℕ, ◌+◌, ◌-◌, ◌≤◌, Bool, List, ◌++◌, length, take, drop, refl, sym, ◌∙◌, ap, arith, length-append, append_assoc}
+use Rattle.std.proofs.Common.{Option, None, Some, Result, Ok, Err, IfOk}
 use Rattle.std.proofs.Math.Seq.{drop-append_seam, take-append-add}
 use Rattle.std.proofs.lemmas.List.{drop-append-le, length-take-le, take-append-drop, take-take}
 use Rattle.std.specs.Io.KnownBytes.{prepend_known}
@@ -19,7 +20,9 @@ piece_behind front piece end n size =
     ap (drop end) upto ∙ ap (λ (k : ℕ). drop k (front ++ take n piece)) (sym size) ∙ drop-append_seam front (take n piece)
 
 -- what a source gave stands behind the front
-pub took_behind : {E : Type 0} (old new : Option (List ℕ)) (r : Result ℕ E) (before after piece : List ℕ) (end : ℕ) → end ≤ length before → length piece ≡ length before - end → length after ≡ length before → take (end + length piece) after ≡ take end before ++ piece → IfOk r (λ (n : ℕ). n ≤ length piece) → Takes old new r piece → TakesBehind old new r after end
+pub took_behind : {E : Type 0} (old new : Option (List ℕ)) (r : Result ℕ E) (before after piece : List ℕ) (end : ℕ) → end ≤ length before →
+    length piece ≡ length before - end → length after ≡ length before → take (end + length piece) after ≡ take end before ++ piece → IfOk r (λ
+    (n : ℕ). n ≤ length piece) → Takes old new r piece → TakesBehind old new r after end
 took_behind old new (Ok n) before after piece end within room size written few took =
     let upto : take (end + n) after ≡ take (end + n) (take end before ++ piece) =
     sym (take-take (end + n) (end + length piece) after (omega (arith, few))) ∙ ap (take (end + n)) written in
@@ -29,7 +32,8 @@ took_behind old new (Ok n) before after piece end within room size written few t
 took_behind old new (Err e) before after piece end within room size written few took = took
 
 -- what stands up to a place is what stands up to an earlier one, and what is behind that
-between_more : (old new : List ℕ) (at end n : ℕ) → at ≤ end → end ≤ length old → take end new ≡ take end old → between new at (end + n) ≡ between old at end ++ between new end (end + n)
+between_more : (old new : List ℕ) (at end n : ℕ) → at ≤ end → end ≤ length old → take end new ≡ take end old →
+    between new at (end + n) ≡ between old at end ++ between new end (end + n)
 between_more old new at end n order within same =
     let front : List ℕ = take end new in
     let size : length front ≡ end = ap (length {A = ℕ}) same ∙ length-take-le end old within in
@@ -46,7 +50,9 @@ ahead_same : (held piece : List ℕ) (left : Option (List ℕ)) → ahead_of (he
 ahead_same held piece None = refl
 ahead_same held piece (Some more) = ap (λ (l : List ℕ). Some l) (append_assoc held piece more)
 
-pub taken_ahead : (old_bytes new_bytes held : List ℕ) (at end n : ℕ) (old new : Option (List ℕ)) → at ≤ end → end ≤ length old_bytes → take end new_bytes ≡ take end old_bytes → between old_bytes at end ≡ held → old ≡ prepend_known (between new_bytes end (end + n)) new → ahead_of (between new_bytes at (end + n)) new ≡ ahead_of held old
+pub taken_ahead : (old_bytes new_bytes held : List ℕ) (at end n : ℕ) (old new : Option (List ℕ)) → at ≤ end → end ≤ length old_bytes →
+    take end new_bytes ≡ take end old_bytes → between old_bytes at end ≡ held → old ≡ prepend_known (between new_bytes end (end + n)) new → ahead_of
+    (between new_bytes at (end + n)) new ≡ ahead_of held old
 taken_ahead old_bytes new_bytes held at end n old new order within same is took =
     let piece : List ℕ = between new_bytes end (end + n) in
     ap (λ (l : List ℕ). ahead_of l new) (between_more old_bytes new_bytes at end n order within same)
@@ -54,7 +60,8 @@ taken_ahead old_bytes new_bytes held at end n old new order within same is took 
     ∙ ap (ahead_of held) (sym took)
 
 -- the bytes behind an entry are no more than all, and are the last so many
-pub behind_size : (opened : List Bool) (bytes : List ℕ) (e : Input × List ℕ) → entry_at opened bytes ≡ Some e → (length e.1 ≤ length bytes) × (drop (length bytes - length e.1) bytes ≡ e.1)
+pub behind_size : (opened : List Bool) (bytes : List ℕ) (e : Input × List ℕ) → entry_at opened bytes ≡ Some e →
+    (length e.1 ≤ length bytes) × (drop (length bytes - length e.1) bytes ≡ e.1)
 behind_size opened bytes e h =
     let t = entry_taken opened bytes e h in
     let front : List ℕ = entry_text e.0 in

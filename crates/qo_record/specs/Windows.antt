@@ -12,6 +12,7 @@ use Rattle.qo_record.specs.Spelling.{header, opened_by}
 use Rattle.qo_record.specs.declared.entries.First.{First}
 use Rattle.qo_record.specs.declared.readers.Front.{Front}
 use Rattle.qo_record.specs.declared.readers.Front.TheVariants.{Header, Other, Short}
+use Rattle.qo_record.specs.declared.windows.TheConstants.{ROOM}
 
 -- the bytes of a window: those from one place to another
 abbrev pub between : List ℕ → ℕ → ℕ → List ℕ
@@ -35,7 +36,7 @@ Filled old new left (Err e) = new ≡ old
 -- more bytes were taken for the entry at the front, or there is no room for any, or there are none
 abbrev pub More : {E : Type 0} → List ℕ → List ℕ → Option (List ℕ) → Result Bool E → Type 0
 More old new left (Ok true) = length old < length new
-More old new left (Ok false) = (new ≡ old) × ((length new ≡ 65699) ⊎ IfSome left (λ more. more ≡ []))
+More old new left (Ok false) = (new ≡ old) × ((length new ≡ ROOM) ⊎ IfSome left (λ more. more ≡ []))
 More old new left (Err e) = new ≡ old
 
 -- some bytes begin with the header

@@ -103,7 +103,7 @@ fn step_at(bytes: &[u8]) -> Option<(Said<'_>, &[u8])>
 }
 
 /// The moment behind a word.
-fn moment_behind<'a>(word: &[u8], bytes: &'a [u8]) -> Option<(Moment, &'a [u8])>
+pub(crate) fn moment_behind<'a>(word: &[u8], bytes: &'a [u8]) -> Option<(Moment, &'a [u8])>
     ensures { option_map (λ x. (x.0, x.1.now)) result ≡ moment_behind word.now bytes.now }
 {
     moment_at(behind(word, bytes)?)

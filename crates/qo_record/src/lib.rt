@@ -7,6 +7,7 @@ mod lines;
 mod readers;
 mod reading;
 mod replay_hub;
+mod waiting;
 mod windows;
 
 pub use replay_hub::{ReplayHub, Unmade};

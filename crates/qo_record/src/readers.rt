@@ -5,9 +5,11 @@ ghost use Rattle.qo_causes.specs.Cause.{HasCause, Rose};
 ghost use Rattle.qo_causes.specs.Hub.{AtEnd, ButNextFailed, NextGives, OnNextFailed, is_end};
 ghost use Rattle.qo_record.specs.Replays.{Went, ahead_of, bad_ahead, inputs_ahead, unread};
 ghost use Rattle.qo_record.specs.Windows.{BeginsWithHeader, EntryFound, HeaderFound, HeaderIn, IsFirst, LookedFor, More};
+ghost use Rattle.qo_record.specs.declared.windows.TheConstants.{ROOM};
 
 use crate::entries::{First, first_of};
 use crate::reading::behind;
+use crate::waiting::is_wrong;
 use crate::windows::Window;
 use qo_causes::{Failed, Input, Moment, NextError, Source, What};
 use std::alloc::{AllocError, Global};
@@ -45,7 +47,7 @@ fn front_of(bytes: &[u8]) -> Front
 fn take_more<S: Source>(window: &mut Window, source: &mut S) -> Result<bool, Failed>
     ensures ahead { ahead_of window.new (S.left source.new) ≡ ahead_of window.old (S.left source.old) }
     ensures more { More window.old window.new (S.left source.new) result }
-    ensures few { length window.new ≤ 65699 }
+    ensures few { length window.new ≤ ROOM }
     ensures cause { HasCause (S.faults source.old) (S.faults source.new) result }
     ensures quiet { OnOk result (S.faults source.new ≡ S.faults source.old) }
 {
@@ -91,7 +93,11 @@ fn find_entry<S: Source>(
     loop {
         match first_of(alloc, opened, window.held()) {
             Ok(Some(first)) => return Ok(Some(first)),
-            Ok(None) => {}
+            Ok(None) => {
+                if is_wrong(opened, window.held()) {
+                    return Ok(None);
+                }
+            }
             Err(AllocError) => return Err(NextError::Memory),
         }
         match take_more(window, source) {
@@ -156,7 +162,7 @@ impl Reader {
     /// How many bytes were taken and are not read yet.
     pub(crate) fn held_count(&self) -> usize
         ensures count { result ≡ length self.now.held }
-        ensures few { length self.now.held ≤ 65699 }
+        ensures few { length self.now.held ≤ ROOM }
     {
         self.window.held().len()
     }

@@ -15,7 +15,7 @@ const LAST_SECOND: u64 = 9_223_372_036_854_775_807;
 const LAST_SESSION: u64 = 15;
 
 /// The most bytes in one piece.
-const PIECE_MAX: u64 = 65_536;
+pub(crate) const PIECE_MAX: u64 = 65_536;
 
 /// The bytes behind a front.
 pub(crate) fn behind<'a>(front: &[u8], bytes: &'a [u8]) -> Option<&'a [u8]>

@@ -290,3 +290,35 @@ fn whole_entries_are_given_before_a_take(rt: HostRuntime) -> Result<(), Fail> {
     assert!(rt; matches!(broken.next()?.what, What::End));
     Ok(())
 }
+
+/// What stands behind the opening of session 0, where the source fails before it gives more than these bytes.
+fn behind_opening(rt: &HostRuntime, bytes: &[u8]) -> Result<Option<NextError>, Fail> {
+    let mut stream = b"qrec 1\nopen 1.000000 0\n".to_vec(rt.alloc())?;
+    stream.extend_from_slice(bytes)?;
+    let mut hub = hub_over(rt, source_of(rt, &stream, &[2])?)?;
+    if !matches!(hub.next()?.what, What::Open(0)) {
+        return Err("the opening did not come".into());
+    }
+    Ok(hub.next().err())
+}
+
+#[test]
+fn wrong_entries_are_told_without_a_take(rt: HostRuntime) -> Result<(), Fail> {
+    let bad = Some(NextError::Bad(23));
+    assert_eq!(rt; behind_opening(&rt, b"shut 0.000000 3\n")?, bad);
+    assert_eq!(rt; behind_opening(&rt, b"bytes 0.000000 1 5\n")?, bad);
+    assert_eq!(rt; behind_opening(&rt, b"guest 0.000000 0\n")?, bad);
+    assert_eq!(rt; behind_opening(&rt, b"guest 0.000000 2\nabc")?, bad);
+    assert_eq!(rt; behind_opening(&rt, &[b' '; 52])?, bad);
+    Ok(())
+}
+
+#[test]
+fn begun_entries_wait_for_more(rt: HostRuntime) -> Result<(), Fail> {
+    let failed = Some(NextError::Failed);
+    assert_eq!(rt; behind_opening(&rt, b"")?, failed);
+    assert_eq!(rt; behind_opening(&rt, b"shut 0.000000 0")?, failed);
+    assert_eq!(rt; behind_opening(&rt, b"guest 0.000000 2\nab")?, failed);
+    assert_eq!(rt; behind_opening(&rt, b"bytes 0.000000 0 65536\n")?, failed);
+    Ok(())
+}

@@ -3,6 +3,7 @@
 ghost use Rattle.std.specs.Prelude.{◌≡◌, ◌≤◌, ◌<◌, ◌+◌, [], true, false, length, drop, take, IfOk, OnOk};
 ghost use Rattle.qo_causes.specs.Cause.{HasCause};
 ghost use Rattle.qo_record.specs.Replays.{ahead_of};
+ghost use Rattle.qo_record.specs.declared.windows.TheConstants.{ROOM};
 ghost use Rattle.qo_record.specs.Windows.{Filled, TakesBehind, between};
 
 use qo_causes::{Failed, Source};
@@ -14,7 +15,7 @@ use std::marker::Model;
 pub const AHEAD_BYTES: usize = 65_700;
 
 /// The bytes that a window has room for.
-const ROOM: usize = 65_699;
+pub(crate) const ROOM: usize = 65_699;
 
 /// Bytes taken from a source, in a buffer of fixed length. Contracts see those that are held.
 #[derive(Drop)]
@@ -28,24 +29,25 @@ pub(crate) struct Window {
 impl Model for Window {
     ghost use Rattle.std.specs.Prelude.{ℕ, List, ◌≡◌, ◌≤◌, length};
     ghost use Rattle.qo_record.specs.Windows.{between};
+    ghost use Rattle.qo_record.specs.declared.windows.TheConstants.{ROOM};
 
     ghost Value = { List ℕ };
 
     ghost view = { λ w. between w.buffer.items w.at w.end };
 
-    ghost invariant = { λ w. (w.at ≤ w.end) × (w.end ≤ 65699) × (length w.buffer.items ≡ 65699) };
+    ghost invariant = { λ w. (w.at ≤ w.end) × (w.end ≤ ROOM) × (length w.buffer.items ≡ ROOM) };
 }
 
 /// Moves the held bytes to the front where nothing is free behind them, and gives their places.
 fn make_room(buffer: &mut Vec<u8>, at: usize, end: usize) -> (usize, usize)
     requires order { at ≤ end }
-    requires within { end ≤ 65699 }
-    requires size { length buffer.old.items ≡ 65699 }
-    ensures size { length buffer.new.items ≡ 65699 }
+    requires within { end ≤ ROOM }
+    requires size { length buffer.old.items ≡ ROOM }
+    ensures size { length buffer.new.items ≡ ROOM }
     ensures same { between buffer.new.items result.0 result.1 ≡ between buffer.old.items at end }
     ensures order { result.0 ≤ result.1 }
-    ensures within { result.1 ≤ 65699 }
-    ensures room { length (between buffer.old.items at end) < 65699 → result.1 < 65699 }
+    ensures within { result.1 ≤ ROOM }
+    ensures room { length (between buffer.old.items at end) < ROOM → result.1 < ROOM }
 {
     if end < ROOM {
         return (at, end);
@@ -82,15 +84,15 @@ impl Window {
     /// The held bytes.
     pub(crate) fn held(&self) -> &[u8]
         ensures value { result.now ≡ self.now }
-        ensures few { length self.now ≤ 65699 }
+        ensures few { length self.now ≤ ROOM }
     {
         &self.buffer[self.at..self.end]
     }
 
     /// Whether there is no room for a further byte.
     pub(crate) fn is_full(&self) -> bool
-        ensures yes { result ≡ true → length self.now ≡ 65699 }
-        ensures no { result ≡ false → length self.now < 65699 }
+        ensures yes { result ≡ true → length self.now ≡ ROOM }
+        ensures no { result ≡ false → length self.now < ROOM }
     {
         self.end - self.at == ROOM
     }
@@ -106,9 +108,9 @@ impl Window {
     /// Takes bytes from a source, once, as many as there is room for, and answers how many these were. Where
     /// nothing is free behind the held bytes, these are moved to the front before.
     pub(crate) fn fill<S: Source>(&mut self, source: &mut S) -> Result<usize, Failed>
-        requires { length self.old < 65699 }
+        requires { length self.old < ROOM }
         ensures ahead { ahead_of self.new (S.left source.new) ≡ ahead_of self.old (S.left source.old) }
-        ensures few { length self.new ≤ 65699 }
+        ensures few { length self.new ≤ ROOM }
         ensures filled { Filled self.old self.new (S.left source.new) result }
         ensures cause { HasCause (S.faults source.old) (S.faults source.new) result }
         ensures quiet { OnOk result (S.faults source.new ≡ S.faults source.old) }

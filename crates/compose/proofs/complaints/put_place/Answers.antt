@@ -8,4 +8,5 @@ returns-in-Err-clause-bytes g c = words_cut _ _ (decimal c.args.place ++ 10 ∷ 
 
 pub returns-clause-bytes : goal.returns-clause-bytes
 returns-clause-bytes g c =
-    puts_behind _ (g.K.Sink.held c.put_all.new.sink) _ c.put_number.result (decimal c.args.place ++ 10 ∷ []) c.in_default.ensures.bytes c.put_number.ensures.bytes
+    puts_behind _ (g.K.Sink.held c.put_all.new.sink) _ c.put_number.result
+    (decimal c.args.place ++ 10 ∷ []) c.in_default.ensures.bytes c.put_number.ensures.bytes

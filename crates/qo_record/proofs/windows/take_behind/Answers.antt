@@ -7,4 +7,5 @@ use Rattle.qo_record.proofs.windows.take_behind.Goals as goal
 
 pub returns-clause-bytes : goal.returns-clause-bytes
 returns-clause-bytes g c =
-    took_behind _ _ c.take.result c.args.buffer.now _ c.take.new.buf c.args.end c.requires (grind (arith, common_steps, c.take.auto.buf)) (search rules) (take-put_mid c.args.end _ c.args.buffer.now c.take.new.buf _ refl c.requires) c.take.ensures.bound c.take.ensures.bytes
+    took_behind _ _ c.take.result c.args.buffer.now _ c.take.new.buf c.args.end c.requires (grind (arith, common_steps, c.take.auto.buf)) (search rules)
+    (take-put_mid c.args.end _ c.args.buffer.now c.take.new.buf _ refl c.requires) c.take.ensures.bound c.take.ensures.bytes

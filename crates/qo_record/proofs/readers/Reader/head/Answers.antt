@@ -22,4 +22,5 @@ pub returns-clause-went : goal.returns-clause-went
 returns-clause-went g c =
     let s = c.self.inside in
     let q : Progress = record { held = s.window; headed = s.headed; place = s.place; opened = s.opened } in
-    filled_then q c.args.self.now _ c.find_header.new.window _ _ c.self.view_is c.find_header.ensures.ahead (c.pass_header.ensures.went (g.S.Source.left c.find_header.new.source))
+    filled_then q c.args.self.now _ c.find_header.new.window _ _ c.self.view_is c.find_header.ensures.ahead (c.pass_header.ensures.went
+    (g.S.Source.left c.find_header.new.source))

@@ -17,13 +17,18 @@ returns-else-held_count-eq0-clause-given g c =
     let s = c.self.inside in
     let q : Progress = record { held = s.window; headed = s.headed; place = s.place; opened = s.opened } in
     let found = (rw c.in-Ok-None.field-0-is at c.in-Ok-None.ensures).found in
-    bad_at q c.args.self.now _ _ _ c.self.view_is c.requires c.find_entry.ensures.ahead (omega (arith, c.held_count.ensures.count, c.if-held_count-eq0.false)) c.self.invariant found
+    bad_at q c.args.self.now _ _ _ c.self.view_is c.requires c.find_entry.ensures.ahead (omega (
+      arith,
+      c.held_count.ensures.count,
+      c.if-held_count-eq0.false,
+    )) c.self.invariant found
 
 pub returns-in-Ok-Some-clause-went : goal.returns-in-Ok-Some-clause-went
 returns-in-Ok-Some-clause-went g c =
     let s = c.self.inside in
     let q : Progress = record { held = s.window; headed = s.headed; place = s.place; opened = s.opened } in
-    filled_then q c.args.self.now _ c.find_entry.new.window _ _ c.self.view_is c.find_entry.ensures.ahead (c.pass_entry.ensures.went (g.S.Source.left c.find_entry.new.source))
+    filled_then q c.args.self.now _ c.find_entry.new.window _ _ c.self.view_is c.find_entry.ensures.ahead (c.pass_entry.ensures.went
+    (g.S.Source.left c.find_entry.new.source))
 
 pub returns-else-held_count-eq0-clause-went : goal.returns-else-held_count-eq0-clause-went
 returns-else-held_count-eq0-clause-went g c =

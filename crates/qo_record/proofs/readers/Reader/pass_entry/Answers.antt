@@ -16,7 +16,8 @@ returns-clause-inputs c =
     let kept = c.let_go.ensures ∙ ap (λ (q : Progress). drop f.size q.held) c.self.view_is in
     let moved = c.saturating_add-self-inside.ensures ∙ ap (λ (q : Progress). told_place (q.place + f.size)) c.self.view_is in
     let is = passed_is p f _ _ _ on c.requires.first kept moved in
-    λ left. first_inputs p f left c.requires.headed c.requires.first ∙ ap (λ (q : Progress). option_map (λ (l : List Input). f.input ∷ l) (inputs_ahead q left)) (sym is)
+    λ left. first_inputs p f left c.requires.headed c.requires.first ∙ ap (λ (q : Progress). option_map (λ (l : List Input). f.input ∷ l)
+    (inputs_ahead q left)) (sym is)
 
 pub returns-clause-bad : goal.returns-clause-bad
 returns-clause-bad c =

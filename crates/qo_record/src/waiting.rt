@@ -1,0 +1,59 @@
+//! Which bytes may still become an entry when more come.
+
+ghost use Rattle.std.specs.Prelude.{◌≡◌, option_map};
+ghost use Rattle.qo_record.specs.Waiting.{are_to_come, has_line, is_wrong, promised_by_guest, promised_by_session};
+
+use crate::entries::moment_behind;
+use crate::reading::{PIECE_MAX, number_until, session_until};
+
+/// The most bytes that the first line of an entry has, with its end.
+const LINE_MAX: usize = 52;
+
+/// How many bytes the first line of an entry of a session promises, and the bytes behind that line.
+fn promised_by_session<'a>(opened: &[bool; 16], bytes: &'a [u8]) -> Option<(u64, &'a [u8])>
+    ensures { option_map (λ x. (x.0, x.1.now)) result ≡ promised_by_session opened.now bytes.now }
+{
+    let (_, rest) = moment_behind(b"bytes ", bytes)?;
+    let (session, rest) = session_until(b' ', rest)?;
+    if !opened[session as usize] {
+        return None;
+    }
+    number_until(b'\n', PIECE_MAX, rest)
+}
+
+/// How many bytes the first line of an entry of the guest promises, and the bytes behind that line.
+fn promised_by_guest(bytes: &[u8]) -> Option<(u64, &[u8])>
+    ensures { option_map (λ x. (x.0, x.1.now)) result ≡ promised_by_guest bytes.now }
+{
+    let (_, rest) = moment_behind(b"guest ", bytes)?;
+    number_until(b'\n', PIECE_MAX, rest)
+}
+
+/// Whether some of the bytes that were promised, or the line's end behind them, are still to come.
+fn are_to_come(promised: Option<(u64, &[u8])>) -> bool
+    ensures { result ≡ are_to_come (option_map (λ x. (x.0, x.1.now)) promised.entry) }
+{
+    match promised {
+        Some((len, rest)) => len > 0 && rest.len() as u64 <= len,
+        None => false,
+    }
+}
+
+/// Whether a line ends among the bytes.
+fn has_line(bytes: &[u8]) -> bool
+    ensures { result ≡ has_line bytes.now }
+{
+    bytes.contains(&b'\n')
+}
+
+/// Whether bytes at whose front no entry stands will have none, whatever follows them. It is told where their first line
+/// has ended, or is too long.
+#[tactic(auto, unfolding(crate::specs::Waiting::is_wrong))]
+pub(crate) fn is_wrong(opened: &[bool; 16], bytes: &[u8]) -> bool
+    ensures { result ≡ is_wrong opened.now bytes.now }
+{
+    let ended = bytes.len() >= LINE_MAX || has_line(bytes);
+    let by_session = are_to_come(promised_by_session(opened, bytes));
+    let by_guest = are_to_come(promised_by_guest(bytes));
+    ended && !(by_session || by_guest)
+}
