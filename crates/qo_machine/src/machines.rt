@@ -24,11 +24,14 @@ use std::alloc::{AllocError, Global};
 use std::marker::{Brand, Model};
 use std::sync::ledger::{Blank, Ledger};
 
-/// Sixteen sessions that are not open.
+/// How many sessions there are, as a length.
+pub(crate) const LANES: usize = SESSIONS as usize;
+
+/// Sessions that are not open, all of them.
 fn closed_sessions(alloc: Global) -> Result<Vec<Session>, AllocError>
     ensures { IfOk result (λ sessions. sessions.items ≡ replicate SESSIONS closed) }
 {
-    let mut sessions = Vec::with_capacity(alloc, usize::from(SESSIONS))?;
+    let mut sessions = Vec::with_capacity(alloc, LANES)?;
     for _ in 0..SESSIONS {
         sessions.push(Session::closed(alloc)?)?;
     }
@@ -36,12 +39,12 @@ fn closed_sessions(alloc: Global) -> Result<Vec<Session>, AllocError>
 }
 
 /// Closes the sessions whose flag is set.
-fn close_where(sessions: &mut Vec<Session>, lost: &[bool; 16])
+fn close_where(sessions: &mut Vec<Session>, lost: &[bool; LANES])
     requires { length sessions.old.items ≡ SESSIONS }
     ensures closed { sessions.new.items ≡ closed_where lost.now sessions.old.items }
     ensures size { length sessions.new.items ≡ SESSIONS }
 {
-    for session in 0..16usize {
+    for session in 0..LANES {
         if lost[session] {
             sessions[session].close();
         }
@@ -180,7 +183,7 @@ impl Machine {
     }
 
     /// Closes the sessions that are lost, as if each was shut. It takes no memory.
-    pub(crate) fn close_lost(&mut self, lost: &[bool; 16])
+    pub(crate) fn close_lost(&mut self, lost: &[bool; LANES])
         ensures state { (s : State) → IsIn s self.old → IsIn (close_lost lost.now s) self.new }
         ensures lasts { self.new.spent ≡ self.old.spent }
     {
@@ -406,7 +409,7 @@ impl Machine {
         ensures board { self.new.board ≡ self.old.board }
         ensures lasts { self.new.spent ≡ self.old.spent }
     {
-        close_where(&mut self.sessions, &[true; 16]);
+        close_where(&mut self.sessions, &[true; LANES]);
         self.guest_line.clear();
         self.ended = true;
     }

@@ -7,7 +7,7 @@ ghost use Rattle.qo_machine.specs.Runs.{RunMeets, Told, TurnMeets, is_lost, told
 ghost use Rattle.qo_machine.specs.declared.running.Ending.TheVariants as Ending;
 ghost use Rattle.qo_machine.specs.Sending.{AreToLanes, IsLane, SendsAll, Sent, SentFront};
 
-use crate::machines::Machine;
+use crate::machines::{LANES, Machine};
 use qo_causes::{Failed, Hub, Lane, NextError, SendError};
 use qo_values::Chars;
 use std::alloc::Global;
@@ -30,7 +30,7 @@ pub enum Ending {
 }
 
 /// Whether the session of a lane is lost.
-fn is_lost(lost: &[bool; 16], lane: Lane) -> bool
+fn is_lost(lost: &[bool; LANES], lane: Lane) -> bool
     ensures { result ≡ is_lost lost.now lane }
 {
     match lane {
@@ -42,7 +42,7 @@ fn is_lost(lost: &[bool; 16], lane: Lane) -> bool
 /// Sends one message, unless its session is lost, or is lost in this.
 fn send_one<H: Hub>(
     hub: &mut H,
-    lost: &mut [bool; 16],
+    lost: &mut [bool; LANES],
     lane: Lane,
     text: &Chars,
 ) -> Result<(), Failed>
@@ -70,7 +70,7 @@ fn send_one<H: Hub>(
 }
 
 /// Sends the messages of one step. What follows for a session that is lost is left out.
-fn send_all<H: Hub>(hub: &mut H, outs: &[(Lane, Chars)]) -> Result<[bool; 16], Failed>
+fn send_all<H: Hub>(hub: &mut H, outs: &[(Lane, Chars)]) -> Result<[bool; LANES], Failed>
     requires { AreToLanes outs.now }
     ensures sends { SendsAll (told (H.inputs hub.old) (H.sent hub.old) (H.got hub.old) (H.losses hub.old)) (told (H.inputs hub.new) (H.sent hub.new) (H.got hub.new) (H.losses hub.new)) outs.now result }
     ensures bad { H.bad hub.new ≡ H.bad hub.old }
@@ -80,7 +80,7 @@ fn send_all<H: Hub>(hub: &mut H, outs: &[(Lane, Chars)]) -> Result<[bool; 16], F
     ensures next_count { H.next_faults hub.new ≡ H.next_faults hub.old }
     ensures later { H.later hub.old hub.new }
 {
-    let mut lost = [false; 16];
+    let mut lost = [false; LANES];
     for out in outs {
         if let Err(Failed) = send_one(hub, &mut lost, out.0, &out.1) {
             return Err(Failed);
