@@ -152,14 +152,17 @@ impl Command {
             .find(|command| command.name() == name)
     }
 
-    /// The command of a name. The commands stand in byte order, so a name with `q` passes over those before.
+    /// The command of a name. The commands stand in byte order, so those before the first letters of a name
+    /// are passed over.
     pub fn named(name: &str) -> Option<Command>
         ensures { result ≡ command_of name.now }
     {
-        if name.as_bytes().first().copied() == Some(b'q') {
-            Command::first_named(&Command::all()[8..], name)
-        } else {
-            Command::first_named(Command::all(), name)
+        match name.as_bytes() {
+            [b'o', ..] => Command::first_named(&Command::all()[6..], name),
+            [b'q', b'u', ..] => Command::first_named(&Command::all()[13..], name),
+            [b'q', ..] => Command::first_named(&Command::all()[8..], name),
+            [b'x', ..] => Command::first_named(&Command::all()[21..], name),
+            _ => Command::first_named(Command::all(), name),
         }
     }
 
