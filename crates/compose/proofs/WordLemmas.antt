@@ -14,6 +14,10 @@ lacking front text (Some rest) is lacks = absurd (lacks rest (behind_is front te
 found : (front text rest : List ℕ) (n : ℕ) → n ≡ length front → text ≡ front ++ drop n text → rest ≡ drop n text → behind front text ≡ Some rest
 found front text rest n size parts is = ap (behind front) parts ∙ behind_again front (drop n text) ∙ ap (λ (l : List ℕ). Some l) (sym is)
 
-pub behind_strips : (front text : List ℕ) (r : Option (Bor (List ℕ))) → MatchOption r (FindsTextPrefix front text None) (λ x. StripsPrefix (FindsTextPrefix front) text x.now) → option_map (λ x. x.now) r ≡ behind front text
+-- std's clause of a text whose front is taken off
+abbrev Strips : List ℕ → List ℕ → Option (Bor (List ℕ)) → Type 0
+Strips front text r = MatchOption r (FindsTextPrefix front text None) (λ x. StripsPrefix (FindsTextPrefix front) text x.now)
+
+pub behind_strips : (front text : List ℕ) (r : Option (Bor (List ℕ))) → Strips front text r → option_map (λ x. x.now) r ≡ behind front text
 behind_strips front text None h = sym (lacking front text (behind front text) refl h)
 behind_strips front text (Some x) h = sym (found front text x.now h.0 h.1.0 h.1.1 h.2)

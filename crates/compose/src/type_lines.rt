@@ -43,7 +43,11 @@ fn line_of(alloc: Global, t: TypeId) -> Result<String, AllocError>
         Some(parent) => parent.name(),
         None => "-",
     };
-    let kind = if table.is_abstract(t) { "abstract" } else { "plain" };
+    let kind = if table.is_abstract(t) {
+        "abstract"
+    } else {
+        "plain"
+    };
     let names = interface_names(alloc, table.interfaces(t))?;
     let interfaces = names_of(alloc, &names)?;
     [t.name(), parent, kind, interfaces.as_str()].join(alloc, " ")
