@@ -179,10 +179,7 @@ impl SlotMap {
     pub fn holding(&self, birth: u64) -> usize
         ensures { result ≡ count_by (λ s. holds birth s.1) self.now }
     {
-        self.map
-            .values()
-            .filter(|slot| slot.holds(birth))
-            .count()
+        self.map.values().filter(|slot| slot.holds(birth)).count()
     }
 
     /// Whether one has the object of a birth as a child.
@@ -196,9 +193,7 @@ impl SlotMap {
     pub fn child_place(&self, birth: u64) -> Option<usize>
         ensures { result ≡ position (λ s. names_child birth s.1) self.now }
     {
-        self.map
-            .values()
-            .position(|slot| slot.names_child(birth))
+        self.map.values().position(|slot| slot.names_child(birth))
     }
 
     /// Whether one holds an object.

@@ -23,7 +23,7 @@ use Rattle.qo_requests.specs.declared.fields.Field.TheVariants.{Arguments, Execu
 -- the first of a name is among those read, or else among those left
 pub first_on : (key : List ℕ) (before : Option Data) (e : Entry) (es : List Entry)
     → option_or before (get_member key (members_view (e ∷ es)))
-      ≡ option_or (if bytes_eq key (string_bytes e.0) then option_or before (Some (view e.1)) else before) (get_member key (members_view es))
+    ≡ option_or (if bytes_eq key (string_bytes e.0) then option_or before (Some (view e.1)) else before) (get_member key (members_view es))
 first_on key before e es = by (bytes_eq key (string_bytes e.0)) refl before
   where
     by : (t : Bool) → bytes_eq key (string_bytes e.0) ≡ t → (o : Option Data)

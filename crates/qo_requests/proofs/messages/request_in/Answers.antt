@@ -19,8 +19,8 @@ returns c =
     let arguments = option_map (λ v. view v.now) c.args.members.arguments in
     let message : c.is_message.result ≡ is_whole c.args.members.others execute arguments = c.is_message.ensures in
     let placed : is_whole c.args.members.others execute arguments ≡ is_message d =
-        ap (λ (o : Option Data). is_whole c.args.members.others o arguments) c.requires.execute
-        ∙ ap (is_whole c.args.members.others (argument Execute d)) c.requires.arguments ∙ whole_is d c.args.members.others c.requires.others in
+    ap (λ (o : Option Data). is_whole c.args.members.others o arguments) c.requires.execute
+    ∙ ap (is_whole c.args.members.others (argument Execute d)) c.requires.arguments ∙ whole_is d c.args.members.others c.requires.others in
     let named : option_and_then as_str execute ≡ text_at Execute d = ap (option_and_then as_str) c.requires.execute in
     subst (GivesCode c.call_in.result)
     (request_by d (sym c.has_float.ensures ∙ c.if-has_float.false) (sym placed ∙ sym message ∙ c.if-not-is_message.false) _ _
