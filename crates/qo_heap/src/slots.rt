@@ -76,13 +76,13 @@ impl Heap {
         ensures memory { result ≡ Err Memory → (has_name name (slots_of self.old o.birth) ≡ false) × (parent_of self.old child.birth ≡ None) }
         ensures err { OnErr result (self.new ≡ self.old) }
     {
+        if self.parent(child, steps).is_none() {
+            return self.add(o, name, Slot::Child(child), steps);
+        }
         if self.slot(o, name.as_str(), steps).is_some() {
             return Err(SlotError::Duplicate);
         }
-        if self.parent(child, steps).is_some() {
-            return Err(SlotError::HasParent);
-        }
-        self.add(o, name, Slot::Child(child), steps)
+        Err(SlotError::HasParent)
     }
 
     /// Adds a link to objects of a type, which keeps its target alive where it is strong. `Duplicate`

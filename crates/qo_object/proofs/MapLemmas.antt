@@ -1,5 +1,5 @@
 -- Slots by name against the entries of the map that stores them.
-use Rattle.std.proofs.Common.{◌≡◌, ℕ, ◌+◌, zero, suc, Bool, true, false, cond, ◌||◌, List, [], ◌∷◌, ◌++◌, map, length, remove, slice_get, position, Some, None, option_map, is_some, count_by, nat_lt, refl, ap, ap₂, ◌∙◌}
+use Rattle.std.proofs.Common.{◌≡◌, ℕ, ◌+◌, zero, suc, Bool, true, false, cond, ◌||◌, List, [], ◌∷◌, ◌++◌, map, length, remove, slice_get, position, Some, None, option_map, is_some, count_by, nat_lt, refl, sym, ap, ap₂, arith, ◌∙◌, Option, Result, Ok, Err, OnErr}
 use Rattle.std.proofs.lemmas.List.Sums.{sum_by-cons}
 use Rattle.std.specs.List.{AllByRecursion, IsDistinct, list_any, position_or_len}
 use Rattle.std.specs.Str.{bytes_eq}
@@ -49,6 +49,25 @@ module _ {K : Type 0} (text : K → List ℕ) where
       by : (b : Bool) → b || has_name (text k) (slots_of text es) ≡ false → (has_name (text k) (slots_of text es) ≡ false → insert_entry (λ a c. bytes_eq (text a) (text c)) es k s ≡ es ++ (k, s) ∷ []) → cond b ((x.0, s) ∷ es) (x ∷ insert_entry (λ a c. bytes_eq (text a) (text c)) es k s) ≡ x ∷ (es ++ (k, s) ∷ [])
       by true rest later = cc
       by false rest later = ap (λ ys. x ∷ ys) (later rest)
+
+  -- what stood under a key that was there is put back
+  pub put-back : (es : List (K × Slot)) (k : K) (s old : Slot) → lookup (λ a. bytes_eq (text k) (text a)) es ≡ Some old
+      → changed_at (λ x. old) (position_or_len (λ a. bytes_eq (text k) (text a)) (keys_of es)) (slots_of text (insert_entry (λ a b. bytes_eq (text a) (text b)) es k s)) ≡ slots_of text es
+  put-back [] k s old there = cc
+  put-back (x ∷ es) k s old there = by (bytes_eq (text k) (text x.0)) refl there (put-back es k s old)
+    where
+      by : (b : Bool) → bytes_eq (text k) (text x.0) ≡ b → cond b (Some x.1) (lookup (λ a. bytes_eq (text k) (text a)) es) ≡ Some old
+          → (lookup (λ a. bytes_eq (text k) (text a)) es ≡ Some old
+          → changed_at (λ y. old) (position_or_len (λ a. bytes_eq (text k) (text a)) (keys_of es)) (slots_of text (insert_entry (λ a c. bytes_eq (text a) (text c)) es k s)) ≡ slots_of text es)
+          → changed_at (λ y. old) (position_or_len (λ a. bytes_eq (text k) (text a)) (keys_of (x ∷ es))) (slots_of text (insert_entry (λ a c. bytes_eq (text a) (text c)) (x ∷ es) k s)) ≡ slots_of text (x ∷ es)
+      by true is found rest = let same : x.1 ≡ old = cc in rw (is, same) refl
+      by false is found rest =
+          let n : ℕ = position_or_len (λ a. bytes_eq (text k) (text a)) (keys_of es) in
+          let next : 1 + n ≡ suc n = omega arith in
+          rw is (
+          ap (λ (i : ℕ). changed_at (λ y. old) i ((text x.0, x.1) ∷ slots_of text (insert_entry (λ a c. bytes_eq (text a) (text c)) es k s))) next
+          ∙ ap (λ (l : List (List ℕ × Slot)). (text x.0, x.1) ∷ l) (rest found)
+          )
 
   -- a slot changed
   pub slots-set : (change : Slot → Slot) (es : List (K × Slot)) (i : ℕ) (w s : Slot) → slice_get (values_of es) i ≡ Some w → s ≡ change w → slots_of text (set_value_at es i s) ≡ changed_at change i (slots_of text es)
@@ -109,3 +128,16 @@ module _ {K : Type 0} (text : K → List ℕ) (test : Slot → Bool) where
   count-slots (x ∷ es) =
       let rest : count_by test (values_of es) ≡ count_by (λ (s : List ℕ × Slot). test s.1) (slots_of text es) = count-slots es in
       rw (sum_by-cons (λ (s : Slot). cond {A = ℕ} (test s) 1 0) x.1 (values_of es), sum_by-cons (λ (s : List ℕ × Slot). cond {A = ℕ} (test s.1) 1 0) (text x.0, x.1) (slots_of text es), rest) refl
+
+-- an option that is there where a name is
+pub not-there : {X : Type 0} (o : Option X) (t : Bool) → is_some o ≡ t → o ≡ None → t ≡ false
+not-there None t is none = sym is
+not-there (Some x) t is none = cc
+
+pub is-there : {X : Type 0} (o : Option X) (x : X) (t : Bool) → is_some o ≡ t → o ≡ Some x → t ≡ true
+is-there None x t is some = cc
+is-there (Some y) x t is some = sym is
+
+pub err-so : {T E P : Type 0} (r : Result T E) → P → OnErr r P
+err-so (Ok x) p = tt
+err-so (Err e) p = p

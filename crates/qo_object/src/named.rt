@@ -30,7 +30,7 @@ impl Model for SlotMap {
 }
 
 impl SlotMap {
-    ghost use Rattle.std.specs.Prelude.{◌≡◌, ◌<◌, ◌^◌, ℕ, List, [], ◌∷◌, ◌++◌, None, false, IfSome, OnOk, OnErr, map, remove, length, count_by, position, slice_get, option_map, is_some};
+    ghost use Rattle.std.specs.Prelude.{◌≡◌, ◌<◌, ◌^◌, ℕ, List, [], ◌∷◌, ◌++◌, None, Ok, true, false, IfSome, OnOk, OnErr, map, remove, length, count_by, position, slice_get, option_map, is_some};
     ghost use Rattle.std.specs.List.{list_any, IsDistinct};
     ghost use Rattle.std.specs.Option.{option_and_then};
     ghost use Rattle.std.specs.Str.{bytes_eq};
@@ -85,7 +85,8 @@ impl SlotMap {
 
     /// Makes room for the first slots at once, where there is none yet. It adds nothing.
     fn make_room(&mut self) -> Result<(), AllocError>
-        ensures { self.new ≡ self.old }
+        ensures same { self.new ≡ self.old }
+        ensures empty { OnErr result (self.old ≡ []) }
     {
         if self.map.is_empty() {
             self.map.reserve(SLOTS_AT_FIRST)?;
@@ -93,15 +94,33 @@ impl SlotMap {
         Ok(())
     }
 
-    /// Adds a slot under a new name, behind the others. An error adds nothing.
-    pub fn add(&mut self, name: Name, slot: Slot) -> Result<(), AllocError>
-        requires { has_name name self.old ≡ false }
-        ensures ok { OnOk result (self.new ≡ self.old ++ (name, slot) ∷ []) }
+    /// Gives the slot at a place that is there, and whose place is kept, back what stood in it.
+    fn put_back(&mut self, at: usize, old: Slot)
+        ensures { self.new ≡ changed_at (λ s. old) at self.old }
+    {
+        let Some(slot) = self.map.get_index_mut(at) else {
+            return;
+        };
+        slot.put(old);
+    }
+
+    /// Adds a slot under a name, behind the others, unless there is one of that name, which then stays.
+    /// It answers whether it was added. An error adds nothing.
+    pub fn add(&mut self, name: Name, slot: Slot) -> Result<bool, AllocError>
+        ensures added { result ≡ Ok true → (has_name name self.old ≡ false) × (self.new ≡ self.old ++ (name, slot) ∷ []) }
+        ensures there { result ≡ Ok false → (has_name name self.old ≡ true) × (self.new ≡ self.old) }
+        ensures absent { OnErr result (has_name name self.old ≡ false) }
         ensures err { OnErr result (self.new ≡ self.old) }
     {
         self.make_room()?;
-        self.map.insert(name.into_string(), slot)?;
-        Ok(())
+        let (at, old) = self.map.insert_full(name.into_string(), slot)?;
+        match old {
+            None => Ok(true),
+            Some(old) => {
+                self.put_back(at, old);
+                Ok(false)
+            }
+        }
     }
 
     /// Removes the slot at a place; past the end there is none.

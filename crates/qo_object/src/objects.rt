@@ -206,14 +206,19 @@ impl Object {
         ensures memory { result ≡ Err Memory → has_name name self.old.slots ≡ false }
         ensures err { OnErr result (self.new ≡ self.old) }
     {
-        if self.slots.has(name.as_str()) {
-            return Err(AddError::Duplicate);
-        }
         if self.slots.len() >= SLOTS_MAX {
-            return Err(AddError::Memory);
+            let error = if self.slots.has(name.as_str()) {
+                AddError::Duplicate
+            } else {
+                AddError::Memory
+            };
+            return Err(error);
         }
-        self.slots.add(name, slot)?;
-        Ok(())
+        if self.slots.add(name, slot)? {
+            Ok(())
+        } else {
+            Err(AddError::Duplicate)
+        }
     }
 
     /// Lets the slot at a place go, and answers the object that it named: a child slot is removed, a

@@ -40,6 +40,13 @@ impl Slot {
     ghost use Rattle.std.specs.Prelude.{◌≡◌, is_some};
     ghost use Rattle.qo_object.specs.Slots.{target_of, is_strong, child_of, holds, names_child, held, unlinked, pointed, with_val, forgotten_in};
 
+    /// Another stands in it.
+    pub(crate) fn put(&mut self, other: Slot)
+        ensures { self.new ≡ other }
+    {
+        *self = other;
+    }
+
     /// The child that stands in it.
     pub(crate) fn child(&self) -> Option<Key>
         ensures { result ≡ child_of self.now }

@@ -1,6 +1,6 @@
 //! The sixteen types: what each derives from, what it adds, and which of them are abstract.
 
-ghost use Rattle.std.specs.Prelude.{◌≡◌, find};
+ghost use Rattle.std.specs.Prelude.{◌≡◌, ◌∷◌, ℕ, List, find};
 ghost use Rattle.std.specs.List.{list_any};
 ghost use Rattle.std.specs.Str.{bytes_eq};
 ghost use Rattle.qo_values.specs.Kinds.{type_name};
@@ -34,6 +34,24 @@ pub(crate) fn all_types() -> &'static [TypeId]
         TypeId::MemoryBackendRam,
         TypeId::Tag,
     ]
+}
+
+/// The types whose names may begin with a byte, in row order.
+#[tactic(auto, unfolding(qo_model::specs::Types::types))]
+pub(crate) fn types_with(first: u8) -> &'static [TypeId]
+    ensures { (rest : List ℕ) → find (λ t. bytes_eq (type_name t) (first ∷ rest)) result.now ≡ find (λ t. bytes_eq (type_name t) (first ∷ rest)) type_ids }
+{
+    match first {
+        b't' => &[TypeId::Tag],
+        b'm' => &[
+            TypeId::Machine,
+            TypeId::MemDimm,
+            TypeId::MemBus,
+            TypeId::MemoryBackend,
+            TypeId::MemoryBackendRam,
+        ],
+        _ => all_types(),
+    }
 }
 
 /// A type, its parent and so on to `object`.

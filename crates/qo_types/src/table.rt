@@ -6,7 +6,9 @@ ghost use Rattle.qo_model.specs.Properties.{row_of_property};
 ghost use Rattle.qo_model.specs.Types.{chain, has_finaliser, interfaces_of, is_a, parent_of, row_named, slots_of};
 ghost use Rattle.qo_types.specs.Rows.{is_abstract, listed};
 
-use crate::hierarchy::{all_types, ancestry, answers_to, first_named, interfaces, is_abstract};
+use crate::hierarchy::{
+    all_types, ancestry, answers_to, first_named, interfaces, is_abstract, types_with,
+};
 use crate::slots::{self, slots};
 use qo_model::{Interface, Property};
 use qo_values::TypeId;
@@ -26,7 +28,10 @@ impl TypeTable {
     pub fn find(&self, name: &str) -> Option<TypeId>
         ensures { result ≡ option_map (λ r. r.id) (row_named name.now) }
     {
-        first_named(all_types(), name)
+        match name.as_bytes().first() {
+            Some(first) => first_named(types_with(*first), name),
+            None => None,
+        }
     }
 
     /// Whether a type is of a name: its own, an ancestor's, or an interface of itself or of an

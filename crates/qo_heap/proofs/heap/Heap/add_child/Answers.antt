@@ -1,4 +1,4 @@
-use Rattle.std.proofs.Common.{sym, ◌∙◌, ap, Option, is_some, true, false}
+use Rattle.std.proofs.Common.{◌≡◌, sym, ◌∙◌, ap, Option, is_some, true, false, rules}
 use Rattle.qo_slots.specs.declared.keys.Key.{Key}
 use Rattle.qo_heap.specs.Objects.{slots_of}
 use Rattle.qo_heap.proofs.HeapLemmas.{found-named}
@@ -8,6 +8,8 @@ pub returns-then-is_some-clause-duplicate : goal.returns-then-is_some-clause-dup
 returns-then-is_some-clause-duplicate g c _ =
     found-named _ c.slot.result (slots_of c.args.self.now c.args.o.birth) c.args.name true (rw c.as_str.ensures.value at c.slot.ensures.slot) (sym c.is_some.ensures ∙ c.if-is_some.true)
 
-pub returns-then-is_some-2-clause-parent : goal.returns-then-is_some-2-clause-parent
-returns-then-is_some-2-clause-parent g c _ =
-    (found-named _ c.slot.result (slots_of c.args.self.now c.args.o.birth) c.args.name false (rw c.as_str.ensures.value at c.slot.ensures.slot) (sym c.is_some.ensures ∙ c.if-is_some.false), ap (λ (o : Option Key). is_some o) (sym c.parent.ensures) ∙ sym c.is_some-2.ensures ∙ c.if-is_some-2.true)
+pub returns-clause-parent : goal.returns-clause-parent
+returns-clause-parent g c _ =
+    let named = found-named _ c.slot.result (slots_of c.args.self.now c.args.o.birth) c.args.name false (rw c.as_str.ensures.value at c.slot.ensures.slot) (sym c.is_some.ensures ∙ c.if-is_some.false) in
+    let there : is_some c.parent.result ≡ true = search rules in
+    (named, ap (λ (o : Option Key). is_some o) (sym c.parent.ensures) ∙ there)
