@@ -183,7 +183,7 @@ fn tells_end<L: Ledger>(
 }
 
 /// Whether a tag is added, written, read and removed, and is not there to be severed.
-fn changes<L: Ledger>(alloc: Global, blank: Blank) -> Result<bool, Memory>
+fn changes<L: Ledger>(alloc: Global, blank: Blank) -> Result<bool, AllocError>
     requires name { blank.name ≡ L.name }
     requires parts { blank.parts ≡ L.parts }
     requires some { 0 < blank.parts }
