@@ -118,20 +118,38 @@ passed-steps b t m q is h =
     ∙ let-free (passed b m (b.born + 1) t (drafted b t)) (b.born + 1) q (passed-pins q b m (b.born + 1) t (drafted b t) ∙ rows-pins (b.born + 1) t (slots_of t) (with_new (fresh (b.born + 1) t) b) ∙ h.pinned) is (ap (λ (k : ℕ). k == 0) (attempt-free b t m low (low-pins b h)))
     ∙ attempt-passed b t m low (low-pins b h)
 
--- and where it is cut behind a further object that was made, with some slots, and not joined: this one is let go first
 pins-two : (n : ℕ) → 1 ≤ n → put_in_order n (1 ∷ []) ≡ 1 ∷ n ∷ []
 pins-two n low = let order : leb 1 n ≡ true = grind (arith, low) in rw (put_in_order, order) refl
 
+-- and where it is cut behind a further object that was made, was not joined, and has ended
+pub unjoined-ended : (b : Board) (t : TypeId) (ps : List Property) (p : Property) (k : TypeId) (qs : List Property) (c : Board) (q : List ℕ)
+    → slots_of t ≡ ps ++ p ∷ qs → p.kind ≡ row.Child k → q ≡ put_in_order (b.born + 1) (1 ∷ [])
+    → c ≡ rows_made (b.born + 1) t ps (with_new (fresh (b.born + 1) t) b) → AtRest b
+    → unpin (with_pins q (record c { born = c.born + 1; notes = c.notes ++ init_notes (c.born + 1) k ++ ending (c.born + 1) k })) (b.born + 1)
+    ≡ cut_attempt b t (suc (suc (length (kinds_in ps)))) false
+unjoined-ended b t ps p k qs c q split is_kid is made h =
+    let-free (record c { born = c.born + 1; notes = c.notes ++ init_notes (c.born + 1) k ++ ending (c.born + 1) k }) (b.born + 1) q pins is
+    (ap (λ (x : ℕ). x == 0) (draft-free b t (kinds_in ps) c low (low-pins b h) draft))
+    ∙ unjoined-ends b t (kinds_in ps) k c low (low-pins b h) draft
+    ∙ unjoined-cut b t ps p k qs split is_kid
+  where
+    low : AllByRecursion (LowRecord (b.born + 1)) b.records
+    low = low-records b h.used.firm b.records h.used.firm.within h.used.firm.linked
+
+    draft : IsDraft b (b.born + 1) t (kinds_in ps) c
+    draft = subst (IsDraft b (b.born + 1) t (kinds_in ps)) (sym made) (draft-of b t ps h)
+
+    pins : c.pins ≡ 1 ∷ []
+    pins = ap (λ (x : Board). x.pins) draft.shape ∙ h.pinned
+
+-- where that one, with some slots, is let go first
 pub unjoined-steps : (b : Board) (t : TypeId) (ps : List Property) (p : Property) (k : TypeId) (qs : List Property) (ss : List (List ℕ × Slot)) (c : Board)
     (q : List ℕ) → slots_of t ≡ ps ++ p ∷ qs → p.kind ≡ row.Child k → q ≡ put_in_order (b.born + 1) (1 ∷ [])
     → c ≡ rows_made (b.born + 1) t ps (with_new (fresh (b.born + 1) t) b) → IsStar (c.born + 1) (c.born + 1) ss [] → AtRest b
     → unpin (unpin (with_pins (put_in_order (c.born + 1) q) (with_new (record (fresh (c.born + 1) k) { slots = ss }) (with_pins q c))) (c.born + 1))
     (b.born + 1) ≡ cut_attempt b t (suc (suc (length (kinds_in ps)))) false
 unjoined-steps b t ps p k qs ss c q split is_kid is made star_is h =
-    ap (λ (x : Board). unpin x (b.born + 1)) first
-    ∙ let-free (record c { born = c.born + 1; notes = c.notes ++ init_notes (c.born + 1) k ++ ending (c.born + 1) k }) (b.born + 1) q pins is (ap (λ (x : ℕ). x == 0) (draft-free b t (kinds_in ps) c low (low-pins b h) draft))
-    ∙ unjoined-ends b t (kinds_in ps) k c low (low-pins b h) draft
-    ∙ unjoined-cut b t ps p k qs split is_kid
+    ap (λ (x : Board). unpin x (b.born + 1)) first ∙ unjoined-ended b t ps p k qs c q split is_kid is made h
   where
     begun : 8 ≤ b.born
     begun = h.used.firm.begun
@@ -144,9 +162,6 @@ unjoined-steps b t ps p k qs ss c q split is_kid is made star_is h =
 
     born : c.born ≡ b.born + 1 + length (kinds_in ps)
     born = ap (λ (x : Board). x.born) draft.shape
-
-    pins : c.pins ≡ 1 ∷ []
-    pins = ap (λ (x : Board). x.pins) draft.shape ∙ h.pinned
 
     two : q ≡ 1 ∷ (b.born + 1) ∷ []
     two = is ∙ pins-two (b.born + 1) (omega arith)

@@ -44,7 +44,7 @@ fn first_val(kind: TypeId, first: First, alloc: Global) -> Result<Val, AllocErro
 
 /// Adds the slot of a row to an object of a type: a plain property with its first value, a link
 /// without target. A child and an alias are passed over. An error leaves the heap as it was.
-fn add_row<L: Ledger>(
+pub fn add_row<L: Ledger>(
     heap: &mut Heap,
     o: Oid,
     kind: TypeId,

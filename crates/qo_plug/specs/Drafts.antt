@@ -1,0 +1,74 @@
+-- A device as it is made over the heap, and what is left where memory ran out (include/hw/qdev-core.h, "Realization").
+use Rattle.std.specs.Prelude.{◌≡◌, ℕ, ◌+◌, ◌≤◌, Bool, true, false, List, [], ◌++◌, ◌⊎◌, filter, take, slice_get, Some, option_map}
+use Rattle.qo_values.specs.declared.kinds.TypeId.{TypeId}
+use Rattle.qo_model.specs.Board.{Board}
+use Rattle.qo_model.specs.Changes.{make}
+use Rattle.qo_model.specs.Objects.{init_notes, with_attempt}
+use Rattle.qo_model.specs.Plug.{cut_attempt, objects_in, rows_made}
+use Rattle.qo_model.specs.Types as types
+use Rattle.qo_model.specs.declared.properties.Property.{Property}
+use Rattle.qo_model.specs.declared.properties.RowKind.TheVariants.{Child}
+use Rattle.qo_slots.specs.declared.keys.Key.{Key}
+use Rattle.qo_table.specs.Rows.{IsLive}
+use Rattle.qo_object.specs.declared.slots.Slot.{Slot}
+use Rattle.qo_object.specs.declared.slots.Slot.TheVariants.{Plain, Link}
+use Rattle.qo_object.specs.Slots.{Named}
+use Rattle.qo_object.specs.Content.{Content, fresh}
+use Rattle.qo_heap.specs.Board.{Shows}
+use Rattle.qo_heap.specs.Objects.{Objects, content_of, slots_of}
+use Rattle.qo_properties.specs.Claims.{KeepsBook}
+use Rattle.qo_properties.specs.Fresh.{new_slots}
+use Rattle.qo_properties.specs.Start.{KeepsNames}
+
+-- a heap becomes another as each board that it shows does by a step
+abbrev pub Makes : (Board → Board) → Objects → Objects → Type 0
+Makes step v w = (c : Board) → Shows c v → Shows (step c) w
+
+-- a device of a type as it is created: without slots, and held from outside the tree
+abbrev pub created : Board → TypeId → Board
+created b t = record (make t b) { notes = b.notes ++ init_notes (b.born + 1) t }
+
+-- it was made, property by property, and stands nowhere
+abbrev pub held_draft : Board → TypeId → Board
+held_draft b t = rows_made (b.born + 1) t (types.slots_of t) (created b t)
+
+-- all of an object but its slots
+abbrev pub bare : Content → Content
+bare c = record c { slots = [] }
+
+-- the slots of an object that are its own: plain ones and links, and neither children nor aliases
+abbrev pub is_own : Slot → Bool
+is_own (Plain v) = true
+is_own (Link ty strong target) = true
+is_own s = false
+
+abbrev pub own_slots : List Named → List Named
+own_slots slots = filter (λ (s : Named). is_own s.1) slots
+
+abbrev pub own_slots_of : Objects → ℕ → List Named
+own_slots_of v n = own_slots (slots_of v n)
+
+-- a heap has grown, or its objects have other slots: who was there is there under the same name, and has all else as before; the book of claims stays right; events and the time stay
+pub record Grows (v w : Objects) : Type 0 where
+  pub names : KeepsNames v w
+  pub rest : (n : ℕ) → n ≤ v.born → option_map bare (content_of w n) ≡ option_map bare (content_of v n)
+  pub born : v.born ≤ w.born
+  pub book : KeepsBook v w
+  pub events : w.events ≡ v.events
+  pub time : w.time ≡ v.time
+
+-- a device of a type was made: it is there, of the next birth, held once, with a new body, without id and path
+pub record IsDraft (t : TypeId) (v w : Objects) (o : Key) : Type 0 where
+  pub birth : o.birth ≡ v.born + 1
+  pub live : IsLive w.rows o
+  pub rest : option_map bare (content_of w o.birth) ≡ Some (bare (fresh t))
+  pub own : own_slots_of w o.birth ≡ new_slots t
+
+-- how far the properties of a device came: the first of them were made; or a further object of the next one was made too, and has ended
+pub data Fell (n : ℕ) (t : TypeId) (v w : Objects) : Type 0 where
+  stopped : (k : ℕ) → Makes (rows_made n t (take k (types.slots_of t))) v w → Fell n t v w
+  unjoined : (k : ℕ) (p : Property) (further : TypeId) → slice_get (types.slots_of t) k ≡ Some p → p.kind ≡ Child further → Makes (λ c. with_attempt (rows_made n t (take k (types.slots_of t)) c) further) v w → Fell n t v w
+
+-- a heap is as it was, or an attempt was cut behind so many objects, the last of them joined or not
+abbrev pub CutShort : Board → TypeId → Objects → Type 0
+CutShort b t w = Shows b w ⊎ ((i : ℕ) × (joined : Bool) × (1 ≤ i) × (i ≤ objects_in t) × Shows (cut_attempt b t i joined) w)

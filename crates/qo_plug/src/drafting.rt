@@ -1,0 +1,190 @@
+//! Making a device with its further objects, property by property, while it stands nowhere yet; and
+//! giving it up (docs/devel/qom.rst, "The QEMU Object Model": `instance_init`, children, aliases).
+
+ghost use Rattle.std.specs.Prelude.{◌≡◌, ◌+◌, ◌++◌, ◌⊎◌, ◌<◌, IfOk, IfSome, OnOk, OnErr, false, option_to_list};
+ghost use Rattle.std.specs.Prelude.{◌==◌, ℕ};
+ghost use Rattle.qo_values.specs.declared.kinds.TypeId.{TypeId};
+ghost use Rattle.qo_model.specs.Board.{Board};
+ghost use Rattle.qo_model.specs.Plug.{aliased, owned, plug_attempt, row_made, rows_made, with_kid};
+ghost use Rattle.qo_model.specs.RowNames.{property_name};
+ghost use Rattle.qo_model.specs.Types.{slots_of};
+ghost use Rattle.qo_model.specs.declared.properties.RowKind.TheVariants.{Child};
+ghost use Rattle.qo_sound.specs.Kept.{SoundTree};
+ghost use Rattle.qo_object.specs.Shown.{birth_of};
+ghost use Rattle.qo_table.specs.Rows.{IsLive};
+ghost use Rattle.qo_heap.specs.Board.{Shows};
+ghost use Rattle.qo_heap.specs.Objects.{pins_of};
+ghost use Rattle.qo_properties.specs.Adding.{IsTried, given_up};
+ghost use Rattle.qo_properties.specs.Claims.{KeepsBook};
+ghost use Rattle.qo_properties.specs.Fresh.{new_slots, slot_begun};
+ghost use Rattle.qo_plug.specs.Drafts.{CutShort, Fell, Grows, IsDraft, Makes, held_draft, own_slots_of};
+
+use qo_heap::{Heap, Oid, Slot, Steps};
+use qo_life::{create, drop_pin};
+use qo_model::{Property, PropertyName, RowKind};
+use qo_properties::{add_row, make_child, name_of};
+use qo_types::TypeTable;
+use qo_values::{Name, TypeId};
+use std::alloc::{AllocError, Global};
+use std::sync::ledger::Ledger;
+
+/// The name of a property.
+fn own_name(name: PropertyName, alloc: Global) -> Result<Name, AllocError>
+    ensures { IfOk result (λ n. n ≡ property_name name) }
+{
+    name_of(name.as_str(), alloc)
+}
+
+/// Makes a further object of a device as its child, which alone holds it then. Where memory wants,
+/// the heap is as it was, or the object was made and ended.
+fn make_kid<L: Ledger>(
+    heap: &mut Heap,
+    device: Oid,
+    name: PropertyName,
+    kind: TypeId,
+    alloc: Global,
+    steps: &mut Steps<L>,
+) -> Result<(), AllocError>
+    requires live { IsLive heap.old.rows device }
+    ensures ok { OnOk result (Makes (with_kid device.birth (property_name name) kind) heap.old heap.new) }
+    ensures own { OnOk result (own_slots_of heap.new device.birth ≡ own_slots_of heap.old device.birth) }
+    ensures err { OnErr result (IsTried kind heap.old heap.new) }
+    ensures grows { Grows heap.old heap.new }
+{
+    heap.facts();
+    let name = own_name(name, alloc)?;
+    let kid = make_child(heap, device, name, kind, alloc, steps)?;
+    heap.unpin(kid, steps);
+    Ok(())
+}
+
+/// The child of an object under a name; `None` where it has none.
+fn child_named<L: Ledger>(
+    heap: &Heap,
+    o: Oid,
+    name: PropertyName,
+    steps: &mut Steps<L>,
+) -> Option<Oid>
+    requires { IsLive heap.now.rows o }
+    ensures { (b : Board) → Shows b heap.now → birth_of result ≡ owned b o.birth (property_name name) }
+{
+    let slot = heap.slot(o, name.as_str(), steps)?;
+    match slot.what {
+        Slot::Child(child) => Some(*child),
+        _ => None,
+    }
+}
+
+/// Gives a device an alias of a property of its own child, where it has this one. An error leaves
+/// the heap as it was.
+fn make_alias<L: Ledger>(
+    heap: &mut Heap,
+    device: Oid,
+    name: PropertyName,
+    owner: PropertyName,
+    of: PropertyName,
+    alloc: Global,
+    steps: &mut Steps<L>,
+) -> Result<(), AllocError>
+    requires live { IsLive heap.old.rows device }
+    ensures ok { OnOk result (Makes (λ c. aliased device.birth (property_name name) (property_name of) (owned c device.birth (property_name owner)) c) heap.old heap.new) }
+    ensures own { OnOk result (own_slots_of heap.new device.birth ≡ own_slots_of heap.old device.birth) }
+    ensures err { OnErr result (heap.new ≡ heap.old) }
+    ensures grows { Grows heap.old heap.new }
+{
+    let Some(child) = child_named(heap, device, owner, steps) else {
+        return Ok(());
+    };
+    let name = own_name(name, alloc)?;
+    let of = own_name(of, alloc)?;
+    heap.add_alias(device, name, child, of, steps)?;
+    Ok(())
+}
+
+/// Gives a device of a type the slot of a property: a plain one with its first value, an empty link,
+/// a further object as its child, or an alias of what its child has. Where memory wants, the heap is
+/// as it was, or a further object was made and ended.
+fn make_property<L: Ledger>(
+    heap: &mut Heap,
+    device: Oid,
+    kind: TypeId,
+    row: Property,
+    alloc: Global,
+    steps: &mut Steps<L>,
+) -> Result<(), AllocError>
+    requires live { IsLive heap.old.rows device }
+    ensures ok { OnOk result (Makes (row_made device.birth kind (property_name row.name) row.kind) heap.old heap.new) }
+    ensures own { OnOk result (own_slots_of heap.new device.birth ≡ own_slots_of heap.old device.birth ++ option_to_list (slot_begun kind row)) }
+    ensures err { OnErr result ((heap.new ≡ heap.old) ⊎ ((further : TypeId) × (row.kind ≡ Child further) × (heap.new ≡ given_up further heap.old))) }
+    ensures grows { Grows heap.old heap.new }
+{
+    match row.kind {
+        RowKind::Plain(_, _) => add_row(heap, device, kind, row, alloc, steps),
+        RowKind::Link { .. } => add_row(heap, device, kind, row, alloc, steps),
+        RowKind::Child(further) => make_kid(heap, device, row.name, further, alloc, steps),
+        RowKind::Alias { child, of } => {
+            make_alias(heap, device, row.name, child, of, alloc, steps)
+        }
+    }
+}
+
+/// Gives a device of a type its slots, property by property, with its further objects. Where memory
+/// wants, the device has the slots of its first properties, and a further object of the next one may
+/// have been made and ended.
+fn make_properties<L: Ledger>(
+    heap: &mut Heap,
+    device: Oid,
+    kind: TypeId,
+    alloc: Global,
+    steps: &mut Steps<L>,
+) -> Result<(), AllocError>
+    requires live { IsLive heap.old.rows device }
+    ensures ok { OnOk result (Makes (rows_made device.birth kind (slots_of kind)) heap.old heap.new) }
+    ensures own { OnOk result (own_slots_of heap.new device.birth ≡ own_slots_of heap.old device.birth ++ new_slots kind) }
+    ensures err { OnErr result (Fell device.birth kind heap.old heap.new) }
+    ensures grows { Grows heap.old heap.new }
+{
+    let mut place = 0;
+    while let Some(row) = TypeTable::board().prop(kind, place) {
+        make_property(heap, device, kind, row, alloc, steps)?;
+        place += 1;
+    }
+    Ok(())
+}
+
+/// Makes a device of a type with its further objects, each with its initialisers base first; it
+/// stands nowhere, and is held from outside the tree once. Where memory wants, an attempt was cut:
+/// what was made has ended.
+pub fn make_device<L: Ledger>(
+    heap: &mut Heap,
+    kind: TypeId,
+    alloc: Global,
+    steps: &mut Steps<L>,
+) -> Result<Oid, AllocError>
+    ensures made { IfOk result (IsDraft kind heap.old heap.new) }
+    ensures shown { OnOk result (Makes (λ b. held_draft b kind) heap.old heap.new) }
+    ensures grows { OnOk result (Grows heap.old heap.new) }
+    ensures err { OnErr result ((b : Board) → Shows b heap.old → SoundTree b → CutShort b kind heap.new) }
+    ensures book { KeepsBook heap.old heap.new }
+{
+    heap.facts();
+    let device = create(heap, alloc, kind, steps)?;
+    match make_properties(heap, device, kind, alloc, steps) {
+        Ok(()) => Ok(device),
+        Err(error) => {
+            drop_pin(heap, device, steps);
+            Err(error)
+        }
+    }
+}
+
+/// Gives a device up that was made and stands nowhere: it ends, with its further objects, which are
+/// finalised first. It takes no memory.
+pub fn give_up<L: Ledger>(heap: &mut Heap, device: Oid, steps: &mut Steps<L>)
+    requires live { IsLive heap.old.rows device }
+    requires pinned { 0 < pins_of heap.old device.birth }
+    ensures shown { (b : Board) (t : TypeId) (bus stage : ℕ) → SoundTree b → device.birth ≡ b.born + 1 → (stage == 8) ≡ false → Shows (held_draft b t) heap.old → Shows (plug_attempt b t bus stage) heap.new }
+    ensures book { KeepsBook heap.old heap.new }
+{
+    drop_pin(heap, device, steps);
+}
