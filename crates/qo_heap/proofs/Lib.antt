@@ -1,9 +1,11 @@
 pub mod ActsLemmas
+pub mod ActsReads
 pub mod BookLemmas
 pub mod EndLemmas
 pub mod FoundLemmas
 pub mod HeapLemmas
 pub mod PlacesLemmas
+pub mod ShowsActs
 pub mod ShowsChanges
 pub mod ShowsEdits
 pub mod ShowsEnds

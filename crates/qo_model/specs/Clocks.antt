@@ -1,5 +1,5 @@
 -- The clock tree: periods, and who is called back where one changes (docs/devel/clocks.rst, "The clock state", "Clock callbacks", "Connecting two clocks together", "Clock multiplier and divider settings", "Changing a clock period").
-use Rattle.std.specs.Prelude.{ℕ, ◌*◌, ◌/◌, ◌^◌, Bool, true, false, ◌==◌, nat_le, if◌then◌else◌, List, [], ◌∷◌, ◌++◌, filter, codes, Option, Some, None, option_and_then, unwrap_or, Result, Ok, Err}
+use Rattle.std.specs.Prelude.{◌≢◌, ◌<◌, ℕ, ◌*◌, ◌/◌, ◌^◌, Bool, true, false, ◌==◌, nat_le, if◌then◌else◌, List, [], ◌∷◌, ◌++◌, filter, codes, Option, Some, None, option_and_then, unwrap_or, Result, Ok, Err}
 use Rattle.std.specs.List.{list_any, flat_map}
 use Rattle.std.specs.Option.{option_map_or}
 use Rattle.qo_values.specs.Bodies.{body_act}
@@ -32,9 +32,13 @@ mul_of b c = unwrap_or (number_at b c (codes "mul")) 1
 abbrev pub div_of : Board → ℕ → ℕ
 div_of b c = unwrap_or (number_at b c (codes "div")) 1
 
--- a period as the clocks below have it: by a clock's mul and div, rounded down
+-- a period times mul by div, rounded down; by a div of 0 a clock stands still
+abbrev pub scaled_by : ℕ → ℕ → ℕ → ℕ
+scaled_by mul div period = if div == 0 then 0 else period * mul / div
+
+-- a period as the clocks below have it: by a clock's mul and div
 abbrev pub scaled : Board → ℕ → ℕ → ℕ
-scaled b c period = period * mul_of b c / div_of b c
+scaled b c period = scaled_by (mul_of b c) (div_of b c) period
 
 -- the period of a clock: its own, or by its source's
 abbrev pub period_turn : Board → (ℕ → ℕ) → ℕ → ℕ
@@ -45,6 +49,11 @@ period b c = by_objects (period_turn b) (λ _. 0) (births b) c
 
 abbrev pub child_period : Board → ℕ → ℕ
 child_period b c = scaled b c (period b c)
+
+-- each clock's child period fits in 64 bits, and no div is 0
+pub record ClocksFit (b : Board) : Type 0 where
+  pub fits : (c : ℕ) → child_period b c < 2 ^ 64
+  pub divides : (c : ℕ) → div_of b c ≢ 0
 
 -- the period of the clock of a device; 0 where it has none
 abbrev pub device_period : Board → ℕ → ℕ

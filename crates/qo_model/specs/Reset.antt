@@ -1,8 +1,9 @@
 -- Three-phase reset: holds and phases (docs/devel/reset.rst, "Triggering reset", "Multi-phase mechanism", "Handling reset in a resettable object").
-use Rattle.std.specs.Prelude.{ℕ, Bool, ◌==◌, if◌then◌else◌, List, [], ◌∷◌, ◌++◌, filter, count_by, codes}
-use Rattle.std.specs.List.{flat_map}
+use Rattle.std.specs.Prelude.{ℕ, Bool, ◌==◌, nat_lt, if◌then◌else◌, List, [], ◌∷◌, ◌++◌, filter, count_by, codes}
+use Rattle.std.specs.List.{flat_map, list_any}
 use Rattle.qo_values.specs.declared.kinds.Act.{Act}
 use Rattle.qo_values.specs.declared.kinds.Act.TheVariants.{Enter, Hold, Exit}
+use Rattle.qo_values.specs.declared.limits.TheConstants.{HOLD_COUNT_MAX}
 use Rattle.qo_model.specs.Board.{Board}
 use Rattle.qo_model.specs.Clocks.{acted}
 use Rattle.qo_model.specs.Depth.{among, by_objects}
@@ -27,6 +28,10 @@ count b o = count_by (λ r. among (post b r) o) b.holds
 
 abbrev pub is_out : Board → ℕ → Bool
 is_out b o = count b o == 0
+
+-- whether a hold on an object would be one too many for it or for one below it
+abbrev pub is_deep : Board → ℕ → Bool
+is_deep b r = list_any (λ o. nat_lt HOLD_COUNT_MAX (count b o)) (post b r)
 
 -- a phase, on objects in order; the bodies of phases do not read the period
 abbrev pub phased : Act → List ℕ → Board → Board

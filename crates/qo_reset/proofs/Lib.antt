@@ -1,0 +1,3 @@
+pub mod BoardLemmas
+pub mod HoldLemmas
+pub mod WalkLemmas

@@ -1,0 +1,10 @@
+use Rattle.std.proofs.Common.{sym}
+use Rattle.qo_heap.proofs.ActsLemmas.{acts-then}
+use Rattle.qo_reset.proofs.BoardLemmas.{shows-held}
+use Rattle.qo_reset.proofs.phases.held_phases.Goals as goal
+
+pub returns-clause-shown : goal.returns-clause-shown
+returns-clause-shown g c = λ b s. rw (c.phase-2.ensures.phase, c.phase.ensures.phase, sym s.1) (shows-held c.args.root.birth b c.args.heap.now s.0)
+
+pub returns-clause-acts : goal.returns-clause-acts
+returns-clause-acts g c = acts-then c.args.heap.now c.phase.new.heap c.phase-2.new.heap c.phase.ensures.acts c.phase-2.ensures.acts

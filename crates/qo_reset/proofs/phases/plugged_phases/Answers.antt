@@ -1,0 +1,13 @@
+use Rattle.std.proofs.Common.{sym}
+use Rattle.qo_heap.proofs.ActsLemmas.{acts-then}
+use Rattle.qo_reset.proofs.BoardLemmas.{shows-plugged}
+use Rattle.qo_reset.proofs.phases.plugged_phases.Goals as goal
+
+pub returns-clause-shown : goal.returns-clause-shown
+returns-clause-shown g c =
+    λ b s. rw (c.phase-3.ensures.phase, c.phase-2.ensures.phase, c.phase.ensures.phase, sym s.1) (shows-plugged c.args.dev.birth b c.args.heap.now s.0)
+
+pub returns-clause-acts : goal.returns-clause-acts
+returns-clause-acts g c =
+    acts-then c.args.heap.now c.phase-2.new.heap c.phase-3.new.heap
+    (acts-then c.args.heap.now c.phase.new.heap c.phase-2.new.heap c.phase.ensures.acts c.phase-2.ensures.acts) c.phase-3.ensures.acts

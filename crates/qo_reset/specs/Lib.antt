@@ -1,0 +1,2 @@
+pub mod HoldList
+pub mod Phases

@@ -1,0 +1,186 @@
+//! The holds that stand.
+
+ghost use Rattle.std.specs.Prelude.{◌≡◌, nat_eq, position};
+
+use crate::counts::{count, is_crowded};
+use crate::errors::HoldError;
+use crate::phases::{held_phases, plugged_phases, released_phases};
+use qo_heap::{Heap, Oid, Steps};
+use std::alloc::{AllocError, Global};
+use std::marker::Model;
+use std::sync::ledger::Ledger;
+
+/// The holds that were taken and not yet released, each on an object.
+#[derive(Debug, Drop)]
+pub struct Resets {
+    /// The objects, in the order of taking.
+    holds: Vec<Oid>,
+}
+
+impl Model for Resets {
+    ghost use Rattle.std.specs.Prelude.{◌-◌};
+    ghost use Rattle.std.specs.Vec.{vec_len, vec_capacity};
+    ghost use Rattle.qo_reset.specs.HoldList.{HoldList};
+    ghost use Rattle.qo_reset.specs.Phases.{births_of};
+
+    ghost Value = { HoldList };
+
+    ghost view = { λ r. record { births = births_of r.holds.items; spare = vec_capacity r.holds - vec_len r.holds } };
+}
+
+/// The place of the first hold on the object of a birth.
+fn place_of(holds: &[Oid], birth: u64) -> Option<usize>
+    ensures { result ≡ position (λ k. nat_eq k.birth birth) holds.now }
+{
+    holds.iter().position(|hold| hold.birth == birth)
+}
+
+impl Resets {
+    ghost use Rattle.std.specs.Prelude.{◌+◌, ◌-◌, ◌≤◌, [], ◌∷◌, ◌++◌, if◌then◌else◌, min, Ok, Err, IsOk, OnOk, OnErr, length};
+    ghost use Rattle.qo_table.specs.Rows.{IsLive};
+    ghost use Rattle.qo_model.specs.Board.{Board};
+    ghost use Rattle.qo_model.specs.Depth.{among};
+    ghost use Rattle.qo_model.specs.Release.{without_first};
+    ghost use Rattle.qo_model.specs.Reset.{count, held, is_deep, plugged, pulse, released};
+    ghost use Rattle.qo_model.specs.Unplug.{without_all};
+    ghost use Rattle.qo_heap.specs.Acts.{Acts};
+    ghost use Rattle.qo_reset.specs.HoldList.{HoldList, no_holds, with_hold};
+    ghost use Rattle.qo_reset.specs.Phases.{Holds};
+    ghost use Rattle.qo_reset.specs.declared.errors.HoldError.TheVariants.{Depth, NoHold};
+
+    /// No holds, and room for none. It takes no memory.
+    pub fn new(alloc: Global) -> Resets
+        ensures { result ≡ no_holds }
+    {
+        Resets {
+            holds: Vec::new(alloc),
+        }
+    }
+
+    /// Makes room for one hold more. The error is want of memory, and leaves all as it was.
+    pub fn reserve(&mut self) -> Result<(), AllocError>
+        ensures room { OnOk result (1 ≤ self.new.spare) }
+        ensures succeeds { 1 ≤ self.old.spare → IsOk result }
+        ensures kept { self.new.births ≡ self.old.births }
+        ensures grows { self.old.spare ≤ self.new.spare }
+        ensures err { OnErr result (self.new ≡ self.old) }
+    {
+        self.holds.reserve(1)
+    }
+
+    /// How many holds there are on an object and above it; more than 2^32 - 1 are told as so many.
+    /// It takes no memory.
+    pub fn count<L: Ledger>(&self, heap: &Heap, o: Oid, steps: &mut Steps<L>) -> u32
+        ensures { (b : Board) → Holds b self.now.births heap.now → result ≡ min (count b o.birth) u32.MAX }
+    {
+        count(heap, &self.holds, o, steps).min(u32::MAX as usize) as u32
+    }
+
+    /// Whether a hold on an object would be one too many for it or for one below it.
+    fn is_deep<L: Ledger>(&self, heap: &Heap, root: Oid, steps: &mut Steps<L>) -> bool
+        requires { IsLive heap.now.rows root }
+        ensures { (b : Board) → Holds b self.now.births heap.now → result ≡ is_deep b root.birth }
+    {
+        heap.facts();
+        let levels = heap.live() + 1;
+        is_crowded(heap, &self.holds, root, levels, steps)
+    }
+
+    /// Holds an object: those of it and below it that were out enter, all of them before one holds
+    /// (docs/devel/reset.rst, "Triggering reset", `resettable_assert_reset`). There must be room
+    /// for the hold. Refused with `Depth` exactly where one of them has more holds on it and above
+    /// it than `HOLD_COUNT_MAX`, which leaves all as it was. It takes no memory.
+    pub fn hold<L: Ledger>(
+        &mut self,
+        heap: &mut Heap,
+        root: Oid,
+        steps: &mut Steps<L>,
+    ) -> Result<(), HoldError>
+        requires live { IsLive heap.old.rows root }
+        requires room { 1 ≤ self.old.spare }
+        ensures answer { (b : Board) → Holds b self.old.births heap.old → result ≡ (if is_deep b root.birth then Err Depth else Ok tt) }
+        ensures shown { OnOk result ((b : Board) → Holds b self.old.births heap.old → Holds (held b root.birth) self.new.births heap.new) }
+        ensures holds { OnOk result (self.new ≡ with_hold root.birth self.old) }
+        ensures err { OnErr result ((heap.new ≡ heap.old) × (self.new ≡ self.old)) }
+        ensures acts { Acts heap.old heap.new }
+    {
+        if self.is_deep(heap, root, steps) {
+            return Err(HoldError::Depth);
+        }
+        held_phases(heap, &self.holds, root, steps);
+        self.holds.push_reserved(root);
+        Ok(())
+    }
+
+    /// Releases a hold on an object: those of it and below it on which and above which no hold is
+    /// left exit (docs/devel/reset.rst, "Triggering reset", `resettable_release_reset`). Refused
+    /// with `NoHold` exactly where there is none on it, which leaves all as it was. It takes no
+    /// memory.
+    pub fn release<L: Ledger>(
+        &mut self,
+        heap: &mut Heap,
+        root: Oid,
+        steps: &mut Steps<L>,
+    ) -> Result<(), HoldError>
+        requires { IsLive heap.old.rows root }
+        ensures answer { result ≡ (if among self.old.births root.birth then Ok tt else Err NoHold) }
+        ensures shown { OnOk result ((b : Board) → Holds b self.old.births heap.old → Holds (released b root.birth) self.new.births heap.new) }
+        ensures holds { OnOk result (self.new.births ≡ without_first root.birth self.old.births) }
+        ensures room { OnOk result (self.new.spare ≡ self.old.spare + 1) }
+        ensures err { OnErr result ((heap.new ≡ heap.old) × (self.new ≡ self.old)) }
+        ensures acts { Acts heap.old heap.new }
+    {
+        let Some(at) = place_of(&self.holds, root.birth) else {
+            return Err(HoldError::NoHold);
+        };
+        self.holds.remove(at);
+        released_phases(heap, &self.holds, root, steps);
+        Ok(())
+    }
+
+    /// Of the holds on an object the first is taken behind the others, as one that was taken and
+    /// released at once leaves them.
+    fn put_last(&mut self, birth: u64)
+        ensures holds { self.new.births ≡ without_first birth (self.old.births ++ birth ∷ []) }
+        ensures room { self.new.spare ≡ self.old.spare }
+    {
+        if let Some(at) = place_of(&self.holds, birth) {
+            let hold = self.holds.remove(at);
+            self.holds.push_reserved(hold);
+        }
+    }
+
+    /// Holds an object and releases it at once (docs/devel/reset.rst, "Triggering reset",
+    /// `resettable_reset`). It needs no room, and takes no memory.
+    pub fn pulse<L: Ledger>(&mut self, heap: &mut Heap, root: Oid, steps: &mut Steps<L>)
+        requires { IsLive heap.old.rows root }
+        ensures shown { (b : Board) → Holds b self.old.births heap.old → Holds (pulse b root.birth) self.new.births heap.new }
+        ensures holds { self.new.births ≡ without_first root.birth (self.old.births ++ root.birth ∷ []) }
+        ensures room { self.new.spare ≡ self.old.spare }
+        ensures acts { Acts heap.old heap.new }
+    {
+        held_phases(heap, &self.holds, root, steps);
+        self.put_last(root.birth);
+        released_phases(heap, &self.holds, root, steps);
+    }
+
+    /// What is plugged goes through the phases, and stays held where it is below a hold
+    /// (docs/devel/reset.rst, "Handling reset in a resettable object", `resettable_change_parent`;
+    /// which phases it goes through is this machine's own). It takes no memory.
+    pub fn plugged<L: Ledger>(&self, heap: &mut Heap, dev: Oid, steps: &mut Steps<L>)
+        requires { IsLive heap.old.rows dev }
+        ensures shown { (b : Board) → Holds b self.now.births heap.old → Holds (plugged b dev.birth) self.now.births heap.new }
+        ensures acts { Acts heap.old heap.new }
+    {
+        plugged_phases(heap, &self.holds, dev, steps);
+    }
+
+    /// Lets the holds on an object go that is no longer there; no phase follows. It takes no
+    /// memory.
+    pub fn gone(&mut self, o: Oid)
+        ensures holds { self.new.births ≡ without_all o.birth self.old.births }
+        ensures room { self.new.spare + length self.new.births ≡ self.old.spare + length self.old.births }
+    {
+        self.holds.retain(|hold| hold.birth != o.birth);
+    }
+}
