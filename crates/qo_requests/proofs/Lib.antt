@@ -1,5 +1,5 @@
+pub mod GivenLemmas
 pub mod Joining
-pub mod KeysLemmas
 pub mod MemberLemmas
 pub mod Readings
 pub mod Rising

@@ -1,6 +1,6 @@
 -- The members of a message that were read in one pass.
-use Rattle.std.proofs.Common.{◌≡◌, ℕ, Bool, true, false, not, List, [], ◌∷◌, string_bytes, refl, sym, ◌∙◌, ap, Option, None, Some, is_some, unwrap_or, option_and_then, if◌then◌else◌}
-use Rattle.std.specs.Prelude.{◌&&◌, ◌||◌}
+use Rattle.std.proofs.Common.{◌≡◌, ◌≤◌, length, arith, ℕ, Bool, true, false, not, List, [], ◌∷◌, string_bytes, refl, sym, ◌∙◌, ap, Option, None, Some, is_some, unwrap_or, option_and_then, if◌then◌else◌}
+use Rattle.std.specs.Prelude.{◌&&◌, ◌||◌, slice_get}
 use Rattle.std.specs.Option.{option_map_or, option_or}
 use Rattle.std.specs.Str.{bytes_eq}
 use Rattle.std.proofs.lemmas.Bool.{true≢false}
@@ -11,11 +11,13 @@ use Rattle.serde_json.specs.Find.{as_object, as_str, get_member}
 use Rattle.serde_json.specs.View.{members_view, view}
 use Rattle.serde_json.specs.Written.{has_float}
 use Rattle.qo_requests.specs.Arguments.{all_named, fits, has_only, is_named}
+use Rattle.qo_requests.specs.declared.arguments.Argument.{Argument}
 use Rattle.qo_requests.specs.declared.arguments.ArgumentKind.TheVariants as kind
 use Rattle.qo_requests.specs.declared.commands.Command.{Command}
 use Rattle.qo_requests.specs.Commands.{command_of}
 use Rattle.qo_requests.specs.Values.{text_at}
 use Rattle.qo_requests.specs.Fields.{argument}
+use Rattle.qo_requests.specs.Given.{names}
 use Rattle.qo_requests.specs.Members.{is_whole}
 use Rattle.qo_requests.specs.Messages.{call_of, is_message, message_members, request_in}
 use Rattle.qo_requests.specs.declared.fields.Field.TheVariants.{Arguments, Execute, Id}
@@ -42,20 +44,58 @@ found_on key whole before now name left e es was steps same is =
     ∙ ap (λ (n : List ℕ). option_or (if bytes_eq key n then option_or before (Some (view e.1)) else before) (get_member key (members_view es))) (sym same)
     ∙ ap (λ (o : Option Data). option_or o (get_member key (members_view es))) (sym is)
 
+pub found_by : (key : List ℕ) (whole before now : Option Data) (is_it : Bool) (name : List ℕ) (left : List Entry) (e : Entry) (es : List Entry)
+    → whole ≡ option_or before (get_member key (members_view left)) → left ≡ e ∷ es → name ≡ string_bytes e.0 → is_it ≡ bytes_eq key name
+    → now ≡ (if is_it then option_or before (Some (view e.1)) else before)
+    → whole ≡ option_or now (get_member key (members_view es))
+found_by key whole before now is_it name left e es was steps same it is =
+    found_on key whole before now name left e es was steps same (is ∙ ap (λ (t : Bool). if t then option_or before (Some (view e.1)) else before) it)
+
+-- at most three rows name what the first, the second or the third does
+or_all : (t u w : Bool) → (t || (u || (w || false))) ≡ ((t || u) || w)
+or_all true u w = refl
+or_all false true w = refl
+or_all false false true = refl
+or_all false false false = refl
+
+or_two : (t u : Bool) → (t || (u || false)) ≡ ((t || u) || false)
+or_two true u = refl
+or_two false true = refl
+or_two false false = refl
+
+or_one : (t : Bool) → (t || false) ≡ ((t || false) || false)
+or_one true = refl
+or_one false = refl
+
+pub named_by_three : (rows : List Argument) (name : List ℕ) → length rows ≤ 3
+    → is_named rows name ≡ ((names (slice_get rows 0) name || names (slice_get rows 1) name) || names (slice_get rows 2) name)
+named_by_three [] name few = refl
+named_by_three (r ∷ []) name few = or_one (names (Some r) name)
+named_by_three (r ∷ s ∷ []) name few = or_two (names (Some r) name) (names (Some s) name)
+named_by_three (r ∷ s ∷ t ∷ []) name few = or_all (names (Some r) name) (names (Some s) name) (names (Some t) name)
+named_by_three (r ∷ s ∷ t ∷ u ∷ rows) name few = absurd (omega arith)
+
+-- a member is beside the rows where none of three tests says its name
+pub beside_three : (rows : List Argument) (name : List ℕ) (before now named first second third : Bool) → length rows ≤ 3
+    → first ≡ names (slice_get rows 0) name → second ≡ names (slice_get rows 1) name → third ≡ names (slice_get rows 2) name
+    → named ≡ ((first || second) || third) → now ≡ (before || not named) → now ≡ (before || not (is_named rows name))
+beside_three rows name before now named first second third few f s t n is =
+    is ∙ ap (λ (b : Bool). before || not b) (n ∙ rw (f, s, t, named_by_three rows name few) refl)
+
 others_of : (others named left : Bool) → (not others && (named && left)) ≡ (not (others || not named) && left)
 others_of true named left = refl
 others_of false true left = refl
 others_of false false left = refl
 
-pub others_on : (whole before now : Bool) (name : List ℕ) (left : List Entry) (e : Entry) (es : List Entry)
-    → whole ≡ (not before && all_named message_members (members_view left)) → left ≡ e ∷ es → name ≡ string_bytes e.0
-    → now ≡ (before || not (is_named message_members name))
-    → whole ≡ (not now && all_named message_members (members_view es))
-others_on whole before now name left e es was steps same is =
-    let rest : Bool = all_named message_members (members_view es) in
-    was ∙ ap (λ (l : List Entry). not before && all_named message_members (members_view l)) steps
-    ∙ others_of before (is_named message_members (string_bytes e.0)) rest
-    ∙ ap (λ (n : List ℕ). not (before || not (is_named message_members n)) && rest) (sym same)
+pub others_on : (rows : List Argument) (whole before now : Bool) (name : List ℕ) (left : List Entry) (e : Entry) (es : List Entry)
+    → whole ≡ (not before && all_named rows (members_view left)) → left ≡ e ∷ es → name ≡ string_bytes e.0
+    → now ≡ (before || not (is_named rows name))
+    → whole ≡ (not now && all_named rows (members_view es))
+others_on rows whole before now name left e es was steps same is =
+    let rest : Bool = all_named rows (members_view es) in
+    was ∙ ap (λ (l : List Entry). not before && all_named rows (members_view l)) steps
+    ∙ others_of before (is_named rows (string_bytes e.0)) rest
+    ∙ ap (λ (n : List ℕ). not (before || not (is_named rows n)) && rest) (sym same)
     ∙ ap (λ (t : Bool). not t && rest) (sym is)
 
 -- What makes a message, by its members.

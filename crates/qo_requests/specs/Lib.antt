@@ -2,6 +2,7 @@ pub mod Arguments
 pub mod Building
 pub mod Commands
 pub mod Fields
+pub mod Given
 pub mod Members
 pub mod Messages
 pub mod Values

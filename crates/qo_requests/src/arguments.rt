@@ -1,16 +1,13 @@
-//! The rows of the arguments of commands, and what they say of an object: whether each argument that
-//! must stand there does, whether none stands beside them, and whether each is of its kind.
+//! The rows of the arguments of commands, and whether a value is of the kind that a row asks for.
 
-ghost use Rattle.std.specs.Prelude.{◌≡◌, string_bytes};
-ghost use Rattle.std.specs.List.{list_all};
-ghost use Rattle.std.specs.Map.{keys_of};
-ghost use Rattle.serde_json.specs.View.{view, items_view, members_view};
+ghost use Rattle.std.specs.Prelude.{◌≡◌};
+ghost use Rattle.serde_json.specs.View.{view, items_view};
 ghost use Rattle.qo_requests.specs.declared.arguments.ArgumentKind.TheVariants as kind;
-ghost use Rattle.qo_requests.specs.Arguments.{field_of, kind_of, all_texts, is_form, fits, is_named, stands, all_stand, has_only, is_fit, all_fit, all_plain, plain_beside};
+ghost use Rattle.qo_requests.specs.Arguments.{field_of, kind_of, all_texts, is_form, fits, is_named};
 
-use crate::fields::{Field, argument};
+use crate::fields::Field;
 use qo_values::RING_SIZE_MAX;
-use serde_json::{Map, Value};
+use serde_json::Value;
 
 /// What an argument is to be.
 #[derive(Clone, Copy, Debug)]
@@ -46,7 +43,7 @@ pub enum Argument {
 
 impl Argument {
     /// The argument's name.
-    fn field(self) -> Field
+    pub(crate) fn field(self) -> Field
         ensures { result ≡ field_of self }
     {
         match self {
@@ -55,7 +52,7 @@ impl Argument {
     }
 
     /// The argument's kind.
-    fn kind(self) -> ArgumentKind
+    pub(crate) fn kind(self) -> ArgumentKind
         ensures { result ≡ kind_of self }
     {
         match self {
@@ -84,7 +81,7 @@ fn is_form(name: &str) -> bool
 }
 
 /// Whether a value is a truth value, a whole number of 64 bits or a text.
-fn is_plain(value: &Value) -> bool
+pub(crate) fn is_plain(value: &Value) -> bool
     ensures { result ≡ fits kind.Plain (view value.now) }
 {
     match value {
@@ -95,7 +92,7 @@ fn is_plain(value: &Value) -> bool
 }
 
 /// Whether a value is of a kind.
-fn fits(kind: ArgumentKind, value: &Value) -> bool
+pub(crate) fn fits(kind: ArgumentKind, value: &Value) -> bool
     ensures { result ≡ fits kind (view value.now) }
 {
     match kind {
@@ -116,78 +113,4 @@ pub(crate) fn is_named(rows: &[Argument], name: &str) -> bool
     ensures { result ≡ is_named rows.now name.now }
 {
     rows.iter().any(|row| row.field().name() == name)
-}
-
-/// Whether an argument stands there, if it must.
-fn stands(row: Argument, place: &Value) -> bool
-    ensures { result ≡ stands row (view place.now) }
-{
-    match row {
-        Argument::Needed(field, _) => argument(place, field).is_some(),
-        Argument::Optional(_, _) => true,
-    }
-}
-
-/// Whether each argument that must stand in an object does.
-pub(crate) fn all_stand(rows: &[Argument], place: &Value) -> bool
-    ensures { result ≡ all_stand rows.now (view place.now) }
-{
-    rows.iter().all(|row| stands(*row, place))
-}
-
-/// Whether each member of an object is one of these.
-fn all_named(rows: &[Argument], members: &Map<String, Value>) -> bool
-    ensures { result ≡ list_all (λ name. is_named rows.now (string_bytes name)) (keys_of members.now.entries) }
-{
-    members.keys().all(|name| is_named(rows, name.as_str()))
-}
-
-/// Whether no other member than these stands in an object.
-#[tactic(auto, using(crate::proofs::KeysLemmas::all_named_keys))]
-pub(crate) fn has_only(rows: &[Argument], place: &Value) -> bool
-    ensures { result ≡ has_only rows.now (view place.now) }
-{
-    match place.as_object() {
-        Some(members) => all_named(rows, members),
-        None => true,
-    }
-}
-
-/// Whether an argument is of its kind, where it stands there.
-fn is_fit(row: Argument, place: &Value) -> bool
-    ensures { result ≡ is_fit row (view place.now) }
-{
-    match argument(place, row.field()) {
-        Some(value) => fits(row.kind(), value),
-        None => true,
-    }
-}
-
-/// Whether each argument that stands in an object is of its kind.
-pub(crate) fn all_fit(rows: &[Argument], place: &Value) -> bool
-    ensures { result ≡ all_fit rows.now (view place.now) }
-{
-    rows.iter().all(|row| is_fit(*row, place))
-}
-
-/// Whether each member that is none of these is a plain value.
-fn all_plain(rows: &[Argument], members: &Map<String, Value>) -> bool
-    ensures { result ≡ all_plain rows.now (members_view members.now.entries) }
-{
-    for (name, value) in members.iter() {
-        if !is_named(rows, name.as_str()) && !is_plain(value) {
-            return false;
-        }
-    }
-    true
-}
-
-/// Whether each member of an object that is none of these is a plain value.
-pub(crate) fn plain_beside(rows: &[Argument], place: &Value) -> bool
-    ensures { result ≡ plain_beside rows.now (view place.now) }
-{
-    match place.as_object() {
-        Some(members) => all_plain(rows, members),
-        None => true,
-    }
 }

@@ -4,9 +4,12 @@ ghost use Rattle.std.specs.Prelude.{◌≡◌, IfOk};
 ghost use Rattle.serde_json.specs.View.{view};
 ghost use Rattle.qo_requests.specs.declared.commands.Command.TheVariants as command;
 ghost use Rattle.qo_requests.specs.Building.{ring_on, request_of};
+ghost use Rattle.qo_requests.specs.Commands.{arguments};
+ghost use Rattle.qo_requests.specs.Given.{AreGiven};
 
-use crate::commands::Command;
-use crate::fields::{Field, argument};
+use crate::commands::{Command, backend_members, payload_members};
+use crate::fields::Field;
+use crate::given::Given;
 use crate::requests::Request;
 use crate::values::{
     form_at, number_at, number_in, properties_beside, text_at, text_in, texts_at, truth_at,
@@ -16,50 +19,57 @@ use serde_json::Value;
 use std::alloc::{AllocError, Global};
 
 /// `chardev-add` with this `backend`.
-fn ring_on(alloc: Global, args: &Value, backend: &Value) -> Result<Request, AllocError>
-    ensures { IfOk result (λ request. request ≡ ring_on (view args.now) (view backend.now)) }
+fn ring_on(alloc: Global, args: &Given<'_>, backend: &Value) -> Result<Request, AllocError>
+    requires { AreGiven args.now }
+    ensures { IfOk result (λ request. request ≡ ring_on (view args.now.place.now) (view backend.now)) }
 {
-    let size = match argument(backend, Field::Payload) {
-        Some(payload) => number_at(payload, Field::Size),
+    let backend = Given::of(backend_members(), backend);
+    let size = match backend.at(Field::Payload) {
+        Some(payload) => number_at(&Given::of(payload_members(), payload), Field::Size),
         None => None,
     };
     Ok(Request::ChardevAdd {
         id: text_in(alloc, args, Field::Id)?,
-        kind: text_in(alloc, backend, Field::Kind)?,
+        kind: text_in(alloc, &backend, Field::Kind)?,
         size,
     })
 }
 
 /// `chardev-add`.
-fn ring_adding(alloc: Global, args: &Value) -> Result<Request, AllocError>
-    ensures { IfOk result (λ request. request ≡ request_of command.ChardevAdd (view args.now)) }
+fn ring_adding(alloc: Global, args: &Given<'_>) -> Result<Request, AllocError>
+    requires { AreGiven args.now }
+    ensures { IfOk result (λ request. request ≡ request_of command.ChardevAdd (view args.now.place.now)) }
 {
-    match argument(args, Field::Backend) {
+    match args.at(Field::Backend) {
         Some(backend) => ring_on(alloc, args, backend),
         None => ring_on(alloc, args, &Value::Null),
     }
 }
 
 /// `object-add`.
-fn object_adding(alloc: Global, args: &Value) -> Result<Request, AllocError>
-    ensures { IfOk result (λ request. request ≡ request_of command.ObjectAdd (view args.now)) }
+fn object_adding(alloc: Global, args: &Given<'_>) -> Result<Request, AllocError>
+    requires given { AreGiven args.now }
+    requires rows { args.now.rows.now ≡ arguments command.ObjectAdd }
+    ensures { IfOk result (λ request. request ≡ request_of command.ObjectAdd (view args.now.place.now)) }
 {
     Ok(Request::ObjectAdd {
         driver: text_in(alloc, args, Field::QomType)?,
         id: text_in(alloc, args, Field::Id)?,
-        props: properties_beside(alloc, Command::ObjectAdd.arguments(), args)?,
+        props: properties_beside(alloc, args)?,
     })
 }
 
 /// `device_add`.
-fn device_adding(alloc: Global, args: &Value) -> Result<Request, AllocError>
-    ensures { IfOk result (λ request. request ≡ request_of command.DeviceAdd (view args.now)) }
+fn device_adding(alloc: Global, args: &Given<'_>) -> Result<Request, AllocError>
+    requires given { AreGiven args.now }
+    requires rows { args.now.rows.now ≡ arguments command.DeviceAdd }
+    ensures { IfOk result (λ request. request ≡ request_of command.DeviceAdd (view args.now.place.now)) }
 {
     Ok(Request::DeviceAdd {
         driver: text_in(alloc, args, Field::Driver)?,
         id: text_at(alloc, args, Field::Id)?,
         bus: text_at(alloc, args, Field::Bus)?,
-        props: properties_beside(alloc, Command::DeviceAdd.arguments(), args)?,
+        props: properties_beside(alloc, args)?,
     })
 }
 
@@ -67,9 +77,11 @@ fn device_adding(alloc: Global, args: &Value) -> Result<Request, AllocError>
 pub(crate) fn request_of(
     alloc: Global,
     command: Command,
-    args: &Value,
+    args: &Given<'_>,
 ) -> Result<Request, AllocError>
-    ensures { IfOk result (λ request. request ≡ request_of command (view args.now)) }
+    requires given { AreGiven args.now }
+    requires rows { args.now.rows.now ≡ arguments command }
+    ensures { IfOk result (λ request. request ≡ request_of command (view args.now.place.now)) }
 {
     Ok(match command {
         Command::ChardevAdd => ring_adding(alloc, args)?,

@@ -1,8 +1,9 @@
 //! The commands by name, and what they take.
 
-ghost use Rattle.std.specs.Prelude.{◌≡◌, find};
+ghost use Rattle.std.specs.Prelude.{◌≡◌, ◌≤◌, find, length};
 ghost use Rattle.std.specs.Str.{bytes_eq};
 ghost use Rattle.qo_requests.specs.Commands.{command_name, commands, command_of, arguments, is_open};
+ghost use Rattle.qo_requests.specs.Messages.{backend_members, payload_members};
 
 use crate::arguments::Argument::{self, Needed, Optional};
 use crate::arguments::ArgumentKind::{Form, Number, Object, Plain, RingBytes, Text, Texts, Truth};
@@ -168,7 +169,8 @@ impl Command {
 
     /// The arguments that the command takes.
     pub(crate) fn arguments(self) -> &'static [Argument]
-        ensures { result.now ≡ arguments self }
+        ensures arguments { result.now ≡ arguments self }
+        ensures few { length result.now ≤ 3 }
     {
         match self {
             Command::ChardevAdd => &[Needed(Field::Id, Text), Needed(Field::Backend, Object)],
@@ -222,4 +224,20 @@ impl Command {
     {
         matches!(self, Command::DeviceAdd | Command::ObjectAdd)
     }
+}
+
+/// The members of `backend` of `chardev-add`.
+pub(crate) fn backend_members() -> &'static [Argument]
+    ensures members { result.now ≡ backend_members }
+    ensures few { length result.now ≤ 3 }
+{
+    &[Needed(Field::Kind, Text), Needed(Field::Payload, Object)]
+}
+
+/// The members of the `data` of `backend`.
+pub(crate) fn payload_members() -> &'static [Argument]
+    ensures members { result.now ≡ payload_members }
+    ensures few { length result.now ≤ 3 }
+{
+    &[Optional(Field::Size, Number)]
 }

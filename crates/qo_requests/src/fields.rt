@@ -1,6 +1,8 @@
 //! The members of messages by name.
 
-ghost use Rattle.std.specs.Prelude.{◌≡◌, option_map};
+ghost use Rattle.std.specs.Prelude.{◌≡◌, ◌||◌, not, if◌then◌else◌, Some, option_map};
+ghost use Rattle.std.specs.Option.{option_or};
+ghost use Rattle.std.specs.Str.{bytes_eq};
 ghost use Rattle.serde_json.specs.View.{view};
 ghost use Rattle.qo_requests.specs.Fields.{field_name, argument};
 
@@ -88,6 +90,14 @@ impl Field {
             Field::Value => "value",
         }
     }
+
+    /// Whether this is the member's name.
+    #[inline(always)]
+    pub(crate) fn is_named(self, name: &str) -> bool
+        ensures { result ≡ bytes_eq (field_name self) name.now }
+    {
+        self.name() == name
+    }
 }
 
 /// The member of a name in an object; what is no object has none.
@@ -95,4 +105,36 @@ pub(crate) fn argument<'v>(place: &'v Value, field: Field) -> Option<&'v Value>
     ensures { option_map (λ v. view v.now) result ≡ argument field (view place.now) }
 {
     place.get(field.name())
+}
+
+/// The member of a name: the one found before, or this one, where it has the name.
+#[inline(always)]
+pub(crate) fn found<'v>(
+    before: Option<&'v Value>,
+    is_it: bool,
+    member: &'v Value,
+) -> Option<&'v Value>
+    ensures { option_map (λ v. view v.now) result ≡ (if is_it then option_or (option_map (λ v. view v.now) before.entry) (Some (view member.now)) else option_map (λ v. view v.now) before.entry) }
+{
+    if is_it {
+        before.or(Some(member))
+    } else {
+        before
+    }
+}
+
+/// Whether a member is one of three.
+#[inline(always)]
+pub(crate) fn is_one(first: bool, second: bool, third: bool) -> bool
+    ensures { result ≡ ((first || second) || third) }
+{
+    first || second || third
+}
+
+/// Whether another member stands there: one did before, or this one has no name of those.
+#[inline(always)]
+pub(crate) fn is_beside(before: bool, named: bool) -> bool
+    ensures { result ≡ (before || not named) }
+{
+    before || !named
 }

@@ -6,6 +6,7 @@ mod arguments;
 mod building;
 mod commands;
 mod fields;
+mod given;
 mod members;
 mod messages;
 mod requests;

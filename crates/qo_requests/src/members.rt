@@ -1,18 +1,13 @@
 //! The members of a message, read in one pass.
 
-ghost use Rattle.std.specs.Prelude.{◌≡◌, ◌||◌, not, if◌then◌else◌, false, None, Some, option_and_then, option_map};
-ghost use Rattle.std.specs.Option.{option_or};
-ghost use Rattle.std.specs.Str.{bytes_eq};
+ghost use Rattle.std.specs.Prelude.{◌≡◌, false, None, option_and_then, option_map};
 ghost use Rattle.serde_json.specs.Find.{as_str};
 ghost use Rattle.serde_json.specs.View.{view, members_view};
-ghost use Rattle.qo_requests.specs.Arguments.{is_named};
 ghost use Rattle.qo_requests.specs.Commands.{command_of};
-ghost use Rattle.qo_requests.specs.Fields.{field_name};
 ghost use Rattle.qo_requests.specs.Members.{AreMembers, AreOf, is_whole};
-ghost use Rattle.qo_requests.specs.Messages.{message_members};
 
 use crate::commands::Command;
-use crate::fields::Field;
+use crate::fields::{Field, found, is_beside, is_one};
 use serde_json::{Map, Value};
 
 /// The members of a message that have a meaning, and whether there are others (QMP specification,
@@ -27,34 +22,6 @@ pub(crate) struct Members<'v> {
     pub(crate) id: Option<&'v Value>,
     /// Whether another member stands there.
     others: bool,
-}
-
-/// The member of a name: the one found before, or this one, where it has the name.
-#[inline(always)]
-fn found<'v>(
-    before: Option<&'v Value>,
-    field: Field,
-    name: &str,
-    member: &'v Value,
-) -> Option<&'v Value>
-    ensures { option_map (λ v. view v.now) result ≡ (if bytes_eq (field_name field) name.now then option_or (option_map (λ v. view v.now) before.entry) (Some (view member.now)) else option_map (λ v. view v.now) before.entry) }
-{
-    if field.name() == name {
-        before.or(Some(member))
-    } else {
-        before
-    }
-}
-
-/// Whether another member stands there: one was read before, or this name is of none.
-#[inline(always)]
-fn is_beside(before: bool, name: &str) -> bool
-    ensures { result ≡ (before || not (is_named message_members name.now)) }
-{
-    before
-        || !(Field::Execute.name() == name
-            || Field::Arguments.name() == name
-            || Field::Id.name() == name)
 }
 
 impl<'v> Members<'v> {
@@ -80,10 +47,13 @@ impl<'v> Members<'v> {
         let mut others = false;
         for (name, member) in members.iter() {
             let name = name.as_str();
-            execute = found(execute, Field::Execute, name, member);
-            arguments = found(arguments, Field::Arguments, name, member);
-            id = found(id, Field::Id, name, member);
-            others = is_beside(others, name);
+            let is_execute = Field::Execute.is_named(name);
+            let is_arguments = Field::Arguments.is_named(name);
+            let is_id = Field::Id.is_named(name);
+            execute = found(execute, is_execute, member);
+            arguments = found(arguments, is_arguments, member);
+            id = found(id, is_id, member);
+            others = is_beside(others, is_one(is_execute, is_arguments, is_id));
         }
         Members {
             execute,

@@ -4,15 +4,15 @@ ghost use Rattle.std.specs.Prelude.{◌≡◌, option_map, unwrap_or, IfOk};
 ghost use Rattle.serde_json.specs.Data.{null};
 ghost use Rattle.serde_json.specs.View.{view, items_view, members_view};
 ghost use Rattle.serde_json.specs.Written.{has_float, items_have_float, members_have_float};
+ghost use Rattle.qo_requests.specs.Commands.{arguments};
+ghost use Rattle.qo_requests.specs.Given.{AreGiven};
 ghost use Rattle.qo_requests.specs.Members.{AreOf};
-ghost use Rattle.qo_requests.specs.Messages.{backend_members, payload_members, backend_complete, backend_closed, backend_fits, backend_of, is_complete, is_closed, is_fitting, call_of, request_in, id_text, with_id, command, Reads, GivesCode};
+ghost use Rattle.qo_requests.specs.Messages.{backend_complete, backend_closed, backend_fits, backend_of, is_complete, is_closed, is_fitting, call_of, request_in, id_text, with_id, command, Reads, GivesCode};
 
-use crate::arguments::Argument::{self, Needed, Optional};
-use crate::arguments::ArgumentKind::{Number, Object, Text};
-use crate::arguments::{all_fit, all_stand, has_only, plain_beside};
 use crate::building::request_of;
-use crate::commands::Command;
-use crate::fields::{Field, argument};
+use crate::commands::{Command, backend_members, payload_members};
+use crate::fields::Field;
+use crate::given::Given;
 use crate::members::Members;
 use crate::requests::{Parsed, ReadError, Request};
 use qo_replies::json_text;
@@ -66,34 +66,21 @@ fn members_have_float(members: &Map<String, Value>) -> bool
     false
 }
 
-/// The members of `backend` of `chardev-add`.
-fn backend_members() -> &'static [Argument]
-    ensures { result.now ≡ backend_members }
-{
-    &[Needed(Field::Kind, Text), Needed(Field::Payload, Object)]
-}
-
-/// The members of the `data` of `backend`.
-fn payload_members() -> &'static [Argument]
-    ensures { result.now ≡ payload_members }
-{
-    &[Optional(Field::Size, Number)]
-}
-
 /// Whether `backend`, where it is an object, has all its members.
 fn backend_complete(backend: &Value) -> bool
     ensures { result ≡ backend_complete (view backend.now) }
 {
-    !backend.is_object() || all_stand(backend_members(), backend)
+    !backend.is_object() || Given::of(backend_members(), backend).all_stand()
 }
 
 /// Whether `backend` and its `data` have no other members.
 fn backend_closed(backend: &Value) -> bool
     ensures { result ≡ backend_closed (view backend.now) }
 {
-    let closed = has_only(backend_members(), backend);
-    match argument(backend, Field::Payload) {
-        Some(payload) => closed && has_only(payload_members(), payload),
+    let given = Given::of(backend_members(), backend);
+    let closed = given.has_only();
+    match given.at(Field::Payload) {
+        Some(payload) => closed && Given::of(payload_members(), payload).has_only(),
         None => closed,
     }
 }
@@ -102,28 +89,32 @@ fn backend_closed(backend: &Value) -> bool
 fn backend_fits(backend: &Value) -> bool
     ensures { result ≡ backend_fits (view backend.now) }
 {
-    let fits = all_fit(backend_members(), backend);
-    match argument(backend, Field::Payload) {
-        Some(payload) => fits && all_fit(payload_members(), payload),
+    let given = Given::of(backend_members(), backend);
+    let fits = given.all_fit();
+    match given.at(Field::Payload) {
+        Some(payload) => fits && Given::of(payload_members(), payload).all_fit(),
         None => fits,
     }
 }
 
 /// The `backend` of `chardev-add`, where it stands.
-fn backend_of(command: Command, args: &Value) -> Option<&Value>
-    ensures { option_map (λ v. view v.now) result ≡ backend_of command (view args.now) }
+fn backend_of<'v>(command: Command, args: &Given<'v>) -> Option<&'v Value>
+    requires { AreGiven args.now }
+    ensures { option_map (λ v. view v.now) result ≡ backend_of command (view args.now.place.now) }
 {
     match command {
-        Command::ChardevAdd => argument(args, Field::Backend),
+        Command::ChardevAdd => args.at(Field::Backend),
         _ => None,
     }
 }
 
 /// Whether each argument that must stand there does.
-fn is_complete(command: Command, args: &Value) -> bool
-    ensures { result ≡ is_complete command (view args.now) }
+fn is_complete(command: Command, args: &Given<'_>) -> bool
+    requires given { AreGiven args.now }
+    requires rows { args.now.rows.now ≡ arguments command }
+    ensures { result ≡ is_complete command (view args.now.place.now) }
 {
-    let complete = all_stand(command.arguments(), args);
+    let complete = args.all_stand();
     match backend_of(command, args) {
         Some(backend) => complete && backend_complete(backend),
         None => complete,
@@ -131,10 +122,12 @@ fn is_complete(command: Command, args: &Value) -> bool
 }
 
 /// Whether no argument stands there that the command does not take.
-fn is_closed(command: Command, args: &Value) -> bool
-    ensures { result ≡ is_closed command (view args.now) }
+fn is_closed(command: Command, args: &Given<'_>) -> bool
+    requires given { AreGiven args.now }
+    requires rows { args.now.rows.now ≡ arguments command }
+    ensures { result ≡ is_closed command (view args.now.place.now) }
 {
-    let closed = command.is_open() || has_only(command.arguments(), args);
+    let closed = command.is_open() || args.has_only();
     match backend_of(command, args) {
         Some(backend) => closed && backend_closed(backend),
         None => closed,
@@ -142,11 +135,12 @@ fn is_closed(command: Command, args: &Value) -> bool
 }
 
 /// Whether each argument is of its kind, and each further one a plain value.
-fn is_fitting(command: Command, args: &Value) -> bool
-    ensures { result ≡ is_fitting command (view args.now) }
+fn is_fitting(command: Command, args: &Given<'_>) -> bool
+    requires given { AreGiven args.now }
+    requires rows { args.now.rows.now ≡ arguments command }
+    ensures { result ≡ is_fitting command (view args.now.place.now) }
 {
-    let rows = command.arguments();
-    let fits = all_fit(rows, args) && (!command.is_open() || plain_beside(rows, args));
+    let fits = args.all_fit() && (!command.is_open() || args.plain_beside());
     match backend_of(command, args) {
         Some(backend) => fits && backend_fits(backend),
         None => fits,
@@ -160,16 +154,17 @@ fn call_of(alloc: Global, command: Option<Command>, args: &Value) -> Result<Requ
     let Some(command) = command else {
         return Err(Refusal::Code(Code::E10));
     };
-    if !is_complete(command, args) {
+    let args = Given::of(command.arguments(), args);
+    if !is_complete(command, &args) {
         return Err(Refusal::Code(Code::E12));
     }
-    if !is_closed(command, args) {
+    if !is_closed(command, &args) {
         return Err(Refusal::Code(Code::E13));
     }
-    if !is_fitting(command, args) {
+    if !is_fitting(command, &args) {
         return Err(Refusal::Code(Code::E14));
     }
-    match request_of(alloc, command, args) {
+    match request_of(alloc, command, &args) {
         Ok(request) => Ok(request),
         Err(AllocError) => Err(Refusal::Memory),
     }

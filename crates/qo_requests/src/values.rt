@@ -3,10 +3,12 @@
 ghost use Rattle.std.specs.Prelude.{◌≡◌, [], ◌∷◌, ◌++◌, true, IfOk, OnOk};
 ghost use Rattle.serde_json.specs.View.{view, items_view, members_view};
 ghost use Rattle.qo_values.specs.PropLists.{names_of, is_above};
+ghost use Rattle.qo_requests.specs.Given.{AreGiven};
 ghost use Rattle.qo_requests.specs.Values.{text_of, texts_in, plain_in, form_named, text_at, number_at, truth_at, form_at, texts_at, text_in, number_in, value_in, properties_in, properties_beside};
 
 use crate::arguments::{Argument, is_named};
-use crate::fields::{Field, argument};
+use crate::fields::Field;
+use crate::given::Given;
 use qo_values::{Form, FromJson, PropList, PushError, Text, TextList, Val, from_json};
 use serde_json::{Map, Value};
 use std::alloc::{AllocError, Global};
@@ -57,74 +59,84 @@ fn form_named(name: &str) -> Option<Form>
 }
 
 /// An argument that is a text, where it stands.
-pub(crate) fn text_at(alloc: Global, args: &Value, field: Field) -> Result<Option<Text>, AllocError>
-    ensures { IfOk result (λ text. text ≡ text_at field (view args.now)) }
+pub(crate) fn text_at(
+    alloc: Global,
+    args: &Given<'_>,
+    field: Field,
+) -> Result<Option<Text>, AllocError>
+    requires { AreGiven args.now }
+    ensures { IfOk result (λ text. text ≡ text_at field (view args.now.place.now)) }
 {
-    match argument(args, field).and_then(Value::as_str) {
+    match args.at(field).and_then(Value::as_str) {
         Some(text) => Ok(Some(Text::from_string(String::from_str(alloc, text)?))),
         None => Ok(None),
     }
 }
 
 /// An argument that is a number, where it stands.
-pub(crate) fn number_at(args: &Value, field: Field) -> Option<u64>
-    ensures { result ≡ number_at field (view args.now) }
+pub(crate) fn number_at(args: &Given<'_>, field: Field) -> Option<u64>
+    requires { AreGiven args.now }
+    ensures { result ≡ number_at field (view args.now.place.now) }
 {
-    argument(args, field).and_then(Value::as_u64)
+    args.at(field).and_then(Value::as_u64)
 }
 
 /// An argument that is a truth value, where it stands.
-pub(crate) fn truth_at(args: &Value, field: Field) -> Option<bool>
-    ensures { result ≡ truth_at field (view args.now) }
+pub(crate) fn truth_at(args: &Given<'_>, field: Field) -> Option<bool>
+    requires { AreGiven args.now }
+    ensures { result ≡ truth_at field (view args.now.place.now) }
 {
-    argument(args, field).and_then(Value::as_bool)
+    args.at(field).and_then(Value::as_bool)
 }
 
 /// An argument that is a form, where it stands.
-pub(crate) fn form_at(args: &Value, field: Field) -> Option<Form>
-    ensures { result ≡ form_at field (view args.now) }
+pub(crate) fn form_at(args: &Given<'_>, field: Field) -> Option<Form>
+    requires { AreGiven args.now }
+    ensures { result ≡ form_at field (view args.now.place.now) }
 {
-    argument(args, field)
-        .and_then(Value::as_str)
-        .and_then(form_named)
+    args.at(field).and_then(Value::as_str).and_then(form_named)
 }
 
 /// An argument that is a list of texts, where it stands.
 pub(crate) fn texts_at(
     alloc: Global,
-    args: &Value,
+    args: &Given<'_>,
     field: Field,
 ) -> Result<Option<TextList>, AllocError>
-    ensures { IfOk result (λ texts. texts ≡ texts_at field (view args.now)) }
+    requires { AreGiven args.now }
+    ensures { IfOk result (λ texts. texts ≡ texts_at field (view args.now.place.now)) }
 {
-    match argument(args, field).and_then(Value::as_array) {
+    match args.at(field).and_then(Value::as_array) {
         Some(items) => Ok(Some(texts_in(alloc, items.as_slice())?)),
         None => Ok(None),
     }
 }
 
 /// An argument that is a text; empty where it does not stand there.
-pub(crate) fn text_in(alloc: Global, args: &Value, field: Field) -> Result<Text, AllocError>
-    ensures { IfOk result (λ text. text ≡ text_in field (view args.now)) }
+pub(crate) fn text_in(alloc: Global, args: &Given<'_>, field: Field) -> Result<Text, AllocError>
+    requires { AreGiven args.now }
+    ensures { IfOk result (λ text. text ≡ text_in field (view args.now.place.now)) }
 {
-    match argument(args, field) {
+    match args.at(field) {
         Some(value) => text_of(alloc, value),
         None => Ok(Text::from_string(String::new(alloc))),
     }
 }
 
 /// An argument that is a number; 0 where it does not stand there.
-pub(crate) fn number_in(args: &Value, field: Field) -> u64
-    ensures { result ≡ number_in field (view args.now) }
+pub(crate) fn number_in(args: &Given<'_>, field: Field) -> u64
+    requires { AreGiven args.now }
+    ensures { result ≡ number_in field (view args.now.place.now) }
 {
     number_at(args, field).unwrap_or(0)
 }
 
 /// An argument that is a plain value; nothing where it does not stand there.
-pub(crate) fn value_in(alloc: Global, args: &Value, field: Field) -> Result<Val, AllocError>
-    ensures { IfOk result (λ val. val ≡ value_in field (view args.now)) }
+pub(crate) fn value_in(alloc: Global, args: &Given<'_>, field: Field) -> Result<Val, AllocError>
+    requires { AreGiven args.now }
+    ensures { IfOk result (λ val. val ≡ value_in field (view args.now.place.now)) }
 {
-    match argument(args, field) {
+    match args.at(field) {
         Some(value) => plain_in(alloc, value),
         None => Ok(Val::Nothing),
     }
@@ -161,16 +173,17 @@ fn properties_in(
     Ok(props)
 }
 
-/// The arguments that are none of these, as properties.
-pub(crate) fn properties_beside(
-    alloc: Global,
-    rows: &[Argument],
-    args: &Value,
-) -> Result<PropList, AllocError>
-    ensures { IfOk result (λ props. props ≡ properties_beside rows.now (view args.now)) }
+/// The arguments that no row names, as properties.
+#[tactic(auto, using(crate::proofs::GivenLemmas::none_beside))]
+pub(crate) fn properties_beside(alloc: Global, args: &Given<'_>) -> Result<PropList, AllocError>
+    requires { AreGiven args.now }
+    ensures { IfOk result (λ props. props ≡ properties_beside args.now.rows.now (view args.now.place.now)) }
 {
-    match args.as_object() {
-        Some(members) => properties_in(alloc, rows, members),
+    if args.has_only() {
+        return Ok(PropList::new(alloc));
+    }
+    match args.place.as_object() {
+        Some(members) => properties_in(alloc, args.rows, members),
         None => Ok(PropList::new(alloc)),
     }
 }

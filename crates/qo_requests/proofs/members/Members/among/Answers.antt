@@ -1,5 +1,5 @@
 -- One member more.
-use Rattle.std.proofs.Common.{None, false, option_map}
+use Rattle.std.proofs.Common.{None, false, lit≤, option_map}
 use Rattle.serde_json.proofs.Views.{Entry}
 use Rattle.serde_json.specs.View.{members_view, view}
 use Rattle.serde_json.specs.Find.{get_member}
@@ -7,7 +7,7 @@ use Rattle.qo_requests.specs.Arguments.{all_named}
 use Rattle.qo_requests.specs.Fields.{field_name}
 use Rattle.qo_requests.specs.Messages.{message_members}
 use Rattle.qo_requests.specs.declared.fields.Field.TheVariants.{Arguments, Execute, Id}
-use Rattle.qo_requests.proofs.MemberLemmas.{found_on, others_on}
+use Rattle.qo_requests.proofs.MemberLemmas.{beside_three, found_by, others_on}
 use Rattle.qo_requests.proofs.members.Members.among.Goals as goal
 
 pub loop-name-preserved : goal.loop-name-preserved
@@ -21,8 +21,13 @@ loop-name-preserved c =
     let same = c.as_str-name.ensures.value in
     let was = c.loop-name.invariant in
     record {
-      execute = found_on (field_name Execute) (get_member (field_name Execute) whole) _ _ name left e es was.execute steps same c.found-execute.ensures;
-      arguments = found_on (field_name Arguments) (get_member (field_name Arguments) whole) _ _ name left e es was.arguments steps same c.found-arguments.ensures;
-      id = found_on (field_name Id) (get_member (field_name Id) whole) _ _ name left e es was.id steps same c.found-id.ensures;
-      others = others_on (all_named message_members whole) _ _ name left e es was.others steps same c.is_beside-others.ensures;
+      execute = found_by (field_name Execute) (get_member (field_name Execute) whole) _ _ _ name left e es was.execute steps same
+          c.is_named-is_execute.ensures c.found-execute.ensures;
+      arguments = found_by (field_name Arguments) (get_member (field_name Arguments) whole) _ _ _ name left e es was.arguments steps same
+          c.is_named-is_arguments.ensures c.found-arguments.ensures;
+      id = found_by (field_name Id) (get_member (field_name Id) whole) _ _ _ name left e es was.id steps same
+          c.is_named-is_id.ensures c.found-id.ensures;
+      others = others_on message_members (all_named message_members whole) _ _ name left e es was.others steps same
+          (beside_three message_members name _ _ _ _ _ _ (lit≤ tt) c.is_named-is_execute.ensures c.is_named-is_arguments.ensures
+          c.is_named-is_id.ensures c.is_one.ensures c.is_beside-others.ensures);
     }

@@ -1,0 +1,35 @@
+-- One member more.
+use Rattle.std.proofs.Common.{◌≡◌, option_map}
+use Rattle.std.specs.Prelude.{slice_get}
+use Rattle.serde_json.proofs.Views.{Entry}
+use Rattle.serde_json.specs.View.{members_view, view}
+use Rattle.qo_requests.specs.Arguments.{all_named, all_plain}
+use Rattle.qo_requests.specs.Given.{member_of}
+use Rattle.qo_requests.proofs.GivenLemmas.{part_on, plain_by}
+use Rattle.qo_requests.proofs.MemberLemmas.{beside_three, others_on}
+use Rattle.qo_requests.proofs.given.Given.among.Goals as goal
+
+pub loop-name-preserved : goal.loop-name-preserved
+loop-name-preserved c =
+    let e : Entry = (c.in-Some.name.now, c.in-Some.member.now) in
+    let es = c.next.new.self in
+    let left = c.loop-name.name-iterator in
+    let rows = c.args.rows.now in
+    let whole = members_view c.args.members.now.entries in
+    let name = c.as_str-name.result.now in
+    let steps = c.in-Some.ensures.steps in
+    let same = c.as_str-name.ensures.value in
+    let was = c.loop-name.invariant in
+    let is_first = c.is_at-is_first.ensures in
+    let is_second = c.is_at-is_second.ensures in
+    let is_third = c.is_at-is_third.ensures in
+    let named = c.is_one-named.ensures in
+    record {
+      first = part_on (slice_get rows 0) (member_of (slice_get rows 0) whole) _ _ _ name left e es was.first steps same is_first c.found-first.ensures;
+      second = part_on (slice_get rows 1) (member_of (slice_get rows 1) whole) _ _ _ name left e es was.second steps same is_second c.found-second.ensures;
+      third = part_on (slice_get rows 2) (member_of (slice_get rows 2) whole) _ _ _ name left e es was.third steps same is_third c.found-third.ensures;
+      others = others_on rows (all_named rows whole) _ _ name left e es was.others steps same
+          (beside_three rows name _ _ _ _ _ _ c.requires is_first is_second is_third named c.is_beside-others.ensures);
+      plain = plain_by rows (all_plain rows whole) _ _ _ _ _ _ name left e es c.requires was.plain steps same is_first is_second is_third named
+          c.stays_plain-plain.ensures;
+    }
