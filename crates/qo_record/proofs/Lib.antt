@@ -6,3 +6,4 @@ pub mod WindowLemmas
 pub mod ReplayLemmas
 pub mod CoverLemmas
 pub mod WaitingLemmas
+pub mod DemoLemmas

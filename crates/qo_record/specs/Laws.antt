@@ -1,8 +1,9 @@
 -- What the reading of a recorded stream is, in the words of how entries are spelled and which may stand.
-use Rattle.std.specs.Prelude.{ℕ, ◌≡◌, ◌≢◌, ◌≤◌, ◌↔◌, Bool, false, List, [], ◌++◌, length, Some, None}
+use Rattle.std.specs.Prelude.{ℕ, ◌≡◌, ◌≢◌, ◌<◌, ◌≤◌, ◌^◌, ◌↔◌, Bool, false, List, [], ◌++◌, length, Some, None}
 use Rattle.std.specs.List.{AllByRecursion}
 use Rattle.qo_causes.specs.Hub.{is_end}
 use Rattle.qo_causes.specs.declared.inputs.Input.{Input}
+use Rattle.qo_record.specs.Demo.{demo_bytes, demo_inputs, drawn, next_number}
 use Rattle.qo_record.specs.Record.{bad_place, entry_at, place_before, stream_inputs}
 use Rattle.qo_record.specs.Spelling.{FitAll, Fits, entries_text, entry_text, header, none_open}
 
@@ -39,3 +40,12 @@ SpelledStreamsAreRead =
 abbrev pub InputsAreFew : Type 0
 InputsAreFew =
     (bytes : List ℕ) → AllByRecursion (λ (i : Input). is_end i.what ≡ false) (stream_inputs bytes) × (length (stream_inputs bytes) ≤ length bytes)
+
+-- a demo record is read as the inputs of the demo, with nothing left
+abbrev pub DemosAreRead : Type 0
+DemosAreRead =
+    (seed steps : ℕ) → steps < 2 ^ 32 → (stream_inputs (demo_bytes seed steps) ≡ demo_inputs seed steps) × (bad_place (demo_bytes seed steps) ≡ None)
+
+-- the first draw of the seed 1
+abbrev pub FirstDraw : Type 0
+FirstDraw = drawn (next_number 1) ≡ 908834774

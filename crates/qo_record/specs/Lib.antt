@@ -1,3 +1,4 @@
+pub mod Demo
 pub mod Laws
 pub mod Reading
 pub mod Record

@@ -1,6 +1,6 @@
 //! What holds of the definitions alone: how a recorded stream is read.
 
-ghost use Rattle.qo_record.specs.Laws.{EntriesAreSpelled, HeaderIsNeeded, InputsAreFew, SpelledStreamsAreRead, StreamsAreLongest};
+ghost use Rattle.qo_record.specs.Laws.{DemosAreRead, EntriesAreSpelled, FirstDraw, HeaderIsNeeded, InputsAreFew, SpelledStreamsAreRead, StreamsAreLongest};
 
 /// An entry is read exactly where it is spelled and may stand, whatever follows it.
 pub fn law_entries()
@@ -25,4 +25,10 @@ pub fn law_spelled()
 /// The end is no input of a stream, and there are no more inputs than bytes.
 pub fn law_inputs()
     ensures { InputsAreFew }
+{}
+
+/// A demo record is read as the inputs of the demo, with nothing left; and the first draw of the seed 1.
+pub fn law_demos()
+    ensures read { DemosAreRead }
+    ensures first { FirstDraw }
 {}

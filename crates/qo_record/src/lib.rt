@@ -1,6 +1,7 @@
 //! Recorded streams: how their entries are spelled and read, and the hub over a source and a sink.
 #![tactic(auto)]
 
+mod demos;
 mod entries;
 pub mod laws;
 mod lines;
@@ -10,6 +11,7 @@ mod replay_hub;
 mod waiting;
 mod windows;
 
+pub use demos::demo_record;
 pub use replay_hub::{ReplayHub, Unmade};
 pub use windows::AHEAD_BYTES;
 

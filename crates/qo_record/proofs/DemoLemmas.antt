@@ -1,0 +1,159 @@
+-- The entries of a demo record, written one behind the other, and that they may stand.
+use Rattle.std.proofs.Common.{◌≡◌, ℕ, zero, suc, ◌+◌, ◌-◌, ◌*◌, ◌%◌, ◌^◌, ◌<◌, ◌≤◌, Bool, true, false, if◌then◌else◌, ◌==◌, List, [], ◌∷◌, ◌++◌, length, codes, decimal}
+use Rattle.std.proofs.Common.{refl, sym, ◌∙◌, ap, subst, arith, append_assoc, length-append, Result, Ok, Err, OnOk}
+use Rattle.std.proofs.Math.Nat.{mod-add-mod}
+use Rattle.std.proofs.lemmas.Fmt.{decimal_digit, length-decimal-le}
+use Rattle.std.proofs.lemmas.List.Concat.{flat_map-append}
+use Rattle.qo_causes.specs.declared.inputs.What.{What}
+use Rattle.qo_causes.specs.declared.inputs.What.TheVariants.{Open, Bytes, Guest, Step}
+use Rattle.qo_record.specs.Demo.{at_second, demo_bytes, demo_inputs, demo_start, demo_step, demo_steps, demo_what, drawn, line_of, next_number, plugging, resetting, unplugging, with_number}
+use Rattle.qo_record.specs.Laws.{DemosAreRead, FirstDraw}
+use Rattle.qo_record.proofs.RecordLemmas.{spelled_streams_are_read}
+use Rattle.qo_record.specs.Spelling.{FitAll, FitsPiece, FitsWhat, entries_text, entry_text, header, is_open, none_open, opened_by}
+
+-- The next number, in two steps that are each cut to 64 bits.
+
+pub next_is : (x : ℕ) → (x * 6364136223846793005 % 18446744073709551616 + 1442695040888963407) % 18446744073709551616 ≡ next_number x
+unfolding next_number
+next_is x = mod-add-mod (x * 6364136223846793005) 18446744073709551616 1442695040888963407
+
+-- An entry, behind what there is.
+
+regrouped : (old word moment told : List ℕ) → (old ++ (word ++ (moment ++ 32 ∷ []))) ++ told ≡ old ++ (word ++ (moment ++ 32 ∷ told))
+regrouped old word moment told = simp append_assoc
+
+pub behind_start : {E : Type 0} (r : Result Unit E) (old mid new word moment rest told : List ℕ) → mid ≡ old ++ (word ++ (moment ++ 32 ∷ [])) →
+    told ≡ rest → OnOk r (new ≡ mid ++ told) → OnOk r (new ≡ old ++ (word ++ (moment ++ 32 ∷ rest)))
+behind_start (Ok u) old mid new word moment rest told start same put =
+    put ∙ ap (λ (l : List ℕ). l ++ told) start ∙ regrouped old word moment told ∙ ap (λ (l : List ℕ). old ++ (word ++ (moment ++ 32 ∷ l))) same
+behind_start (Err e) old mid new word moment rest told start same put = tt
+
+-- two parts that were put one behind the other
+pub put_twice : {E : Type 0} (r : Result Unit E) (old mid new xs ys : List ℕ) → mid ≡ old ++ xs → OnOk r (new ≡ mid ++ ys) → OnOk r (new ≡ old ++ (xs ++ ys))
+put_twice (Ok u) old mid new xs ys first put = put ∙ ap (λ (l : List ℕ). l ++ ys) first ∙ append_assoc old xs ys
+put_twice (Err e) old mid new xs ys first put = tt
+
+-- the number of session 0, with what stands behind it
+pub session_zero : (rest : List ℕ) → 48 ∷ rest ≡ decimal 0 ++ rest
+session_zero rest = ap (λ (l : List ℕ). l ++ rest) (sym (decimal_digit 0 (omega arith)))
+
+-- the same entry by another name of its text
+pub same_text : {E : Type 0} (r : Result Unit E) (new old : List ℕ) (second : ℕ) (text wanted : List ℕ) → text ≡ wanted →
+    OnOk r (new ≡ old ++ entry_text (at_second second (Bytes 0 text))) → OnOk r (new ≡ old ++ entry_text (at_second second (Bytes 0 wanted)))
+same_text r new old second text wanted same put =
+    subst (λ (l : List ℕ). OnOk r (new ≡ old ++ entry_text (at_second second (Bytes 0 l)))) same put
+
+-- Steps, one behind the other.
+
+abbrev left_text : ℕ → ℕ → ℕ → List ℕ
+left_text more x second = entries_text (demo_steps more x second)
+
+pub none_written : (seed steps : ℕ) → (header ++ entries_text demo_start) ++ left_text (steps - 0) seed 1 ≡ demo_bytes seed steps
+unfolding demo_bytes demo_inputs
+none_written seed steps =
+    let all : steps - 0 ≡ steps = omega arith in
+    ap (λ (n : ℕ). (header ++ entries_text demo_start) ++ left_text n seed 1) all
+    ∙ append_assoc header (entries_text demo_start) (left_text steps seed 1)
+    ∙ ap (λ (l : List ℕ). header ++ l) (sym (flat_map-append entry_text demo_start (demo_steps steps seed 1)))
+
+pub one_written : (steps i j x y : ℕ) (before behind whole : List ℕ) → i < steps → before ++ left_text (steps - i) x (i + 1) ≡ whole →
+    j ≡ i → behind ≡ before ++ entry_text (demo_step x (j + 1)) → y ≡ next_number (next_number x) → behind ++ left_text (steps - (i + 1)) y (i + 1 + 1) ≡ whole
+one_written steps i j x y before behind whole within is same put drawn_twice =
+    let more : ℕ = steps - (i + 1) in
+    let count : steps - i ≡ suc more = omega arith in
+    let last : List ℕ = left_text more (next_number (next_number x)) (i + 1 + 1) in
+    ap (λ (n : ℕ). behind ++ left_text more n (i + 1 + 1)) drawn_twice
+    ∙ ap (λ (l : List ℕ). l ++ last) (put ∙ ap (λ (n : ℕ). before ++ entry_text (demo_step x (n + 1))) same) ∙ append_assoc before (entry_text (demo_step x (i + 1))) last
+    ∙ ap (λ (n : ℕ). before ++ left_text n x (i + 1)) (sym count) ∙ is
+
+-- The entries of a demo may stand.
+
+-- it may stand, and the same sessions are open behind it
+record Stays (opened : List Bool) (what : What) : Type 0 where
+  fits : FitsWhat opened what
+  same : opened_by opened what ≡ opened
+
+either : {opened : List Bool} (b : Bool) (x y : What) → Stays opened x → Stays opened y → Stays opened (if b then x else y)
+either true x y p q = p
+either false x y p q = q
+
+sent : {opened : List Bool} (piece : List ℕ) → is_open opened 0 ≡ true → FitsPiece piece → Stays opened (Bytes 0 piece)
+sent piece stands fits = record { fits = (omega arith, stands, fits); same = refl }
+
+written : {opened : List Bool} (piece : List ℕ) → FitsPiece piece → Stays opened (Guest piece)
+written piece fits = record { fits = fits; same = refl }
+
+gone : {opened : List Bool} (ns : ℕ) → 1 ≤ ns → ns < 2 ^ 63 → Stays opened (Step ns)
+gone ns some few = record { fits = (some, few); same = refl }
+
+digit_size : (n : ℕ) → n < 8 → length (decimal n) ≤ 1
+digit_size n few = length-decimal-le 1 n (omega arith) (omega arith) (omega arith)
+
+number_fits : (before behind : List ℕ) (n : ℕ) → n < 8 → 1 ≤ length before → length before + length behind ≤ 60000 → FitsPiece (with_number before n behind)
+number_fits before behind n few some size = (
+  omega (arith, length-append (before ++ decimal n) behind, length-append before (decimal n)),
+  omega (arith, digit_size n few, length-append (before ++ decimal n) behind, length-append before (decimal n)),
+)
+
+plugging_fits : (driver : List ℕ) (n : ℕ) → n < 8 → length driver ≤ 60000 → FitsPiece (plugging driver n)
+plugging_fits driver n few size =
+    let head : List ℕ = codes "{\"execute\":\"device_add\",\"arguments\":{\"driver\":\"" in
+    let id : List ℕ = with_number (codes "\",\"id\":\"d") n (codes "\",\"slot\":") in
+    let slot : List ℕ = with_number [] n (line_of (codes "}}")) in
+    let id_size : length id ≤ 20 =
+    omega (arith, digit_size n few, length-append (codes "\",\"id\":\"d" ++ decimal n) (codes "\",\"slot\":"), length-append (codes "\",\"id\":\"d") (decimal n)) in
+    let slot_size : length slot ≤ 4 = omega (arith, digit_size n few, length-append (decimal n) (line_of (codes "}}"))) in (
+      omega (arith, length-append ((head ++ driver) ++ id) slot, length-append (head ++ driver) id, length-append head driver),
+      omega (arith, size, id_size, slot_size, length-append ((head ++ driver) ++ id) slot, length-append (head ++ driver) id, length-append head driver),
+    )
+
+what_stays : (opened : List Bool) (k n : ℕ) → n < 8 → is_open opened 0 ≡ true → Stays opened (demo_what k n)
+what_stays opened k n few stands =
+    let uart : List ℕ = plugging (codes "slot-uart") n in
+    let timer : List ℕ = plugging (codes "slot-timer") n in
+    let gives : List ℕ → List ℕ = λ before. with_number before n (10 ∷ []) in
+    let writes : List ℕ = with_number (codes "write ") n (line_of (codes " 1 0x10")) in
+    let del : List ℕ = codes "{\"execute\":\"device_del\",\"arguments\":{\"id\":\"d" in
+    let poll : List ℕ = line_of (codes "poll") in
+    let seven : What = if n == 0 then Bytes 0 resetting else Guest poll in
+    let six : What = if k == 6 then Step (1000 * (n + 1)) else seven in
+    let five : What = if k == 5 then Guest writes else six in
+    let four : What = if k == 4 then Guest (gives (codes "nack ")) else five in
+    let three : What = if k == 3 then Guest (gives (codes "ack ")) else four in
+    let two : What = if k == 2 then Bytes 0 (unplugging n) else three in
+    let one : What = if k == 1 then Bytes 0 timer else two in
+    either (k == 0) (Bytes 0 uart) one (sent uart stands (plugging_fits (codes "slot-uart") n few (omega arith)))
+    (either (k == 1) (Bytes 0 timer) two (sent timer stands (plugging_fits (codes "slot-timer") n few (omega arith)))
+    (either (k == 2) (Bytes 0 (unplugging n)) three (sent (unplugging n) stands (number_fits del (line_of (codes "\"}}")) n few (omega arith) (omega arith)))
+    (either (k == 3) (Guest (gives (codes "ack "))) four (written (gives (codes "ack ")) (number_fits (codes "ack ") (10 ∷ []) n few (omega arith) (omega arith)))
+    (either (k == 4) (Guest (gives (codes "nack "))) five (written (gives (codes "nack ")) (number_fits (codes "nack ") (10 ∷ []) n few (omega arith) (omega arith)))
+    (either (k == 5) (Guest writes) six (written writes (number_fits (codes "write ") (line_of (codes " 1 0x10")) n few (omega arith) (omega arith)))
+    (either (k == 6) (Step (1000 * (n + 1))) seven (gone (1000 * (n + 1)) (omega arith) (omega arith))
+    (either (n == 0) (Bytes 0 resetting) (Guest poll) (sent resetting stands (omega arith, omega arith)) (written poll (omega arith, omega arith)))))))))
+
+below_eight : (n : ℕ) → n % 8 < 8
+below_eight n = omega arith
+
+steps_fit : (more x second : ℕ) (opened : List Bool) → second + more < 2 ^ 63 → is_open opened 0 ≡ true → FitAll opened (demo_steps more x second)
+steps_fit zero x second opened few stands = tt
+steps_fit (suc more) x second opened few stands =
+    let s = what_stays opened (drawn (next_number x) % 8) (drawn (next_number (next_number x)) % 8) (below_eight (drawn (next_number (next_number x)))) stands in (
+      ((omega arith, omega arith), s.fits),
+      subst (λ (o : List Bool). FitAll o (demo_steps more (next_number (next_number x)) (second + 1))) (sym s.same)
+      (steps_fit more (next_number (next_number x)) (second + 1) opened (omega arith) stands),
+    )
+
+pub demo_fits : (seed steps : ℕ) → steps < 2 ^ 32 → FitAll none_open (demo_inputs seed steps)
+unfolding demo_inputs
+demo_fits seed steps few = (
+  ((omega arith, omega arith), (omega arith, refl)),
+  (((omega arith, omega arith), (omega arith, refl, (omega arith, omega arith))), steps_fit steps seed 1 (opened_by none_open (Open 0)) (omega arith) refl),
+)
+
+pub demos_are_read : DemosAreRead
+unfolding demo_bytes
+demos_are_read seed steps few = spelled_streams_are_read (demo_inputs seed steps) (demo_fits seed steps few)
+
+pub first_draw : FirstDraw
+unfolding drawn next_number
+first_draw = refl
