@@ -74,6 +74,15 @@ impl Heap {
             .name_device(DeviceId::new(id, claim));
     }
 
+    /// The id of a device; `None` exactly where the object has none. It takes no memory.
+    pub fn device_id<L: Ledger>(&self, o: Oid, steps: &mut Steps<L>) -> Option<&Id>
+        requires { IsLive self.now.rows o }
+        ensures id { option_map (λ i. i.now) result ≡ option_and_then (λ c. c.device_id) (content_of self.now o.birth) }
+        ensures cost { steps.new ≡ steps.old + 1 }
+    {
+        self.table.look(o, steps).id()
+    }
+
     /// Makes room for one event more than wait and are promised a place. The error is want of memory,
     /// and leaves the heap as it was.
     pub fn reserve_event(&mut self) -> Result<(), AllocError>

@@ -1,0 +1,5 @@
+pub mod DeviceLemmas
+pub mod KidLemmas
+pub mod NameLemmas
+pub mod SlotLemmas
+pub mod WayLemmas

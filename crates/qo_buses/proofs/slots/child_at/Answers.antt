@@ -1,0 +1,23 @@
+-- What is found by name is read, and what it names is there.
+use Rattle.std.proofs.Common.{◌≡◌, Some, None, sym, ◌∙◌, rules}
+use Rattle.std.specs.Str.{bytes_eq}
+use Rattle.qo_table.specs.Rows.{IsLive}
+use Rattle.qo_object.specs.Slots.{Named}
+use Rattle.qo_model.specs.Devices.{child_named}
+use Rattle.qo_paths.proofs.WalkLemmas.{target-live}
+use Rattle.qo_buses.proofs.SlotLemmas.{read-named, same-named}
+use Rattle.qo_buses.proofs.slots.child_at.Goals as goal
+
+pub returns-in_err-slot-clause-child : goal.returns-in_err-slot-clause-child
+returns-in_err-slot-clause-child g c = λ b s.
+    let none : c.from_residual.result ≡ None = search rules in
+    rw none (sym (read-named child_named b c.args.heap.now s c.args.o.birth c.args.name.now None c.in_err-slot.ensures.slot))
+
+pub returns-clause-child : goal.returns-clause-child
+returns-clause-child g c = λ b s.
+    c.child_in.ensures.child ∙ sym (read-named child_named b c.args.heap.now s c.args.o.birth c.args.name.now (Some (c.in_ok-slot.slot.name.now, c.in_ok-slot.slot.what.now)) c.in_ok-slot.ensures.slot)
+
+pub returns-clause-live : goal.returns-clause-live
+returns-clause-live g c =
+    same-named (IsLive c.args.heap.now.rows) c.in_ok-slot.slot.what.now c.child_in.result c.child_in.ensures.named
+    (target-live c.args.heap.now c.facts.ensures c.args.o.birth (λ (t : Named). bytes_eq c.args.name.now t.0) (c.in_ok-slot.slot.name.now, c.in_ok-slot.slot.what.now) c.in_ok-slot.ensures.slot)

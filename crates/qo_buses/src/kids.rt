@@ -1,0 +1,113 @@
+//! The kids of a bus, and its slots (docs/PROFILE.md: the slots of a bus and the names of its links).
+
+ghost use Rattle.std.specs.Prelude.{◌≡◌, ◌<◌, ℕ, not, IfSome, find, option_map, slice_get};
+ghost use Rattle.std.specs.Option.{option_and_then};
+ghost use Rattle.std.specs.Str.{bytes_eq};
+ghost use Rattle.qo_values.specs.Placing.{least};
+ghost use Rattle.qo_values.specs.declared.limits.TheConstants.{BUS_SLOTS};
+ghost use Rattle.qo_model.specs.Board.{Board, slots_at};
+ghost use Rattle.qo_model.specs.Devices.{kid_at, kid_name, kids_of, strong_in};
+ghost use Rattle.qo_model.specs.Objects.{has_slot};
+ghost use Rattle.qo_model.specs.Plug.{is_free};
+ghost use Rattle.qo_model.specs.Unplug.{first_of};
+ghost use Rattle.qo_object.specs.Shown.{birth_of};
+ghost use Rattle.qo_table.specs.Rows.{IsLive};
+ghost use Rattle.qo_heap.specs.Board.{Shows};
+ghost use Rattle.qo_heap.specs.Objects.{slots_of};
+
+use crate::slots::strong_in;
+use qo_heap::{Heap, Oid, SlotView, Steps};
+use qo_values::BUS_SLOTS;
+use std::sync::ledger::Ledger;
+
+/// Whether a name is that of the link of a bus to the kid in a slot.
+fn is_kid_name(name: &str, slot: u8) -> bool
+    ensures { result ≡ bytes_eq (kid_name slot) name.now }
+{
+    // A number that is no byte stands in no text.
+    let Some(digit) = slot.checked_add(b'0') else {
+        return false;
+    };
+    [b'c', b'h', b'i', b'l', b'd', b'[', digit, b']'].as_slice() == name.as_bytes()
+}
+
+/// The link of a bus to the kid in a slot; `None` exactly where it has none of that name.
+fn kid_slot<'h, L: Ledger>(
+    heap: &'h Heap,
+    bus: Oid,
+    slot: u8,
+    steps: &mut Steps<L>,
+) -> Option<SlotView<'h>>
+    requires { IsLive heap.now.rows bus }
+    ensures { option_map (λ v. (v.name.now, v.what.now)) result ≡ find (λ s. bytes_eq (kid_name slot) s.0) (slots_of heap.now bus.birth) }
+{
+    let mut at = 0;
+    while let Some(view) = heap.slot_at(bus, at, steps) {
+        if is_kid_name(view.name, slot) {
+            return Some(view);
+        }
+        at += 1;
+    }
+    None
+}
+
+/// The kid in a slot of a bus; `None` exactly where there is none.
+pub fn kid_at<L: Ledger>(heap: &Heap, bus: Oid, slot: u8, steps: &mut Steps<L>) -> Option<Oid>
+    requires { IsLive heap.now.rows bus }
+    ensures kid { (b : Board) → Shows b heap.now → birth_of result ≡ kid_at b bus.birth slot }
+    ensures live { IfSome result (IsLive heap.now.rows) }
+{
+    heap.facts();
+    let view = kid_slot(heap, bus, slot, steps)?;
+    strong_in(view.what)
+}
+
+/// Whether a bus has a link of the name of the kid in a slot, so that no device can come there.
+pub fn has_kid_slot<L: Ledger>(heap: &Heap, bus: Oid, slot: u8, steps: &mut Steps<L>) -> bool
+    requires { IsLive heap.now.rows bus }
+    ensures { (b : Board) → Shows b heap.now → result ≡ has_slot b bus.birth (kid_name slot) }
+{
+    kid_slot(heap, bus, slot, steps).is_some()
+}
+
+/// The least slot of a bus that is free; `None` exactly where the bus is full.
+pub fn least_free<L: Ledger>(heap: &Heap, bus: Oid, steps: &mut Steps<L>) -> Option<u8>
+    requires { IsLive heap.now.rows bus }
+    ensures free { (b : Board) → Shows b heap.now → result ≡ least (is_free b bus.birth) 0 BUS_SLOTS }
+    ensures within { IfSome result (λ slot. slot < BUS_SLOTS) }
+{
+    for slot in 0..BUS_SLOTS {
+        if !has_kid_slot(heap, bus, slot, steps) {
+            return Some(slot);
+        }
+    }
+    None
+}
+
+/// The kid that the slot of a bus at a place, from 0, links to; `None` where the slot is no strong
+/// link, or this has no target, and past the last.
+pub fn kid_in_slot<L: Ledger>(heap: &Heap, bus: Oid, at: usize, steps: &mut Steps<L>) -> Option<Oid>
+    requires { IsLive heap.now.rows bus }
+    ensures kid { (b : Board) → Shows b heap.now → birth_of result ≡ option_and_then (λ s. strong_in s.1) (slice_get (slots_at b bus.birth) at) }
+    ensures live { IfSome result (IsLive heap.now.rows) }
+{
+    heap.facts();
+    let view = heap.slot_at(bus, at, steps)?;
+    strong_in(view.what)
+}
+
+/// The first kid of a bus in the order of plugging; `None` exactly where it has none.
+pub fn first_kid<L: Ledger>(heap: &Heap, bus: Oid, steps: &mut Steps<L>) -> Option<Oid>
+    requires { IsLive heap.now.rows bus }
+    ensures kid { (b : Board) → Shows b heap.now → birth_of result ≡ first_of (kids_of b bus.birth) }
+    ensures live { IfSome result (IsLive heap.now.rows) }
+{
+    let mut at = 0;
+    while heap.slot_at(bus, at, steps).is_some() {
+        if let Some(kid) = kid_in_slot(heap, bus, at, steps) {
+            return Some(kid);
+        }
+        at += 1;
+    }
+    None
+}
