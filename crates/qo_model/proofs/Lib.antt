@@ -10,6 +10,7 @@ pub mod FinalNotesLemmas
 mod FinalNotesRows
 pub mod FinalNotesRunsLemmas
 pub mod GraphLemmas
+mod HotplugRows
 pub mod OpeningLemmas
 pub mod PassedLemmas
 pub mod PinLemmas

@@ -8,6 +8,7 @@ pub mod Devices
 pub mod FinalNotes
 pub mod FinalNotesRuns
 pub mod Holders
+pub mod Hotplug
 pub mod Laws
 pub mod Listing
 pub mod NoteReplies

@@ -1,0 +1,12 @@
+//! What the guest is told of devices, and the removals that are asked for.
+#![tactic(auto)]
+
+mod errors;
+mod hotplug;
+mod notices;
+#[cfg(test)]
+mod tests;
+
+pub use errors::{AskError, NotPending, NoticesFull};
+pub use hotplug::Hotplug;
+pub use notices::Notice;
