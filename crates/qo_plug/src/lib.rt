@@ -3,6 +3,8 @@
 //! "Realization"; include/hw/hotplug.h).
 #![tactic(auto)]
 
+mod barring;
 mod drafting;
 
+pub use barring::{device_kind, open_bus, room, vacant};
 pub use drafting::{give_up, make_device};

@@ -1,0 +1,119 @@
+-- Why a device is refused before anything of it is made.
+use Rattle.std.proofs.Common.{◌≡◌, refl, ap, ap₂, sym, ◌∙◌, ℕ, suc, ◌+◌, ◌<◌, ◌≤◌, Bool, true, false, not, ◌||◌, nat_le, List, [], ◌∷◌, ◌++◌, codes, filter_map, find, length, take, Option, Some, None, is_some, option_map, arith}
+use Rattle.std.specs.Prelude.{if◌then◌else◌}
+use Rattle.std.specs.List.{list_any}
+use Rattle.std.specs.Option.{option_map_or}
+use Rattle.std.specs.Str.{bytes_eq}
+use Rattle.std.proofs.lemmas.Bool.Decides.{nat_tests}
+use Rattle.std.proofs.lemmas.Cmp.{nat_list_eq_equiv}
+use Rattle.std.proofs.lemmas.List.{length-map}
+use Rattle.std.proofs.lemmas.Option.{same_Some}
+use Rattle.qo_values.specs.declared.codes.Code.{Code}
+use Rattle.qo_values.specs.declared.codes.Code.TheVariants.{E15, E20, E21, E22, E24, E25, E26, E27, E43}
+use Rattle.qo_values.specs.declared.kinds.TypeId.{TypeId}
+use Rattle.qo_values.specs.declared.limits.TheConstants.{LIVE_OBJECTS_MAX}
+use Rattle.qo_types.specs.Rows.{is_abstract}
+use Rattle.qo_model.specs.Board as board
+use Rattle.qo_model.specs.Board.{Board, kind_of}
+use Rattle.qo_model.specs.Devices.{is_going}
+use Rattle.qo_model.specs.Objects.{has_slot}
+use Rattle.qo_model.specs.Paths.{attached, is_of}
+use Rattle.qo_model.specs.Plug.{bus_barred, bus_type, container_barred, objects_in, room_barred, type_barred}
+use Rattle.qo_model.specs.Types.{TypeRow, is_a, row_named, row_of}
+use Rattle.qo_slots.specs.declared.keys.Key.{Key}
+use Rattle.qo_object.specs.Content.{Content}
+use Rattle.qo_object.specs.Shown.{shown_slots}
+use Rattle.qo_object.specs.Slots.{Named}
+use Rattle.qo_heap.specs.Board.{Shows, record_of}
+use Rattle.qo_heap.specs.Objects.{Objects, content_of, slots_of}
+use Rattle.qo_heap.proofs.HeapLemmas.{is_some-find}
+use Rattle.qo_heap.proofs.ShowsReads.{shows-kind, shows-slots}
+use Rattle.qo_properties.proofs.BarLemmas.{row-own}
+
+-- the type
+module _ (name : List ℕ) (t : TypeId) (is : Some t ≡ option_map (λ (x : TypeRow). x.id) (row_named name)) where
+  by_row : (P : Option TypeRow → Type 0) → ((row : TypeRow) → row.id ≡ t → is_abstract t ≡ row.is_abstract → P (Some row)) → P (row_named name)
+  by_row P given = go (row_named name) refl
+    where
+      go : (o : Option TypeRow) → row_named name ≡ o → P o
+      go None e = absurd (let clash : Some t ≡ None = is ∙ ap (option_map (λ (x : TypeRow). x.id)) e in cc)
+      go (Some row) e =
+          let same : t ≡ row.id = same_Some t row.id (is ∙ ap (option_map (λ (x : TypeRow). x.id)) e) in
+          let row_is : row_of t ≡ Some row = ap row_of same ∙ row-own name row e in
+          given row (sym same) (ap (λ (o : Option TypeRow). option_map_or (λ (x : TypeRow). x.is_abstract) o false) row_is)
+
+  abbrev barred_as : Option TypeRow → Option Code
+  barred_as o = elim o [ None ↦ Some E20 | Some row ↦ if row.is_abstract then Some E21 else if not (is_a row.id (codes "device")) then Some E22 else None ]
+
+  pub barred-abstract : is_abstract t ≡ true → Some E21 ≡ type_barred name
+  barred-abstract yes = by_row (λ o. Some E21 ≡ barred_as o) (λ row same tells. let so : row.is_abstract ≡ true = sym tells ∙ yes in rw so refl)
+
+  pub barred-use : is_abstract t ≡ false → is_a t (codes "device") ≡ false → Some E22 ≡ type_barred name
+  barred-use no use = by_row (λ o. Some E22 ≡ barred_as o) (λ row same tells. let so : row.is_abstract ≡ false = sym tells ∙ no in let its : is_a row.id (codes "device") ≡ false = ap (λ (k : TypeId). is_a k (codes "device")) same ∙ use in rw (so, its) refl)
+
+  pub allowed : is_abstract t ≡ false → is_a t (codes "device") ≡ true → None ≡ type_barred name
+  allowed no use = by_row (λ o. None ≡ barred_as o) (λ row same tells. let so : row.is_abstract ≡ false = sym tells ∙ no in let its : is_a row.id (codes "device") ≡ true = ap (λ (k : TypeId). is_a k (codes "device")) same ∙ use in rw (so, its) refl)
+
+-- the container
+
+taken-shown : (b : Board) (v : Objects) → Shows b v → (n : ℕ) (name : List ℕ) → has_slot b n name ≡ list_any (λ (s : Named). bytes_eq name s.0) (slots_of v n)
+taken-shown b v s n name = ap (list_any (λ (t : List ℕ × board.Slot). bytes_eq t.0 name)) (shows-slots b v s n) ∙ go (slots_of v n)
+  where
+    go : (slots : List Named) → list_any (λ (t : List ℕ × board.Slot). bytes_eq t.0 name) (shown_slots slots) ≡ list_any (λ (t : Named). bytes_eq name t.0) slots
+    go [] = refl
+    go (t ∷ slots) = ap₂ (λ (x y : Bool). x || y) (nat_list_eq_equiv.symm t.0 name) (go slots)
+
+found-told : {A : Type 0} (f : A → Named) (o : Option A) (x : Option Named) (t : Bool) → option_map f o ≡ x → is_some o ≡ t → is_some x ≡ t
+found-told f None x t e is = ap is_some (sym e) ∙ is
+found-told f (Some a) x t e is = ap is_some (sym e) ∙ is
+
+pub taken-is : {A : Type 0} (f : A → Named) (o : Option A) (b : Board) (v : Objects) → Shows b v → (n : ℕ) (name : List ℕ) (t : Bool) → option_map f o ≡ find (λ (s : Named). bytes_eq name s.0) (slots_of v n) → is_some o ≡ t → has_slot b n name ≡ t
+taken-is f o b v s n name t e some =
+    taken-shown b v s n name ∙ sym (is_some-find (λ (x : Named). bytes_eq name x.0) (slots_of v n)) ∙ found-told f o (find (λ (x : Named). bytes_eq name x.0) (slots_of v n)) t e some
+
+-- nobody is of a type where nobody is
+pub of-gone : (b : Board) (v : Objects) → Shows b v → (n : ℕ) (wanted : List ℕ) → content_of v n ≡ None → is_of b wanted n ≡ false
+of-gone b v s n wanted gone =
+    ap (λ (o : Option TypeId). option_map_or (λ (t : TypeId). is_a t wanted) o false) (shows-kind b v s n ∙ ap (option_map (λ (c : Content). c.kind)) gone)
+
+module _ (b : Board) (n : ℕ) (name : List ℕ) where
+  pub container-none : is_of b (codes "container") n ≡ false → Some E15 ≡ container_barred b n name
+  container-none no = rw (container_barred, no) refl
+
+  pub container-taken : is_of b (codes "container") n ≡ true → has_slot b n name ≡ true → Some E24 ≡ container_barred b n name
+  container-taken yes taken = rw (container_barred, yes, taken) refl
+
+  pub container-free : is_of b (codes "container") n ≡ true → has_slot b n name ≡ false → None ≡ container_barred b n name
+  container-free yes free = rw (container_barred, yes, free) refl
+
+-- the same, of a container by its name
+module _ (b : Board) (n m : ℕ) (name : List ℕ) (is : m ≡ n) where
+  pub at-container-none : is_of b (codes "container") m ≡ false → Some E15 ≡ container_barred b n name
+  at-container-none no = container-none b n name (ap (is_of b (codes "container")) (sym is) ∙ no)
+
+  pub at-container-taken : is_of b (codes "container") m ≡ true → has_slot b m name ≡ true → Some E24 ≡ container_barred b n name
+  at-container-taken yes taken = container-taken b n name (ap (is_of b (codes "container")) (sym is) ∙ yes) (ap (λ (k : ℕ). has_slot b k name) (sym is) ∙ taken)
+
+  pub at-container-free : is_of b (codes "container") m ≡ true → has_slot b m name ≡ false → None ≡ container_barred b n name
+  at-container-free yes free = container-free b n name (ap (is_of b (codes "container")) (sym is) ∙ yes) (ap (λ (k : ℕ). has_slot b k name) (sym is) ∙ free)
+
+-- the bus
+module _ (b : Board) (t : TypeId) (m : ℕ) where
+  pub bus-other : is_of b (bus_type t) m ≡ false → bus_barred b t (Some m) ≡ Some E26
+  bus-other no = rw (bus_barred, no) refl
+
+  pub bus-shut : is_of b (bus_type t) m ≡ true → not (attached b m) || is_going b m ≡ true → bus_barred b t (Some m) ≡ Some E27
+  bus-shut yes shut = rw (bus_barred, yes, shut) refl
+
+  pub bus-open : is_of b (bus_type t) m ≡ true → not (attached b m) || is_going b m ≡ false → bus_barred b t (Some m) ≡ None
+  bus-open yes open_is = rw (bus_barred, yes, open_is) refl
+
+-- the room
+pub many-shown : (b : Board) (v : Objects) → Shows b v → length b.records ≡ length v.rows
+many-shown b v s = ap (λ (l : List board.Record). length l) s.records ∙ length-map v.rows record_of
+
+pub room-is : (b : Board) (v : Objects) → Shows b v → (t : TypeId) → length v.rows + objects_in t ≤ LIVE_OBJECTS_MAX → None ≡ room_barred b t
+room-is b v s t fits = let so : nat_le (length b.records + objects_in t) LIVE_OBJECTS_MAX ≡ true = grind (arith, nat_tests, many-shown b v s, fits) in rw (room_barred, so) refl
+
+pub room-not : (b : Board) (v : Objects) → Shows b v → (t : TypeId) → LIVE_OBJECTS_MAX < length v.rows + objects_in t → Some E43 ≡ room_barred b t
+room-not b v s t over = let so : nat_le (length b.records + objects_in t) LIVE_OBJECTS_MAX ≡ false = grind (arith, nat_tests, many-shown b v s, over) in rw (room_barred, so) refl
