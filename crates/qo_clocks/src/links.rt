@@ -1,0 +1,103 @@
+//! Which clock a clock goes by (docs/devel/clocks.rst, "Connecting two clocks together").
+
+ghost use Rattle.std.specs.Prelude.{◌≡◌, Some, codes};
+ghost use Rattle.qo_values.specs.declared.properties.Val.TheVariants as val;
+ghost use Rattle.qo_table.specs.Rows.{IsLive};
+ghost use Rattle.qo_model.specs.Board.{Board};
+ghost use Rattle.qo_model.specs.Plug.{with_source};
+ghost use Rattle.qo_model.specs.Unplug.{disconnected};
+ghost use Rattle.qo_object.specs.Slots.{with_val};
+ghost use Rattle.qo_heap.specs.Board.{Shows};
+ghost use Rattle.qo_clocks.specs.Links.{accepts, changed_named, fitted_on, is_weak, unseen_on};
+
+use qo_heap::{Heap, Oid, Slot, Steps};
+use qo_types::TypeTable;
+use qo_values::Val;
+use std::sync::ledger::Ledger;
+
+/// Whether a slot is a link without a target to objects of a type that an object is of.
+fn accepts<L: Ledger>(heap: &Heap, slot: &Slot, target: Oid, steps: &mut Steps<L>) -> bool
+    requires { IsLive heap.now.rows target }
+    ensures { result ≡ accepts heap.now target slot.now }
+{
+    match slot {
+        Slot::Link {
+            ty,
+            target: None,
+            ..
+        } => TypeTable::board().is_a(heap.kind(target, steps), ty.name()),
+        _ => false,
+    }
+}
+
+/// A link of a name of an object is pointed at a target, where it accepts it.
+fn link<L: Ledger>(heap: &mut Heap, c: Oid, name: &str, target: Oid, steps: &mut Steps<L>)
+    requires live { IsLive heap.old.rows c }
+    requires target { IsLive heap.old.rows target }
+    ensures { heap.new ≡ changed_named c.birth name.now (fitted_on heap.old target) heap.old }
+{
+    heap.facts();
+    let Some(link) = heap.slot(c, name, steps) else {
+        return;
+    };
+    let at = link.at;
+    if accepts(heap, link.what, target, steps) {
+        heap.point(c, at, target, steps);
+    }
+}
+
+/// A clock goes by another from now on: its period is by the other's. Nobody is called back. A
+/// clock that has a source keeps it. It takes no memory.
+pub fn connect<L: Ledger>(heap: &mut Heap, c: Oid, source: Oid, steps: &mut Steps<L>)
+    requires live { IsLive heap.old.rows c }
+    requires source { IsLive heap.old.rows source }
+    ensures shown { (b : Board) → Shows b heap.old → Shows (with_source source.birth (Some c.birth) b) heap.new }
+    ensures now { heap.new ≡ changed_named c.birth (codes "source") (fitted_on heap.old source) heap.old }
+{
+    link(heap, c, "source", source, steps);
+}
+
+/// Whether a slot is a weak link.
+fn is_weak(slot: &Slot) -> bool
+    ensures { result ≡ is_weak slot.now }
+{
+    matches!(slot, Slot::Link { strong: false, .. })
+}
+
+/// A weak link of a name of an object is emptied.
+fn unlink<L: Ledger>(heap: &mut Heap, c: Oid, name: &str, steps: &mut Steps<L>)
+    requires { IsLive heap.old.rows c }
+    ensures { heap.new ≡ changed_named c.birth name.now unseen_on heap.old }
+{
+    heap.facts();
+    let Some(link) = heap.slot(c, name, steps) else {
+        return;
+    };
+    let at = link.at;
+    if is_weak(link.what) {
+        let _source = heap.empty(c, at, steps);
+    }
+}
+
+/// A plain slot of a name of an object is given a number.
+fn set_number<L: Ledger>(heap: &mut Heap, c: Oid, name: &str, number: u64, steps: &mut Steps<L>)
+    requires { IsLive heap.old.rows c }
+    ensures { heap.new ≡ changed_named c.birth name.now (with_val (val.Uint number)) heap.old }
+{
+    let Some(slot) = heap.slot(c, name, steps) else {
+        return;
+    };
+    let at = slot.at;
+    heap.set(c, at, Val::Uint(number), steps);
+}
+
+/// A clock goes by no other from now on, and stands still. Nobody is called back. It takes no
+/// memory.
+pub fn disconnect<L: Ledger>(heap: &mut Heap, c: Oid, steps: &mut Steps<L>)
+    requires { IsLive heap.old.rows c }
+    ensures shown { (b : Board) → Shows b heap.old → Shows (disconnected (Some c.birth) b) heap.new }
+    ensures now { heap.new ≡ changed_named c.birth (codes "period") (with_val (val.Uint 0)) (changed_named c.birth (codes "source") unseen_on heap.old) }
+{
+    unlink(heap, c, "source", steps);
+    set_number(heap, c, "period", 0, steps);
+}

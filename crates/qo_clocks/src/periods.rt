@@ -1,0 +1,88 @@
+//! The periods of clocks (docs/devel/clocks.rst, "The clock state" and "Clock multiplier and divider
+//! settings").
+
+ghost use Rattle.std.specs.Prelude.{◌≡◌, ◌^◌, ◌-◌, min};
+ghost use Rattle.qo_table.specs.Rows.{IsLive};
+ghost use Rattle.qo_model.specs.Board.{Board};
+ghost use Rattle.qo_model.specs.Clocks.{ClocksFit, device_period, of_hz, period, scaled_by};
+ghost use Rattle.qo_heap.specs.Board.{Shows};
+ghost use Rattle.qo_clocks.specs.Reads.{div_on, mul_on};
+ghost use Rattle.qo_clocks.specs.Periods.{period_on};
+
+use crate::reads::{clock_of, div, mul, own_period, source_of};
+use qo_heap::{Heap, Oid, Steps};
+use qo_values::UNITS_PER_NS;
+use std::sync::ledger::Ledger;
+
+/// Nanoseconds in a second.
+const NS_PER_SECOND: u64 = 1_000_000_000;
+
+/// A period times `mul` by `div`, rounded down, and 0 by a `div` of 0; more than 64 bits hold is
+/// told as the greatest number that they hold.
+fn scaled_by(mul: u64, div: u64, period: u64) -> u64
+    ensures { result ≡ min (scaled_by mul div period) (2 ^ 64 - 1) }
+{
+    if div == 0 {
+        return 0;
+    }
+    let wide = u128::from(period) * u128::from(mul) / u128::from(div);
+    wide.min(u128::from(u64::MAX)) as u64
+}
+
+/// A period as the clocks that go by a clock have it.
+fn scaled<L: Ledger>(heap: &Heap, c: Oid, period: u64, steps: &mut Steps<L>) -> u64
+    requires { IsLive heap.now.rows c }
+    ensures { result ≡ min (scaled_by (mul_on heap.now c.birth) (div_on heap.now c.birth) period) (2 ^ 64 - 1) }
+{
+    let mul = mul(heap, c, steps);
+    scaled_by(mul, div(heap, c, steps), period)
+}
+
+/// The period of a clock, where its sources are gone up to a depth; 0 beyond it.
+fn period_within<L: Ledger>(heap: &Heap, c: Oid, levels: usize, steps: &mut Steps<L>) -> u64
+    requires { IsLive heap.now.rows c }
+    ensures { result ≡ period_on heap.now levels c.birth }
+{
+    if levels == 0 {
+        return 0;
+    }
+    match source_of(heap, c, steps) {
+        Some(source) => {
+            let period = period_within(heap, source, levels - 1, steps);
+            scaled(heap, source, period, steps)
+        }
+        None => own_period(heap, c, steps),
+    }
+}
+
+/// The period of a clock, in units of 2^-32 ns: its own, or by its source's where it has one.
+pub fn period<L: Ledger>(heap: &Heap, c: Oid, steps: &mut Steps<L>) -> u64
+    requires { IsLive heap.now.rows c }
+    ensures { (b : Board) → Shows b heap.now → ClocksFit b → result ≡ period b c.birth }
+{
+    heap.facts();
+    period_within(heap, c, heap.live() + 1, steps)
+}
+
+/// The period of the clock of a device, in units of 2^-32 ns; 0 where it has none.
+pub fn device_period<L: Ledger>(heap: &Heap, dev: Oid, steps: &mut Steps<L>) -> u64
+    requires { IsLive heap.now.rows dev }
+    ensures { (b : Board) → Shows b heap.now → ClocksFit b → result ≡ device_period b dev.birth }
+{
+    match clock_of(heap, dev, steps) {
+        Some(clock) => period(heap, clock, steps),
+        None => 0,
+    }
+}
+
+/// The period of a frequency in Hz, in units of 2^-32 ns, rounded down; 0 for 0 Hz (include/hw/clock.h,
+/// `CLOCK_PERIOD_FROM_HZ`).
+pub fn period_of_hz(hz: u64) -> u64
+    ensures { result ≡ of_hz hz }
+{
+    if hz == 0 {
+        0
+    } else {
+        UNITS_PER_NS * NS_PER_SECOND / hz
+    }
+}
