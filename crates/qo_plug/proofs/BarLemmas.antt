@@ -1,15 +1,16 @@
 -- Why a device is refused before anything of it is made.
-use Rattle.std.proofs.Common.{◌≡◌, refl, ap, ap₂, sym, ◌∙◌, ℕ, suc, ◌+◌, ◌<◌, ◌≤◌, Bool, true, false, not, ◌||◌, nat_le, List, [], ◌∷◌, ◌++◌, codes, filter_map, find, length, take, Option, Some, None, is_some, option_map, arith}
-use Rattle.std.specs.Prelude.{if◌then◌else◌}
-use Rattle.std.specs.List.{list_any}
+use Rattle.std.proofs.Common.{◌≡◌, refl, ap, ap₂, sym, ◌∙◌, ℕ, suc, ◌+◌, ◌<◌, ◌≤◌, Bool, true, false, not, ◌||◌, nat_le, List, [], ◌∷◌, ◌++◌, append-nil, length-append, codes, filter_map, find, length, option_to_list, slice_get, take, zero, Option, Some, None, is_some, option_map, arith}
+use Rattle.std.specs.Prelude.{if◌then◌else◌, IfNone, IfSome}
+use Rattle.std.specs.List.{cons_option, list_any}
 use Rattle.std.specs.Option.{option_map_or}
 use Rattle.std.specs.Str.{bytes_eq}
 use Rattle.std.proofs.lemmas.Bool.Decides.{nat_tests}
 use Rattle.std.proofs.lemmas.Cmp.{nat_list_eq_equiv}
 use Rattle.std.proofs.lemmas.List.{length-map}
 use Rattle.std.proofs.lemmas.Option.{same_Some}
+use Rattle.qo_values.specs.declared.births.TheConstants.{MEMORY_BUS_BIRTH, ROOT_BUS_BIRTH}
 use Rattle.qo_values.specs.declared.codes.Code.{Code}
-use Rattle.qo_values.specs.declared.codes.Code.TheVariants.{E15, E20, E21, E22, E24, E25, E26, E27, E43}
+use Rattle.qo_values.specs.declared.codes.Code.TheVariants.{E15, E20, E21, E22, E24, E26, E27, E43}
 use Rattle.qo_values.specs.declared.kinds.TypeId.{TypeId}
 use Rattle.qo_values.specs.declared.limits.TheConstants.{LIVE_OBJECTS_MAX}
 use Rattle.qo_types.specs.Rows.{is_abstract}
@@ -18,8 +19,9 @@ use Rattle.qo_model.specs.Board.{Board, kind_of}
 use Rattle.qo_model.specs.Devices.{is_going}
 use Rattle.qo_model.specs.Objects.{has_slot}
 use Rattle.qo_model.specs.Paths.{attached, is_of}
-use Rattle.qo_model.specs.Plug.{bus_barred, bus_type, container_barred, objects_in, room_barred, type_barred}
-use Rattle.qo_model.specs.Types.{TypeRow, is_a, row_named, row_of}
+use Rattle.qo_model.specs.Plug.{bus_barred, bus_for, bus_type, container_barred, further_in, objects_in, room_barred, type_barred}
+use Rattle.qo_model.specs.Types.{TypeRow, is_a, row_named, row_of, slots_of as properties_of}
+use Rattle.qo_model.specs.declared.properties.Property.{Property}
 use Rattle.qo_slots.specs.declared.keys.Key.{Key}
 use Rattle.qo_object.specs.Content.{Content}
 use Rattle.qo_object.specs.Shown.{shown_slots}
@@ -29,6 +31,7 @@ use Rattle.qo_heap.specs.Objects.{Objects, content_of, slots_of}
 use Rattle.qo_heap.proofs.HeapLemmas.{is_some-find}
 use Rattle.qo_heap.proofs.ShowsReads.{shows-kind, shows-slots}
 use Rattle.qo_properties.proofs.BarLemmas.{row-own}
+use Rattle.qo_properties.proofs.FreshLemmas.{next-slot}
 
 -- the type
 module _ (name : List ℕ) (t : TypeId) (is : Some t ≡ option_map (λ (x : TypeRow). x.id) (row_named name)) where
@@ -46,13 +49,13 @@ module _ (name : List ℕ) (t : TypeId) (is : Some t ≡ option_map (λ (x : Typ
   barred_as o = elim o [ None ↦ Some E20 | Some row ↦ if row.is_abstract then Some E21 else if not (is_a row.id (codes "device")) then Some E22 else None ]
 
   pub barred-abstract : is_abstract t ≡ true → Some E21 ≡ type_barred name
-  barred-abstract yes = by_row (λ o. Some E21 ≡ barred_as o) (λ row same tells. let so : row.is_abstract ≡ true = sym tells ∙ yes in rw so refl)
+  barred-abstract holds = by_row (λ o. Some E21 ≡ barred_as o) (λ row same tells. let so : row.is_abstract ≡ true = sym tells ∙ holds in rw so refl)
 
   pub barred-use : is_abstract t ≡ false → is_a t (codes "device") ≡ false → Some E22 ≡ type_barred name
-  barred-use no use = by_row (λ o. Some E22 ≡ barred_as o) (λ row same tells. let so : row.is_abstract ≡ false = sym tells ∙ no in let its : is_a row.id (codes "device") ≡ false = ap (λ (k : TypeId). is_a k (codes "device")) same ∙ use in rw (so, its) refl)
+  barred-use fails other = by_row (λ o. Some E22 ≡ barred_as o) (λ row same tells. let so : row.is_abstract ≡ false = sym tells ∙ fails in let its : is_a row.id (codes "device") ≡ false = ap (λ (k : TypeId). is_a k (codes "device")) same ∙ other in rw (so, its) refl)
 
   pub allowed : is_abstract t ≡ false → is_a t (codes "device") ≡ true → None ≡ type_barred name
-  allowed no use = by_row (λ o. None ≡ barred_as o) (λ row same tells. let so : row.is_abstract ≡ false = sym tells ∙ no in let its : is_a row.id (codes "device") ≡ true = ap (λ (k : TypeId). is_a k (codes "device")) same ∙ use in rw (so, its) refl)
+  allowed fails holds = by_row (λ o. None ≡ barred_as o) (λ row same tells. let so : row.is_abstract ≡ false = sym tells ∙ fails in let its : is_a row.id (codes "device") ≡ true = ap (λ (k : TypeId). is_a k (codes "device")) same ∙ holds in rw (so, its) refl)
 
 -- the container
 
@@ -78,35 +81,89 @@ of-gone b v s n wanted gone =
 
 module _ (b : Board) (n : ℕ) (name : List ℕ) where
   pub container-none : is_of b (codes "container") n ≡ false → Some E15 ≡ container_barred b n name
-  container-none no = rw (container_barred, no) refl
+  container-none fails = rw (container_barred, fails) refl
 
   pub container-taken : is_of b (codes "container") n ≡ true → has_slot b n name ≡ true → Some E24 ≡ container_barred b n name
-  container-taken yes taken = rw (container_barred, yes, taken) refl
+  container-taken holds taken = rw (container_barred, holds, taken) refl
 
   pub container-free : is_of b (codes "container") n ≡ true → has_slot b n name ≡ false → None ≡ container_barred b n name
-  container-free yes free = rw (container_barred, yes, free) refl
+  container-free holds free = rw (container_barred, holds, free) refl
 
 -- the same, of a container by its name
 module _ (b : Board) (n m : ℕ) (name : List ℕ) (is : m ≡ n) where
   pub at-container-none : is_of b (codes "container") m ≡ false → Some E15 ≡ container_barred b n name
-  at-container-none no = container-none b n name (ap (is_of b (codes "container")) (sym is) ∙ no)
+  at-container-none fails = container-none b n name (ap (is_of b (codes "container")) (sym is) ∙ fails)
 
   pub at-container-taken : is_of b (codes "container") m ≡ true → has_slot b m name ≡ true → Some E24 ≡ container_barred b n name
-  at-container-taken yes taken = container-taken b n name (ap (is_of b (codes "container")) (sym is) ∙ yes) (ap (λ (k : ℕ). has_slot b k name) (sym is) ∙ taken)
+  at-container-taken holds taken = container-taken b n name (ap (is_of b (codes "container")) (sym is) ∙ holds) (ap (λ (k : ℕ). has_slot b k name) (sym is) ∙ taken)
 
   pub at-container-free : is_of b (codes "container") m ≡ true → has_slot b m name ≡ false → None ≡ container_barred b n name
-  at-container-free yes free = container-free b n name (ap (is_of b (codes "container")) (sym is) ∙ yes) (ap (λ (k : ℕ). has_slot b k name) (sym is) ∙ free)
+  at-container-free holds free = container-free b n name (ap (is_of b (codes "container")) (sym is) ∙ holds) (ap (λ (k : ℕ). has_slot b k name) (sym is) ∙ free)
 
 -- the bus
 module _ (b : Board) (t : TypeId) (m : ℕ) where
   pub bus-other : is_of b (bus_type t) m ≡ false → bus_barred b t (Some m) ≡ Some E26
-  bus-other no = rw (bus_barred, no) refl
+  bus-other fails = rw (bus_barred, fails) refl
 
   pub bus-shut : is_of b (bus_type t) m ≡ true → not (attached b m) || is_going b m ≡ true → bus_barred b t (Some m) ≡ Some E27
-  bus-shut yes shut = rw (bus_barred, yes, shut) refl
+  bus-shut holds shut = rw (bus_barred, holds, shut) refl
 
   pub bus-open : is_of b (bus_type t) m ≡ true → not (attached b m) || is_going b m ≡ false → bus_barred b t (Some m) ≡ None
-  bus-open yes open_is = rw (bus_barred, yes, open_is) refl
+  bus-open holds open_is = rw (bus_barred, holds, open_is) refl
+
+-- where a device goes that names no bus
+module _ (b : Board) (t : TypeId) (v : Objects) (s : Shows b v) where
+  pub own-root : is_a t (codes "slot-device") ≡ true → (o : Option Key) → IfSome o (λ k. k.birth ≡ ROOT_BUS_BIRTH) → IfSome o (λ k. bus_for b t None ≡ Some k.birth)
+  own-root holds None born = tt
+  own-root holds (Some k) born = rw holds (ap Some (sym born))
+
+  pub own-memory : is_a t (codes "slot-device") ≡ false → (o : Option Key) → IfSome o (λ k. k.birth ≡ MEMORY_BUS_BIRTH) → IfSome o (λ k. bus_for b t None ≡ Some k.birth)
+  own-memory fails None born = tt
+  own-memory fails (Some k) born = rw fails (ap Some (sym born))
+
+  pub no-root : is_a t (codes "slot-device") ≡ true → (o : Option Key) → IfNone o (content_of v ROOT_BUS_BIRTH ≡ None) → IfNone o (bus_barred b t (bus_for b t None) ≡ Some E26)
+  no-root holds (Some k) gone = tt
+  no-root holds None gone =
+      let none : is_of b (bus_type t) ROOT_BUS_BIRTH ≡ false = of-gone b v s ROOT_BUS_BIRTH (bus_type t) gone in
+      ap (λ (u : Bool). bus_barred b t (Some (if u then ROOT_BUS_BIRTH else MEMORY_BUS_BIRTH))) holds ∙ bus-other b t ROOT_BUS_BIRTH none
+
+  pub no-memory : is_a t (codes "slot-device") ≡ false → (o : Option Key) → IfNone o (content_of v MEMORY_BUS_BIRTH ≡ None) → IfNone o (bus_barred b t (bus_for b t None) ≡ Some E26)
+  no-memory fails (Some k) gone = tt
+  no-memory fails None gone =
+      let none : is_of b (bus_type t) MEMORY_BUS_BIRTH ≡ false = of-gone b v s MEMORY_BUS_BIRTH (bus_type t) gone in
+      ap (λ (u : Bool). bus_barred b t (Some (if u then ROOT_BUS_BIRTH else MEMORY_BUS_BIRTH))) fails ∙ bus-other b t MEMORY_BUS_BIRTH none
+
+-- the objects of a device, property by property
+module _ {X Y : Type 0} (f : X → Option Y) where
+  fewer : (o : Option Y) (ys : List Y) (n : ℕ) → length ys ≤ n → length (cons_option o ys) ≤ suc n
+  fewer None ys n le = omega (arith, le)
+  fewer (Some y) ys n le = omega (arith, le)
+
+  pub passing-few : (k : ℕ) (xs : List X) → length (filter_map f (take k xs)) ≤ k
+  passing-few zero xs = omega arith
+  passing-few (suc k) [] = omega arith
+  passing-few (suc k) (x ∷ xs) = fewer (f x) (filter_map f (take k xs)) k (passing-few k xs)
+
+pub further-yes : (t : TypeId) (k n : ℕ) (p : Property) → Some p ≡ slice_get (properties_of t) k → n ≡ suc (length (filter_map further_in (take k (properties_of t)))) → is_some (further_in p) ≡ true
+    → n + 1 ≡ suc (length (filter_map further_in (take (k + 1) (properties_of t))))
+further-yes t k n p at is holds = go (further_in p) refl holds
+  where
+    go : (o : Option (List ℕ × TypeId)) → further_in p ≡ o → is_some o ≡ true → n + 1 ≡ suc (length (filter_map further_in (take (k + 1) (properties_of t))))
+    go None e h = absurd (let clash : false ≡ true = h in cc)
+    go (Some x) e h =
+        let more : length (filter_map further_in (take (k + 1) (properties_of t))) ≡ length (filter_map further_in (take k (properties_of t)) ++ x ∷ []) =
+        ap (λ (l : List (List ℕ × TypeId)). length l) (next-slot further_in k (properties_of t) p (sym at) ∙ ap (λ (o : Option (List ℕ × TypeId)). filter_map further_in (take k (properties_of t)) ++ option_to_list o) e) in
+        omega (arith, more, is, length-append (filter_map further_in (take k (properties_of t))) (x ∷ []))
+
+pub further-no : (t : TypeId) (k n : ℕ) (p : Property) → Some p ≡ slice_get (properties_of t) k → n ≡ suc (length (filter_map further_in (take k (properties_of t)))) → is_some (further_in p) ≡ false
+    → n ≡ suc (length (filter_map further_in (take (k + 1) (properties_of t))))
+further-no t k n p at is fails = go (further_in p) refl fails
+  where
+    go : (o : Option (List ℕ × TypeId)) → further_in p ≡ o → is_some o ≡ false → n ≡ suc (length (filter_map further_in (take (k + 1) (properties_of t))))
+    go (Some x) e h = absurd (let clash : true ≡ false = h in cc)
+    go None e h =
+        is ∙ ap (λ (l : List (List ℕ × TypeId)). suc (length l))
+        (sym (next-slot further_in k (properties_of t) p (sym at) ∙ ap (λ (o : Option (List ℕ × TypeId)). filter_map further_in (take k (properties_of t)) ++ option_to_list o) e ∙ append-nil (filter_map further_in (take k (properties_of t)))))
 
 -- the room
 pub many-shown : (b : Board) (v : Objects) → Shows b v → length b.records ≡ length v.rows

@@ -1,12 +1,12 @@
 //! Why a device is refused before anything of it is made: its type, its id, its bus, and the room
 //! for its objects. The first that stands is the refusal, decided on the board before.
 
-ghost use Rattle.std.specs.Prelude.{◌≡◌, ◌≤◌, Err, Some, None, IfNone, IfOk, IfSome, codes, map, option_map};
+ghost use Rattle.std.specs.Prelude.{◌≡◌, ◌≤◌, Err, Some, None, IfNone, IfOk, IfSome, codes, is_some, map, option_map};
 ghost use Rattle.qo_values.specs.declared.codes.Code.{Code};
 ghost use Rattle.qo_values.specs.declared.codes.Code.TheVariants.{E26};
 ghost use Rattle.qo_model.specs.Board.{Board};
 ghost use Rattle.qo_model.specs.Paths.{is_of};
-ghost use Rattle.qo_model.specs.Plug.{bus_barred, bus_for, bus_type, container_barred, objects_in, room_barred, type_barred};
+ghost use Rattle.qo_model.specs.Plug.{bus_barred, bus_for, bus_type, container_barred, further_in, objects_in, room_barred, type_barred};
 ghost use Rattle.qo_model.specs.Types.{is_a, row_named};
 ghost use Rattle.qo_table.specs.Rows.{IsLive};
 ghost use Rattle.qo_heap.specs.Board.{Shows};
@@ -14,7 +14,7 @@ ghost use Rattle.qo_properties.specs.Changes.{refusal_in};
 
 use qo_buses::{is_going, is_of};
 use qo_heap::{Heap, Oid, Steps};
-use qo_model::RowKind;
+use qo_model::{Property, RowKind};
 use qo_paths::{is_attached, resolve};
 use qo_types::TypeTable;
 use qo_values::{Code, LIVE_OBJECTS_MAX, MEMORY_BUS_BIRTH, ROOT_BUS_BIRTH, TypeId};
@@ -90,8 +90,8 @@ fn bus_at<L: Ledger>(
     steps: &mut Steps<L>,
 ) -> Result<Oid, Code>
     ensures live { IfOk result (IsLive heap.now.rows) }
-    ensures bus { (b : Board) → Shows b heap.now → IfOk result (λ o. bus_for b kind (option_map (λ p. p.now) path) ≡ Some o.birth) }
-    ensures refused { (b : Board) (code : Code) → Shows b heap.now → result ≡ Err code → bus_barred b kind (bus_for b kind (option_map (λ p. p.now) path)) ≡ Some code }
+    ensures bus { (b : Board) → Shows b heap.now → IfOk result (λ o. bus_for b kind (option_map (λ p. p.now) path.entry) ≡ Some o.birth) }
+    ensures refused { (b : Board) (code : Code) → Shows b heap.now → result ≡ Err code → bus_barred b kind (bus_for b kind (option_map (λ p. p.now) path.entry)) ≡ Some code }
 {
     match path {
         None => own_bus(heap, kind).ok_or(Code::E26),
@@ -126,8 +126,8 @@ pub fn open_bus<L: Ledger>(
     steps: &mut Steps<L>,
 ) -> Result<Oid, Code>
     ensures live { IfOk result (IsLive heap.now.rows) }
-    ensures bus { (b : Board) → Shows b heap.now → IfOk result (λ o. bus_for b kind (option_map (λ p. p.now) path) ≡ Some o.birth) }
-    ensures refused { (b : Board) → Shows b heap.now → b.pending ≡ map (λ o. o.birth) pending.now → refusal_in result ≡ bus_barred b kind (bus_for b kind (option_map (λ p. p.now) path)) }
+    ensures bus { (b : Board) → Shows b heap.now → IfOk result (λ o. bus_for b kind (option_map (λ p. p.now) path.entry) ≡ Some o.birth) }
+    ensures refused { (b : Board) → Shows b heap.now → b.pending ≡ map (λ o. o.birth) pending.now → refusal_in result ≡ bus_barred b kind (bus_for b kind (option_map (λ p. p.now) path.entry)) }
 {
     let bus = bus_at(heap, kind, path, steps)?;
     if !takes(heap, bus, kind, steps) {
@@ -139,16 +139,25 @@ pub fn open_bus<L: Ledger>(
     Ok(bus)
 }
 
+/// Whether a property is a further object of a device.
+fn is_further(row: Property) -> bool
+    ensures { result ≡ is_some (further_in row) }
+{
+    matches!(row.kind, RowKind::Child(_))
+}
+
 /// How many objects a device of a type is.
 fn objects_in(kind: TypeId) -> usize
     ensures count { result ≡ objects_in kind }
     ensures few { result ≤ 10 }
 {
     let mut count = 1;
-    for row in TypeTable::board().props(kind) {
-        if matches!(row.kind, RowKind::Child(_)) {
+    let mut place = 0;
+    while let Some(row) = TypeTable::board().prop(kind, place) {
+        if is_further(row) {
             count += 1;
         }
+        place += 1;
     }
     count
 }

@@ -162,6 +162,7 @@ pub fn make_device<L: Ledger>(
     steps: &mut Steps<L>,
 ) -> Result<Oid, AllocError>
     ensures made { IfOk result (IsDraft kind heap.old heap.new) }
+    ensures pinned { IfOk result (λ o. 0 < pins_of heap.new o.birth) }
     ensures shown { OnOk result (Makes (λ b. held_draft b kind) heap.old heap.new) }
     ensures grows { OnOk result (Grows heap.old heap.new) }
     ensures err { OnErr result ((b : Board) → Shows b heap.old → SoundTree b → CutShort b kind heap.new) }

@@ -5,6 +5,8 @@
 
 mod barring;
 mod drafting;
+#[cfg(test)]
+mod tests;
 
 pub use barring::{device_kind, open_bus, room, vacant};
 pub use drafting::{give_up, make_device};

@@ -1,7 +1,5 @@
 -- What bars a place in a container.
-use Rattle.std.proofs.Common.{◌≡◌, ap, sym, ◌∙◌, ℕ, codes, false, true}
-use Rattle.qo_model.specs.Board.{Board}
-use Rattle.qo_model.specs.Paths.{is_of}
+use Rattle.std.proofs.Common.{sym, ◌∙◌, codes}
 use Rattle.qo_plug.proofs.BarLemmas.{at-container-free, at-container-none, at-container-taken, container-none, of-gone, taken-is}
 use Rattle.qo_plug.proofs.barring.vacant.Goals as goal
 

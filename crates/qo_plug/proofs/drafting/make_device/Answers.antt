@@ -22,9 +22,17 @@ drop_pin-requires-clause-live g c =
 pub drop_pin-requires-clause-pinned : goal.drop_pin-requires-clause-pinned
 drop_pin-requires-clause-pinned g c =
     let one : pins_of c.make_properties.new.heap c.in_ok-device.device.birth ≡ 1 =
-        draft-pinned c.make_properties.new.heap c.in_ok-device.device.birth c.args.kind
-        (draft-rest c.args.heap.now c.create.new.heap c.make_properties.new.heap c.in_ok-device.device c.args.kind c.facts.ensures c.in_ok-device.ensures.made.0 c.in_ok-device.ensures.made.1
-        c.make_properties.ensures.grows) in
+    draft-pinned c.make_properties.new.heap c.in_ok-device.device.birth c.args.kind
+    (draft-rest c.args.heap.now c.create.new.heap c.make_properties.new.heap c.in_ok-device.device c.args.kind c.facts.ensures c.in_ok-device.ensures.made.0 c.in_ok-device.ensures.made.1
+    c.make_properties.ensures.grows) in
+    omega (arith, one)
+
+pub returns-in-Ok-clause-pinned : goal.returns-in-Ok-clause-pinned
+returns-in-Ok-clause-pinned g c =
+    let one : pins_of c.make_properties.new.heap c.in_ok-device.device.birth ≡ 1 =
+    draft-pinned c.make_properties.new.heap c.in_ok-device.device.birth c.args.kind
+    (draft-rest c.args.heap.now c.create.new.heap c.make_properties.new.heap c.in_ok-device.device c.args.kind c.facts.ensures c.in_ok-device.ensures.made.0 c.in_ok-device.ensures.made.1
+    c.in-Ok.ensures.grows) in
     omega (arith, one)
 
 pub returns-in-Ok-clause-made : goal.returns-in-Ok-clause-made
@@ -50,8 +58,8 @@ returns-in-Ok-clause-book g c =
 pub returns-in-Err-clause-err : goal.returns-in-Err-clause-err
 returns-in-Err-clause-err g c = λ b s sound.
     let place : c.in_ok-device.device.birth ≡ b.born + 1 =
-        at-birth c.args.heap.now c.create.new.heap c.make_properties.new.heap c.in_ok-device.device c.args.kind c.facts.ensures c.in_ok-device.ensures.made.0 c.in_ok-device.ensures.made.1
-        c.in-Err.ensures.grows b s in
+    at-birth c.args.heap.now c.create.new.heap c.make_properties.new.heap c.in_ok-device.device c.args.kind c.facts.ensures c.in_ok-device.ensures.made.0 c.in_ok-device.ensures.made.1
+    c.in-Err.ensures.grows b s in
     fell-short b c.args.kind sound c.create.new.heap c.make_properties.new.heap c.drop_pin.new.heap
     (subst (λ (n : ℕ). Fell n c.args.kind c.create.new.heap c.make_properties.new.heap) place c.in-Err.ensures.err)
     (created-shown c.args.heap.now c.create.new.heap c.make_properties.new.heap c.in_ok-device.device c.args.kind c.facts.ensures c.in_ok-device.ensures.made.0 c.in_ok-device.ensures.made.1
