@@ -6,11 +6,12 @@ use Rattle.std.proofs.lemmas.Bool.{eqb-true}
 use Rattle.std.proofs.lemmas.Option.{same_Some}
 use Rattle.qo_values.specs.Kinds.{type_name}
 use Rattle.qo_values.specs.declared.kinds.TypeId.{TypeId}
+use Rattle.qo_values.specs.declared.properties.Val.{Val}
 use Rattle.qo_slots.specs.declared.keys.Key.{Key}
 use Rattle.qo_table.specs.Rows.{IsLive, Rises, births, edit, object_at}
 use Rattle.qo_object.specs.declared.slots.Slot.{Slot}
 use Rattle.qo_object.specs.declared.slots.Slot.TheVariants.{Link}
-use Rattle.qo_object.specs.Content.{Content, empty_link_at, pointed_at}
+use Rattle.qo_object.specs.Content.{Content, empty_link_at, pointed_at, set_at}
 use Rattle.qo_object.specs.Shown.{shown, shown_slot, shown_slots}
 use Rattle.qo_object.specs.Slots.{Named, changed_at, is_empty_link, pointed, slot_in}
 use Rattle.qo_model.specs.Board as board
@@ -21,14 +22,14 @@ use Rattle.qo_model.specs.Paths.{is_of, only_of}
 use Rattle.qo_model.specs.Plug.{fitted, link_named}
 use Rattle.qo_model.specs.Release.{edited}
 use Rattle.qo_model.specs.Types.{is_a}
-use Rattle.qo_model.specs.Unplug.{is_named}
+use Rattle.qo_model.specs.Unplug.{is_named, set_named}
 use Rattle.qo_notes.specs.Log.{Log, noted_all}
 use Rattle.qo_heap.specs.Objects.{IsHeap, Objects, content_of, slots_of, with_edit}
 use Rattle.qo_heap.specs.Board.{Shows, pins_in, record_of}
 use Rattle.qo_heap.proofs.BookLemmas.{book-edit}
 use Rattle.qo_heap.proofs.HeapLemmas.{live-edit}
 use Rattle.qo_heap.proofs.PlacesLemmas.{position-find}
-use Rattle.qo_heap.proofs.ShowsChanges.{shows-pointed}
+use Rattle.qo_heap.proofs.ShowsChanges.{shows-pointed, shows-set}
 use Rattle.qo_heap.proofs.ShowsLive.{live-content}
 use Rattle.qo_heap.proofs.ShowsReads.{records_of}
 use Rattle.qo_life.specs.Life.{Goes, with_log}
@@ -192,6 +193,33 @@ module _ (v : Objects) (good : IsHeap v) (o : Key) (live : IsLive v.rows o) (nam
       open-link =
           let (c, there) = live-content v o live in
           ap (option_map (λ (d : Content). empty_link_at d i)) there ∙ ap (λ (x : Option Slot). Some (option_map_or is_empty_link x false)) (its-slot c there ∙ ap Some is)
+
+  -- a value that is set
+  pub goes-unset : (val : Val) → None ≡ position (λ (t : Named). bytes_eq name t.0) (slots_of v o.birth) → Goes (set_named o.birth name val) v v
+  goes-unset val e =
+      goes-same (λ b. b) (set_named o.birth name val) v v (goes-none v)
+      (λ b log s. let at : place_from (is_named name) 0 (board.slots_at b o.birth) ≡ None = place-of b log s None e in rw (set_named, at) refl)
+
+  pub goes-set : (val : Val) (i : ℕ) → Some i ≡ position (λ (t : Named). bytes_eq name t.0) (slots_of v o.birth) → Goes (set_named o.birth name val) v (with_edit o.birth (set_at val i) v)
+  unfolding noted_all
+  goes-set val i e =
+      record {
+        more = [];
+        log = refl;
+        shown = λ b log s.
+            let at : place_from (is_named name) 0 (board.slots_at b o.birth) ≡ Some i = place-of b log s (Some i) e in
+            rw (set_named, at) (shows-set b (with_log log v) s o.birth i val);
+        names = live-before_edit o.birth (set_at val i) v.rows;
+        book = λ out h. book-edit out v o.birth (set_at val i) (λ d. refl) h;
+        time = refl;
+        spare = refl;
+      }
+
+  pub set-pins : (w : Objects) (val : Val) (i : ℕ) → w ≡ with_edit o.birth (set_at val i) v → pins_in w.rows ≡ pins_in v.rows
+  set-pins w val i e = ap (λ (x : Objects). pins_in x.rows) e ∙ pins-edited o.birth (set_at val i) (λ c. refl) v.rows
+
+  pub set-live : (w : Objects) (val : Val) (i : ℕ) → w ≡ with_edit o.birth (set_at val i) v → (other : Key) → IsLive v.rows other → IsLive w.rows other
+  set-live w val i e other here = rw e (live-edit o.birth (set_at val i) v.rows other here)
 
   pub point-pins : (w : Objects) (key : Key) (i : ℕ) → w ≡ with_edit o.birth (pointed_at key i) v → pins_in w.rows ≡ pins_in v.rows
   point-pins w key i e = ap (λ (x : Objects). pins_in x.rows) e ∙ pins-edited o.birth (pointed_at key i) (λ c. refl) v.rows

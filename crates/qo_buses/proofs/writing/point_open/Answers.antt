@@ -1,7 +1,7 @@
 -- The slot that is found stays, or it is pointed.
 use Rattle.std.proofs.Common.{Some, ap, ◌∙◌}
 use Rattle.qo_buses.proofs.LinkLemmas.{goes-linked, goes-misfit, goes-unlinked, goes-unnamed, open-link, point-live, point-pins}
-use Rattle.qo_buses.proofs.joining.point_open.Goals as goal
+use Rattle.qo_buses.proofs.writing.point_open.Goals as goal
 
 pub returns-in_default-clause-goes : goal.returns-in_default-clause-goes
 returns-in_default-clause-goes g c =
