@@ -1,5 +1,6 @@
 -- The ids of devices, by place.
-use Rattle.std.proofs.Common.{◌≡◌, refl, ap, sym, ◌∙◌, ℕ, zero, suc, ◌+◌, ◌≤◌, Bool, true, false, ◌||◌, List, [], ◌∷◌, map, length, drop, slice_get, Option, Some, None, option_map, arith}
+use Rattle.std.proofs.Common.{◌≡◌, refl, ap, sym, ◌∙◌, ℕ, zero, suc, ◌+◌, ◌≤◌, Bool, true, false, ◌||◌, List, [], ◌∷◌, map, length, drop, slice_get}
+use Rattle.std.proofs.Common.{Option, Some, None, option_map, arith}
 use Rattle.std.specs.List.{list_any}
 use Rattle.std.specs.Option.{option_and_then, option_map_or}
 use Rattle.std.specs.Str.{bytes_eq}
@@ -12,30 +13,40 @@ use Rattle.qo_heap.specs.Board.{Shows, record_of}
 use Rattle.qo_heap.proofs.PlacesLemmas.{at-key, object-at-place, past-last}
 
 -- the id of the object at a place
-pub id-at : (v : Objects) → IsHeap v → (place : ℕ) (key : Key) (o : Option (List ℕ)) (id : List ℕ) → Some key ≡ option_map (λ (row : Key × Content). row.0) (slice_get v.rows place) → o ≡ option_and_then (λ (c : Content). c.device_id) (content_of v key.birth) → option_map_or (λ (its : List ℕ). bytes_eq its id) o false ≡ option_map_or (λ (row : Key × Content). has_id id (record_of row)) (slice_get v.rows place) false
+pub id-at : (v : Objects) → IsHeap v → (place : ℕ) (key : Key) (o : Option (List ℕ)) (id : List ℕ)
+    → Some key ≡ option_map (λ (row : Key × Content). row.0) (slice_get v.rows place)
+    → o ≡ option_and_then (λ (c : Content). c.device_id) (content_of v key.birth)
+    → option_map_or (λ (its : List ℕ). bytes_eq its id) o false ≡ option_map_or (λ (row : Key × Content). has_id id (record_of row))
+    (slice_get v.rows place) false
 id-at v good place key o id e is =
     let (c, there) = at-key v.rows place key (sym e) in
     let own : content_of v key.birth ≡ Some c = object-at-place v.born v.rows place key c good.rising there in
     let its : o ≡ c.device_id = is ∙ ap (option_and_then (λ (d : Content). d.device_id)) own in
     rw (there, its) refl
 
-pub id-past : (rows : List (Key × Content)) (place : ℕ) (id : List ℕ) → None ≡ option_map (λ (row : Key × Content). row.0) (slice_get rows place) → false ≡ option_map_or (λ (row : Key × Content). has_id id (record_of row)) (slice_get rows place) false
+pub id-past : (rows : List (Key × Content)) (place : ℕ) (id : List ℕ) → None ≡ option_map (λ (row : Key × Content). row.0) (slice_get rows place)
+    → false ≡ option_map_or (λ (row : Key × Content). has_id id (record_of row)) (slice_get rows place) false
 id-past rows place id e = rw (past-last rows place (sym e)) refl
 
 -- whether any behind a place has it
 abbrev pub any_behind : List ℕ → List (Key × Content) → ℕ → Bool
 any_behind id rows place = list_any (λ (row : Key × Content). has_id id (record_of row)) (drop place rows)
 
-any-drop : (id : List ℕ) (rows : List (Key × Content)) (place : ℕ) → any_behind id rows place ≡ (option_map_or (λ (row : Key × Content). has_id id (record_of row)) (slice_get rows place) false || any_behind id rows (suc place))
+any-drop : (id : List ℕ) (rows : List (Key × Content)) (place : ℕ)
+    → any_behind id rows place ≡
+    (option_map_or (λ (row : Key × Content). has_id id (record_of row)) (slice_get rows place) false || any_behind id rows (suc place))
 any-drop id [] zero = refl
 any-drop id [] (suc place) = refl
 any-drop id (row ∷ rows) zero = refl
 any-drop id (row ∷ rows) (suc place) = any-drop id rows place
 
-pub any-here : (id : List ℕ) (rows : List (Key × Content)) (place : ℕ) → option_map_or (λ (row : Key × Content). has_id id (record_of row)) (slice_get rows place) false ≡ true → any_behind id rows place ≡ true
+pub any-here : (id : List ℕ) (rows : List (Key × Content)) (place : ℕ)
+    → option_map_or (λ (row : Key × Content). has_id id (record_of row)) (slice_get rows place) false ≡ true → any_behind id rows place ≡ true
 any-here id rows place is = any-drop id rows place ∙ ap (λ (t : Bool). t || any_behind id rows (suc place)) is
 
-pub any-next : (id : List ℕ) (rows : List (Key × Content)) (place : ℕ) → option_map_or (λ (row : Key × Content). has_id id (record_of row)) (slice_get rows place) false ≡ false → any_behind id rows place ≡ any_behind id rows (place + 1)
+pub any-next : (id : List ℕ) (rows : List (Key × Content)) (place : ℕ)
+    → option_map_or (λ (row : Key × Content). has_id id (record_of row)) (slice_get rows place) false ≡ false
+    → any_behind id rows place ≡ any_behind id rows (place + 1)
 any-next id rows place is =
     let more : suc place ≡ place + 1 = omega arith in
     any-drop id rows place ∙ ap (λ (t : Bool). t || any_behind id rows (suc place)) is ∙ ap (any_behind id rows) more
@@ -46,7 +57,8 @@ any-past id [] (suc place) past = refl
 any-past id (row ∷ rows) zero past = absurd (omega arith)
 any-past id (row ∷ rows) (suc place) past = any-past id rows place (omega arith)
 
-any-rows : (id : List ℕ) (rows : List (Key × Content)) → list_any (has_id id) (map record_of rows) ≡ list_any (λ (row : Key × Content). has_id id (record_of row)) rows
+any-rows : (id : List ℕ) (rows : List (Key × Content))
+    → list_any (has_id id) (map record_of rows) ≡ list_any (λ (row : Key × Content). has_id id (record_of row)) rows
 any-rows id [] = refl
 any-rows id (row ∷ rows) = ap (λ (t : Bool). has_id id (record_of row) || t) (any-rows id rows)
 

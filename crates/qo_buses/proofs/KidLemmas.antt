@@ -1,5 +1,6 @@
 -- The kids of a bus by the names of its slots, and what a walk over slots gives first.
-use Rattle.std.proofs.Common.{◌≡◌, refl, ap, sym, ◌∙◌, ℕ, zero, suc, ◌+◌, ◌-◌, ◌<◌, ◌≤◌, Bool, true, false, List, [], ◌∷◌, length, drop, find, slice_get, Option, Some, None, is_some, option_map, arith}
+use Rattle.std.proofs.Common.{◌≡◌, refl, ap, sym, ◌∙◌, ℕ, zero, suc, ◌+◌, ◌-◌, ◌<◌, ◌≤◌, Bool, true, false, List, [], ◌∷◌, length, drop, find, slice_get}
+use Rattle.std.proofs.Common.{Option, Some, None, is_some, option_map, arith}
 use Rattle.std.specs.Prelude.{filter_map}
 use Rattle.std.specs.List.{cons_option, list_any}
 use Rattle.std.specs.Option.{option_and_then, option_map_or}
@@ -53,7 +54,8 @@ unfolding least
 least-past test i n past = let none : n - i ≡ 0 = omega arith in rw none refl
 
 -- whether there is a slot of a name
-any-shown : (name : List ℕ) (slots : List Named) → list_any (λ (s : List ℕ × board.Slot). bytes_eq s.0 name) (shown_slots slots) ≡ list_any (λ (t : Named). bytes_eq name t.0) slots
+any-shown : (name : List ℕ) (slots : List Named)
+    → list_any (λ (s : List ℕ × board.Slot). bytes_eq s.0 name) (shown_slots slots) ≡ list_any (λ (t : Named). bytes_eq name t.0) slots
 any-shown name [] = refl
 any-shown name (t ∷ slots) = rw (nat_list_eq_equiv.symm t.0 name, any-shown name slots) refl
 
@@ -61,7 +63,8 @@ some-map : {X Y : Type 0} (f : X → Y) (o : Option X) → is_some o ≡ is_some
 some-map f None = refl
 some-map f (Some x) = refl
 
-pub has-shown : {X : Type 0} (f : X → Named) (o : Option X) (b : board.Board) (v : Objects) → Shows b v → (n : ℕ) (name : List ℕ) → option_map f o ≡ find (λ (t : Named). bytes_eq name t.0) (slots_of v n) → is_some o ≡ has_slot b n name
+pub has-shown : {X : Type 0} (f : X → Named) (o : Option X) (b : board.Board) (v : Objects) → Shows b v → (n : ℕ) (name : List ℕ)
+    → option_map f o ≡ find (λ (t : Named). bytes_eq name t.0) (slots_of v n) → is_some o ≡ has_slot b n name
 has-shown f o b v s n name found =
     some-map f o ∙ ap is_some found ∙ is_some-find (λ (t : Named). bytes_eq name t.0) (slots_of v n)
     ∙ sym (ap (list_any (λ (t : List ℕ × board.Slot). bytes_eq t.0 name)) (shows-slots b v s n) ∙ any-shown name (slots_of v n))
@@ -117,7 +120,8 @@ first-is b n = go (buses_of b n)
 pub slot-live : (v : Objects) → IsHeap v → (n i : ℕ) (t : Named) → Some t ≡ slice_get (slots_of v n) i → IfSome (target_of t.1) (IsLive v.rows)
 slot-live v good n i t e = go (content_of v n) refl (sym e)
   where
-    go : (o : Option Content) → content_of v n ≡ o → slice_get (option_map_or (λ (c : Content). c.slots) o []) i ≡ Some t → IfSome (target_of t.1) (IsLive v.rows)
+    go : (o : Option Content) → content_of v n ≡ o → slice_get (option_map_or (λ (c : Content). c.slots) o []) i ≡ Some t
+        → IfSome (target_of t.1) (IsLive v.rows)
     go None is found = cc
     go (Some c) is found = by (target_of t.1) refl
       where

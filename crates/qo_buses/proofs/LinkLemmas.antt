@@ -1,5 +1,6 @@
 -- A link that is pointed where it stands empty and its target is of its type.
-use Rattle.std.proofs.Common.{◌≡◌, refl, ap, sym, ◌∙◌, ℕ, zero, suc, ◌<◌, ◌≤◌, Bool, true, false, eqb, List, [], ◌∷◌, ◌++◌, map, replicate, find, position, slice_get, option_map, Option, Some, None, arith}
+use Rattle.std.proofs.Common.{◌≡◌, refl, ap, sym, ◌∙◌, ℕ, zero, suc, ◌<◌, ◌≤◌, Bool, true, false, eqb, List, [], ◌∷◌, ◌++◌, map, replicate, find}
+use Rattle.std.proofs.Common.{position, slice_get, option_map, Option, Some, None, arith}
 use Rattle.std.specs.Option.{option_map_or}
 use Rattle.std.specs.Str.{bytes_eq}
 use Rattle.std.proofs.lemmas.Bool.{eqb-true}
@@ -39,22 +40,27 @@ use Rattle.qo_buses.proofs.WayLemmas.{of-is}
 
 -- one object edited: it alone has its birth
 module _ (n : ℕ) (f : Content → Content) (g : board.Record → board.Record) where
-  records-later : (above last : ℕ) (rows : List (Key × Content)) → n ≤ above → Rises above (births rows) last → records_of (edit n f rows) ≡ map (edited n g) (records_of rows)
+  records-later : (above last : ℕ) (rows : List (Key × Content)) → n ≤ above → Rises above (births rows) last
+      → records_of (edit n f rows) ≡ map (edited n g) (records_of rows)
   records-later above last [] le rises = refl
   records-later above last (row ∷ rows) le rises =
       let up : above < row.0.birth = rises.0 in
       let other : eqb row.0.birth n ≡ false = grind arith in
       rw other (ap (λ (rs : List board.Record). record_of row ∷ rs) (records-later row.0.birth last rows (omega arith) rises.1))
 
-  records-at : (above last : ℕ) (rows : List (Key × Content)) (c : Content) → Rises above (births rows) last → object_at rows n ≡ Some c → shown n (f c) ≡ g (shown n c) → records_of (edit n f rows) ≡ map (edited n g) (records_of rows)
+  records-at : (above last : ℕ) (rows : List (Key × Content)) (c : Content) → Rises above (births rows) last → object_at rows n ≡ Some c
+      → shown n (f c) ≡ g (shown n c) → records_of (edit n f rows) ≡ map (edited n g) (records_of rows)
   records-at above last [] c rises there same = cc
   records-at above last (row ∷ rows) c rises there same = go (eqb row.0.birth n) refl (records-at row.0.birth last rows c rises.1)
     where
-      go : (t : Bool) → eqb row.0.birth n ≡ t → (object_at rows n ≡ Some c → shown n (f c) ≡ g (shown n c) → records_of (edit n f rows) ≡ map (edited n g) (records_of rows)) → records_of (edit n f (row ∷ rows)) ≡ map (edited n g) (records_of (row ∷ rows))
+      go : (t : Bool) → eqb row.0.birth n ≡ t
+          → (object_at rows n ≡ Some c → shown n (f c) ≡ g (shown n c) → records_of (edit n f rows) ≡ map (edited n g) (records_of rows))
+          → records_of (edit n f (row ∷ rows)) ≡ map (edited n g) (records_of (row ∷ rows))
       go true is rest =
           let at : row.0.birth ≡ n = eqb-true row.0.birth n is in
           let own : row.1 ≡ c = same_Some row.1 c (rw is at there) in
-          let here : shown row.0.birth (f row.1) ≡ g (shown row.0.birth row.1) = (λ j. shown (at j) (f (own j))) ∙ same ∙ (λ j. g (shown (sym at j) (sym own j))) in
+          let here : shown row.0.birth (f row.1) ≡ g (shown row.0.birth row.1) = (λ j. shown (at j) (f (own j))) ∙ same
+          ∙ (λ j. g (shown (sym at j) (sym own j))) in
           let later = records-later row.0.birth last rows (omega arith) rises.1 in
           rw is (λ j. here j ∷ later j)
       go false is rest = rw is (ap (λ (rs : List board.Record). record_of row ∷ rs) (rest (rw is at there) same))
@@ -64,12 +70,14 @@ edit-nothing : (n : ℕ) (rows : List (Key × Content)) → records_of (edit n (
 edit-nothing n [] = refl
 edit-nothing n (row ∷ rows) = go (eqb row.0.birth n) refl (edit-nothing n rows)
   where
-    go : (t : Bool) → eqb row.0.birth n ≡ t → records_of (edit n (λ (c : Content). c) rows) ≡ records_of rows → records_of (edit n (λ (c : Content). c) (row ∷ rows)) ≡ records_of (row ∷ rows)
+    go : (t : Bool) → eqb row.0.birth n ≡ t → records_of (edit n (λ (c : Content). c) rows) ≡ records_of rows
+        → records_of (edit n (λ (c : Content). c) (row ∷ rows)) ≡ records_of (row ∷ rows)
     go true is rest = rw is (ap (λ (rs : List board.Record). record_of row ∷ rs) rest)
     go false is rest = rw is (ap (λ (rs : List board.Record). record_of row ∷ rs) rest)
 
 -- one slot changed
-changed-shown : (f : Slot → Slot) (g : board.Slot → board.Slot) (i : ℕ) (slots : List Named) (s : Slot) → slot_in slots i ≡ Some s → shown_slot (f s) ≡ g (shown_slot s) → shown_slots (changed_at f i slots) ≡ changes.changed_at g i (shown_slots slots)
+changed-shown : (f : Slot → Slot) (g : board.Slot → board.Slot) (i : ℕ) (slots : List Named) (s : Slot) → slot_in slots i ≡ Some s
+    → shown_slot (f s) ≡ g (shown_slot s) → shown_slots (changed_at f i slots) ≡ changes.changed_at g i (shown_slots slots)
 changed-shown f g i [] s at same = refl
 changed-shown f g zero (t ∷ slots) s at same =
     let is : t.1 ≡ s = same_Some t.1 s at in
@@ -77,7 +85,8 @@ changed-shown f g zero (t ∷ slots) s at same =
     ap (λ (x : board.Slot). (t.0, x) ∷ shown_slots slots) here
 changed-shown f g (suc i) (t ∷ slots) s at same = ap (λ (ss : List (List ℕ × board.Slot)). (t.0, shown_slot t.1) ∷ ss) (changed-shown f g i slots s at same)
 
-kept-shown : (g : board.Slot → board.Slot) (i : ℕ) (slots : List Named) (s : Slot) → slot_in slots i ≡ Some s → shown_slot s ≡ g (shown_slot s) → shown_slots slots ≡ changes.changed_at g i (shown_slots slots)
+kept-shown : (g : board.Slot → board.Slot) (i : ℕ) (slots : List Named) (s : Slot) → slot_in slots i ≡ Some s → shown_slot s ≡ g (shown_slot s)
+    → shown_slots slots ≡ changes.changed_at g i (shown_slots slots)
 kept-shown g i [] s at same = refl
 kept-shown g zero (t ∷ slots) s at same =
     let is : t.1 ≡ s = same_Some t.1 s at in
@@ -92,36 +101,62 @@ module _ (b : board.Board) (v : Objects) (s : Shows b v) (good : IsHeap v) (n : 
 
   module _ (i : ℕ) (at : place_from (is_named name) 0 (board.slots_at b n) ≡ Some i) (c : Content) (there : content_of v n ≡ Some c) where
     -- a slot that stays
-    pub shows-unlinked : (m : ℕ) (what : Slot) → slot_in c.slots i ≡ Some what → fitted b m (shown_slot what) ≡ shown_slot what → Shows (link_named n name m b) v
+    pub shows-unlinked : (m : ℕ) (what : Slot) → slot_in c.slots i ≡ Some what → fitted b m (shown_slot what) ≡ shown_slot what
+        → Shows (link_named n name m b) v
     shows-unlinked m what is same =
         let its = kept-shown (fitted b m) i c.slots what is (sym same) in
-        let rows = records-at n (λ (x : Content). x) (with_changed (fitted b m) i) 0 v.born v.rows c good.rising there (ap (λ (ss : List (List ℕ × board.Slot)). record (shown n c) { slots = ss }) its) in
-        rw (link_named, at) (record { records = ap (map (edited n (with_changed (fitted b m) i))) s.records ∙ sym rows ∙ edit-nothing n v.rows; born = s.born; pins = s.pins; notes = s.notes; events = s.events; now = s.now })
+        let rows =
+        records-at n (λ (x : Content). x) (with_changed (fitted b m) i) 0 v.born v.rows c good.rising there
+        (ap (λ (ss : List (List ℕ × board.Slot)). record (shown n c) { slots = ss }) its) in
+        rw (link_named, at) (record {
+          records = ap (map (edited n (with_changed (fitted b m) i))) s.records ∙ sym rows
+              ∙ edit-nothing n v.rows;
+          born = s.born;
+          pins = s.pins;
+          notes = s.notes;
+          events = s.events;
+          now = s.now;
+        })
 
     -- a link that is pointed
-    pub shows-linked : (key : Key) (what : Slot) → slot_in c.slots i ≡ Some what → shown_slot (pointed key what) ≡ fitted b key.birth (shown_slot what) → Shows (link_named n name key.birth b) (with_edit n (pointed_at key i) v)
+    pub shows-linked : (key : Key) (what : Slot) → slot_in c.slots i ≡ Some what → shown_slot (pointed key what) ≡ fitted b key.birth (shown_slot what)
+        → Shows (link_named n name key.birth b) (with_edit n (pointed_at key i) v)
     unfolding changes.point
     shows-linked key what is same =
         let its = changed-shown (pointed key) (fitted b key.birth) i c.slots what is same in
-        let rows = records-at n (pointed_at key i) (with_changed (fitted b key.birth) i) 0 v.born v.rows c good.rising there (ap (λ (ss : List (List ℕ × board.Slot)). record (shown n c) { slots = ss }) its) in
+        let rows =
+        records-at n (pointed_at key i) (with_changed (fitted b key.birth) i) 0 v.born v.rows c good.rising there
+        (ap (λ (ss : List (List ℕ × board.Slot)). record (shown n c) { slots = ss }) its) in
         let all = shows-pointed b v s n i key in
-        rw (link_named, at) (record { records = ap (map (edited n (with_changed (fitted b key.birth) i))) s.records ∙ sym rows; born = all.born; pins = all.pins; notes = all.notes; events = all.events; now = all.now })
+        rw (link_named, at) (record {
+          records = ap (map (edited n (with_changed (fitted b key.birth) i))) s.records
+              ∙ sym rows;
+          born = all.born;
+          pins = all.pins;
+          notes = all.notes;
+          events = all.events;
+          now = all.now;
+        })
 
 -- what a link comes to
-pub fits-strong : (b : board.Board) (t : TypeId) (strong : Bool) (key : Key) → is_of b (type_name t) key.birth ≡ true → shown_slot (pointed key (Link t strong None)) ≡ fitted b key.birth (shown_slot (Link t strong None))
+pub fits-strong : (b : board.Board) (t : TypeId) (strong : Bool) (key : Key) → is_of b (type_name t) key.birth ≡ true
+    → shown_slot (pointed key (Link t strong None)) ≡ fitted b key.birth (shown_slot (Link t strong None))
 fits-strong b t true key is = rw (fitted, only_of, is) refl
 fits-strong b t false key is = rw (fitted, only_of, is) refl
 
-pub fits-not : (b : board.Board) (t : TypeId) (strong : Bool) (m : ℕ) → is_of b (type_name t) m ≡ false → fitted b m (shown_slot (Link t strong None)) ≡ shown_slot (Link t strong None)
+pub fits-not : (b : board.Board) (t : TypeId) (strong : Bool) (m : ℕ) → is_of b (type_name t) m ≡ false
+    → fitted b m (shown_slot (Link t strong None)) ≡ shown_slot (Link t strong None)
 fits-not b t true m is = rw (fitted, only_of, is) refl
 fits-not b t false m is = rw (fitted, only_of, is) refl
 
-pub closed-link : (b : board.Board) (m : ℕ) (t : TypeId) (strong : Bool) (key : Key) → fitted b m (shown_slot (Link t strong (Some key))) ≡ shown_slot (Link t strong (Some key))
+pub closed-link : (b : board.Board) (m : ℕ) (t : TypeId) (strong : Bool) (key : Key)
+    → fitted b m (shown_slot (Link t strong (Some key))) ≡ shown_slot (Link t strong (Some key))
 closed-link b m t true key = refl
 closed-link b m t false key = refl
 
 -- the type of an object, on the boards of the heap
-of-fits : (b : board.Board) (v : Objects) → Shows b v → (n : ℕ) (wanted : List ℕ) (t : Bool) → option_map (λ (c : Content). is_a c.kind wanted) (content_of v n) ≡ Some t → is_of b wanted n ≡ t
+of-fits : (b : board.Board) (v : Objects) → Shows b v → (n : ℕ) (wanted : List ℕ) (t : Bool)
+    → option_map (λ (c : Content). is_a c.kind wanted) (content_of v n) ≡ Some t → is_of b wanted n ≡ t
 of-fits b v s n wanted t is = go (content_of v n) refl is
   where
     go : (o : Option Content) → content_of v n ≡ o → option_map (λ (c : Content). is_a c.kind wanted) o ≡ Some t → is_of b wanted n ≡ t
@@ -139,28 +174,34 @@ pins-edited n f same (row ∷ rows) = go (eqb row.0.birth n) refl (pins-edited n
 -- the steps of the heap
 
 module _ (v : Objects) (good : IsHeap v) (o : Key) (live : IsLive v.rows o) (name : List ℕ) where
-  place-of : (b : board.Board) (log : Log) → Shows b (with_log log v) → (i : Option ℕ) → i ≡ position (λ (t : Named). bytes_eq name t.0) (slots_of v o.birth) → place_from (is_named name) 0 (board.slots_at b o.birth) ≡ i
+  place-of : (b : board.Board) (log : Log) → Shows b (with_log log v) → (i : Option ℕ)
+      → i ≡ position (λ (t : Named). bytes_eq name t.0) (slots_of v o.birth) → place_from (is_named name) 0 (board.slots_at b o.birth) ≡ i
   place-of b log s i e = shows-place_from (is_named name) b (with_log log v) s o.birth ∙ named-place name (slots_of v o.birth) ∙ sym e
 
   pub goes-unnamed : (m : ℕ) → None ≡ position (λ (t : Named). bytes_eq name t.0) (slots_of v o.birth) → Goes (link_named o.birth name m) v v
   goes-unnamed m e =
-      goes-same (λ b. b) (link_named o.birth name m) v v (goes-none v) (λ b log s. link-unnamed b (with_log log v) s (heap-with_log v log good) o.birth name m (place-of b log s None e))
+      goes-same (λ b. b) (link_named o.birth name m) v v (goes-none v)
+      (λ b log s. link-unnamed b (with_log log v) s (heap-with_log v log good) o.birth name m (place-of b log s None e))
 
-  module _ (i : ℕ) (at : Some i ≡ position (λ (t : Named). bytes_eq name t.0) (slots_of v o.birth)) (t : Named) (found : Some t ≡ find (λ (u : Named). bytes_eq name u.0) (slots_of v o.birth)) where
+  module _ (i : ℕ) (at : Some i ≡ position (λ (t : Named). bytes_eq name t.0) (slots_of v o.birth)) (t : Named)
+      (found : Some t ≡ find (λ (u : Named). bytes_eq name u.0) (slots_of v o.birth)) where
     its-slot : (c : Content) → content_of v o.birth ≡ Some c → slot_in c.slots i ≡ Some t.1
     its-slot c there =
         let slots : slots_of v o.birth ≡ c.slots = ap (λ (x : Option Content). option_map_or (λ (d : Content). d.slots) x []) there in
         let stands : slice_get (slots_of v o.birth) i ≡ Some t = position-find (λ (u : Named). bytes_eq name u.0) (slots_of v o.birth) i (sym at) ∙ sym found in
         ap (λ (l : List Named). slot_in l i) (sym slots) ∙ ap (option_map (λ (u : Named). u.1)) stands
 
-    pub goes-unlinked : (m : ℕ) → ((b : board.Board) (log : Log) → Shows b (with_log log v) → fitted b m (shown_slot t.1) ≡ shown_slot t.1) → Goes (link_named o.birth name m) v v
+    pub goes-unlinked : (m : ℕ) → ((b : board.Board) (log : Log) → Shows b (with_log log v) → fitted b m (shown_slot t.1) ≡ shown_slot t.1)
+        → Goes (link_named o.birth name m) v v
     unfolding noted_all
     goes-unlinked m same =
         let (c, there) = live-content v o live in
         record {
           more = [];
           log = refl;
-          shown = λ b log s. shows-unlinked b (with_log log v) s (heap-with_log v log good) o.birth name i (place-of b log s (Some i) at) c there m t.1 (its-slot c there) (same b log s);
+          shown =
+              λ b log s. shows-unlinked b (with_log log v) s (heap-with_log v log good) o.birth name i (place-of b log s (Some i) at) c there m t.1
+              (its-slot c there) (same b log s);
           names = λ key here. here;
           book = λ out h. h;
           time = refl;
@@ -168,12 +209,15 @@ module _ (v : Objects) (good : IsHeap v) (o : Key) (live : IsLive v.rows o) (nam
         }
 
     module _ (ty : TypeId) (strong : Bool) (is : t.1 ≡ Link ty strong None) where
-      pub goes-misfit : (key : Key) → option_map (λ (c : Content). is_a c.kind (type_name ty)) (content_of v key.birth) ≡ Some false → Goes (link_named o.birth name key.birth) v v
+      pub goes-misfit : (key : Key) → option_map (λ (c : Content). is_a c.kind (type_name ty)) (content_of v key.birth) ≡ Some false
+          → Goes (link_named o.birth name key.birth) v v
       goes-misfit key fits =
           goes-unlinked key.birth
-          (λ b log s. ap (λ (x : Slot). fitted b key.birth (shown_slot x)) is ∙ fits-not b ty strong key.birth (of-fits b (with_log log v) s key.birth (type_name ty) false fits) ∙ ap shown_slot (sym is))
+          (λ b log s. ap (λ (x : Slot). fitted b key.birth (shown_slot x)) is
+          ∙ fits-not b ty strong key.birth (of-fits b (with_log log v) s key.birth (type_name ty) false fits) ∙ ap shown_slot (sym is))
 
-      pub goes-linked : (key : Key) → option_map (λ (c : Content). is_a c.kind (type_name ty)) (content_of v key.birth) ≡ Some true → Goes (link_named o.birth name key.birth) v (with_edit o.birth (pointed_at key i) v)
+      pub goes-linked : (key : Key) → option_map (λ (c : Content). is_a c.kind (type_name ty)) (content_of v key.birth) ≡ Some true
+          → Goes (link_named o.birth name key.birth) v (with_edit o.birth (pointed_at key i) v)
       unfolding noted_all
       goes-linked key fits =
           let (c, there) = live-content v o live in
@@ -182,7 +226,9 @@ module _ (v : Objects) (good : IsHeap v) (o : Key) (live : IsLive v.rows o) (nam
             log = refl;
             shown = λ b log s.
                 shows-linked b (with_log log v) s (heap-with_log v log good) o.birth name i (place-of b log s (Some i) at) c there key t.1 (its-slot c there)
-                (ap (λ (x : Slot). shown_slot (pointed key x)) is ∙ fits-strong b ty strong key (of-fits b (with_log log v) s key.birth (type_name ty) true fits) ∙ ap (λ (x : Slot). fitted b key.birth (shown_slot x)) (sym is));
+                (ap (λ (x : Slot). shown_slot (pointed key x)) is
+                ∙ fits-strong b ty strong key (of-fits b (with_log log v) s key.birth (type_name ty) true fits)
+                ∙ ap (λ (x : Slot). fitted b key.birth (shown_slot x)) (sym is));
             names = live-before_edit o.birth (pointed_at key i) v.rows;
             book = λ out h. book-edit out v o.birth (pointed_at key i) (λ d. refl) h;
             time = refl;
@@ -192,7 +238,8 @@ module _ (v : Objects) (good : IsHeap v) (o : Key) (live : IsLive v.rows o) (nam
       pub open-link : option_map (λ (c : Content). empty_link_at c i) (content_of v o.birth) ≡ Some true
       open-link =
           let (c, there) = live-content v o live in
-          ap (option_map (λ (d : Content). empty_link_at d i)) there ∙ ap (λ (x : Option Slot). Some (option_map_or is_empty_link x false)) (its-slot c there ∙ ap Some is)
+          ap (option_map (λ (d : Content). empty_link_at d i)) there
+          ∙ ap (λ (x : Option Slot). Some (option_map_or is_empty_link x false)) (its-slot c there ∙ ap Some is)
 
   -- a value that is set
   pub goes-unset : (val : Val) → None ≡ position (λ (t : Named). bytes_eq name t.0) (slots_of v o.birth) → Goes (set_named o.birth name val) v v
@@ -200,7 +247,8 @@ module _ (v : Objects) (good : IsHeap v) (o : Key) (live : IsLive v.rows o) (nam
       goes-same (λ b. b) (set_named o.birth name val) v v (goes-none v)
       (λ b log s. let at : place_from (is_named name) 0 (board.slots_at b o.birth) ≡ None = place-of b log s None e in rw (set_named, at) refl)
 
-  pub goes-set : (val : Val) (i : ℕ) → Some i ≡ position (λ (t : Named). bytes_eq name t.0) (slots_of v o.birth) → Goes (set_named o.birth name val) v (with_edit o.birth (set_at val i) v)
+  pub goes-set : (val : Val) (i : ℕ) → Some i ≡ position (λ (t : Named). bytes_eq name t.0) (slots_of v o.birth)
+      → Goes (set_named o.birth name val) v (with_edit o.birth (set_at val i) v)
   unfolding noted_all
   goes-set val i e =
       record {

@@ -1,5 +1,6 @@
 -- The names of devices in their containers are names.
-use Rattle.std.proofs.Common.{◌≡◌, refl, subst, sym, ap, ◌∙◌, ℕ, ◌+◌, ◌^◌, ◌<◌, ◌≤◌, Bool, true, ◌&&◌, codes, List, [], ◌∷◌, ◌++◌, length, length-append, lit<, arith}
+use Rattle.std.proofs.Common.{◌≡◌, refl, subst, sym, ap, ◌∙◌, ℕ, ◌+◌, ◌^◌, ◌<◌, ◌≤◌, Bool, true, ◌&&◌, codes, List, [], ◌∷◌, ◌++◌, length, length-append}
+use Rattle.std.proofs.Common.{lit<, arith}
 use Rattle.std.specs.Prelude.{decimal}
 use Rattle.std.specs.Int.{IsInRange}
 use Rattle.std.specs.List.{list_all}
@@ -33,7 +34,10 @@ anonymous-named n text fits is = subst (λ (t : List ℕ). IsName t) (sym is) na
     all : list_all is_name_byte (anonymous_name n) ≡ true
     all =
         list_all-append is_name_byte (codes "device[" ++ decimal n) (codes "]")
-        ∙ ap (λ (t : Bool). t && list_all is_name_byte (codes "]")) (list_all-append is_name_byte (codes "device[") (decimal n) ∙ ap (λ (t : Bool). list_all is_name_byte (codes "device[") && t) (digits-named (decimal n) (decimal_is_IsNumeral n fits).0.1))
+        ∙ ap (λ (t : Bool). t && list_all is_name_byte (codes "]"))
+        (list_all-append is_name_byte
+        (codes "device[") (decimal n)
+        ∙ ap (λ (t : Bool). list_all is_name_byte (codes "device[") && t) (digits-named (decimal n) (decimal_is_IsNumeral n fits).0.1))
 
     named : IsName (anonymous_name n)
     named = record { some = omega (arith, size); short = omega (arith, size, few); printable = all }

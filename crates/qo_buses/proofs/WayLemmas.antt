@@ -1,5 +1,6 @@
 -- The way up from a bus, turn by turn.
-use Rattle.std.proofs.Common.{◌≡◌, refl, ap, sym, ◌∙◌, ℕ, suc, ◌+◌, ◌<◌, ◌≤◌, Bool, true, false, codes, List, [], ◌∷◌, map, length, eqb, Option, Some, None, arith}
+use Rattle.std.proofs.Common.{◌≡◌, refl, ap, sym, ◌∙◌, ℕ, suc, ◌+◌, ◌<◌, ◌≤◌, Bool, true, false, codes, List, [], ◌∷◌, map, length, eqb, Option, Some}
+use Rattle.std.proofs.Common.{None, arith}
 use Rattle.std.specs.Option.{option_and_then, option_map_or}
 use Rattle.qo_values.specs.declared.kinds.TypeId.{TypeId}
 use Rattle.qo_object.specs.Content.{Content}
@@ -20,7 +21,8 @@ use Rattle.std.specs.Prelude.{if◌then◌else◌, option_map}
 use Rattle.std.specs.List.{list_any}
 
 -- whether an object is of a type, by its type in the heap
-pub of-is : (b : Board) (v : Objects) → Shows b v → (n : ℕ) (kind : TypeId) (wanted : List ℕ) → option_map (λ (c : Content). c.kind) (content_of v n) ≡ Some kind → is_of b wanted n ≡ is_a kind wanted
+pub of-is : (b : Board) (v : Objects) → Shows b v → (n : ℕ) (kind : TypeId) (wanted : List ℕ)
+    → option_map (λ (c : Content). c.kind) (content_of v n) ≡ Some kind → is_of b wanted n ≡ is_a kind wanted
 of-is b v s n kind wanted is = ap (λ (o : Option TypeId). option_map_or (λ (k : TypeId). is_a k wanted) o false) (shows-kind b v s n ∙ is)
 
 -- as many births as objects
@@ -36,7 +38,8 @@ pub within : (turn live size : ℕ) → turn < live + 1 → live ≡ size → tu
 within turn live size below same = omega arith
 
 -- the parent, where it is a device
-pub bridge-is : (b : Board) (v : Objects) → Shows b v → (n : ℕ) (o : Option Key) → parent_of v n ≡ o → bridge_of b n ≡ option_and_then (λ (p : ℕ). if is_of b (codes "device") p then Some p else None) (birth_of o)
+pub bridge-is : (b : Board) (v : Objects) → Shows b v → (n : ℕ) (o : Option Key) → parent_of v n ≡ o
+    → bridge_of b n ≡ option_and_then (λ (p : ℕ). if is_of b (codes "device") p then Some p else None) (birth_of o)
 bridge-is b v s n o is = ap (option_and_then (λ (p : ℕ). if is_of b (codes "device") p then Some p else None)) (shows-parent b v s n ∙ ap birth_of is)
 
 -- the objects of a removal, by their births
@@ -51,7 +54,8 @@ depth_left b size i n = left_at (depth_turn b) (λ _. 0) size i n
 pub depth-first : (b : Board) (v : Objects) → Shows b v → (n : ℕ) → 0 + depth_left b (length v.rows) 0 n ≡ depth_of b n
 unfolding depth_of
 depth-first b v s n =
-    let all : depth_left b (length v.rows) 0 n ≡ by_depth (depth_turn b) (λ _. 0) (suc (length v.rows)) n = depth-all (depth_turn b) (λ _. 0) (length v.rows) n in
+    let all : depth_left b (length v.rows) 0 n ≡ by_depth (depth_turn b) (λ _. 0) (suc (length v.rows)) n =
+    depth-all (depth_turn b) (λ _. 0) (length v.rows) n in
     let none : 0 + depth_left b (length v.rows) 0 n ≡ depth_left b (length v.rows) 0 n = omega arith in
     none ∙ all ∙ ap (λ (k : ℕ). by_depth (depth_turn b) (λ _. 0) (suc k) n) (sym (size-shown b v s))
 
@@ -60,7 +64,8 @@ depth-top b size i n whole below none is =
     let last : depth_left b size i n ≡ 0 = depth-turn (depth_turn b) (λ _. 0) size i n below ∙ rw (none, depth_turn) refl in
     omega arith
 
-pub depth-up : (b : Board) (size i n m whole : ℕ) → i < size + 1 → bus_above b n ≡ Some m → i + depth_left b size i n ≡ whole → (i + 1) + depth_left b size (i + 1) m ≡ whole
+pub depth-up : (b : Board) (size i n m whole : ℕ) → i < size + 1 → bus_above b n ≡ Some m → i + depth_left b size i n ≡ whole
+    → (i + 1) + depth_left b size (i + 1) m ≡ whole
 depth-up b size i n m whole below up is =
     let next : depth_left b size i n ≡ suc (depth_left b size (i + 1) m) = depth-turn (depth_turn b) (λ _. 0) size i n below ∙ rw (up, depth_turn) refl in
     omega arith
@@ -85,10 +90,12 @@ going-none b size i n below none = depth-turn (going_turn b) (λ _. false) size 
 pub going-here : (b : Board) (size i n d : ℕ) → i < size + 1 → bridge_of b n ≡ Some d → among b.pending d ≡ true → going_left b size i n ≡ true
 going-here b size i n d below up is = depth-turn (going_turn b) (λ _. false) size i n below ∙ rw (up, going_turn, is) refl
 
-pub going-top : (b : Board) (size i n d : ℕ) → i < size + 1 → bridge_of b n ≡ Some d → among b.pending d ≡ false → bus_of b d ≡ None → going_left b size i n ≡ false
+pub going-top : (b : Board) (size i n d : ℕ) → i < size + 1 → bridge_of b n ≡ Some d → among b.pending d ≡ false → bus_of b d ≡ None
+    → going_left b size i n ≡ false
 going-top b size i n d below up not none = depth-turn (going_turn b) (λ _. false) size i n below ∙ rw (up, going_turn, not, none) refl
 
-pub going-up : (b : Board) (size i n d m : ℕ) → i < size + 1 → bridge_of b n ≡ Some d → among b.pending d ≡ false → bus_of b d ≡ Some m → going_left b size i n ≡ going_left b size (i + 1) m
+pub going-up : (b : Board) (size i n d m : ℕ) → i < size + 1 → bridge_of b n ≡ Some d → among b.pending d ≡ false → bus_of b d ≡ Some m
+    → going_left b size i n ≡ going_left b size (i + 1) m
 going-up b size i n d m below up not above = depth-turn (going_turn b) (λ _. false) size i n below ∙ rw (up, going_turn, not, above) refl
 
 pub going-past : (b : Board) (size i n : ℕ) → size + 1 ≤ i → going_left b size i n ≡ false

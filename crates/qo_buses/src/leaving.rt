@@ -3,7 +3,7 @@
 ghost use Rattle.std.specs.Prelude.{◌≡◌, true, Some, IfSome, option_map};
 ghost use Rattle.qo_model.specs.Board.{Board};
 ghost use Rattle.qo_model.specs.Objects.{place_from};
-ghost use Rattle.qo_model.specs.Unplug.{is_named, left_bus, let_go_where, names_kid, take_slot, take_where};
+ghost use Rattle.qo_model.specs.Unplug.{is_bus_slot, is_child_slot, is_named, left_bus, left_parent, let_go_where, names_kid, take_slot, take_where};
 ghost use Rattle.qo_object.specs.Shown.{shown_slot, shown_slots};
 ghost use Rattle.qo_object.specs.Slots.{is_strong, slot_in};
 ghost use Rattle.qo_table.specs.Rows.{IsLive};
@@ -15,6 +15,7 @@ use crate::devices::bus_of;
 use crate::slots::strong_in;
 use qo_heap::{Heap, Oid, Slot, Steps};
 use qo_life::{drop_hold, let_go};
+use qo_values::{ANONYMOUS_BIRTH, PERIPHERAL_BIRTH};
 use std::sync::ledger::Ledger;
 
 /// Whether a slot is a strong link to the object of a birth.
@@ -92,5 +93,67 @@ pub fn leave<L: Ledger>(heap: &mut Heap, dev: Oid, steps: &mut Steps<L>)
     if let Some(bus) = bus_of(heap, dev, steps) {
         take_kid(heap, bus, dev.birth, steps);
         let_go_named(heap, dev.birth, "parent_bus", steps);
+    }
+}
+
+/// Lets the slot go by which the object of a birth is the parent of that of another, where it is.
+fn let_go_child<L: Ledger>(heap: &mut Heap, birth: u64, child: u64, steps: &mut Steps<L>)
+    ensures { Goes (let_go_where (is_child_slot child) birth) heap.old heap.new }
+{
+    let Some(o) = heap.by_birth(birth) else {
+        return;
+    };
+    let Some(view) = heap.child_slot(o, child, steps) else {
+        return;
+    };
+    let at = view.at;
+    let_go(heap, o, at, steps);
+}
+
+/// A device leaves the container of devices that it is in: the child slot is let go, and what nothing
+/// refers to any more is finalised. A device that is in none stays.
+pub fn leave_parent<L: Ledger>(heap: &mut Heap, dev: Oid, steps: &mut Steps<L>)
+    ensures release { (b : Board) → Shows b heap.old → Shows (left_parent dev.birth b) heap.new }
+    ensures goes { Goes (left_parent dev.birth) heap.old heap.new }
+    ensures names { KeepsNames heap.old heap.new }
+{
+    let_go_child(heap, PERIPHERAL_BIRTH, dev.birth, steps);
+    let_go_child(heap, ANONYMOUS_BIRTH, dev.birth, steps);
+}
+
+/// Whether a slot has the object of a birth as a child, and is not the clock's.
+fn is_bus_slot(name: &str, what: &Slot, birth: u64) -> bool
+    ensures { result ≡ is_bus_slot birth (name.now, shown_slot what.now) }
+{
+    match what {
+        Slot::Child(child) => child.birth == birth && name != "clk",
+        _ => false,
+    }
+}
+
+/// The place of the slot of a bus of an object; `None` where it has none.
+fn place_of_bus<L: Ledger>(heap: &Heap, o: Oid, birth: u64, steps: &mut Steps<L>) -> Option<usize>
+    requires { IsLive heap.now.rows o }
+    ensures { result ≡ place_from (is_bus_slot birth) 0 (shown_slots (slots_of heap.now o.birth)) }
+{
+    let mut at = 0;
+    while let Some(view) = heap.slot_at(o, at, steps) {
+        if is_bus_slot(view.name, view.what, birth) {
+            return Some(at);
+        }
+        at += 1;
+    }
+    None
+}
+
+/// Lets the bus of a birth of a device go, and finalises it where nothing refers to it any more; where
+/// the device has no such bus, all stays.
+pub fn let_go_bus<L: Ledger>(heap: &mut Heap, dev: Oid, bus: u64, steps: &mut Steps<L>)
+    requires { IsLive heap.old.rows dev }
+    ensures goes { Goes (let_go_where (is_bus_slot bus) dev.birth) heap.old heap.new }
+    ensures names { KeepsNames heap.old heap.new }
+{
+    if let Some(at) = place_of_bus(heap, dev, bus, steps) {
+        let_go(heap, dev, at, steps);
     }
 }

@@ -19,7 +19,7 @@ pub use buses::{bridge_of, bus_above, bus_in_slot, depth, first_bus, is_going};
 pub use devices::{bus_of, clock_of, device_named, is_of, is_realized, place_on};
 pub use joining::{join_bus, point_bus};
 pub use kids::{first_kid, has_kid_slot, kid_at, kid_in_slot, least_free};
-pub use leaving::leave;
+pub use leaving::{leave, leave_parent, let_go_bus};
 pub use names::{anonymous_name, kid_name};
 pub use slots::{child_at, number_at, plain_at, strong_at, text_at};
 pub use writing::{point_named, set_named};

@@ -16,4 +16,6 @@ bus_in-requires g c =
 
 pub returns-clause-bus : goal.returns-clause-bus
 returns-clause-bus g c = λ b s.
-    c.bus_in.ensures.bus b s ∙ sym (read-at (bus_in b) b c.args.heap.now s c.args.o.birth c.args.at (Some (c.in_ok-view.view.name.now, c.in_ok-view.view.what.now)) c.in_ok-view.ensures.slot)
+    c.bus_in.ensures.bus b s
+    ∙ sym (read-at (bus_in b) b c.args.heap.now s c.args.o.birth c.args.at (Some (c.in_ok-view.view.name.now, c.in_ok-view.view.what.now))
+    c.in_ok-view.ensures.slot)

@@ -10,11 +10,14 @@ use Rattle.qo_buses.proofs.buses.first_bus.Goals as goal
 
 pub returns-in-Some-clause-bus : goal.returns-in-Some-clause-bus
 returns-in-Some-clause-bus g c = λ b s.
-    given-here (bus_in b) (slots_at b c.args.dev.birth) c.loop-dev.at (buses_of b c.args.dev.birth) (c.loop-dev.invariant b s) c.in-Some.bus.birth (c.in-Some.ensures.bus b s) ∙ first-is b c.args.dev.birth
+    given-here (bus_in b) (slots_at b c.args.dev.birth) c.loop-dev.at (buses_of b c.args.dev.birth) (c.loop-dev.invariant b s) c.in-Some.bus.birth
+    (c.in-Some.ensures.bus b s) ∙ first-is b c.args.dev.birth
 
 pub loop-dev-smaller : goal.loop-dev-smaller
 loop-dev-smaller g c =
-    let within : c.loop-dev.at < length (slots_of c.args.heap.now c.args.dev.birth) = some-within (λ (v : SlotView). (v.name.now, v.what.now)) c.slot_at.result (slots_of c.args.heap.now c.args.dev.birth) c.loop-dev.at c.slot_at.ensures.slot (sym c.is_some.ensures ∙ c.loop-dev-test.true) in
+    let within : c.loop-dev.at < length (slots_of c.args.heap.now c.args.dev.birth) =
+    some-within (λ (v : SlotView). (v.name.now, v.what.now)) c.slot_at.result (slots_of c.args.heap.now c.args.dev.birth) c.loop-dev.at
+    c.slot_at.ensures.slot (sym c.is_some.ensures ∙ c.loop-dev-test.true) in
     omega arith
 
 pub loop-dev-preserved : goal.loop-dev-preserved
@@ -23,5 +26,8 @@ loop-dev-preserved g c = λ b s.
 
 pub returns-clause-bus : goal.returns-clause-bus
 returns-clause-bus g c = λ b s.
-    let none = none-at (λ (v : SlotView). (v.name.now, v.what.now)) c.slot_at.result (slots_of c.args.heap.now c.args.dev.birth) c.loop-dev.at c.slot_at.ensures.slot (sym c.is_some.ensures ∙ c.loop-dev-test.false) in
-    given-none (bus_in b) (slots_at b c.args.dev.birth) c.loop-dev.at (buses_of b c.args.dev.birth) (c.loop-dev.invariant b s) (shows-place_at b c.args.heap.now s c.args.dev.birth c.loop-dev.at None (sym none)) ∙ first-is b c.args.dev.birth
+    let none =
+    none-at (λ (v : SlotView). (v.name.now, v.what.now)) c.slot_at.result (slots_of c.args.heap.now c.args.dev.birth) c.loop-dev.at
+    c.slot_at.ensures.slot (sym c.is_some.ensures ∙ c.loop-dev-test.false) in
+    given-none (bus_in b) (slots_at b c.args.dev.birth) c.loop-dev.at (buses_of b c.args.dev.birth) (c.loop-dev.invariant b s)
+    (shows-place_at b c.args.heap.now s c.args.dev.birth c.loop-dev.at None (sym none)) ∙ first-is b c.args.dev.birth

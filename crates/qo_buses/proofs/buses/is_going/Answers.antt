@@ -10,22 +10,29 @@ loop-turn-init g c = λ b s p. going-first b c.args.heap.now s c.args.bus.birth
 pub returns-in_default : goal.returns-in_default
 returns-in_default g c = λ b s p.
     let below = within c.loop-turn._turn c.live-turn-end.result (length c.args.heap.now.rows) c.loop-turn-test.true c.live-turn-end.ensures in
-    sym (going-none b (length c.args.heap.now.rows) c.loop-turn._turn c.loop-turn.at.birth below (sym (c.in_default.ensures.bridge b s))) ∙ c.loop-turn.invariant b s p
+    sym (going-none b (length c.args.heap.now.rows) c.loop-turn._turn c.loop-turn.at.birth below (sym (c.in_default.ensures.bridge b s)))
+    ∙ c.loop-turn.invariant b s p
 
 pub returns-then-is_among : goal.returns-then-is_among
 returns-then-is_among g c = λ b s p.
     let below = within c.loop-turn._turn c.live-turn-end.result (length c.args.heap.now.rows) c.loop-turn-test.true c.live-turn-end.ensures in
-    let is : among b.pending c.in-Some.bridge.birth ≡ true = ap (λ (xs : List ℕ). among xs c.in-Some.bridge.birth) p ∙ among-births c.in-Some.bridge.birth c.args.pending.now ∙ sym c.is_among.ensures ∙ c.if-is_among.true in
-    sym (going-here b (length c.args.heap.now.rows) c.loop-turn._turn c.loop-turn.at.birth c.in-Some.bridge.birth below (sym (c.in-Some.ensures.bridge b s)) is) ∙ c.loop-turn.invariant b s p
+    let is : among b.pending c.in-Some.bridge.birth ≡ true = ap (λ (xs : List ℕ). among xs c.in-Some.bridge.birth) p
+    ∙ among-births c.in-Some.bridge.birth c.args.pending.now ∙ sym c.is_among.ensures ∙ c.if-is_among.true in
+    sym (going-here b (length c.args.heap.now.rows) c.loop-turn._turn c.loop-turn.at.birth c.in-Some.bridge.birth below (sym (c.in-Some.ensures.bridge b s))
+    is) ∙ c.loop-turn.invariant b s p
 
 pub returns-in-None : goal.returns-in-None
 returns-in-None g c = λ b s p.
     let below = within c.loop-turn._turn c.live-turn-end.result (length c.args.heap.now.rows) c.loop-turn-test.true c.live-turn-end.ensures in
-    let not : among b.pending c.in-Some.bridge.birth ≡ false = ap (λ (xs : List ℕ). among xs c.in-Some.bridge.birth) p ∙ among-births c.in-Some.bridge.birth c.args.pending.now ∙ sym c.is_among.ensures ∙ c.if-is_among.false in
-    sym (going-top b (length c.args.heap.now.rows) c.loop-turn._turn c.loop-turn.at.birth c.in-Some.bridge.birth below (sym (c.in-Some.ensures.bridge b s)) not (sym (c.in-None.ensures.bus b s))) ∙ c.loop-turn.invariant b s p
+    let not : among b.pending c.in-Some.bridge.birth ≡ false = ap (λ (xs : List ℕ). among xs c.in-Some.bridge.birth) p
+    ∙ among-births c.in-Some.bridge.birth c.args.pending.now ∙ sym c.is_among.ensures ∙ c.if-is_among.false in
+    sym (going-top b (length c.args.heap.now.rows) c.loop-turn._turn c.loop-turn.at.birth c.in-Some.bridge.birth below (sym (c.in-Some.ensures.bridge b s))
+    not (sym (c.in-None.ensures.bus b s))) ∙ c.loop-turn.invariant b s p
 
 pub loop-turn-preserved : goal.loop-turn-preserved
 loop-turn-preserved g c = λ b s p.
     let below = within c.loop-turn._turn c.live-turn-end.result (length c.args.heap.now.rows) c.loop-turn-test.true c.live-turn-end.ensures in
-    let not : among b.pending c.in-Some.bridge.birth ≡ false = ap (λ (xs : List ℕ). among xs c.in-Some.bridge.birth) p ∙ among-births c.in-Some.bridge.birth c.args.pending.now ∙ sym c.is_among.ensures ∙ c.if-is_among.false in
-    sym (going-up b (length c.args.heap.now.rows) c.loop-turn._turn c.loop-turn.at.birth c.in-Some.bridge.birth c.in-Some-bus_of.above.birth below (sym (c.in-Some.ensures.bridge b s)) not (sym (c.in-Some-bus_of.ensures.bus b s))) ∙ c.loop-turn.invariant b s p
+    let not : among b.pending c.in-Some.bridge.birth ≡ false = ap (λ (xs : List ℕ). among xs c.in-Some.bridge.birth) p
+    ∙ among-births c.in-Some.bridge.birth c.args.pending.now ∙ sym c.is_among.ensures ∙ c.if-is_among.false in
+    sym (going-up b (length c.args.heap.now.rows) c.loop-turn._turn c.loop-turn.at.birth c.in-Some.bridge.birth c.in-Some-bus_of.above.birth below
+    (sym (c.in-Some.ensures.bridge b s)) not (sym (c.in-Some-bus_of.ensures.bus b s))) ∙ c.loop-turn.invariant b s p

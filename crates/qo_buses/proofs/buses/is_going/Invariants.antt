@@ -8,4 +8,5 @@ use Rattle.qo_buses.proofs.WayLemmas.{going_left}
 use Rattle.qo_buses.proofs.buses.is_going.Given as goal
 
 abbrev pub invariant-loop-turn : goal.invariant-loop-turn
-invariant-loop-turn g l = (b : Board) → Shows b l.heap → b.pending ≡ map (λ (o : Key). o.birth) l.pending → going_left b (length l.heap.rows) l._turn l.at.birth ≡ is_going b l.fn.bus.birth
+invariant-loop-turn g l = (b : Board) → Shows b l.heap → b.pending ≡ map (λ (o : Key). o.birth) l.pending
+    → going_left b (length l.heap.rows) l._turn l.at.birth ≡ is_going b l.fn.bus.birth

@@ -11,7 +11,8 @@ device_id-requires g c = key-live c.args.heap.now.born c.args.heap.now.rows c.ar
 pub returns-in-Some-device_id : goal.returns-in-Some-device_id
 returns-in-Some-device_id g c =
     c.eq.ensures ∙ ap (λ (text : List ℕ). bytes_eq text c.args.id.now) c.as_str.ensures.value
-    ∙ id-at c.args.heap.now c.facts.ensures c.args.place c.in-Some.o (Some c.in-Some-device_id.its.now) c.args.id.now c.in-Some.ensures c.in-Some-device_id.ensures.id
+    ∙ id-at c.args.heap.now c.facts.ensures c.args.place c.in-Some.o (Some c.in-Some-device_id.its.now) c.args.id.now c.in-Some.ensures
+    c.in-Some-device_id.ensures.id
 
 pub returns-in-None : goal.returns-in-None
 returns-in-None g c = id-at c.args.heap.now c.facts.ensures c.args.place c.in-Some.o None c.args.id.now c.in-Some.ensures c.in-None.ensures.id

@@ -7,4 +7,5 @@ use Rattle.qo_buses.proofs.kids.has_kid_slot.Goals as goal
 
 pub returns : goal.returns
 returns g c = λ b s.
-    c.is_some.ensures ∙ has-shown (λ (v : SlotView). (v.name.now, v.what.now)) c.kid_slot.result b c.args.heap.now s c.args.bus.birth (kid_name c.args.slot) c.kid_slot.ensures
+    c.is_some.ensures ∙ has-shown (λ (v : SlotView). (v.name.now, v.what.now)) c.kid_slot.result b c.args.heap.now s c.args.bus.birth (kid_name c.args.slot)
+    c.kid_slot.ensures

@@ -14,7 +14,9 @@ returns-in_err-view-clause-kid g c = λ b s.
 
 pub returns-clause-kid : goal.returns-clause-kid
 returns-clause-kid g c = λ b s.
-    c.strong_in.ensures.target ∙ sym (read-at (λ (t : List ℕ × Slot). strong_in t.1) b c.args.heap.now s c.args.bus.birth c.args.at (Some (c.in_ok-view.view.name.now, c.in_ok-view.view.what.now)) c.in_ok-view.ensures.slot)
+    c.strong_in.ensures.target
+    ∙ sym (read-at (λ (t : List ℕ × Slot). strong_in t.1) b c.args.heap.now s c.args.bus.birth c.args.at
+    (Some (c.in_ok-view.view.name.now, c.in_ok-view.view.what.now)) c.in_ok-view.ensures.slot)
 
 pub returns-clause-live : goal.returns-clause-live
 returns-clause-live g c =

@@ -14,18 +14,22 @@ pub returns-then-is_kid_name : goal.returns-then-is_kid_name
 returns-then-is_kid_name g c =
     let p = λ (t : Named). bytes_eq (kid_name c.args.slot) t.0 in
     c.in-Some.ensures.slot
-    ∙ sym (find-here p c.loop-view.at (slots_of c.args.heap.now c.args.bus.birth) (ap (λ (o : Option Named). option_map_or p o false) (sym c.in-Some.ensures.slot) ∙ sym c.is_kid_name.ensures ∙ c.if-is_kid_name.true))
+    ∙ sym (find-here p c.loop-view.at (slots_of c.args.heap.now c.args.bus.birth)
+    (ap (λ (o : Option Named). option_map_or p o false) (sym c.in-Some.ensures.slot) ∙ sym c.is_kid_name.ensures ∙ c.if-is_kid_name.true))
     ∙ c.loop-view.invariant
 
 pub loop-view-smaller : goal.loop-view-smaller
 loop-view-smaller g c =
-    let within : c.loop-view.at < length (slots_of c.args.heap.now c.args.bus.birth) = slice_get_within (slots_of c.args.heap.now c.args.bus.birth) c.loop-view.at (c.in-Some.view.name.now, c.in-Some.view.what.now) (sym c.in-Some.ensures.slot) in
+    let within : c.loop-view.at < length (slots_of c.args.heap.now c.args.bus.birth) =
+    slice_get_within (slots_of c.args.heap.now c.args.bus.birth) c.loop-view.at (c.in-Some.view.name.now, c.in-Some.view.what.now)
+    (sym c.in-Some.ensures.slot) in
     omega arith
 
 pub loop-view-preserved : goal.loop-view-preserved
 loop-view-preserved g c =
     let p = λ (t : Named). bytes_eq (kid_name c.args.slot) t.0 in
-    sym (find-from p c.loop-view.at (slots_of c.args.heap.now c.args.bus.birth) (ap (λ (o : Option Named). option_map_or p o false) (sym c.in-Some.ensures.slot) ∙ sym c.is_kid_name.ensures ∙ c.if-is_kid_name.false))
+    sym (find-from p c.loop-view.at (slots_of c.args.heap.now c.args.bus.birth)
+    (ap (λ (o : Option Named). option_map_or p o false) (sym c.in-Some.ensures.slot) ∙ sym c.is_kid_name.ensures ∙ c.if-is_kid_name.false))
     ∙ c.loop-view.invariant
 
 pub returns : goal.returns

@@ -14,7 +14,8 @@ use Rattle.qo_buses.proofs.leaving.let_go_named.Goals as goal
 pub returns-in_default : goal.returns-in_default
 returns-in_default g c =
     goes-go_none (is_named c.args.name.now) c.args.heap.now c.args.birth
-    (ap (λ (x : Option Content). place_from (is_named c.args.name.now) 0 (shown_slots (option_map_or (λ (d : Content). d.slots) x []))) c.in_default.ensures.none)
+    (ap (λ (x : Option Content). place_from (is_named c.args.name.now) 0 (shown_slots (option_map_or (λ (d : Content). d.slots) x [])))
+    c.in_default.ensures.none)
 
 pub returns-in_default-slot : goal.returns-in_default-slot
 returns-in_default-slot g c =

@@ -8,17 +8,21 @@ use Rattle.qo_buses.proofs.leaving.place_linked.Goals as goal
 
 pub returns-then-links_to-clause-place : goal.returns-then-links_to-clause-place
 returns-then-links_to-clause-place g c =
-    sym (place-here (names_kid c.args.birth) c.loop-view.at (slots_of c.args.heap.now c.args.o.birth) (c.in-Some.view.name.now, c.in-Some.view.what.now) (sym c.in-Some.ensures.slot) (sym c.links_to.ensures ∙ c.if-links_to.true))
+    sym (place-here (names_kid c.args.birth) c.loop-view.at (slots_of c.args.heap.now c.args.o.birth) (c.in-Some.view.name.now, c.in-Some.view.what.now)
+    (sym c.in-Some.ensures.slot) (sym c.links_to.ensures ∙ c.if-links_to.true))
     ∙ c.loop-view.invariant
 
 pub loop-view-smaller : goal.loop-view-smaller
 loop-view-smaller g c =
-    let within : c.loop-view.at < length (slots_of c.args.heap.now c.args.o.birth) = slice_get_within (slots_of c.args.heap.now c.args.o.birth) c.loop-view.at (c.in-Some.view.name.now, c.in-Some.view.what.now) (sym c.in-Some.ensures.slot) in
+    let within : c.loop-view.at < length (slots_of c.args.heap.now c.args.o.birth) =
+    slice_get_within (slots_of c.args.heap.now c.args.o.birth) c.loop-view.at (c.in-Some.view.name.now, c.in-Some.view.what.now)
+    (sym c.in-Some.ensures.slot) in
     omega arith
 
 pub loop-view-preserved : goal.loop-view-preserved
 loop-view-preserved g c =
-    sym (place-next (names_kid c.args.birth) c.loop-view.at (slots_of c.args.heap.now c.args.o.birth) (c.in-Some.view.name.now, c.in-Some.view.what.now) (sym c.in-Some.ensures.slot) (sym c.links_to.ensures ∙ c.if-links_to.false))
+    sym (place-next (names_kid c.args.birth) c.loop-view.at (slots_of c.args.heap.now c.args.o.birth) (c.in-Some.view.name.now, c.in-Some.view.what.now)
+    (sym c.in-Some.ensures.slot) (sym c.links_to.ensures ∙ c.if-links_to.false))
     ∙ c.loop-view.invariant
 
 pub returns-clause-place : goal.returns-clause-place

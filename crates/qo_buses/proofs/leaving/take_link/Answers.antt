@@ -15,7 +15,9 @@ cut-requires-clause-link g c = rw c.empty-held.ensures.now (link-emptied c.args.
 pub drop_hold-requires : goal.drop_hold-requires
 drop_hold-requires g c =
     more-live (IsLive c.args.heap.now.rows) (IsLive c.cut.new.self.rows)
-    (λ key live. rw (c.cut.ensures.now, c.empty-held.ensures.now) (live-edit c.args.o.birth (cut_at c.args.at) (with_edit c.args.o.birth (dropped_at c.args.at) c.args.heap.now).rows key (live-edit c.args.o.birth (dropped_at c.args.at) c.args.heap.now.rows key live)))
+    (λ key live. rw (c.cut.ensures.now, c.empty-held.ensures.now)
+    (live-edit c.args.o.birth (cut_at c.args.at) (with_edit c.args.o.birth (dropped_at c.args.at) c.args.heap.now).rows key
+    (live-edit c.args.o.birth (dropped_at c.args.at) c.args.heap.now.rows key live)))
     c.empty-held.result (link-live c.args.heap.now c.facts.ensures c.args.o c.requires.live c.args.at c.empty-held.result c.empty-held.ensures.answer)
 
 pub returns : goal.returns

@@ -15,9 +15,12 @@ returns-in_err-slot-clause-child g c = λ b s.
 
 pub returns-clause-child : goal.returns-clause-child
 returns-clause-child g c = λ b s.
-    c.child_in.ensures.child ∙ sym (read-named child_named b c.args.heap.now s c.args.o.birth c.args.name.now (Some (c.in_ok-slot.slot.name.now, c.in_ok-slot.slot.what.now)) c.in_ok-slot.ensures.slot)
+    c.child_in.ensures.child
+    ∙ sym (read-named child_named b c.args.heap.now s c.args.o.birth c.args.name.now (Some (c.in_ok-slot.slot.name.now, c.in_ok-slot.slot.what.now))
+    c.in_ok-slot.ensures.slot)
 
 pub returns-clause-live : goal.returns-clause-live
 returns-clause-live g c =
     same-named (IsLive c.args.heap.now.rows) c.in_ok-slot.slot.what.now c.child_in.result c.child_in.ensures.named
-    (target-live c.args.heap.now c.facts.ensures c.args.o.birth (λ (t : Named). bytes_eq c.args.name.now t.0) (c.in_ok-slot.slot.name.now, c.in_ok-slot.slot.what.now) c.in_ok-slot.ensures.slot)
+    (target-live c.args.heap.now c.facts.ensures c.args.o.birth (λ (t : Named). bytes_eq c.args.name.now t.0)
+    (c.in_ok-slot.slot.name.now, c.in_ok-slot.slot.what.now) c.in_ok-slot.ensures.slot)

@@ -11,4 +11,6 @@ returns-in_err-slot g c = λ b s.
 
 pub returns : goal.returns
 returns g c = λ b s.
-    c.plain_in.ensures ∙ sym (read-named plain_in b c.args.heap.now s c.args.o.birth c.args.name.now (Some (c.in_ok-slot.slot.name.now, c.in_ok-slot.slot.what.now)) c.in_ok-slot.ensures.slot)
+    c.plain_in.ensures ∙ sym
+    (read-named plain_in b c.args.heap.now s c.args.o.birth c.args.name.now (Some (c.in_ok-slot.slot.name.now, c.in_ok-slot.slot.what.now))
+    c.in_ok-slot.ensures.slot)

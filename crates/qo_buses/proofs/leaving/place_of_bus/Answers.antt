@@ -1,0 +1,30 @@
+-- The slots are looked at one after another.
+use Rattle.std.proofs.Common.{◌<◌, length, sym, ◌∙◌, arith}
+use Rattle.std.proofs.lemmas.Option.{slice_get_within}
+use Rattle.qo_model.specs.Unplug.{is_bus_slot}
+use Rattle.qo_heap.specs.Objects.{slots_of}
+use Rattle.qo_buses.proofs.LeaveLemmas.{place-here, place-next, place-past}
+use Rattle.qo_buses.proofs.leaving.place_of_bus.Goals as goal
+
+pub returns-then-is_bus_slot : goal.returns-then-is_bus_slot
+returns-then-is_bus_slot g c =
+    sym (place-here (is_bus_slot c.args.birth) c.loop-view.at (slots_of c.args.heap.now c.args.o.birth) (c.in-Some.view.name.now, c.in-Some.view.what.now)
+    (sym c.in-Some.ensures.slot) (sym c.is_bus_slot.ensures ∙ c.if-is_bus_slot.true))
+    ∙ c.loop-view.invariant
+
+pub loop-view-smaller : goal.loop-view-smaller
+loop-view-smaller g c =
+    let within : c.loop-view.at < length (slots_of c.args.heap.now c.args.o.birth) =
+    slice_get_within (slots_of c.args.heap.now c.args.o.birth) c.loop-view.at (c.in-Some.view.name.now, c.in-Some.view.what.now)
+    (sym c.in-Some.ensures.slot) in
+    omega arith
+
+pub loop-view-preserved : goal.loop-view-preserved
+loop-view-preserved g c =
+    sym (place-next (is_bus_slot c.args.birth) c.loop-view.at (slots_of c.args.heap.now c.args.o.birth) (c.in-Some.view.name.now, c.in-Some.view.what.now)
+    (sym c.in-Some.ensures.slot) (sym c.is_bus_slot.ensures ∙ c.if-is_bus_slot.false))
+    ∙ c.loop-view.invariant
+
+pub returns : goal.returns
+returns g c =
+    sym (place-past (is_bus_slot c.args.birth) c.loop-view.at (slots_of c.args.heap.now c.args.o.birth) (sym c.in_default.ensures.slot)) ∙ c.loop-view.invariant
