@@ -1,13 +1,14 @@
 -- Worked rows of devices: bridges that are added, refused and removed.
 use Rattle.std.proofs.Common.{◌≡◌, refl, ℕ, ◌^◌, ◌-◌, true, List, [], ◌∷◌, map, drop, codes, Option, Some, None, Result, Ok, Err}
 use Rattle.qo_values.specs.declared.codes.Code.{Code}
-use Rattle.qo_values.specs.declared.codes.Code.TheVariants.{E17, E18, E19, E20, E21, E22, E23, E24, E25, E26, E28, E29, E36, E38, E42, E47}
+use Rattle.qo_values.specs.declared.codes.Code.TheVariants.{E17, E18, E19, E20, E21, E22, E23, E24, E25, E26, E28, E29, E36, E38, E42, E45, E46, E47}
 use Rattle.qo_values.specs.declared.kinds.TypeId.TheVariants.{MemoryBackend}
 use Rattle.qo_values.specs.declared.properties.Val.TheVariants as val
 use Rattle.qo_model.specs.declared.notes.Note.{Note}
 use Rattle.qo_model.specs.Board.{Board, DeviceEvent, Slot, plain, strong, slots_at}
 use Rattle.qo_model.specs.Changes.{add, cut, set}
-use Rattle.qo_model.specs.Clocks.{acted, clock_written, clocks_below, period}
+use Rattle.qo_model.specs.ClockChanges.{clock_scaled, clock_set}
+use Rattle.qo_model.specs.Clocks.{acted, clocks_below, period}
 use Rattle.qo_model.specs.Devices.{depth_of, is_going}
 use Rattle.qo_model.specs.Notes.{deed_word, deed_type}
 use Rattle.std.specs.Option.{option_map_or}
@@ -19,7 +20,7 @@ use Rattle.qo_model.specs.Plug.{Wanted, Plugged, plug}
 use Rattle.qo_model.specs.Release.{drop_slot, finish, finalise, finalise_within, let_go, pin, unpin}
 use Rattle.qo_model.specs.Reset.{held, plugged, post, pulse, released}
 use Rattle.qo_model.specs.Types.{types}
-use Rattle.qo_model.specs.Unplug.{apart_within, detach, set_named, unrealize}
+use Rattle.qo_model.specs.Unplug.{apart_within, detach, unrealize}
 use Rattle.qo_values.specs.Placing.{least}
 
 -- a note, as its word, its birth and its type's name
@@ -121,20 +122,42 @@ held-notes : map told (drop 14 (released (released (held timed 2) 9) 2).notes) �
 unfolding types opening_board steps_to attached drop_slot finish finalise finalise_within let_go pin unpin add set cut acted period clocks_below depth_of is_going plug plugged post held released pulse least unrealize apart_within detach
 held-notes = refl
 
--- the system clock is written
-abbrev clocked : ℕ → List ℕ → ℕ → Board → Result Board Code
-clocked c name n b = clock_written b (set_named c name (val.Uint n) b) c
-
+-- the system clock is written: the notes behind the first eight, or the code that refuses it
 abbrev uart : Board
 uart = (plug opening_board (wanted (codes "slot-uart") (codes "u"))).board
 
-clock-notes : elim (clocked 5 (codes "period") (2 ^ 64 - 1) uart) as (λ _. List (List ℕ × ℕ × List ℕ)) [ Ok b ↦ map told (drop 8 b.notes) | Err code ↦ [] ] ≡ (codes "pre", 9, []) ∷ (codes "update", 9, []) ∷ []
+abbrev then_set : ℕ → ℕ → Result Board Code → Result Board Code
+then_set c n (Ok b) = clock_set b c n
+then_set c n (Err code) = Err code
+
+abbrev then_scaled : ℕ → ℕ → ℕ → Result Board Code → Result Board Code
+then_scaled c mul div (Ok b) = clock_scaled b c mul div
+then_scaled c mul div (Err code) = Err code
+
+abbrev notes_or_code : Result Board Code → List (List ℕ × ℕ × List ℕ) × Option Code
+notes_or_code (Ok b) = (map told (drop 8 b.notes), None)
+notes_or_code (Err code) = ([], Some code)
+
+clock-notes : notes_or_code (clock_set uart 5 (2 ^ 64 - 1)) ≡ ((codes "pre", 9, []) ∷ (codes "update", 9, []) ∷ [], None)
 unfolding types opening_board steps_to attached drop_slot finish finalise finalise_within let_go pin unpin add set cut acted period clocks_below depth_of is_going plug plugged post held released pulse least unrealize apart_within detach
 clock-notes = refl
 
-clock-over : elim (clocked 5 (codes "period") (2 ^ 64 - 1) uart) as (λ _. Option Code) [ Ok b ↦ elim (clocked 5 (codes "mul") 2 b) as (λ _. Option Code) [ Ok c ↦ None | Err code ↦ Some code ] | Err code ↦ None ] ≡ Some E47
+clock-over : notes_or_code (then_scaled 5 2 1 (clock_set uart 5 (2 ^ 64 - 1))) ≡ ([], Some E47)
 unfolding types opening_board steps_to attached drop_slot finish finalise finalise_within let_go pin unpin add set cut acted period clocks_below depth_of is_going plug plugged post held released pulse least unrealize apart_within detach
 clock-over = refl
+
+-- nobody is called back where no period changes
+clock-stopped : notes_or_code (then_set 5 3 (then_scaled 5 0 2 (clock_scaled uart 5 0 1))) ≡ ((codes "pre", 9, []) ∷ (codes "update", 9, []) ∷ [], None)
+unfolding types opening_board steps_to attached drop_slot finish finalise finalise_within let_go pin unpin add set cut acted period clocks_below depth_of is_going plug plugged post held released pulse least unrealize apart_within detach
+clock-stopped = refl
+
+clock-sourced : notes_or_code (clock_set uart 10 1) ≡ ([], Some E45)
+unfolding types opening_board steps_to attached drop_slot finish finalise finalise_within let_go pin unpin add set cut acted period clocks_below depth_of is_going plug plugged post held released pulse least unrealize apart_within detach
+clock-sourced = refl
+
+clock-undivided : notes_or_code (clock_scaled uart 5 1 0) ≡ ([], Some E46)
+unfolding types opening_board steps_to attached drop_slot finish finalise finalise_within let_go pin unpin add set cut acted period clocks_below depth_of is_going plug plugged post held released pulse least unrealize apart_within detach
+clock-undivided = refl
 
 -- a DIMM at an address, over a backend
 abbrev backed : Board

@@ -1,6 +1,7 @@
 pub mod Access
 pub mod Board
 pub mod Changes
+pub mod ClockChanges
 pub mod Clocks
 pub mod Depth
 pub mod Detachment
