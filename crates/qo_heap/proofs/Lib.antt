@@ -11,3 +11,4 @@ pub mod ShowsEdits
 pub mod ShowsEnds
 pub mod ShowsLive
 pub mod ShowsReads
+pub mod TimelyLemmas

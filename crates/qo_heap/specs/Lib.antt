@@ -5,3 +5,4 @@ pub mod Errors
 pub mod Lends
 pub mod Objects
 pub mod Places
+pub mod Timely

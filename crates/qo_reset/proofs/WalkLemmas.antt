@@ -24,6 +24,8 @@ use Rattle.qo_heap.specs.Objects.{IsHeap, Objects, content_of, slots_of}
 use Rattle.qo_heap.proofs.ActsLemmas.{acts-act, acts-none, acts-then, acts-live}
 use Rattle.qo_heap.proofs.ActsReads.{acts-length, acts-read, acts-slots}
 use Rattle.qo_heap.proofs.ShowsLive.{named-live}
+use Rattle.qo_heap.proofs.TimelyLemmas.{acts-timely}
+use Rattle.qo_heap.specs.Timely.{Timely}
 use Rattle.qo_reset.specs.Phases.{acted_on, below_on, births_of, bus_child, chosen, count_on, is_bus, is_under, kids_in, out_on, post_by, strong_target, turned, turned_to, visited, visited_to, walked}
 
 -- what slots name is there
@@ -99,6 +101,15 @@ walked-acts act [] v = acts-none v
 walked-acts act (n ∷ ns) v =
     acts-then v (acted_on act n v) (walked act ns (acted_on act n v)) (acts-act v (record { birth = n; deed = Did act }) n act v.time 0)
     (walked-acts act ns (acted_on act n v))
+
+walked-timely : (act : Act) (ns : List ℕ) (v : Objects) → Timely v → Timely (walked act ns v)
+unfolding walked
+walked-timely act [] v all = all
+walked-timely act (n ∷ ns) v all = walked-timely act ns (acted_on act n v) (acts-timely v (record { birth = n; deed = Did act }) n act 0 all)
+
+pub visited-timely : (act : Act) (only : Bool) (holds : List ℕ) (levels n : ℕ) (v : Objects) → Timely v → Timely (visited act only holds levels n v)
+unfolding visited
+visited-timely act only holds levels n v all = walked-timely act _ v all
 
 pub turned-acts : (act : Act) (only : Bool) (holds : List ℕ) (n : ℕ) (v : Objects) → Acts v (turned act only holds n v)
 unfolding turned

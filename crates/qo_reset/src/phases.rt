@@ -9,6 +9,7 @@ ghost use Rattle.qo_model.specs.Release.{without_first};
 ghost use Rattle.qo_model.specs.Reset.{held, plugged, released};
 ghost use Rattle.qo_heap.specs.Acts.{Acts};
 ghost use Rattle.qo_heap.specs.Board.{Shows};
+ghost use Rattle.qo_heap.specs.Timely.{Timely};
 ghost use Rattle.qo_reset.specs.Phases.{Holds, births_of, phase_on, turned, visited};
 
 use crate::below::{below_at, is_bus};
@@ -78,6 +79,7 @@ fn phase<L: Ledger>(
     requires phase { reads_moment act ≡ false }
     ensures phase { heap.new ≡ phase_on act only_out (births_of holds.now) root.birth heap.old }
     ensures acts { Acts heap.old heap.new }
+    ensures timely { Timely heap.old → Timely heap.new }
     ensures live { IsLive heap.new.rows root }
 {
     heap.facts();
@@ -90,6 +92,7 @@ pub fn held_phases<L: Ledger>(heap: &mut Heap, holds: &[Oid], root: Oid, steps: 
     requires live { IsLive heap.old.rows root }
     ensures shown { (b : Board) → Holds b (births_of holds.now) heap.old → Shows (held b root.birth) heap.new }
     ensures acts { Acts heap.old heap.new }
+    ensures timely { Timely heap.old → Timely heap.new }
     ensures live { IsLive heap.new.rows root }
 {
     phase(heap, holds, root, Act::Enter, true, steps);
@@ -101,6 +104,7 @@ pub fn released_phases<L: Ledger>(heap: &mut Heap, holds: &[Oid], root: Oid, ste
     requires live { IsLive heap.old.rows root }
     ensures shown { (b : Board) → Shows b heap.old → without_first root.birth b.holds ≡ births_of holds.now → Shows (released b root.birth) heap.new }
     ensures acts { Acts heap.old heap.new }
+    ensures timely { Timely heap.old → Timely heap.new }
     ensures live { IsLive heap.new.rows root }
 {
     phase(heap, holds, root, Act::Exit, true, steps);
@@ -111,6 +115,7 @@ pub fn plugged_phases<L: Ledger>(heap: &mut Heap, holds: &[Oid], dev: Oid, steps
     requires live { IsLive heap.old.rows dev }
     ensures shown { (b : Board) → Holds b (births_of holds.now) heap.old → Shows (plugged b dev.birth) heap.new }
     ensures acts { Acts heap.old heap.new }
+    ensures timely { Timely heap.old → Timely heap.new }
 {
     phase(heap, holds, dev, Act::Enter, false, steps);
     phase(heap, holds, dev, Act::Hold, false, steps);

@@ -44,6 +44,7 @@ impl Resets {
     ghost use Rattle.qo_model.specs.Reset.{count, held, is_deep, plugged, pulse, released};
     ghost use Rattle.qo_model.specs.Unplug.{without_all};
     ghost use Rattle.qo_heap.specs.Acts.{Acts};
+    ghost use Rattle.qo_heap.specs.Timely.{Timely};
     ghost use Rattle.qo_reset.specs.HoldList.{HoldList, no_holds, with_hold};
     ghost use Rattle.qo_reset.specs.Phases.{Holds};
     ghost use Rattle.qo_reset.specs.declared.errors.HoldError.TheVariants.{Depth, NoHold};
@@ -103,6 +104,7 @@ impl Resets {
         ensures holds { OnOk result (self.new ≡ with_hold root.birth self.old) }
         ensures err { OnErr result ((heap.new ≡ heap.old) × (self.new ≡ self.old)) }
         ensures acts { Acts heap.old heap.new }
+        ensures timely { Timely heap.old → Timely heap.new }
     {
         if self.is_deep(heap, root, steps) {
             return Err(HoldError::Depth);
@@ -129,6 +131,7 @@ impl Resets {
         ensures room { OnOk result (self.new.spare ≡ self.old.spare + 1) }
         ensures err { OnErr result ((heap.new ≡ heap.old) × (self.new ≡ self.old)) }
         ensures acts { Acts heap.old heap.new }
+        ensures timely { Timely heap.old → Timely heap.new }
     {
         let Some(at) = place_of(&self.holds, root.birth) else {
             return Err(HoldError::NoHold);
@@ -158,6 +161,7 @@ impl Resets {
         ensures holds { self.new.births ≡ without_first root.birth (self.old.births ++ root.birth ∷ []) }
         ensures room { self.new.spare ≡ self.old.spare }
         ensures acts { Acts heap.old heap.new }
+        ensures timely { Timely heap.old → Timely heap.new }
     {
         held_phases(heap, &self.holds, root, steps);
         self.put_last(root.birth);
@@ -171,6 +175,7 @@ impl Resets {
         requires { IsLive heap.old.rows dev }
         ensures shown { (b : Board) → Holds b self.now.births heap.old → Holds (plugged b dev.birth) self.now.births heap.new }
         ensures acts { Acts heap.old heap.new }
+        ensures timely { Timely heap.old → Timely heap.new }
     {
         plugged_phases(heap, &self.holds, dev, steps);
     }

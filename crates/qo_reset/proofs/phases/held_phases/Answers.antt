@@ -8,3 +8,6 @@ returns-clause-shown g c = λ b s. rw (c.phase-2.ensures.phase, c.phase.ensures.
 
 pub returns-clause-acts : goal.returns-clause-acts
 returns-clause-acts g c = acts-then c.args.heap.now c.phase.new.heap c.phase-2.new.heap c.phase.ensures.acts c.phase-2.ensures.acts
+
+pub returns-clause-timely : goal.returns-clause-timely
+returns-clause-timely g c = λ all. c.phase-2.ensures.timely (c.phase.ensures.timely all)

@@ -11,3 +11,6 @@ pub returns-clause-acts : goal.returns-clause-acts
 returns-clause-acts g c =
     acts-then c.args.heap.now c.phase-2.new.heap c.phase-3.new.heap
     (acts-then c.args.heap.now c.phase.new.heap c.phase-2.new.heap c.phase.ensures.acts c.phase-2.ensures.acts) c.phase-3.ensures.acts
+
+pub returns-clause-timely : goal.returns-clause-timely
+returns-clause-timely g c = λ all. c.phase-3.ensures.timely (c.phase-2.ensures.timely (c.phase.ensures.timely all))

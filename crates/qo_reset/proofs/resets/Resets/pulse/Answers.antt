@@ -22,3 +22,6 @@ returns-clause-shown g c = λ b s.
       subst (λ (d : Board). Shows d c.released_phases.new.heap) (sym (pulse-is b c.args.root.birth)) last,
       ap (λ (d : Board). d.holds) (pulse-is b c.args.root.birth) ∙ released-holds (held b c.args.root.birth) c.args.root.birth ∙ left,
     )
+
+pub returns-clause-timely : goal.returns-clause-timely
+returns-clause-timely g c = λ all. c.released_phases.ensures.timely (c.held_phases.ensures.timely all)
