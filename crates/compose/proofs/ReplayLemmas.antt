@@ -46,7 +46,7 @@ none_lost (t ∷ ts) h = (here, none_lost ts (λ n. subst (λ (f : Bool). risen_
 
 -- Each turn but the end takes an input.
 
-no_end : (e more : Bool) → (e || more) ≡ false → (e ≡ false) × (more ≡ false)
+pub no_end : (e more : Bool) → (e || more) ≡ false → (e ≡ false) × (more ≡ false)
 no_end true more h = absurd (true≢false h)
 no_end false more h = (refl, h)
 
@@ -64,7 +64,7 @@ by_going : (e : Bool) → (e ≡ true → ⊥) → e ≡ false
 by_going true h = absurd (h refl)
 by_going false h = refl
 
-going_on : (ts : List Turn) → (state_after opening ts).ended ≡ false → has_end ts ≡ false
+pub going_on : (ts : List Turn) → (state_after opening ts).ended ≡ false → has_end ts ≡ false
 going_on ts on = by_going (has_end ts) (λ over. true≢false (sym (has_end_ends ts opening over) ∙ on))
 
 -- A last turn takes one input, or none.

@@ -73,11 +73,3 @@ order (word ∷ words) =
     else if bytes_eq word (codes "serve") then serve_in words
     else if bytes_eq word (codes "demo") then demo_in words
     else None
-
--- the order, where its command is built
-abbrev pub built : Option Order → Option Order
-built None = None
-built (Some replay) = Some replay
-built (Some (serve path connections)) = Some (serve path connections)
-built (Some (demo seed steps)) = None
-built (Some types) = Some types

@@ -3,12 +3,14 @@
 ghost use Rattle.std.specs.Prelude.{◌≡◌, ◌≢◌, ◌↔◌, ◌⊎◌, ℕ, false, List, None, Some, map, string_bytes};
 ghost use Rattle.qo_causes.specs.Cause.{Rose};
 ghost use Rattle.qo_machine.specs.Runs.{told};
+ghost use Rattle.compose.specs.Demo.{ToldDemo};
 ghost use Rattle.compose.specs.Replay.{Complained, Replayed, line_of};
 ghost use Rattle.compose.specs.Serve.{Served, asks_hub};
 ghost use Rattle.compose.specs.Types.{ToldTypes};
-ghost use Rattle.compose.specs.Words.{built, order, replay as a_replay, serve as a_serve, types as a_types};
+ghost use Rattle.compose.specs.Words.{demo as a_demo, order, replay as a_replay, serve as a_serve, types as a_types};
 
 use crate::complaints::complain;
+use crate::demos::tell_demo;
 use crate::replays::replay;
 use crate::serves::serve;
 use crate::statuses::{Ran, Status};
@@ -21,19 +23,20 @@ use std::alloc::Global;
 ///
 /// `replay` runs the recorded stream of `source` on a new machine, entry by entry as it comes, and puts each message
 /// into `sink` at once. `serve` lets the hub begin at a path with so many connections, and runs a new machine over it.
-/// `types` puts the line of each type into `sink`. The words of `demo` are an order, but it is not built yet. One line
-/// goes to `complaints` for each status but `Done`; a fault there changes no status. What an order does not use is left
-/// as it was.
+/// `demo` makes the record of a seed and a number of steps, runs it in memory, and puts five lines into `sink` that count
+/// what was sent. `types` puts the line of each type into `sink`. One line goes to `complaints` for each status but
+/// `Done`; a fault there changes no status. What an order does not use is left as it was.
 ///
 /// - `Done`: the run has ended, at the end of its inputs or by a command before; its whole transcript was put or sent.
-/// - `Usage`: exactly where the words are no order, or one whose command is not built; nothing was read.
+/// - `Usage`: exactly where the words are no order; nothing was read.
 /// - `BadRecord`: the run came to the bad place, which the line shows; the whole transcript was put.
 /// - `InputLimit`: the run has taken 1,000,000,000 inputs and has not ended; its whole transcript was put.
 /// - `ReadFault`, `WriteFault`: only where the count of faults of the source or the sink rose; by any other
 ///   status that count is as before.
 /// - `HubFault`: only by `serve`, and only where a count of faults of the hub rose: it did not begin, gave no
 ///   input, or sent no message; by any other status these counts are as before.
-/// - `Memory`: memory ran out; what was put or sent is a front of what the run sends.
+/// - `Memory`: memory ran out; what was put or sent is a front of what the run sends. Of a demo nothing was put: its lines
+///   are those of the run in which each command has its memory.
 ///
 /// With `ReadFault`, `WriteFault` and `Memory` of `replay` the run is over a front of the stream, which has at least each
 /// entry that ends 65,700 bytes or more before the last byte taken. The whole transcript of these was put, and of the run
@@ -46,11 +49,12 @@ pub fn compose<S: Source, K: Sink, E: Sink, H: Hub>(
     complaints: &mut E,
     hub: &mut H,
 ) -> Ran<S, K>
-    ensures usage { (result.status ≡ Status.Usage) ↔ (built (order (map string_bytes words.now)) ≡ None) }
-    ensures refused { built (order (map string_bytes words.now)) ≡ None → (result.source ≡ source) × (result.sink ≡ sink) × Complained (E.held complaints.old) (E.held complaints.new) (E.faults complaints.old) (E.faults complaints.new) (line_of Status.Usage 0) }
+    ensures usage { (result.status ≡ Status.Usage) ↔ (order (map string_bytes words.now) ≡ None) }
+    ensures refused { order (map string_bytes words.now) ≡ None → (result.source ≡ source) × (result.sink ≡ sink) × Complained (E.held complaints.old) (E.held complaints.new) (E.faults complaints.old) (E.faults complaints.new) (line_of Status.Usage 0) }
     ensures replay { order (map string_bytes words.now) ≡ Some a_replay → (taken : List ℕ) × (place : ℕ) × Replayed result.status (S.left source) (S.left result.source) (K.held sink) (K.held result.sink) taken place × Complained (E.held complaints.old) (E.held complaints.new) (E.faults complaints.old) (E.faults complaints.new) (line_of result.status place) }
     ensures serve { (path : List ℕ) (connections : ℕ) → order (map string_bytes words.now) ≡ Some (a_serve path connections) → (place : ℕ) × Served path connections result.status place (H.asked hub.old) (H.asked hub.new) (told (H.inputs hub.old) (H.sent hub.old) (H.got hub.old) (H.losses hub.old)) (told (H.inputs hub.new) (H.sent hub.new) (H.got hub.new) (H.losses hub.new)) (H.bad hub.old) × (result.source ≡ source) × (result.sink ≡ sink) × Complained (E.held complaints.old) (E.held complaints.new) (E.faults complaints.old) (E.faults complaints.new) (line_of result.status place) }
     ensures types { order (map string_bytes words.now) ≡ Some a_types → ToldTypes result.status (K.held sink) (K.held result.sink) × (result.source ≡ source) × Complained (E.held complaints.old) (E.held complaints.new) (E.faults complaints.old) (E.faults complaints.new) (line_of result.status 0) }
+    ensures demo { (seed steps : ℕ) → order (map string_bytes words.now) ≡ Some (a_demo seed steps) → ToldDemo result.status seed steps (K.held sink) (K.held result.sink) × (result.source ≡ source) × Complained (E.held complaints.old) (E.held complaints.new) (E.faults complaints.old) (E.faults complaints.new) (line_of result.status 0) }
     ensures read_cause { result.status ≡ Status.ReadFault → Rose (S.faults source) (S.faults result.source) }
     ensures write_cause { result.status ≡ Status.WriteFault → Rose (K.faults sink) (K.faults result.sink) }
     ensures read_quiet { result.status ≢ Status.ReadFault → S.faults result.source ≡ S.faults source }
@@ -84,7 +88,16 @@ pub fn compose<S: Source, K: Sink, E: Sink, H: Hub>(
                 sink,
             }
         }
-        Some(Order::Demo { .. }) | None => {
+        Some(Order::Demo { seed, steps }) => {
+            let status = tell_demo(alloc, seed, steps, &mut sink);
+            complain(complaints, status, 0);
+            Ran {
+                status,
+                source,
+                sink,
+            }
+        }
+        None => {
             complain(complaints, Status::Usage, 0);
             Ran {
                 status: Status::Usage,

@@ -3,6 +3,9 @@
 
 mod calls;
 mod complaints;
+mod counts;
+mod demos;
+mod kept;
 mod no_hub;
 mod replays;
 mod serves;

@@ -2,7 +2,7 @@
 
 ghost use Rattle.std.specs.Prelude.{Some};
 
-use crate::{ReplayHub, Unmade};
+use crate::{ReplayHub, Unmade, demo_record};
 use qo_causes::{
     ByteSink, ByteSource, Failed, Hub, Input, Lane, Moment, NextError, SendError, Source, What,
 };
@@ -320,5 +320,72 @@ fn begun_entries_wait_for_more(rt: HostRuntime) -> Result<(), Fail> {
     assert_eq!(rt; behind_opening(&rt, b"shut 0.000000 0")?, failed);
     assert_eq!(rt; behind_opening(&rt, b"guest 0.000000 2\nab")?, failed);
     assert_eq!(rt; behind_opening(&rt, b"bytes 0.000000 0 65536\n")?, failed);
+    Ok(())
+}
+
+/// The demo record of the seed 0 with 17 steps, which do each thing that a step may do.
+const DEMO: &[u8] = b"\
+qrec 1\n\
+open 0.000000 0\n\
+bytes 0.000000 0 31\n\
+{\"execute\":\"qmp_capabilities\"}\n\
+\n\
+bytes 1.000000 0 27\n\
+{\"execute\":\"system_reset\"}\n\
+\n\
+bytes 2.000000 0 80\n\
+{\"execute\":\"device_add\",\"arguments\":{\"driver\":\"slot-timer\",\"id\":\"d4\",\"slot\":4}}\n\
+\n\
+guest 3.000000 15\n\
+write 3 1 0x10\n\
+\n\
+bytes 4.000000 0 79\n\
+{\"execute\":\"device_add\",\"arguments\":{\"driver\":\"slot-uart\",\"id\":\"d7\",\"slot\":7}}\n\
+\n\
+bytes 5.000000 0 79\n\
+{\"execute\":\"device_add\",\"arguments\":{\"driver\":\"slot-uart\",\"id\":\"d3\",\"slot\":3}}\n\
+\n\
+guest 6.000000 5\n\
+poll\n\
+\n\
+step 7.000000 6000\n\
+guest 8.000000 7\n\
+nack 6\n\
+\n\
+bytes 9.000000 0 80\n\
+{\"execute\":\"device_add\",\"arguments\":{\"driver\":\"slot-timer\",\"id\":\"d2\",\"slot\":2}}\n\
+\n\
+guest 10.000000 6\n\
+ack 3\n\
+\n\
+step 11.000000 6000\n\
+guest 12.000000 5\n\
+poll\n\
+\n\
+guest 13.000000 15\n\
+write 3 1 0x10\n\
+\n\
+bytes 14.000000 0 80\n\
+{\"execute\":\"device_add\",\"arguments\":{\"driver\":\"slot-timer\",\"id\":\"d7\",\"slot\":7}}\n\
+\n\
+guest 15.000000 6\n\
+ack 6\n\
+\n\
+bytes 16.000000 0 80\n\
+{\"execute\":\"device_add\",\"arguments\":{\"driver\":\"slot-timer\",\"id\":\"d0\",\"slot\":0}}\n\
+\n\
+bytes 17.000000 0 49\n\
+{\"execute\":\"device_del\",\"arguments\":{\"id\":\"d4\"}}\n\
+\n\
+";
+
+#[test]
+fn demo_records_are_made(rt: HostRuntime) -> Result<(), Fail> {
+    let seventeen = demo_record(rt.alloc(), 0, 17)?;
+    assert_eq!(rt; seventeen.as_slice(), DEMO);
+    assert_eq!(rt; stop(&rt, &seventeen, 19)?, None);
+    let mut wanted = DEMO[..75].to_vec(rt.alloc())?;
+    wanted.extend_from_slice(b"step 1.000000 2000\n")?;
+    assert_eq!(rt; demo_record(rt.alloc(), 1, 1)?.as_slice(), wanted.as_slice());
     Ok(())
 }

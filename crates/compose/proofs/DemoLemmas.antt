@@ -1,0 +1,91 @@
+-- The transcript of a demo, where no reply is refused for want of memory.
+use Rattle.std.proofs.Common.{◌≡◌, ℕ, ◌+◌, ◌<◌, ◌≤◌, ◌^◌, List, [], ◌∷◌, ◌++◌, length, codes, refl, sym, ◌∙◌, ap, subst, arith, append_assoc, length-append}
+use Rattle.std.proofs.Common.{Bool, true, false, Option, None, Some, is_some}
+use Rattle.std.proofs.lemmas.Bool.{true≢false}
+use Rattle.std.proofs.Math.ListN.{get_or-append}
+use Rattle.std.proofs.lemmas.List.{get_or-append-add}
+use Rattle.std.specs.Prelude.{slice_index}
+use Rattle.memchr.specs.Find.{FindsNeedle, Nowhere, OccursAt}
+use Rattle.qo_values.specs.declared.codes.Code.TheVariants.{E99}
+use Rattle.qo_causes.specs.Hub.{lane_text, line}
+use Rattle.qo_replies.specs.Replies.{error_reply, id_member, line_end}
+use Rattle.qo_machine.specs.Machine.{Message, opening}
+use Rattle.qo_machine.specs.Runs.{outs_of, transcript}
+use Rattle.qo_record.proofs.DemoLemmas.{demos_are_read}
+use Rattle.qo_record.proofs.ReadingLemmas.{some_is}
+use Rattle.qo_record.specs.Demo.{demo_bytes, demo_inputs}
+use Rattle.qo_record.specs.Record.{stream_inputs}
+use Rattle.compose.proofs.DefinedLemmas.{NoneRefused, defined_run}
+use Rattle.compose.specs.Demo.{Lacks, demo_transcript, no_memory}
+use Rattle.compose.specs.Replay.{Replayed}
+use Rattle.compose.specs.declared.statuses.Status.{Status}
+use Rattle.compose.specs.declared.statuses.Status.TheVariants.{Done}
+
+-- A reply that is refused for want of memory has its code.
+
+record HasCode (text : List ℕ) : Type 0 where
+  before : List ℕ
+  behind : List ℕ
+  parts : text ≡ before ++ (no_memory ++ behind)
+
+refused_parts : (id : Option (List ℕ)) → HasCode (error_reply id E99)
+unfolding error_reply
+refused_parts id =
+    record {
+      before = codes "{\"error\":{\"class\":\"GenericError\",";
+      behind = ((codes "out of memory\"}" ++ id_member id (codes ",") []) ++ codes "}") ++ line_end;
+      parts = refl;
+    }
+
+regrouped : (lane before code behind rest : List ℕ) → (lane ++ 32 ∷ (before ++ (code ++ behind))) ++ rest ≡ (lane ++ 32 ∷ before) ++ (code ++ (behind ++ rest))
+regrouped lane before code behind rest = simp append_assoc
+
+pub none_refused : (outs : List Message) → Lacks no_memory (transcript outs) → NoneRefused outs
+none_refused [] lacks = tt
+none_refused (m ∷ outs) lacks = (
+  λ id is.
+      let h = refused_parts id in
+      lacks (lane_text m.0 ++ 32 ∷ h.before) (h.behind ++ transcript outs)
+      (ap (λ (text : List ℕ). (lane_text m.0 ++ 32 ∷ text) ++ transcript outs) (is ∙ h.parts)
+      ∙ regrouped (lane_text m.0) h.before no_memory h.behind (transcript outs)),
+  none_refused outs
+      (λ before behind e. lacks (line m.0 m.1 ++ before) behind
+      (ap (λ (l : List ℕ). line m.0 m.1 ++ l) e ∙ sym (append_assoc (line m.0 m.1) before (no_memory ++ behind)))),
+)
+
+-- What is not found stands nowhere.
+pub lacks_by : (part bytes : List ℕ) → Nowhere (OccursAt bytes part) 0 (length bytes + 1) → Lacks part bytes
+lacks_by part bytes none before behind parts =
+    let size : length bytes ≡ length before + (length part + length behind) =
+    ap (length {A = ℕ}) parts ∙ length-append before (part ++ behind) ∙ ap (λ (n : ℕ). length before + n) (length-append part behind) in
+    none (length before) (omega arith) (omega arith)
+    (record {
+      fits = omega arith;
+      reads =
+          λ j within. ap (λ (l : List ℕ). slice_index l (length before + j)) parts ∙ get_or-append-add before (part ++ behind) j 0
+          ∙ get_or-append part behind 0 j within;
+    })
+
+pub not_found : (part bytes : List ℕ) (place : Option ℕ) (found : Bool) → found ≡ is_some place → FindsNeedle bytes part 0 place → found ≡ false → Lacks part bytes
+not_found part bytes None found is none missed = lacks_by part bytes none
+not_found part bytes (Some k) found is h missed = absurd (true≢false (sym is ∙ missed))
+
+-- The kept transcript of a run over the record is that of the demo.
+kept_is : (bytes kept taken : List ℕ) (left : Option (List ℕ)) (seed steps place : ℕ) → bytes ≡ demo_bytes seed steps → steps < 2 ^ 32 →
+    Replayed Done (Some bytes) left (Some []) (Some kept) taken place → Lacks no_memory kept → kept ≡ demo_transcript seed steps
+unfolding demo_transcript
+kept_is bytes kept taken left seed steps place is few ran lacks =
+    let d = ran.did in
+    let put : kept ≡ transcript (outs_of opening d.0) = some_is d.1.put in
+    let read : stream_inputs bytes ≡ demo_inputs seed steps = ap stream_inputs is ∙ (demos_are_read seed steps few).0 in
+    let none = none_refused (outs_of opening d.0) (subst (λ (l : List ℕ). Lacks no_memory l) put lacks) in
+    put
+    ∙ ap transcript
+    (defined_run d.0 (demo_inputs seed steps) d.2.0 d.1.last d.1.lost (sym read ∙ d.2.1) (λ over. (d.2.2 over).0) none)
+
+pub demo_done : (status : Status) (bytes start kept taken : List ℕ) (left : Option (List ℕ)) (seed steps place : ℕ) → status ≡ Done →
+    bytes ≡ demo_bytes seed steps → start ≡ [] → steps < 2 ^ 32 → Replayed status (Some bytes) left (Some start) (Some kept) taken place →
+    Lacks no_memory kept → kept ≡ demo_transcript seed steps
+demo_done status bytes start kept taken left seed steps place done is empty few ran lacks =
+    let on = subst (λ (s : Status). Replayed s (Some bytes) left (Some start) (Some kept) taken place) done ran in
+    kept_is bytes kept taken left seed steps place is few (subst (λ (l : List ℕ). Replayed Done (Some bytes) left (Some l) (Some kept) taken place) empty on) lacks

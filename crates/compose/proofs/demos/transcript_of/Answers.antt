@@ -1,0 +1,13 @@
+-- The run was over the demo record, and no command of it was refused for want of memory.
+use Rattle.std.proofs.Common.{◌∙◌, sym, subst, ap, List, ℕ, arith}
+use Rattle.compose.specs.Demo.{Lacks, no_memory}
+use Rattle.compose.proofs.DemoLemmas.{demo_done}
+use Rattle.compose.proofs.demos.transcript_of.Goals as goal
+
+pub returns : goal.returns
+returns c =
+    let kept = c.replay-ran.result.0.sink.bytes.items in
+    let ran = c.replay-ran.ensures.replayed in
+    demo_done c.replay-ran.result.0.status c.new-source.result.bytes c.new-2.result.bytes.items kept ran.0 _ c.args.seed c.args.steps _ c.in-Done.is
+    (ap (λ s. s.bytes) c.new-source.ensures ∙ c.in_ok-stream.ensures) c.new-2.ensures (omega arith) ran.1
+    (subst (λ (l : List ℕ). Lacks no_memory l) c.deref.ensures.value (c.may_be_refused.ensures c.if-may_be_refused.false))

@@ -1,0 +1,69 @@
+//! Runs the demo record in memory, and counts what is sent.
+
+ghost use Rattle.std.specs.Prelude.{◌≡◌, ◌≢◌, ◌≤◌, false, IfOk};
+ghost use Rattle.qo_causes.specs.Cause.{Rose};
+ghost use Rattle.compose.specs.Demo.{Lacks, ToldDemo, demo_transcript, no_memory, summary};
+
+use crate::counts::summary;
+use crate::kept::Kept;
+use crate::replays::replay;
+use crate::statuses::{Ran, Status};
+use memchr::memmem;
+use qo_causes::{ByteSource, Failed, Sink, put_all};
+use qo_record::demo_record;
+use std::alloc::{AllocError, Global};
+
+/// Whether a reply of the transcript may be one that is refused for want of memory: no other text of a demo has its words.
+fn may_be_refused(transcript: &[u8]) -> bool
+    ensures { result ≡ false → Lacks no_memory transcript.now }
+{
+    memmem::find(transcript, b"\"desc\":\"E99 ").is_some()
+}
+
+/// The transcript of the run over the demo record. Whatever else ends the run than its end is want of memory: the record
+/// is whole, it is in memory, and so is its transcript.
+fn transcript_of(alloc: Global, seed: u64, steps: u32) -> Result<Vec<u8>, AllocError>
+    ensures { IfOk result (λ bytes. bytes.items ≡ demo_transcript seed steps) }
+{
+    let stream = demo_record(alloc, seed, steps)?;
+    let source = ByteSource::new(stream, Vec::new(alloc));
+    let (ran, _) = replay(alloc, source, Kept::new(alloc));
+    let Ran {
+        status,
+        source: _,
+        sink,
+    } = ran;
+    let Status::Done = status else {
+        return Err(AllocError);
+    };
+    let transcript = sink.bytes;
+    if may_be_refused(&transcript) {
+        return Err(AllocError);
+    }
+    Ok(transcript)
+}
+
+/// The lines that tell of a demo.
+fn lines_of(alloc: Global, seed: u64, steps: u32) -> Result<Vec<u8>, AllocError>
+    ensures { IfOk result (λ lines. lines.items ≡ summary (demo_transcript seed steps)) }
+{
+    let transcript = transcript_of(alloc, seed, steps)?;
+    summary(alloc, &transcript)
+}
+
+/// Runs the demo of a seed with so many steps, and puts the lines that count what it sends. For want of memory nothing is
+/// put.
+pub(crate) fn tell_demo<K: Sink>(alloc: Global, seed: u64, steps: u32, sink: &mut K) -> Status
+    ensures told { ToldDemo result seed steps (K.held sink.old) (K.held sink.new) }
+    ensures count { K.faults sink.old ≤ K.faults sink.new }
+    ensures cause { result ≡ Status.WriteFault → Rose (K.faults sink.old) (K.faults sink.new) }
+    ensures quiet { result ≢ Status.WriteFault → K.faults sink.new ≡ K.faults sink.old }
+{
+    let Ok(lines) = lines_of(alloc, seed, steps) else {
+        return Status::Memory;
+    };
+    match put_all(sink, lines.as_slice()) {
+        Ok(()) => Status::Done,
+        Err(Failed) => Status::WriteFault,
+    }
+}
