@@ -28,6 +28,7 @@ memory-backend object abstract user-creatable
 memory-backend-ram memory-backend plain -
 tag object plain user-creatable
 """
+NEGOTIATED = b"replies 1\nerrors 0\nevents 0\nanswers 0\nbytes 119\n"
 USAGE = b"usage: compose replay | serve --socket PATH --connections N | demo --seed N --steps K | types\n"
 
 
@@ -39,6 +40,18 @@ def differs(name, words, given, status, printed, complained):
     if got == wanted:
         return False
     print(f"{name}: wanted {wanted}, got {got}", file=sys.stderr)
+    return True
+
+
+def demos_differ():
+    """Whether two runs of a long demo are not equal, or do not end well; says so."""
+    words = [PROGRAM, "demo", "--seed", "7", "--steps", "20000"]
+    runs = [subprocess.run(words, capture_output=True, timeout=60) for _ in range(2)]
+    got = [(ran.returncode, ran.stdout, ran.stderr) for ran in runs]
+    names = [line.split()[0] for line in runs[0].stdout.splitlines()]
+    if got[0] == got[1] and got[0][0] == 0 and names == [b"replies", b"errors", b"events", b"answers", b"bytes"]:
+        return False
+    print(f"two demos: got {got}", file=sys.stderr)
     return True
 
 
@@ -82,10 +95,12 @@ def main():
         ("types and a word too many", ["types", "--help"], b"", 2, b"", USAGE),
         ("no connections", ["serve", "--connections", "0", "--socket", "s"], b"", 2, b"", USAGE),
         ("no path", ["serve", "--socket=", "--connections", "1"], b"", 2, b"", USAGE),
-        ("a command that is not built", ["demo", "--seed", "1", "--steps", "0"], b"", 2, b"", USAGE),
+        ("a demo without steps", ["demo", "--seed", "1", "--steps", "0"], b"", 0, NEGOTIATED, b""),
+        ("a demo of one step that is time", ["demo", "--steps=1", "--seed=1"], cycle, 0, NEGOTIATED, b""),
+        ("a demo with a step too many", ["demo", "--seed", "1", "--steps", "1000001"], b"", 2, b"", USAGE),
         ("a socket in no folder", ["serve", "--socket", "no/such/folder", "--connections", "1"], b"", 7, b"", b"compose: hub fault\n"),
     ]
-    return any([*[differs(*run) for run in runs], answers_late()])
+    return any([*[differs(*run) for run in runs], demos_differ(), answers_late()])
 
 
 sys.exit(main())

@@ -99,12 +99,19 @@ fn kind_of(alloc: Global, line: &[u8]) -> Result<Kind, AllocError>
     }
 }
 
-/// What the lines of a transcript are.
-fn kinds_of(alloc: Global, transcript: &[u8]) -> Result<Vec<Kind>, AllocError>
-    ensures { IfOk result (λ kinds. kinds.items ≡ map kind_of (lines transcript.now)) }
+/// The lines of a transcript.
+fn lines_of(alloc: Global, transcript: &[u8]) -> Result<Vec<&[u8]>, AllocError>
+    ensures { IfOk result (λ found. map (λ line. line.now) found.items ≡ lines transcript.now) }
+{
+    transcript.split(|b| *b == b'\n').collect(alloc)
+}
+
+/// What some lines are.
+fn kinds_of(alloc: Global, lines: &[&[u8]]) -> Result<Vec<Kind>, AllocError>
+    ensures { IfOk result (λ kinds. kinds.items ≡ map kind_of (map (λ line. line.now) lines.now)) }
 {
     let mut kinds = Vec::new(alloc);
-    for line in transcript.split(|b| *b == b'\n') {
+    for line in lines {
         kinds.push(kind_of(alloc, line)?)?;
     }
     Ok(kinds)
@@ -147,6 +154,7 @@ fn summary_of(alloc: Global, kinds: &[Kind], size: usize) -> Result<Vec<u8>, All
 pub(crate) fn summary(alloc: Global, transcript: &[u8]) -> Result<Vec<u8>, AllocError>
     ensures { IfOk result (λ lines. lines.items ≡ summary transcript.now) }
 {
-    let kinds = kinds_of(alloc, transcript)?;
+    let lines = lines_of(alloc, transcript)?;
+    let kinds = kinds_of(alloc, &lines)?;
     summary_of(alloc, &kinds, transcript.len())
 }

@@ -239,10 +239,28 @@ fn types_are_told(rt: HostRuntime) -> Result<(), Fail> {
     assert_eq!(rt; left.status, Status::WriteFault);
     assert_eq!(rt; left.held.as_slice(), &TYPES[..100]);
     assert_eq!(rt; left.told.as_slice(), b"compose: write fault\n".as_slice());
-    let seed = ["demo", "--seed", "1", "--steps", "0"];
-    assert_eq!(rt;
-        call(rt.alloc(), &seed, b"", &[], &[])?.status,
-        Status::Usage
-    );
+    Ok(())
+}
+
+/// What a demo tells of the greeting and the reply to the negotiation alone.
+const NEGOTIATED: &[u8] = b"replies 1\nerrors 0\nevents 0\nanswers 0\nbytes 119\n";
+
+#[test]
+fn demos_are_counted(rt: HostRuntime) -> Result<(), Fail> {
+    let none = ["demo", "--steps", "0", "--seed=1"];
+    let left = call(rt.alloc(), &none, b"", &[1], &[])?;
+    assert_eq!(rt; left.status, Status::Done);
+    assert_eq!(rt; left.held.as_slice(), NEGOTIATED);
+    assert!(rt; left.told.is_empty());
+    let one = ["demo", "--seed", "1", "--steps", "1"];
+    assert_eq!(rt; call(rt.alloc(), &one, b"", &[], &[])?.held.as_slice(), NEGOTIATED);
+    let left = call_with_room(rt.alloc(), &none, b"", &[], &[], 15)?;
+    assert_eq!(rt; left.status, Status::WriteFault);
+    assert_eq!(rt; left.held.as_slice(), &NEGOTIATED[..15]);
+    assert_eq!(rt; left.told.as_slice(), b"compose: write fault\n".as_slice());
+    let many = ["demo", "--seed", "7", "--steps", "200"];
+    let first = call(rt.alloc(), &many, b"", &[], &[])?;
+    assert_eq!(rt; first.status, Status::Done);
+    assert_eq!(rt; first.held.as_slice(), call(rt.alloc(), &many, b"", &[], &[])?.held.as_slice());
     Ok(())
 }
