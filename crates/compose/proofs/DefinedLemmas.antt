@@ -1,6 +1,6 @@
 -- A run that sends no reply that is refused for want of memory is the run in which each command has its memory.
-use Rattle.std.proofs.Common.{◌≡◌, ℕ, zero, suc, ◌+◌, ◌<◌, ◌≤◌, Bool, true, false, if◌then◌else◌, ◌||◌, List, [], ◌∷◌, ◌++◌, length, map, refl, sym, ◌∙◌}
-use Rattle.std.proofs.Common.{ap, subst, arith, append_assoc, append-nil, Option, None, Some, slice_index_or}
+use Rattle.std.proofs.Common.{◌≡◌, ℕ, suc, Bool, true, false, if◌then◌else◌, ◌||◌, List, [], ◌∷◌, ◌++◌, map, refl, sym, ◌∙◌}
+use Rattle.std.proofs.Common.{ap, subst, append-nil, Option, None, Some, slice_index_or}
 use Rattle.std.proofs.lemmas.Bool.{true≢false}
 use Rattle.std.proofs.lemmas.List.{map-append}
 use Rattle.std.proofs.lemmas.List.Elements.{filter_map-append}
@@ -21,9 +21,9 @@ use Rattle.qo_values.specs.declared.codes.Code.TheVariants.{E99}
 use Rattle.qo_values.specs.declared.limits.TheConstants.{SESSIONS}
 use Rattle.std.specs.Prelude.{nat_lt}
 use Rattle.qo_replies.specs.Replies.{error_reply}
-use Rattle.qo_machine.proofs.RunLemmas.{closed_none, outs_more, state_more}
-use Rattle.qo_machine.specs.Machine.{Choice, Made, Message, State, Stepped, behind, defined, finished, first, input_step, item_step, made_by, mode_of, opened, opening, others, refused, serve, serve_unless, step, taken, unchanged, with_session}
-use Rattle.qo_machine.specs.Runs.{EndsAtLast, Turn, after, close_lost, closed_where, has_end, outs_at, outs_of, state_after, turn_inputs}
+use Rattle.qo_machine.proofs.RunLemmas.{closed_none, outs_more}
+use Rattle.qo_machine.specs.Machine.{Choice, Made, Message, State, Stepped, behind, defined, finished, input_step, item_step, made_by, mode_of, opened, opening, refused, serve, serve_unless, step, taken, unchanged, with_session}
+use Rattle.qo_machine.specs.Runs.{EndsAtLast, Turn, after, closed_where, has_end, outs_at, outs_of, state_after, turn_inputs}
 use Rattle.compose.proofs.ReplayLemmas.{going_on, no_end}
 use Rattle.compose.specs.Demo.{as_defined}
 use Rattle.compose.specs.Replay.{NoneLost}
@@ -267,6 +267,7 @@ ended_run before last inputs rest going over lost all none h = by (is_end last.i
   where
     ends : has_end (before ++ last ∷ []) ≡ is_end last.input.what
     ends = end_of before last (going_on before going)
+
     by : (e : Bool) → is_end last.input.what ≡ e → outs_of opening (before ++ last ∷ []) ≡ outs_of opening (plain inputs)
     by true is = by_end before last inputs rest going is (none (ends ∙ is)) lost all h
     by false is = by_input (before ++ last ∷ []) inputs rest (ends ∙ is) over lost all h

@@ -253,7 +253,10 @@ fn demos_are_counted(rt: HostRuntime) -> Result<(), Fail> {
     assert_eq!(rt; left.held.as_slice(), NEGOTIATED);
     assert!(rt; left.told.is_empty());
     let one = ["demo", "--seed", "1", "--steps", "1"];
-    assert_eq!(rt; call(rt.alloc(), &one, b"", &[], &[])?.held.as_slice(), NEGOTIATED);
+    assert_eq!(rt;
+        call(rt.alloc(), &one, b"", &[], &[])?.held.as_slice(),
+        NEGOTIATED
+    );
     let left = call_with_room(rt.alloc(), &none, b"", &[], &[], 15)?;
     assert_eq!(rt; left.status, Status::WriteFault);
     assert_eq!(rt; left.held.as_slice(), &NEGOTIATED[..15]);
@@ -261,6 +264,9 @@ fn demos_are_counted(rt: HostRuntime) -> Result<(), Fail> {
     let many = ["demo", "--seed", "7", "--steps", "200"];
     let first = call(rt.alloc(), &many, b"", &[], &[])?;
     assert_eq!(rt; first.status, Status::Done);
-    assert_eq!(rt; first.held.as_slice(), call(rt.alloc(), &many, b"", &[], &[])?.held.as_slice());
+    assert_eq!(rt;
+        first.held.as_slice(),
+        call(rt.alloc(), &many, b"", &[], &[])?.held.as_slice()
+    );
     Ok(())
 }

@@ -140,7 +140,7 @@ steps_fit (suc more) x second opened few stands =
     let s = what_stays opened (drawn (next_number x) % 8) (drawn (next_number (next_number x)) % 8) (below_eight (drawn (next_number (next_number x)))) stands in (
       ((omega arith, omega arith), s.fits),
       subst (λ (o : List Bool). FitAll o (demo_steps more (next_number (next_number x)) (second + 1))) (sym s.same)
-      (steps_fit more (next_number (next_number x)) (second + 1) opened (omega arith) stands),
+          (steps_fit more (next_number (next_number x)) (second + 1) opened (omega arith) stands),
     )
 
 pub demo_fits : (seed steps : ℕ) → steps < 2 ^ 32 → FitAll none_open (demo_inputs seed steps)

@@ -1,7 +1,6 @@
 -- The demo record: a recorded stream that is made of a seed and a number of steps (docs/PROFILE.md, the demo record).
 use Rattle.std.specs.Prelude.{ℕ, zero, suc, ◌+◌, ◌*◌, ◌/◌, ◌%◌, ◌^◌, ◌==◌, if◌then◌else◌, List, [], ◌∷◌, ◌++◌, codes, decimal}
 use Rattle.qo_causes.specs.declared.inputs.Input.{Input}
-use Rattle.qo_causes.specs.declared.inputs.Moment.{Moment}
 use Rattle.qo_causes.specs.declared.inputs.What.{What}
 use Rattle.qo_causes.specs.declared.inputs.What.TheVariants.{Open, Bytes, Guest, Step}
 use Rattle.qo_record.specs.Spelling.{entries_text, header}

@@ -386,6 +386,9 @@ fn demo_records_are_made(rt: HostRuntime) -> Result<(), Fail> {
     assert_eq!(rt; stop(&rt, &seventeen, 19)?, None);
     let mut wanted = DEMO[..75].to_vec(rt.alloc())?;
     wanted.extend_from_slice(b"step 1.000000 2000\n")?;
-    assert_eq!(rt; demo_record(rt.alloc(), 1, 1)?.as_slice(), wanted.as_slice());
+    assert_eq!(rt;
+        demo_record(rt.alloc(), 1, 1)?.as_slice(),
+        wanted.as_slice()
+    );
     Ok(())
 }

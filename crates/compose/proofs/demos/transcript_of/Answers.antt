@@ -1,5 +1,5 @@
 -- The run was over the demo record, and no command of it was refused for want of memory.
-use Rattle.std.proofs.Common.{◌∙◌, sym, subst, ap, List, ℕ, arith}
+use Rattle.std.proofs.Common.{◌∙◌, subst, ap, List, ℕ, arith}
 use Rattle.compose.specs.Demo.{Lacks, no_memory}
 use Rattle.compose.proofs.DemoLemmas.{demo_done}
 use Rattle.compose.proofs.demos.transcript_of.Goals as goal

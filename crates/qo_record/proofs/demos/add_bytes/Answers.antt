@@ -1,5 +1,5 @@
 -- The start of the entry, the number of session 0, and the bytes.
-use Rattle.std.proofs.Common.{[], ◌∷◌, ◌++◌, codes}
+use Rattle.std.proofs.Common.{[], ◌∷◌, codes}
 use Rattle.qo_record.specs.Spelling.{moment_text, piece_text}
 use Rattle.qo_record.proofs.DemoLemmas.{behind_start, put_twice, session_zero}
 use Rattle.qo_record.proofs.demos.add_bytes.Goals as goal

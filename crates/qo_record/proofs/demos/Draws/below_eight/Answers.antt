@@ -1,5 +1,5 @@
 -- The next number, and what is drawn of it.
-use Rattle.std.proofs.Common.{refl, ap, ◌%◌}
+use Rattle.std.proofs.Common.{refl}
 use Rattle.qo_record.specs.Demo.{drawn}
 use Rattle.qo_record.proofs.DemoLemmas.{next_is}
 use Rattle.qo_record.proofs.demos.Draws.below_eight.Goals as goal
