@@ -137,7 +137,7 @@ pub fn plan_of<L: Ledger>(
     ensures fits { IfOk result (λ plan. AllZip Fits plan.items (new_slots kind)) }
     ensures live { IfOk result (λ plan. AllByRecursion (λ f. IfSome (target_in f) (IsLive heap.now.rows)) plan.items) }
 {
-    let mut plan = Vec::new(alloc);
+    let mut plan = Vec::with_capacity(alloc, TypeTable::board().props(kind).len())?;
     let mut place = 0;
     while let Some(row) = TypeTable::board().prop(kind, place) {
         plan_row(&mut plan, heap, row, props, alloc, steps)?;

@@ -11,7 +11,7 @@ use Rattle.qo_properties.proofs.FreshLemmas.{RowAt, row-at, few-slots, past}
 use Rattle.qo_properties.proofs.adding.filling.plan_of.Goals as goal
 
 pub loop-row-init : goal.loop-row-init
-loop-row-init g c = rw c.new-plan.ensures.items (record { told = λ b s. tt; fits = tt; live = tt; within = omega arith })
+loop-row-init g c = rw c.in_ok-plan.ensures.items (record { told = λ b s. tt; fits = tt; live = tt; within = omega arith })
 
 pub overflow_add-place : goal.overflow_add-place
 overflow_add-place g c =
