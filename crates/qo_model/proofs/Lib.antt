@@ -13,6 +13,7 @@ pub mod GraphLemmas
 mod HotplugRows
 pub mod OpeningLemmas
 pub mod PassedLemmas
+pub mod PeriodLemmas
 pub mod PinLemmas
 pub mod ReleaseKeepsLemmas
 pub mod ReleaseLeavesLemmas

@@ -1,8 +1,9 @@
 -- The laws of the definitions, each the contract of a function of `laws`.
-use Rattle.std.specs.Prelude.{◌≡◌, ℕ, true, false, List, [], ◌∷◌, map, filter, codes, Some, is_some}
+use Rattle.std.specs.Prelude.{◌≡◌, ℕ, true, false, List, [], ◌∷◌, map, filter, codes, Some, is_some, None}
 use Rattle.qo_model.specs.declared.notes.Deed.TheVariants.{Final}
 use Rattle.qo_model.specs.declared.notes.Note.{Note}
 use Rattle.qo_model.specs.Board.{Board, Record, is_live}
+use Rattle.qo_model.specs.Clocks.{child_period, own_period, period, source_of}
 use Rattle.qo_model.specs.Holders.{HeldFrom}
 use Rattle.qo_model.specs.Opening.{opening_board}
 use Rattle.qo_model.specs.Paths.{attached, attached_turn, steps_to, steps_turn, canonical, resolve_absolute}
@@ -85,3 +86,7 @@ pub record FinalNotesLaw : Type 0 where
 -- on a sound board an object that is there and not attached is held from a cycle or from an attached object
 abbrev pub CycleLaw : Type 0
 CycleLaw = (b : Board) → SoundGraph b → (n : ℕ) → is_live b n ≡ true → attached b n ≡ false → HeldFrom b n
+
+-- a clock without a source has its own period, and any other its source's, as that one's mul and div make it, on every board
+abbrev pub PeriodsLaw : Type 0
+PeriodsLaw = (b : Board) (c : ℕ) → period b c ≡ elim (source_of b c) [ None ↦ own_period b c | Some s ↦ child_period b s ]

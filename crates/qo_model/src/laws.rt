@@ -12,6 +12,7 @@ ghost use Rattle.qo_model.specs.Laws.{
   FinalNotesLaw,
   CycleLaw,
   WeakLinksLaw,
+  PeriodsLaw,
 };
 ghost use Rattle.qo_model.specs.ReleaseKeeps.{KeepsRelease, Keeps};
 
@@ -103,3 +104,11 @@ mod tests {
         law_release_keeps::<Brand>();
     }
 }
+
+/// The period of a clock without a source is its own, and of any other that of its source, as the
+/// source's multiplier and divider make it (docs/devel/clocks.rst, "Clock multiplier and divider
+/// settings"), on every board, also where sources lead round.
+#[tactic(auto, using(crate::proofs::PeriodLemmas::periods_lem))]
+pub fn law_periods()
+    ensures { PeriodsLaw }
+{}
