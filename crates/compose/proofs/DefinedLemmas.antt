@@ -22,7 +22,8 @@ use Rattle.qo_values.specs.declared.limits.TheConstants.{SESSIONS}
 use Rattle.std.specs.Prelude.{nat_lt}
 use Rattle.qo_replies.specs.Replies.{error_reply}
 use Rattle.qo_machine.proofs.RunLemmas.{closed_none, outs_more}
-use Rattle.qo_machine.specs.Machine.{Choice, Made, Message, State, Stepped, behind, defined, finished, input_step, item_step, made_by, mode_of, opened, opening, refused, serve, serve_unless, step, taken, unchanged, with_session}
+use Rattle.qo_machine.specs.Machine.{Choice, Made, Message, State, Stepped, behind, defined, finished, input_step, item_step, made_by, mode_of}
+use Rattle.qo_machine.specs.Machine.{opened, opening, refused, serve, serve_unless, step, taken, unchanged, with_session}
 use Rattle.qo_machine.specs.Runs.{EndsAtLast, Turn, after, closed_where, has_end, outs_at, outs_of, state_after, turn_inputs}
 use Rattle.compose.proofs.ReplayLemmas.{going_on, no_end}
 use Rattle.compose.specs.Demo.{as_defined}
@@ -62,7 +63,8 @@ item_same c at n s item h = made_same c at n s (act (mode_of s n) item) h
 abbrev Goes : Moment → ℕ → List Item → Type 0
 Goes at n items = (s : State) (cs : List Choice) → NoneRefused (serve at n items s cs).outs → Same (serve at n items s cs) (serve at n items s [])
 
-next_same : (at : Moment) (n : ℕ) (items : List Item) (made plain : Made) (cs : List Choice) → made ≡ plain → NoneRefused (serve at n items made.state cs).outs →
+next_same : (at : Moment) (n : ℕ) (items : List Item) (made plain : Made) (cs : List Choice) → made ≡ plain →
+    NoneRefused (serve at n items made.state cs).outs →
     Goes at n items → Same (behind made.outs (serve at n items made.state cs)) (behind plain.outs (serve at n items plain.state []))
 next_same at n items made plain cs same h goes =
     subst (λ (m : Made). Same (behind made.outs (serve at n items made.state cs)) (behind m.outs (serve at n items m.state []))) same

@@ -66,7 +66,8 @@ lacks_by part bytes none before behind parts =
           ∙ get_or-append part behind 0 j within;
     })
 
-pub not_found : (part bytes : List ℕ) (place : Option ℕ) (found : Bool) → found ≡ is_some place → FindsNeedle bytes part 0 place → found ≡ false → Lacks part bytes
+pub not_found : (part bytes : List ℕ) (place : Option ℕ) (found : Bool) → found ≡ is_some place → FindsNeedle bytes part 0 place →
+    found ≡ false → Lacks part bytes
 not_found part bytes None found is none missed = lacks_by part bytes none
 not_found part bytes (Some k) found is h missed = absurd (true≢false (sym is ∙ missed))
 
@@ -88,4 +89,5 @@ pub demo_done : (status : Status) (bytes start kept taken : List ℕ) (left : Op
     Lacks no_memory kept → kept ≡ demo_transcript seed steps
 demo_done status bytes start kept taken left seed steps place done is empty few ran lacks =
     let on = subst (λ (s : Status). Replayed s (Some bytes) left (Some start) (Some kept) taken place) done ran in
-    kept_is bytes kept taken left seed steps place is few (subst (λ (l : List ℕ). Replayed Done (Some bytes) left (Some l) (Some kept) taken place) empty on) lacks
+    kept_is bytes kept taken left seed steps place is few
+    (subst (λ (l : List ℕ). Replayed Done (Some bytes) left (Some l) (Some kept) taken place) empty on) lacks

@@ -1,12 +1,14 @@
 -- The entries of a demo record, written one behind the other, and that they may stand.
-use Rattle.std.proofs.Common.{◌≡◌, ℕ, zero, suc, ◌+◌, ◌-◌, ◌*◌, ◌%◌, ◌^◌, ◌<◌, ◌≤◌, Bool, true, false, if◌then◌else◌, ◌==◌, List, [], ◌∷◌, ◌++◌, length, codes, decimal}
+use Rattle.std.proofs.Common.{◌≡◌, ℕ, zero, suc, ◌+◌, ◌-◌, ◌*◌, ◌%◌, ◌^◌, ◌<◌, ◌≤◌, Bool, true, false, if◌then◌else◌, ◌==◌}
+use Rattle.std.proofs.Common.{List, [], ◌∷◌, ◌++◌, length, codes, decimal}
 use Rattle.std.proofs.Common.{refl, sym, ◌∙◌, ap, subst, arith, append_assoc, length-append, Result, Ok, Err, OnOk}
 use Rattle.std.proofs.Math.Nat.{mod-add-mod}
 use Rattle.std.proofs.lemmas.Fmt.{decimal_digit, length-decimal-le}
 use Rattle.std.proofs.lemmas.List.Concat.{flat_map-append}
 use Rattle.qo_causes.specs.declared.inputs.What.{What}
 use Rattle.qo_causes.specs.declared.inputs.What.TheVariants.{Open, Bytes, Guest, Step}
-use Rattle.qo_record.specs.Demo.{at_second, demo_bytes, demo_inputs, demo_start, demo_step, demo_steps, demo_what, drawn, line_of, next_number, plugging, resetting, unplugging, with_number}
+use Rattle.qo_record.specs.Demo.{at_second, demo_bytes, demo_inputs, demo_start, demo_step, demo_steps, demo_what, drawn, line_of, next_number}
+use Rattle.qo_record.specs.Demo.{plugging, resetting, unplugging, with_number}
 use Rattle.qo_record.specs.Laws.{DemosAreRead, FirstDraw}
 use Rattle.qo_record.proofs.RecordLemmas.{spelled_streams_are_read}
 use Rattle.qo_record.specs.Spelling.{FitAll, FitsPiece, FitsWhat, entries_text, entry_text, header, is_open, none_open, opened_by}
@@ -63,7 +65,8 @@ one_written steps i j x y before behind whole within is same put drawn_twice =
     let count : steps - i ≡ suc more = omega arith in
     let last : List ℕ = left_text more (next_number (next_number x)) (i + 1 + 1) in
     ap (λ (n : ℕ). behind ++ left_text more n (i + 1 + 1)) drawn_twice
-    ∙ ap (λ (l : List ℕ). l ++ last) (put ∙ ap (λ (n : ℕ). before ++ entry_text (demo_step x (n + 1))) same) ∙ append_assoc before (entry_text (demo_step x (i + 1))) last
+    ∙ ap (λ (l : List ℕ). l ++ last) (put ∙ ap (λ (n : ℕ). before ++ entry_text (demo_step x (n + 1))) same)
+    ∙ append_assoc before (entry_text (demo_step x (i + 1))) last
     ∙ ap (λ (n : ℕ). before ++ left_text n x (i + 1)) (sym count) ∙ is
 
 -- The entries of a demo may stand.
@@ -98,10 +101,12 @@ number_fits before behind n few some size = (
 plugging_fits : (driver : List ℕ) (n : ℕ) → n < 8 → length driver ≤ 60000 → FitsPiece (plugging driver n)
 plugging_fits driver n few size =
     let head : List ℕ = codes "{\"execute\":\"device_add\",\"arguments\":{\"driver\":\"" in
-    let id : List ℕ = with_number (codes "\",\"id\":\"d") n (codes "\",\"slot\":") in
+    let before : List ℕ = codes "\",\"id\":\"d" in
+    let behind : List ℕ = codes "\",\"slot\":" in
+    let id : List ℕ = with_number before n behind in
     let slot : List ℕ = with_number [] n (line_of (codes "}}")) in
     let id_size : length id ≤ 20 =
-    omega (arith, digit_size n few, length-append (codes "\",\"id\":\"d" ++ decimal n) (codes "\",\"slot\":"), length-append (codes "\",\"id\":\"d") (decimal n)) in
+    omega (arith, digit_size n few, length-append (before ++ decimal n) behind, length-append before (decimal n)) in
     let slot_size : length slot ≤ 4 = omega (arith, digit_size n few, length-append (decimal n) (line_of (codes "}}"))) in (
       omega (arith, length-append ((head ++ driver) ++ id) slot, length-append (head ++ driver) id, length-append head driver),
       omega (arith, size, id_size, slot_size, length-append ((head ++ driver) ++ id) slot, length-append (head ++ driver) id, length-append head driver),
@@ -112,6 +117,7 @@ what_stays opened k n few stands =
     let uart : List ℕ = plugging (codes "slot-uart") n in
     let timer : List ℕ = plugging (codes "slot-timer") n in
     let gives : List ℕ → List ℕ = λ before. with_number before n (10 ∷ []) in
+    let end : List ℕ = 10 ∷ [] in
     let writes : List ℕ = with_number (codes "write ") n (line_of (codes " 1 0x10")) in
     let del : List ℕ = codes "{\"execute\":\"device_del\",\"arguments\":{\"id\":\"d" in
     let poll : List ℕ = line_of (codes "poll") in
@@ -125,8 +131,8 @@ what_stays opened k n few stands =
     either (k == 0) (Bytes 0 uart) one (sent uart stands (plugging_fits (codes "slot-uart") n few (omega arith)))
     (either (k == 1) (Bytes 0 timer) two (sent timer stands (plugging_fits (codes "slot-timer") n few (omega arith)))
     (either (k == 2) (Bytes 0 (unplugging n)) three (sent (unplugging n) stands (number_fits del (line_of (codes "\"}}")) n few (omega arith) (omega arith)))
-    (either (k == 3) (Guest (gives (codes "ack "))) four (written (gives (codes "ack ")) (number_fits (codes "ack ") (10 ∷ []) n few (omega arith) (omega arith)))
-    (either (k == 4) (Guest (gives (codes "nack "))) five (written (gives (codes "nack ")) (number_fits (codes "nack ") (10 ∷ []) n few (omega arith) (omega arith)))
+    (either (k == 3) (Guest (gives (codes "ack "))) four (written (gives (codes "ack ")) (number_fits (codes "ack ") end n few (omega arith) (omega arith)))
+    (either (k == 4) (Guest (gives (codes "nack "))) five (written (gives (codes "nack ")) (number_fits (codes "nack ") end n few (omega arith) (omega arith)))
     (either (k == 5) (Guest writes) six (written writes (number_fits (codes "write ") (line_of (codes " 1 0x10")) n few (omega arith) (omega arith)))
     (either (k == 6) (Step (1000 * (n + 1))) seven (gone (1000 * (n + 1)) (omega arith) (omega arith))
     (either (n == 0) (Bytes 0 resetting) (Guest poll) (sent resetting stands (omega arith, omega arith)) (written poll (omega arith, omega arith)))))))))
@@ -137,7 +143,8 @@ below_eight n = omega arith
 steps_fit : (more x second : ℕ) (opened : List Bool) → second + more < 2 ^ 63 → is_open opened 0 ≡ true → FitAll opened (demo_steps more x second)
 steps_fit zero x second opened few stands = tt
 steps_fit (suc more) x second opened few stands =
-    let s = what_stays opened (drawn (next_number x) % 8) (drawn (next_number (next_number x)) % 8) (below_eight (drawn (next_number (next_number x)))) stands in (
+    let y : ℕ = next_number (next_number x) in
+    let s = what_stays opened (drawn (next_number x) % 8) (drawn y % 8) (below_eight (drawn y)) stands in (
       ((omega arith, omega arith), s.fits),
       subst (λ (o : List Bool). FitAll o (demo_steps more (next_number (next_number x)) (second + 1))) (sym s.same)
           (steps_fit more (next_number (next_number x)) (second + 1) opened (omega arith) stands),

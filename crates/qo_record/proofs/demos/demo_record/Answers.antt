@@ -12,5 +12,6 @@ loop-step-init c =
 pub loop-step-preserved : goal.loop-step-preserved
 loop-step-preserved c =
     let added = c.in_ok-add_step.ensures in
-    one_written c.args.steps c.loop-step.step c.from.result c.loop-step.draws.number c.add_step.new.draws.number c.loop-step.stream.items c.add_step.new.stream.items _
+    one_written c.args.steps c.loop-step.step c.from.result c.loop-step.draws.number c.add_step.new.draws.number
+    c.loop-step.stream.items c.add_step.new.stream.items _
     c.loop-step-test.true c.loop-step.invariant c.from.ensures added.entry added.draws
