@@ -36,8 +36,13 @@ use Rattle.qo_properties.proofs.ClaimLemmas.{book-none}
 use Rattle.qo_properties.proofs.PinLemmas.{opening-pinned}
 use Rattle.qo_properties.proofs.StartLemmas.{all-is_opening, shows-none}
 use Rattle.qo_realize.specs.Answers.{Adds, IsAnswered, Writes}
-use Rattle.qo_realize.specs.Parts.{Parts, ring_claim}
-use Rattle.qo_realize.specs.Stands.{Stands, StandsForSome}
+use Rattle.qo_hotplug.specs.Asked.{Asked, nothing_asked}
+use Rattle.qo_reset.specs.HoldList.{HoldList, no_holds}
+use Rattle.qo_sound.specs.Kept.{SoundTree}
+use Rattle.qo_sound.proofs.KeptLemmas.{changed-sound}
+use Rattle.qo_realize.proofs.SoundLemmas.{attempted-sound, wrote-sound}
+use Rattle.qo_realize.specs.Parts.{Parts, parts_of, ring_claim}
+use Rattle.qo_realize.specs.Stands.{Stands, StandsForSound}
 
 -- other objects, beside the same
 abbrev pub with_objects : Objects → Parts → Parts
@@ -90,37 +95,43 @@ add-stands b p v driver id props (Err Memory) s (inl shows) keeps = inl (stands-
 add-stands b p v driver id props (Err Memory) s (inr shows) keeps =
     inr (stands-by b (attempted_as b driver id) p v s (attempted_as-stays b driver id) shows keeps)
 
--- what is seen of a board with these objects
-abbrev pub seen : ℕ → Bool → Objects → Parts
-seen anonymous running v = record { objects = v; anonymous = anonymous; running = running; holds = []; pending = []; notices = []; rings = [] }
-
 -- an error leaves the objects
-pub err-stays : {T E : Type 0} (r : Result T E) (anonymous : ℕ) (running : Bool) (v w : Objects) (p : Parts) → seen anonymous running v ≡ p → OnErr r (w ≡ v) → OnErr r (seen anonymous running w ≡ p)
-err-stays (Ok t) anonymous running v w p is same = tt
-err-stays (Err e) anonymous running v w p is same = ap (seen anonymous running) same ∙ is
+pub err-stays : {T E : Type 0} (r : Result T E) (anonymous : ℕ) (running : Bool) (holds : HoldList) (asked : Asked) (v w : Objects) (p : Parts)
+    → parts_of anonymous running holds asked v ≡ p → OnErr r (w ≡ v) → OnErr r (parts_of anonymous running holds asked w ≡ p)
+err-stays (Ok t) anonymous running holds asked v w p is same = tt
+err-stays (Err e) anonymous running holds asked v w p is same = ap (parts_of anonymous running holds asked) same ∙ is
 
--- some board stands behind each call
-pub answered-some : (change : Changed) (result : Result (Unit {0}) Code) (p : Parts) → IsAnswered change result p → StandsForSome p
-answered-some change result p h = (change.board, h.board)
+-- a sound board stands behind each call
+pub answered-sound : (change : Changed) (result : Result (Unit {0}) Code) (p : Parts) → SoundTree change.board → IsAnswered change result p → StandsForSound p
+answered-sound change result p sound h = (change.board, h.board, sound)
 
-pub written-some : (b : Board) (anonymous : ℕ) (running : Bool) (v w : Objects) (result : Result (Unit {0}) Refusal) (given : Result Board Code) → Stands b (seen anonymous running v) → Writes (seen anonymous running w) result given → OnErr result (w ≡ v) → StandsForSome (seen anonymous running w)
-written-some b anonymous running v w (Ok u) given s (c, is, stands) same = (c, stands)
-written-some b anonymous running v w (Err e) given s h same = (b, subst (λ (x : Objects). Stands b (seen anonymous running x)) (sym same) s)
+pub written-sound : (b : Board) (p : Parts) (w : Objects) (path name : List ℕ) (val : Val) (result : Result (Unit {0}) Refusal)
+    → Stands b p → SoundTree b → Writes (with_objects w p) result (write_at b path name val) → OnErr result (w ≡ p.objects) → StandsForSound (with_objects w p)
+written-sound b p w path name val (Ok u) s sound (c, is, stands) same = (c, stands, wrote-sound b c path name val is sound)
+written-sound b p w path name val (Err e) s sound h same = (b, subst (λ (x : Objects). Stands b (with_objects x p)) (sym same) s, sound)
 
-pub added-some : (b : Board) (driver id : List ℕ) (props : List Given) (result : Result (Unit {0}) Refusal) (p : Parts) → Adds b driver id props result p → StandsForSome p
-added-some b driver id props (Ok u) p h = ((object_add b driver id props).board, h.1)
-added-some b driver id props (Err (Refused code)) p h = ((object_add b driver id props).board, h.1)
-added-some b driver id props (Err Memory) p (inl s) = (b, s)
-added-some b driver id props (Err Memory) p (inr s) = (attempted_as b driver id, s)
+pub added-sound : (b : Board) (driver id : List ℕ) (props : List Given) (result : Result (Unit {0}) Refusal) (p : Parts)
+    → SoundTree b → Adds b driver id props result p → StandsForSound p
+added-sound b driver id props (Ok u) p sound h = ((object_add b driver id props).board, h.1, changed-sound b (added driver id props) sound)
+added-sound b driver id props (Err (Refused code)) p sound h = ((object_add b driver id props).board, h.1, changed-sound b (added driver id props) sound)
+added-sound b driver id props (Err Memory) p sound (inl s) = (b, s, sound)
+added-sound b driver id props (Err Memory) p sound (inr s) = (attempted_as b driver id, s, attempted-sound b driver id sound)
 
 -- the beginning
-opening-stands : (v : Objects) → Shows opening_board v → IsBook [] v → Stands opening_board (seen 0 true v)
+opening-stands : (v : Objects) → Shows opening_board v → IsBook [] v → Stands opening_board (parts_of 0 true no_holds nothing_asked v)
 unfolding opening_board
 opening-stands v shows book =
     record { shows = shows; anonymous = refl; running = refl; holds = refl; pending = refl; notices = refl; rings = refl; book = book }
 
-pub opens : (v w : Objects) → v ≡ no_objects_made → ((b : Board) → Shows b v → Shows (with_all b) w) → KeepsBook v w → OnlyRootPinned w × Stands opening_board (seen 0 true w)
-opens v w none makes keeps = (opening-pinned w shows, opening-stands w shows (keeps [] (subst (λ (x : Objects). IsBook [] x) (sym none) book-none)))
+pub opens : (v w : Objects) → v ≡ no_objects_made → ((b : Board) → Shows b v → Shows (with_all b) w) → KeepsBook v w
+    → (holds : HoldList) (asked : Asked) → holds ≡ no_holds → asked ≡ nothing_asked
+    → OnlyRootPinned w × Stands opening_board (parts_of 0 true holds asked w)
+opens v w none makes keeps holds asked held told = (
+  opening-pinned w shows,
+  subst (λ (h : HoldList). Stands opening_board (parts_of 0 true h asked w)) (sym held)
+      (subst (λ (x : Asked). Stands opening_board (parts_of 0 true no_holds x w)) (sym told)
+      (opening-stands w shows (keeps [] (subst (λ (x : Objects). IsBook [] x) (sym none) book-none)))),
+)
   where
     shows : Shows opening_board w
     shows = subst (λ (b : Board). Shows b w) all-is_opening (makes no_objects (subst (λ (x : Objects). Shows no_objects x) (sym none) shows-none))
@@ -139,9 +150,9 @@ pub notes-told : (notes : List Note) (l : Log) → IsLogOf notes l → (start : 
 notes-told notes l h start = ap (log.given_from start) (log-of notes l h)
 
 -- the events that waited were let go
-pub cleared-stands : (b : Board) (anonymous : ℕ) (running : Bool) (v : Objects) → Stands b (seen anonymous running v)
-    → Stands (record b { events = [] }) (seen anonymous running (record v { events = told v.events }))
-cleared-stands b anonymous running v s =
+pub cleared-stands : (b : Board) (anonymous : ℕ) (running : Bool) (holds : HoldList) (asked : Asked) (v : Objects) → Stands b (parts_of anonymous running holds asked v)
+    → Stands (record b { events = [] }) (parts_of anonymous running holds asked (record v { events = told v.events }))
+cleared-stands b anonymous running holds asked v s =
     record {
       shows = record { records = s.shows.records; born = s.shows.born; pins = s.shows.pins; notes = s.shows.notes; events = refl; now = s.shows.now };
       anonymous = s.anonymous;

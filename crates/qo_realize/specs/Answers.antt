@@ -25,3 +25,9 @@ abbrev pub Adds : Board → List ℕ → List ℕ → List Given → Result (Uni
 Adds b driver id props (Ok done) p = ((object_add b driver id props).refusal ≡ None) × Stands (object_add b driver id props).board p
 Adds b driver id props (Err (Refused code)) p = ((object_add b driver id props).refusal ≡ Some code) × Stands (object_add b driver id props).board p
 Adds b driver id props (Err Memory) p = Stands b p ⊎ Stands (attempted_as b driver id) p
+
+-- a change that may want memory: it is refused by its code and the board stays, or its board stands; for want of memory the board stays
+abbrev pub Changes : Changed → Board → Result (Unit {0}) Refusal → Parts → Type 0
+Changes change b (Ok done) p = (change.refusal ≡ None) × Stands change.board p
+Changes change b (Err (Refused code)) p = (change ≡ record { refusal = Some code; board = b }) × Stands b p
+Changes change b (Err Memory) p = Stands b p

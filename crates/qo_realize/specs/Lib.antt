@@ -1,3 +1,5 @@
 pub mod Answers
+pub mod Guest
 pub mod Parts
+pub mod Removals
 pub mod Stands

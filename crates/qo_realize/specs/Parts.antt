@@ -1,9 +1,11 @@
 -- What contracts see of a board: its objects, and what stands beside them.
-use Rattle.std.specs.Prelude.{ℕ, Bool, List}
+use Rattle.std.specs.Prelude.{ℕ, Bool, List, []}
 use Rattle.qo_claims.specs.declared.claims.Claimed.{Claimed}
 use Rattle.qo_claims.specs.declared.claims.Claimed.TheVariants as on
 use Rattle.qo_model.specs.Board.{Notice, Ring}
 use Rattle.qo_heap.specs.Objects.{Objects}
+use Rattle.qo_hotplug.specs.Asked.{Asked}
+use Rattle.qo_reset.specs.HoldList.{HoldList}
 
 pub record Parts : Type 0 where
   -- the objects, with their births, notes and claims
@@ -20,3 +22,8 @@ pub record Parts : Type 0 where
 -- the claim that a ring keeps: that on its id
 abbrev pub ring_claim : Ring → Claimed
 ring_claim r = on.RingId r.id
+
+-- what is seen of a board by its fields; it has no rings yet
+abbrev pub parts_of : ℕ → Bool → HoldList → Asked → Objects → Parts
+parts_of anonymous running holds asked v =
+    record { objects = v; anonymous = anonymous; running = running; holds = holds.births; pending = asked.pending; notices = asked.notices; rings = [] }

@@ -1,41 +1,48 @@
 //! The board.
 
+use crate::guests::address_of;
+use crate::removals::{ask, refuse};
+use qo_buses::by_address;
 use qo_events::DeviceEvent;
+use qo_guest::{Addr, Steps9};
 use qo_heap::{Heap, Oid, Steps};
+use qo_hotplug::{Hotplug, Notice};
 use qo_model::{Detached, Note};
 use qo_properties::{
     Refusal, add_object, detached_list, get, make_all, object_at, object_of, property_at, remove,
     set, sever,
 };
+use qo_reset::Resets;
 use qo_values::{Code, PropList, TypeText, Val};
 use std::alloc::{AllocError, Global};
 use std::marker::Model;
 use std::sync::ledger::Ledger;
 
 /// The board: the objects of the machine, and what stands beside them. Between two calls nothing
-/// holds the objects from outside the tree but the one pin of the root.
+/// holds the objects from outside the tree but the one pin of the root, and the tree is sound.
 #[derive(Drop)]
 pub struct Board {
     heap: Heap,
     anonymous: u64,
     running: bool,
+    resets: Resets,
+    hotplug: Hotplug,
 }
 
 impl Model for Board {
-    ghost use Rattle.std.specs.Prelude.{[]};
     ghost use Rattle.qo_properties.specs.Pinned.{OnlyRootPinned};
-    ghost use Rattle.qo_realize.specs.Parts.{Parts};
-    ghost use Rattle.qo_realize.specs.Stands.{StandsForSome};
+    ghost use Rattle.qo_realize.specs.Parts.{Parts, parts_of};
+    ghost use Rattle.qo_realize.specs.Stands.{StandsForSound};
 
     ghost Value = { Parts };
 
-    ghost view = { λ b. record { objects = b.heap; anonymous = b.anonymous; running = b.running; holds = []; pending = []; notices = []; rings = [] } };
+    ghost view = { λ b. parts_of b.anonymous b.running b.resets b.hotplug b.heap };
 
-    ghost invariant = { λ b. OnlyRootPinned b.heap × StandsForSome (record { objects = b.heap; anonymous = b.anonymous; running = b.running; holds = []; pending = []; notices = []; rings = [] }) };
+    ghost invariant = { λ b. OnlyRootPinned b.heap × StandsForSound (parts_of b.anonymous b.running b.resets b.hotplug b.heap) };
 }
 
 impl Board {
-    ghost use Rattle.std.specs.Prelude.{◌≡◌, ◌<◌, ◌^◌, [], IfNone, IfOk, IfSome, OnErr, length, option_map, slice_get};
+    ghost use Rattle.std.specs.Prelude.{◌≡◌, ◌<◌, ◌^◌, [], true, IfNone, IfOk, IfSome, OnErr, OnOk, length, option_map, slice_get};
     ghost use Rattle.qo_model.specs.Access.{read, write_at};
     ghost use Rattle.qo_model.specs.Listing.{listing};
     ghost use Rattle.qo_model.specs.Properties.{object_at};
@@ -50,8 +57,13 @@ impl Board {
     ghost use Rattle.qo_model.specs.Opening.{opening_board};
     ghost use Rattle.qo_notes.specs.Log as log;
     ghost use Rattle.qo_properties.specs.Reads.{Answers};
-    ghost use Rattle.qo_realize.specs.Answers.{Adds, IsAnswered, Writes};
-    ghost use Rattle.qo_realize.specs.Stands.{Stands, StandsForSome};
+    ghost use Rattle.qo_buses.specs.Addresses.{addressed};
+    ghost use Rattle.qo_model.specs.Depth.{among};
+    ghost use Rattle.qo_model.specs.Hotplug.{asked, refused};
+    ghost use Rattle.qo_object.specs.Shown.{birth_of};
+    ghost use Rattle.qo_realize.specs.Answers.{Adds, Changes, IsAnswered, Writes};
+    ghost use Rattle.qo_realize.specs.Guest.{address_of, first_notice, polled};
+    ghost use Rattle.qo_realize.specs.Stands.{Stands, StandsForSound};
 
     /// The opening board: the eight objects that every machine begins with; it runs. The error is
     /// want of memory.
@@ -64,12 +76,14 @@ impl Board {
             heap,
             anonymous: 0,
             running: true,
+            resets: Resets::new(alloc),
+            hotplug: Hotplug::new(alloc)?,
         })
     }
 
-    /// What it stands for: there is a board that stands at it.
+    /// What it stands for: there is a board that stands at it, and its tree is sound.
     pub fn shown(&self)
-        ensures { StandsForSome self.now }
+        ensures { StandsForSound self.now }
     {
         let _heap = &self.heap;
     }
@@ -245,5 +259,69 @@ impl Board {
         ensures err { OnErr result (self.new ≡ self.old) }
     {
         sever(&mut self.heap, birth, steps)
+    }
+
+    /// Asks for the removal of the device that a text is of, and the guest is told so (QEMU's QAPI,
+    /// `device_del`): of one that begins with `/` the device at that absolute path, of any other the
+    /// child of that name of the container of devices with an id. `E33` comes where there is no such
+    /// device, `E35` where it is detached, `E34` where its removal is pending already, and `E44` where
+    /// as many notices wait as may. The other error is want of memory. An error leaves the board as it
+    /// was.
+    pub fn ask_removal<L: Ledger>(&mut self, id: &str, steps: &mut Steps<L>) -> Result<(), Refusal>
+        ensures asked { (b : model.Board) → Stands b self.old → Changes (asked b id.now) b result self.new }
+        ensures err { OnErr result (self.new ≡ self.old) }
+    {
+        ask(&self.heap, &mut self.hotplug, id, steps)
+    }
+
+    /// The device at an address; `None` exactly where there is none. It takes no memory.
+    pub fn guest_find<L: Ledger>(&self, address: &Addr, steps: &mut Steps<L>) -> Option<Oid>
+        ensures found { (b : model.Board) → Stands b self.now → birth_of result ≡ addressed b address.now }
+        ensures live { IfSome result (IsLive self.now.objects.rows) }
+    {
+        by_address(&self.heap, address, steps)
+    }
+
+    /// Whether the removal of a device is pending. It takes no memory.
+    pub fn is_pending(&self, dev: Oid) -> bool
+        ensures { result ≡ among self.now.pending dev.birth }
+    {
+        self.hotplug.is_pending(dev)
+    }
+
+    /// The guest refuses the removal of a device, which is pending (include/hw/hotplug.h): it is
+    /// pending no longer, the guest is told no longer that it is asked for, and the event of it waits.
+    /// The error is want of memory, and leaves the board as it was.
+    pub fn refuse<L: Ledger>(
+        &mut self,
+        dev: Oid,
+        alloc: Global,
+        steps: &mut Steps<L>,
+    ) -> Result<(), AllocError>
+        requires live { IsLive self.old.objects.rows dev }
+        requires pending { among self.old.pending dev.birth ≡ true }
+        ensures refused { (b : model.Board) → Stands b self.old → OnOk result (Stands (refused b dev.birth) self.new) }
+        ensures err { OnErr result (self.new ≡ self.old) }
+    {
+        refuse(&mut self.heap, &mut self.hotplug, dev, alloc, steps)
+    }
+
+    /// Takes the notice that has waited longest; `None` exactly where none waits. It takes no memory.
+    pub fn poll(&mut self) -> Option<Notice>
+        ensures first { (b : model.Board) → Stands b self.old → result ≡ first_notice b }
+        ensures polled { (b : model.Board) → Stands b self.old → Stands (polled b) self.new }
+    {
+        self.hotplug.poll()
+    }
+
+    /// The address of the object of a birth, if it is a device on a bus: its slot on the memory bus, or
+    /// else the slots on the way to it from the root bus, the outermost first. It takes no memory.
+    pub fn guest_address<L: Ledger>(&self, birth: u64, steps: &mut Steps<L>) -> Addr
+        ensures { (b : model.Board) → Stands b self.now → result ≡ address_of b birth }
+    {
+        match self.heap.by_birth(birth) {
+            Some(dev) => address_of(&self.heap, dev, steps),
+            None => Addr::Slots(Steps9::one(0)),
+        }
     }
 }

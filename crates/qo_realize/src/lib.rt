@@ -3,6 +3,8 @@
 #![tactic(auto)]
 
 mod board;
+mod guests;
+mod removals;
 #[cfg(test)]
 mod tests;
 

@@ -103,6 +103,7 @@ fn step_at(bytes: &[u8]) -> Option<(Said<'_>, &[u8])>
 }
 
 /// The moment behind a word.
+#[inline(always)]
 pub(crate) fn moment_behind<'a>(word: &[u8], bytes: &'a [u8]) -> Option<(Moment, &'a [u8])>
     ensures { option_map (λ x. (x.0, x.1.now)) result ≡ moment_behind word.now bytes.now }
 {
@@ -217,6 +218,7 @@ fn what_of(alloc: Global, said: Said) -> Result<What, AllocError>
 }
 
 /// The entry at the front of the bytes, as an input.
+#[inline(always)]
 pub(crate) fn first_of(
     alloc: Global,
     opened: &[bool; 16],

@@ -1,7 +1,9 @@
 use Rattle.std.proofs.Common.{sym, subst, ◌∙◌}
+use Rattle.qo_model.specs.FinalNotesRuns.{deleted}
+use Rattle.qo_sound.proofs.KeptLemmas.{changed-sound}
 use Rattle.qo_realize.specs.Parts.{Parts}
 use Rattle.qo_realize.specs.Stands.{Stands}
-use Rattle.qo_realize.proofs.StandsLemmas.{answered-some, err-stays, del-stands}
+use Rattle.qo_realize.proofs.StandsLemmas.{answered-sound, err-stays, del-stands}
 use Rattle.qo_realize.proofs.board.Board.object_del.Goals as goal
 
 pub returns-clause-change : goal.returns-clause-change
@@ -10,9 +12,11 @@ returns-clause-change g c = λ b s.
     del-stands b _ c.remove.new.heap c.args.id.now c.remove.result seen (c.remove.ensures.change b seen.shows) c.remove.ensures.book
 
 pub returns-clause-err : goal.returns-clause-err
-returns-clause-err g c = err-stays c.remove.result c.self.inside.anonymous c.self.inside.running c.self.inside.heap c.remove.new.heap _ c.self.view_is c.remove.ensures.err
+returns-clause-err g c =
+    let inside = c.self.inside in
+    err-stays c.remove.result inside.anonymous inside.running inside.resets inside.hotplug inside.heap c.remove.new.heap _ c.self.view_is c.remove.ensures.err
 
 pub invariant_of-self : goal.invariant_of-self
 invariant_of-self g c =
-    let (b, s) = c.self.invariant.1 in
-    (c.remove.ensures.pins ∙ c.self.invariant.0, answered-some _ c.remove.result _ (del-stands b _ c.remove.new.heap c.args.id.now c.remove.result s (c.remove.ensures.change b s.shows) c.remove.ensures.book))
+    let (b, s, sound) = c.self.invariant.1 in
+    (c.remove.ensures.pins ∙ c.self.invariant.0, answered-sound _ c.remove.result _ (changed-sound b (deleted c.args.id.now) sound) (del-stands b _ c.remove.new.heap c.args.id.now c.remove.result s (c.remove.ensures.change b s.shows) c.remove.ensures.book))

@@ -1,5 +1,5 @@
 -- The object at a path, by its birth.
-use Rattle.std.proofs.Common.{sym, subst, ap, ◌∙◌}
+use Rattle.std.proofs.Common.{sym, subst}
 use Rattle.qo_realize.specs.Parts.{Parts}
 use Rattle.qo_realize.specs.Stands.{Stands}
 use Rattle.qo_realize.proofs.board.Board.qom_list.Goals as goal

@@ -1,7 +1,7 @@
 use Rattle.std.proofs.Common.{sym, subst, ◌∙◌}
 use Rattle.qo_realize.specs.Parts.{Parts}
 use Rattle.qo_realize.specs.Stands.{Stands}
-use Rattle.qo_realize.proofs.StandsLemmas.{err-stays, write-stands, written-some}
+use Rattle.qo_realize.proofs.StandsLemmas.{err-stays, write-stands, written-sound}
 use Rattle.qo_realize.proofs.board.Board.qom_set.Goals as goal
 
 pub returns-clause-written : goal.returns-clause-written
@@ -10,9 +10,11 @@ returns-clause-written g c = λ b s.
     write-stands b _ c.set.new.heap c.args.path.now c.args.name.now c.args.val.now c.set.result seen (c.set.ensures.written b seen.shows) c.set.ensures.book
 
 pub returns-clause-err : goal.returns-clause-err
-returns-clause-err g c = err-stays c.set.result c.self.inside.anonymous c.self.inside.running c.self.inside.heap c.set.new.heap _ c.self.view_is c.set.ensures.err
+returns-clause-err g c =
+    let inside = c.self.inside in
+    err-stays c.set.result inside.anonymous inside.running inside.resets inside.hotplug inside.heap c.set.new.heap _ c.self.view_is c.set.ensures.err
 
 pub invariant_of-self : goal.invariant_of-self
 invariant_of-self g c =
-    let (b, s) = c.self.invariant.1 in
-    (c.set.ensures.pins ∙ c.self.invariant.0, written-some b c.self.inside.anonymous c.self.inside.running c.self.inside.heap c.set.new.heap c.set.result _ s (write-stands b _ c.set.new.heap c.args.path.now c.args.name.now c.args.val.now c.set.result s (c.set.ensures.written b s.shows) c.set.ensures.book) c.set.ensures.err)
+    let (b, s, sound) = c.self.invariant.1 in
+    (c.set.ensures.pins ∙ c.self.invariant.0, written-sound b _ c.set.new.heap c.args.path.now c.args.name.now c.args.val.now c.set.result s sound (write-stands b _ c.set.new.heap c.args.path.now c.args.name.now c.args.val.now c.set.result s (c.set.ensures.written b s.shows) c.set.ensures.book) c.set.ensures.err)

@@ -1,7 +1,9 @@
 use Rattle.std.proofs.Common.{sym, subst}
+use Rattle.qo_model.specs.FinalNotesRuns.{severed}
+use Rattle.qo_sound.proofs.KeptLemmas.{changed-sound}
 use Rattle.qo_realize.specs.Parts.{Parts}
 use Rattle.qo_realize.specs.Stands.{Stands}
-use Rattle.qo_realize.proofs.StandsLemmas.{answered-some, err-stays, sever-stands}
+use Rattle.qo_realize.proofs.StandsLemmas.{answered-sound, err-stays, sever-stands}
 use Rattle.qo_realize.proofs.board.Board.sever.Goals as goal
 
 pub returns-clause-change : goal.returns-clause-change
@@ -10,9 +12,11 @@ returns-clause-change g c = λ b s.
     sever-stands b _ c.sever.new.heap c.args.birth c.sever.result seen (c.sever.ensures.change b seen.shows) c.sever.ensures.book
 
 pub returns-clause-err : goal.returns-clause-err
-returns-clause-err g c = err-stays c.sever.result c.self.inside.anonymous c.self.inside.running c.self.inside.heap c.sever.new.heap _ c.self.view_is c.sever.ensures.err
+returns-clause-err g c =
+    let inside = c.self.inside in
+    err-stays c.sever.result inside.anonymous inside.running inside.resets inside.hotplug inside.heap c.sever.new.heap _ c.self.view_is c.sever.ensures.err
 
 pub invariant_of-self : goal.invariant_of-self
 invariant_of-self g c =
-    let (b, s) = c.self.invariant.1 in
-    (c.sever.ensures.pinned, answered-some _ c.sever.result _ (sever-stands b _ c.sever.new.heap c.args.birth c.sever.result s (c.sever.ensures.change b s.shows) c.sever.ensures.book))
+    let (b, s, sound) = c.self.invariant.1 in
+    (c.sever.ensures.pinned, answered-sound _ c.sever.result _ (changed-sound b (severed c.args.birth) sound) (sever-stands b _ c.sever.new.heap c.args.birth c.sever.result s (c.sever.ensures.change b s.shows) c.sever.ensures.book))

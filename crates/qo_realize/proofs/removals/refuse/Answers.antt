@@ -1,0 +1,13 @@
+-- The event waits, and the removal is asked for no more.
+use Rattle.std.proofs.Common.{sym, subst}
+use Rattle.qo_hotplug.specs.Asked.{Asked}
+use Rattle.qo_realize.specs.Removals.{IsAsked}
+use Rattle.qo_model.specs.Hotplug.{refused}
+use Rattle.qo_realize.proofs.RefuseLemmas.{refused-asked, refused-shows}
+use Rattle.qo_realize.proofs.removals.refuse.Goals as goal
+
+pub returns-in-Ok-clause-refused : goal.returns-in-Ok-clause-refused
+returns-in-Ok-clause-refused g c = λ b s asked. (
+  refused-shows b c.args.heap.now c.refused.new.self c.args.dev.birth c.refused.new.self.events.spare s c.in_ok-refused.ensures.told,
+  subst (λ (h : Asked). IsAsked (refused b c.args.dev.birth) h) (sym c.in-Ok.ensures.ok) (refused-asked b c.args.dev.birth c.args.hotplug.now asked),
+)
