@@ -4,6 +4,8 @@ mod AliasRows
 pub mod ChangeLemmas
 pub mod CountLemmas
 pub mod CutLemmas
+pub mod DetachStepsLemmas
+pub mod DevicesStayLemmas
 pub mod DraftLemmas
 pub mod EmptyLemmas
 pub mod FinishLemmas
@@ -15,6 +17,7 @@ pub mod KeptLemmas
 mod KeptRows
 pub mod KindsLemmas
 pub mod MadeLemmas
+pub mod MakeStepsLemmas
 pub mod NamedLemmas
 pub mod PinnedLemmas
 pub mod PlugLemmas
@@ -23,7 +26,7 @@ pub mod SeverLemmas
 pub mod SlotLemmas
 pub mod StepsLemmas
 pub mod TargetLemmas
+pub mod UnplugLemmas
 pub mod ViewLemmas
 pub mod WorkLemmas
 pub mod WriteLemmas
-pub mod UnplugLemmas

@@ -1,1 +1,2 @@
+pub mod DevicesStay
 pub mod Kept

@@ -3,6 +3,7 @@
 #![tactic(auto)]
 
 ghost use Rattle.qo_model.specs.Stays.{StaysLaw};
+ghost use Rattle.qo_sound.specs.DevicesStay.{DevicesStayLaw};
 ghost use Rattle.qo_sound.specs.Kept.{SoundKeptLaw};
 
 /// Where the tree is sound, and no alias outlasts the child that it passes on to, so it is behind
@@ -17,4 +18,12 @@ pub fn law_sound_kept()
 /// A command on objects leaves of a board all but its objects, births, pins, notes and events.
 pub fn law_stays()
     ensures { StaysLaw }
+{}
+
+/// Adding a device leaves of a board the time, the holds, the pending removals, the rings and the
+/// events, and one that comes to nothing the notices and the number of accepted adds too. A device
+/// that is detached leaves the time and the rings, and its events come behind those of before.
+#[tactic(auto, using(crate::proofs::DevicesStayLemmas::devices_stay_lem))]
+pub fn law_devices_stay()
+    ensures { DevicesStayLaw }
 {}
