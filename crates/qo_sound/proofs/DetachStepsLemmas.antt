@@ -82,7 +82,7 @@ module _ (P : Board → Type 0) (edits : KeepsEdits P) (pins : KeepsPins P) (end
       go true e = rw (unpin, e) (ends (Some n) _ (pins (without_first n c.pins) c h))
       go false e = rw (unpin, e) h
 
-  step-let_go : (n i : ℕ) (c : Board) → P c → P (let_go c n i)
+  pub step-let_go : (n i : ℕ) (c : Board) → P c → P (let_go c n i)
   unfolding let_go drop_slot
   step-let_go n i c h = go (slot_at c n i) refl
     where

@@ -2,6 +2,7 @@ pub mod AddLemmas
 pub mod AddedLemmas
 mod AliasRows
 pub mod ChangeLemmas
+pub mod ChangeStepsLemmas
 pub mod CountLemmas
 pub mod CutLemmas
 pub mod DetachStepsLemmas
@@ -26,6 +27,7 @@ pub mod SeverLemmas
 pub mod SlotLemmas
 pub mod StepsLemmas
 pub mod TargetLemmas
+pub mod TimerlessLemmas
 pub mod UnplugLemmas
 pub mod ViewLemmas
 pub mod WorkLemmas

@@ -1,2 +1,3 @@
 pub mod DevicesStay
 pub mod Kept
+pub mod Timerless

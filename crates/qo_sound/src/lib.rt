@@ -5,6 +5,7 @@
 ghost use Rattle.qo_model.specs.Stays.{StaysLaw};
 ghost use Rattle.qo_sound.specs.DevicesStay.{DevicesStayLaw};
 ghost use Rattle.qo_sound.specs.Kept.{SoundKeptLaw};
+ghost use Rattle.qo_sound.specs.Timerless.{TimerlessKeptLaw};
 
 /// Where the tree is sound, and no alias outlasts the child that it passes on to, so it is behind
 /// each command on objects, taken or refused, behind a device that is added, refused at any stage
@@ -26,4 +27,12 @@ pub fn law_stays()
 #[tactic(auto, using(crate::proofs::DevicesStayLemmas::devices_stay_lem))]
 pub fn law_devices_stay()
     ensures { DevicesStayLaw }
+{}
+
+/// A machine begins without timers, and no command makes one but the adding of a device that is a
+/// timer: the commands on objects, devices of other types, an add that is cut, a removal that is
+/// asked for, refused or done, and the reset of the whole board.
+#[tactic(auto, using(crate::proofs::TimerlessLemmas::timerless_kept_lem))]
+pub fn law_timerless_kept()
+    ensures { TimerlessKeptLaw }
 {}
