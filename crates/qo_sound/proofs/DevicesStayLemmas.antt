@@ -1,7 +1,6 @@
 -- The law: what adding and detaching a device leaves of a board beside its objects.
 use Rattle.std.proofs.Common.{◌≡◌, refl, ap, sym, ◌∙◌, ℕ, suc, ◌+◌, Bool, true, false, ◌==◌, List, [], ◌∷◌, ◌++◌, Option, Some, None, append_assoc, append-nil}
 use Rattle.std.specs.Bool.{⊤}
-use Rattle.std.specs.List.{AllByRecursion}
 use Rattle.qo_values.specs.declared.codes.Code.{Code}
 use Rattle.qo_values.specs.declared.kinds.Act.TheVariants.{Realize}
 use Rattle.qo_values.specs.declared.kinds.TypeId.{TypeId}
@@ -16,29 +15,11 @@ use Rattle.qo_model.specs.Reset.{plugged, post}
 use Rattle.qo_model.specs.Stays.{Stays}
 use Rattle.qo_model.specs.Types.{TypeRow, row_named, slots_of}
 use Rattle.qo_model.specs.Unplug.{detach}
-use Rattle.qo_model.specs.declared.properties.Property.{Property}
-use Rattle.qo_model.specs.declared.properties.RowKind.{RowKind}
-use Rattle.qo_model.specs.declared.properties.RowKind.TheVariants as row
 use Rattle.qo_model.proofs.ReleaseLeavesLemmas.{release_leaves}
 use Rattle.qo_model.proofs.StaysLemmas.{stays-none}
 use Rattle.qo_sound.specs.DevicesStay.{AddLeaves, anonymous_behind, AttemptLeaves, DetachLeaves, DevicesStayLaw}
-use Rattle.qo_sound.proofs.MakeStepsLemmas.{all-any, KeepsActs, KeepsEdits, KeepsNew, RowPasses, step-acted_all, step-drafted, step-plugged, step-stood}
+use Rattle.qo_sound.proofs.MakeStepsLemmas.{all-any, any-rows, KeepsActs, KeepsEdits, KeepsNew, step-acted_all, step-drafted, step-plugged, step-stood}
 use Rattle.qo_sound.proofs.DetachStepsLemmas.{KeepsLists, KeepsPins, step-detach, step-pin, step-unrealize}
-
--- each type of object may be made, and each object may act
-
-any-row : (p : Property) → RowPasses (λ k. ⊤) p
-any-row p = go p.kind refl
-  where
-    go : (kind : RowKind) → p.kind ≡ kind → RowPasses (λ k. ⊤) p
-    go (row.Plain type first) e = rw e tt
-    go (row.Link target holds) e = rw e tt
-    go (row.Child k) e = rw e tt
-    go (row.Alias owner of) e = rw e tt
-
-any-rows : (ps : List Property) → AllByRecursion (RowPasses (λ k. ⊤)) ps
-any-rows [] = tt
-any-rows (p ∷ ps) = (any-row p, any-rows ps)
 
 -- an attempt, and the steps of adding up to the number of accepted adds
 

@@ -79,14 +79,18 @@ plugged-kinds n c =
     ∙ phased-kinds Hold (post c n) (phased Enter (post c n) c)
     ∙ phased-kinds Enter (post c n) c
 
+pub device-kinds : (b : Board) (t : TypeId) (a : Wanted) (spot : Spot) → kind_of (with_device b t a spot) ≡ kind_of (drafted b t)
+device-kinds b t a spot =
+    counted-kinds a.id (clocked (source_for b spot.bus) (b.born + 1) (stood b (b.born + 1) a spot (drafted b t)))
+    ∙ source-kinds (source_for b spot.bus) (clock_of (stood b (b.born + 1) a spot (drafted b t)) (b.born + 1)) (stood b (b.born + 1) a spot (drafted b t))
+    ∙ stood-kinds b (b.born + 1) a spot (drafted b t)
+
 pub plug-kinds : (b : Board) (t : TypeId) (a : Wanted) (spot : Spot) → kind_of (with_plugged b t a spot) ≡ kind_of (drafted b t)
 plug-kinds b t a spot =
     edited-kinds n (with_path (canonical (plugged (acted_all Realize (n ∷ bus_births n t) (with_device b t a spot)) n) n)) (λ r. refl) (λ r. refl) (plugged (acted_all Realize (n ∷ bus_births n t) (with_device b t a spot)) n)
     ∙ plugged-kinds n (acted_all Realize (n ∷ bus_births n t) (with_device b t a spot))
     ∙ all-kinds Realize (n ∷ bus_births n t) (with_device b t a spot)
-    ∙ counted-kinds a.id (clocked (source_for b spot.bus) n (stood b n a spot (drafted b t)))
-    ∙ source-kinds (source_for b spot.bus) (clock_of (stood b n a spot (drafted b t)) n) (stood b n a spot (drafted b t))
-    ∙ stood-kinds b n a spot (drafted b t)
+    ∙ device-kinds b t a spot
   where
     n : ℕ
     n = b.born + 1

@@ -1,6 +1,7 @@
 pub mod AddLemmas
 pub mod AddedLemmas
 mod AliasRows
+pub mod AttemptNotesLemmas
 pub mod ChangeLemmas
 pub mod ChangeStepsLemmas
 pub mod CountLemmas
@@ -17,9 +18,11 @@ pub mod GivenLemmas
 pub mod KeptLemmas
 mod KeptRows
 pub mod KindsLemmas
+pub mod LiveLemmas
 pub mod MadeLemmas
 pub mod MakeStepsLemmas
 pub mod NamedLemmas
+pub mod NotesKeptLemmas
 pub mod PinnedLemmas
 pub mod PlugLemmas
 pub mod RecordLemmas

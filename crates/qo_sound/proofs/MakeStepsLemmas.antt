@@ -52,6 +52,20 @@ KeepsNew Made P = (k : TypeId) (slots : List (List ℕ × Slot)) → Made k → 
 abbrev pub RowPasses : (TypeId → Type 0) → Property → Type 0
 RowPasses Made p = elim p.kind as (λ _. Type 0) [ row.Child k ↦ Made k | _ ↦ ⊤ ]
 
+-- further objects of every type pass
+any-row : (p : Property) → RowPasses (λ k. ⊤) p
+any-row p = go p.kind refl
+  where
+    go : (kind : RowKind) → p.kind ≡ kind → RowPasses (λ k. ⊤) p
+    go (row.Plain type first) e = rw e tt
+    go (row.Link target holds) e = rw e tt
+    go (row.Child k) e = rw e tt
+    go (row.Alias owner of) e = rw e tt
+
+pub any-rows : (ps : List Property) → AllByRecursion (RowPasses (λ k. ⊤)) ps
+any-rows [] = tt
+any-rows (p ∷ ps) = (any-row p, any-rows ps)
+
 module _ (P : Board → Type 0) (edits : KeepsEdits P) where
   pub step-set : (n : ℕ) (name : List ℕ) (v : Val) (c : Board) → P c → P (set_named n name v c)
   unfolding set

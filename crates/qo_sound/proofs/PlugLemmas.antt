@@ -241,11 +241,11 @@ module _ (b : Board) (t : TypeId) (a : Wanted) (spot : Spot) (rest : AtRest b) (
   sits-device = counted-sits a.id _ (sits-source _ _)
 
 -- acts, phases and what is told change no slot
-held-all : (ps : List ℕ) (act : Act) (ns : List ℕ) (c : Board) → Sits ps c → Sits ps (acted_all act ns c)
+pub held-all : (ps : List ℕ) (act : Act) (ns : List ℕ) (c : Board) → Sits ps c → Sits ps (acted_all act ns c)
 held-all ps act [] c h = h
 held-all ps act (m ∷ ns) c h = held-all ps act ns _ (held-acted ps act m 0 c h)
 
-held-phased : (ps : List ℕ) (act : Act) (ns : List ℕ) (c : Board) → Sits ps c → Sits ps (phased act ns c)
+pub held-phased : (ps : List ℕ) (act : Act) (ns : List ℕ) (c : Board) → Sits ps c → Sits ps (phased act ns c)
 held-phased ps act [] c h = h
 held-phased ps act (m ∷ ns) c h = held-phased ps act ns _ (held-acted ps act m 0 c h)
 
@@ -365,7 +365,7 @@ late-rest : (b : Board) (t : TypeId) (bus : ℕ) (a : Wanted) (refusal : Option 
 late-rest b t bus a (Some refusal) e h shut place = plug_attempt-rest b t bus refusal.0 h
 late-rest b t bus a None e h shut place = plugged-rest b t a (spot_of b t bus a.props) h shut (place e)
 
-place-of : (b : Board) (t : TypeId) (bus : ℕ) (a : Wanted) → is_a t (codes "device") ≡ true → bus_for b t a.bus ≡ Some bus → barred_early b t a ≡ None → barred_late b t bus a.props ≡ None → IsPlace b t a (spot_of b t bus a.props)
+pub place-of : (b : Board) (t : TypeId) (bus : ℕ) (a : Wanted) → is_a t (codes "device") ≡ true → bus_for b t a.bus ≡ Some bus → barred_early b t a ≡ None → barred_late b t bus a.props ≡ None → IsPlace b t a (spot_of b t bus a.props)
 place-of b t bus a device chosen early late =
     let bus_stage : Option (ℕ × Code) = at_stage 3 (bus_barred b t (bus_for b t a.bus)) in
     let room_stages : Option (ℕ × Code) = first_of (at_stage 4 (room_barred b t) ∷ []) in
@@ -395,7 +395,7 @@ as-rest b t a device h shut None e = go (bus_for b t a.bus) refl
     go None p = rw (plug_as, p) h
     go (Some bus) p = rw (plug_as, p) (late-rest b t bus a (barred_late b t bus a.props) refl h shut (place-of b t bus a device p e))
 
-device-of : (row : TypeRow) → (if row.is_abstract then Some E21 else if not (is_a row.id (codes "device")) then Some E22 else None) ≡ None → is_a row.id (codes "device") ≡ true
+pub device-of : (row : TypeRow) → (if row.is_abstract then Some E21 else if not (is_a row.id (codes "device")) then Some E22 else None) ≡ None → is_a row.id (codes "device") ≡ true
 device-of row e =
     let after_it : Option Code = if not (is_a row.id (codes "device")) then Some E22 else None in
     let first : (row.is_abstract ≡ false) × (after_it ≡ None) = unbarred row.is_abstract E21 after_it e in

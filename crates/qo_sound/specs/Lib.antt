@@ -1,3 +1,4 @@
 pub mod DevicesStay
 pub mod Kept
+pub mod NotesKept
 pub mod Timerless

@@ -5,6 +5,7 @@
 ghost use Rattle.qo_model.specs.Stays.{StaysLaw};
 ghost use Rattle.qo_sound.specs.DevicesStay.{DevicesStayLaw};
 ghost use Rattle.qo_sound.specs.Kept.{SoundKeptLaw};
+ghost use Rattle.qo_sound.specs.NotesKept.{NotesKeptLaw};
 ghost use Rattle.qo_sound.specs.Timerless.{TimerlessKeptLaw};
 
 /// Where the tree is sound, and no alias outlasts the child that it passes on to, so it is behind
@@ -35,4 +36,12 @@ pub fn law_devices_stay()
 #[tactic(auto, using(crate::proofs::TimerlessLemmas::timerless_kept_lem))]
 pub fn law_timerless_kept()
     ensures { TimerlessKeptLaw }
+{}
+
+/// Where the notes of a board tell the story of each birth, so they do behind a device that is added,
+/// refused at any stage or cut, behind a device that is there and is detached, and behind the reset
+/// of an object that is there: objects act only while they are there, and end with their final notes.
+#[tactic(auto, using(crate::proofs::NotesKeptLemmas::notes_kept_lem))]
+pub fn law_notes_kept()
+    ensures { NotesKeptLaw }
 {}
