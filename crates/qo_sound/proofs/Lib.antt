@@ -24,6 +24,7 @@ pub mod MakeStepsLemmas
 pub mod NamedLemmas
 pub mod NotesKeptLemmas
 pub mod PinnedLemmas
+pub mod PlugComesToLemmas
 pub mod PlugLemmas
 pub mod RecordLemmas
 pub mod SeverLemmas

@@ -301,7 +301,7 @@ cut_attempt-rest b t i joined h =
 
 -- what is known where nothing refuses
 
-or-none : {T : Type 0} (o p : Option T) → option_or o p ≡ None → (o ≡ None) × (p ≡ None)
+pub or-none : {T : Type 0} (o p : Option T) → option_or o p ≡ None → (o ≡ None) × (p ≡ None)
 or-none None p e = (refl, e)
 or-none (Some x) p e = absurd (let clash : Some x ≡ None = e in cc)
 

@@ -1,4 +1,5 @@
 pub mod DevicesStay
 pub mod Kept
 pub mod NotesKept
+pub mod PlugComesTo
 pub mod Timerless

@@ -6,6 +6,7 @@ ghost use Rattle.qo_model.specs.Stays.{StaysLaw};
 ghost use Rattle.qo_sound.specs.DevicesStay.{DevicesStayLaw};
 ghost use Rattle.qo_sound.specs.Kept.{SoundKeptLaw};
 ghost use Rattle.qo_sound.specs.NotesKept.{NotesKeptLaw};
+ghost use Rattle.qo_sound.specs.PlugComesTo.{PlugComesToLaw};
 ghost use Rattle.qo_sound.specs.Timerless.{TimerlessKeptLaw};
 
 /// Where the tree is sound, and no alias outlasts the child that it passes on to, so it is behind
@@ -44,4 +45,12 @@ pub fn law_timerless_kept()
 #[tactic(auto, using(crate::proofs::NotesKeptLemmas::notes_kept_lem))]
 pub fn law_notes_kept()
     ensures { NotesKeptLaw }
+{}
+
+/// Adding a device leaves the board as it is where its type, its id, its bus or the number of objects
+/// refuses it; a refusal for a property, or at a later stage, leaves an attempt that was given up; and
+/// where nothing refuses it the device is added.
+#[tactic(auto, using(crate::proofs::PlugComesToLemmas::plug_comes_to_lem))]
+pub fn law_plug_comes_to()
+    ensures { PlugComesToLaw }
 {}
