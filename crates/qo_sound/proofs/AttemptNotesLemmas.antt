@@ -44,7 +44,8 @@ picked-one : (n : ℕ) (ts : List TypeId) (x : ℕ) → n ≤ x → x < n + leng
 picked-one n [] x low high = absurd (omega (arith, low, high))
 picked-one n (t ∷ ts) x low high = go (n == x) refl (picked-one (suc n) ts x)
   where
-    go : (u : Bool) → (n == x) ≡ u → (suc n ≤ x → x < suc n + length ts → (k : TypeId) × (filter (is_at x) (born_from (suc n) ts) ≡ (x, k) ∷ [])) → (k : TypeId) × (filter (is_at x) (born_from n (t ∷ ts)) ≡ (x, k) ∷ [])
+    go : (u : Bool) → (n == x) ≡ u → (suc n ≤ x → x < suc n + length ts → (k : TypeId) × (filter (is_at x) (born_from (suc n) ts) ≡ (x, k) ∷ []))
+        → (k : TypeId) × (filter (is_at x) (born_from n (t ∷ ts)) ≡ (x, k) ∷ [])
     go true p rest =
         let is : n ≡ x = eqb-true n x p in
         (t, rw p (ap₂ (λ (k : ℕ) (os : List (ℕ × TypeId)). (k, t) ∷ os) is (picked-below (suc n) ts x (omega (arith, is)))))
@@ -87,16 +88,21 @@ take-born zero n ts = refl
 take-born (suc i) n [] = refl
 take-born (suc i) n (t ∷ ts) = ap (λ (os : List (ℕ × TypeId)). (n, t) ∷ os) (take-born i (suc n) ts)
 
-order-picked : (joined : Bool) (i n : ℕ) (ts : List TypeId) (x : ℕ) → length ts ≤ i → filter (is_at x) (cut_order joined i (born_from n ts)) ≡ filter (is_at x) (born_from n ts)
+order-picked : (joined : Bool) (i n : ℕ) (ts : List TypeId) (x : ℕ) → length ts ≤ i
+    → filter (is_at x) (cut_order joined i (born_from n ts)) ≡ filter (is_at x) (born_from n ts)
 order-picked true i n ts x le = last-picked n ts x
 order-picked false zero n [] x le = refl
 order-picked false zero n (t ∷ ts) x le = absurd (omega (arith, le))
 order-picked false (suc i) n ts x le =
     let os : List (ℕ × TypeId) = born_from n ts in
     let front : filter (is_at x) (device_last (take i os)) ≡ filter (is_at x) (take i os) =
-    ap (λ (us : List (ℕ × TypeId)). filter (is_at x) (device_last us)) (take-born i n ts) ∙ last-picked n (take i ts) x ∙ ap (filter (is_at x)) (sym (take-born i n ts))
+    ap (λ (us : List (ℕ × TypeId)). filter (is_at x) (device_last us)) (take-born i n ts)
+    ∙ last-picked n (take i ts) x
+    ∙ ap (filter (is_at x)) (sym (take-born i n ts))
     in
-    let few : length (filter (is_at x) (take i os ++ drop i os)) ≤ 1 = subst (λ (us : List (ℕ × TypeId)). length (filter (is_at x) us) ≤ 1) (sym (take-append-drop i os)) (picked-few n ts x) in
+    let few : length (filter (is_at x) (take i os ++ drop i os)) ≤ 1 =
+    subst (λ (us : List (ℕ × TypeId)). length (filter (is_at x) us) ≤ 1) (sym (take-append-drop i os)) (picked-few n ts x)
+    in
     filter-append (is_at x) (drop i os) (device_last (take i os))
     ∙ ap (λ (us : List (ℕ × TypeId)). filter (is_at x) (drop i os) ++ us) front
     ∙ sym (filter-append (is_at x) (drop i os) (take i os))
@@ -105,18 +111,24 @@ order-picked false (suc i) n ts x le =
 
 -- notes of objects, each on its own
 
-pub noted-own : (m : ℕ) (deed : TypeId → Deed) (ts : List TypeId) → notes_on m (map (λ (t : TypeId). record { birth = m; deed = deed t }) ts) ≡ map (λ (t : TypeId). record { birth = m; deed = deed t }) ts
+pub noted-own : (m : ℕ) (deed : TypeId → Deed) (ts : List TypeId)
+    → notes_on m (map (λ (t : TypeId). record { birth = m; deed = deed t }) ts) ≡ map (λ (t : TypeId). record { birth = m; deed = deed t }) ts
 noted-own m deed [] = refl
 noted-own m deed (t ∷ ts) = rw (eq-eqb m m refl) (ap (λ (xs : List Note). record { birth = m; deed = deed t } ∷ xs) (noted-own m deed ts))
 
-pub noted-other : (m x : ℕ) → (m == x) ≡ false → (deed : TypeId → Deed) (ts : List TypeId) → notes_on x (map (λ (t : TypeId). record { birth = m; deed = deed t }) ts) ≡ []
+pub noted-other : (m x : ℕ) → (m == x) ≡ false → (deed : TypeId → Deed) (ts : List TypeId)
+    → notes_on x (map (λ (t : TypeId). record { birth = m; deed = deed t }) ts) ≡ []
 noted-other m x e deed [] = refl
 noted-other m x e deed (t ∷ ts) = rw e (noted-other m x e deed ts)
 
-module _ (f : ℕ → TypeId → List Note) (own : (m : ℕ) (t : TypeId) → notes_on m (f m t) ≡ f m t) (other : (m x : ℕ) (t : TypeId) → (m == x) ≡ false → notes_on x (f m t) ≡ []) where
-  notes-picked : (os : List (ℕ × TypeId)) (x : ℕ) → notes_on x (flat_map (λ (o : ℕ × TypeId). f o.0 o.1) os) ≡ flat_map (λ (o : ℕ × TypeId). f o.0 o.1) (filter (is_at x) os)
+module _ (f : ℕ → TypeId → List Note) (own : (m : ℕ) (t : TypeId) → notes_on m (f m t) ≡ f m t)
+    (other : (m x : ℕ) (t : TypeId) → (m == x) ≡ false → notes_on x (f m t) ≡ []) where
+  notes-picked : (os : List (ℕ × TypeId)) (x : ℕ)
+      → notes_on x (flat_map (λ (o : ℕ × TypeId). f o.0 o.1) os) ≡ flat_map (λ (o : ℕ × TypeId). f o.0 o.1) (filter (is_at x) os)
   notes-picked [] x = refl
-  notes-picked (o ∷ os) x = filter-append (λ (y : Note). y.birth == x) (f o.0 o.1) (flat_map (λ (p : ℕ × TypeId). f p.0 p.1) os) ∙ go (o.0 == x) refl (notes-picked os x)
+  notes-picked (o ∷ os) x =
+      filter-append (λ (y : Note). y.birth == x) (f o.0 o.1) (flat_map (λ (p : ℕ × TypeId). f p.0 p.1) os)
+      ∙ go (o.0 == x) refl (notes-picked os x)
     where
       rest : List Note
       rest = flat_map (λ (p : ℕ × TypeId). f p.0 p.1) os
@@ -144,7 +156,8 @@ none-on : (x : ℕ) (notes : List Note) → list_any is_bound notes ≡ false �
 none-on x [] e = refl
 none-on x (y ∷ ys) e = go (y.birth == x) refl (is_bound y) refl (none-on x ys)
   where
-    go : (u : Bool) → (y.birth == x) ≡ u → (v : Bool) → is_bound y ≡ v → (list_any is_bound ys ≡ false → list_any is_bound (notes_on x ys) ≡ false) → list_any is_bound (notes_on x (y ∷ ys)) ≡ false
+    go : (u : Bool) → (y.birth == x) ≡ u → (v : Bool) → is_bound y ≡ v → (list_any is_bound ys ≡ false → list_any is_bound (notes_on x ys) ≡ false)
+        → list_any is_bound (notes_on x (y ∷ ys)) ≡ false
     go u p true q rest = absurd (let clash : true ≡ false = rw q at e in cc)
     go true p false q rest = rw p (rw q (rest (rw q at e)))
     go false p false q rest = rw p (rest (rw q at e))
@@ -165,7 +178,8 @@ module _ (b : Board) (ts : List TypeId) (passed : List Note) (ended : List (ℕ 
       filter-append (λ (y : Note). y.birth == x) (b.notes ++ begun_notes os ++ passed) (ended_notes ended)
       ∙ ap₂ (λ (us vs : List Note). us ++ vs)
       (filter-append (λ (y : Note). y.birth == x) (b.notes ++ begun_notes os) passed
-      ∙ ap (λ (us : List Note). us ++ notes_on x passed) (filter-append (λ (y : Note). y.birth == x) b.notes (begun_notes os) ∙ ap (λ (us : List Note). notes_on x b.notes ++ us) (begun-picked os x)))
+      ∙ ap (λ (us : List Note). us ++ notes_on x passed)
+      (filter-append (λ (y : Note). y.birth == x) b.notes (begun_notes os) ∙ ap (λ (us : List Note). notes_on x b.notes ++ us) (begun-picked os x)))
       (ended-picked ended x ∙ ap ended_notes (all_end x))
 
   -- nothing was noted of another
@@ -181,7 +195,9 @@ module _ (b : Board) (ts : List TypeId) (passed : List Note) (ended : List (ℕ 
   on-old x low = on-other x (λ new. let high : b.born < x = new.0 in absurd (omega (arith, low, high))) (picked-below (suc b.born) ts x (omega (arith, low)))
 
   on-later : (x : ℕ) → b.born + length ts < x → notes_on x c.notes ≡ notes_on x b.notes
-  on-later x high = on-other x (λ new. let most : x ≤ b.born + length ts = new.1 in absurd (omega (arith, high, most))) (picked-above (suc b.born) ts x (omega (arith, high)))
+  on-later x high =
+      on-other x (λ new. let most : x ≤ b.born + length ts = new.1 in absurd (omega (arith, high, most)))
+      (picked-above (suc b.born) ts x (omega (arith, high)))
 
   -- an object that was made has its story
   told : (x : ℕ) → b.born < x → x ≤ b.born + length ts → (t : TypeId) × Story x t true c.notes
@@ -252,10 +268,12 @@ acts-other : (act : Act) (x : ℕ) (ms : List ℕ) → AllByRecursion (λ m. (m 
 acts-other act x [] h = refl
 acts-other act x (m ∷ ms) h = rw h.0 (acts-other act x ms h.1)
 
-between-acts : (b : Board) (ts : List TypeId) (act : Act) (ms : List ℕ) → deed_type (Did act) ≡ None → AllByRecursion (λ m. (b.born < m) × (m ≤ b.born + length ts)) ms → Between b ts (map (did act) ms)
+between-acts : (b : Board) (ts : List TypeId) (act : Act) (ms : List ℕ) → deed_type (Did act) ≡ None
+    → AllByRecursion (λ m. (b.born < m) × (m ≤ b.born + length ts)) ms → Between b ts (map (did act) ms)
 between-acts b ts act ms plain within = record { neither = acts-unbound act plain ms; only = λ x apart. acts-other act x ms (others x apart ms within) }
   where
-    others : (x : ℕ) → ((b.born < x) × (x ≤ b.born + length ts) → ⊥) → (ns : List ℕ) → AllByRecursion (λ m. (b.born < m) × (m ≤ b.born + length ts)) ns → AllByRecursion (λ m. (m == x) ≡ false) ns
+    others : (x : ℕ) → ((b.born < x) × (x ≤ b.born + length ts) → ⊥) → (ns : List ℕ)
+        → AllByRecursion (λ m. (b.born < m) × (m ≤ b.born + length ts)) ns → AllByRecursion (λ m. (m == x) ≡ false) ns
     others x apart [] h = tt
     others x apart (n ∷ ns) h = (go (n == x) refl, others x apart ns h.1)
       where
@@ -271,7 +289,8 @@ between-both b ts us vs h k =
     }
 
 -- the births of the objects that are buses, among those of the objects
-pub buses-within : (low n : ℕ) (ts : List TypeId) (high : ℕ) → low < n → n + length ts ≤ suc high → AllByRecursion (λ m. (low < m) × (m ≤ high)) (map (λ (o : ℕ × TypeId). o.0) (filter is_bus (born_from n ts)))
+pub buses-within : (low n : ℕ) (ts : List TypeId) (high : ℕ) → low < n → n + length ts ≤ suc high
+    → AllByRecursion (λ m. (low < m) × (m ≤ high)) (map (λ (o : ℕ × TypeId). o.0) (filter is_bus (born_from n ts)))
 buses-within low n [] high above below = tt
 buses-within low n (t ∷ ts) high above below = go (is_bus (n, t)) refl (buses-within low (suc n) ts high (omega (arith, above)) (omega (arith, below)))
   where
@@ -326,7 +345,8 @@ module _ (b : Board) (bus : ℕ) (t : TypeId) where
 
 pub plug_attempt-keeps : (b : Board) (t : TypeId) (bus stage : ℕ) → NotesInOrder b → NotesInOrder (plug_attempt b t bus stage)
 plug_attempt-keeps b t bus stage o =
-    ended-keeps b (types_in t) (if stage == 8 then passed_notes b bus (suc b.born) t else []) (device_last (born_from (suc b.born) (types_in t))) o (between (stage == 8)) (last-picked (suc b.born) (types_in t))
+    ended-keeps b (types_in t) (if stage == 8 then passed_notes b bus (suc b.born) t else []) (device_last (born_from (suc b.born) (types_in t))) o
+    (between (stage == 8)) (last-picked (suc b.born) (types_in t))
   where
     between : (u : Bool) → Between b (types_in t) (if u then passed_notes b bus (suc b.born) t else [])
     between true = passed-between b bus t
@@ -340,7 +360,8 @@ take-short (suc i) (t ∷ ts) = omega (arith, take-short i ts)
 pub cut_attempt-keeps : (b : Board) (t : TypeId) (i : ℕ) (joined : Bool) → NotesInOrder b → NotesInOrder (cut_attempt b t i joined)
 cut_attempt-keeps b t i joined o =
     subst (λ (os : List (ℕ × TypeId)). NotesInOrder (with_ended b os [] (cut_order joined i os))) (sym (take-born i (suc b.born) (types_in t)))
-    (ended-keeps b ts [] (cut_order joined i (born_from (suc b.born) ts)) o (nothing-between b ts) (λ x. order-picked joined i (suc b.born) ts x (take-short i (types_in t))))
+    (ended-keeps b ts [] (cut_order joined i (born_from (suc b.born) ts)) o (nothing-between b ts)
+    (λ x. order-picked joined i (suc b.born) ts x (take-short i (types_in t))))
   where
     ts : List TypeId
     ts = take i (types_in t)

@@ -116,4 +116,5 @@ module _ (P : Board → Type 0) (edits : KeepsEdits P) (pins : KeepsPins P) (end
       go false p at_home q = rw (sever, p) h
       go true p true q = rw (sever, p, q) h
       go true p false q =
-          rw (sever, p, q) (step-unpin P edits pins ends n (severed_from (length (slots_at b n)) 0 n (pin b n)) (step-severed (length (slots_at b n)) 0 n (pin b n) (step-pin P edits pins ends n b h)))
+          rw (sever, p, q) (step-unpin P edits pins ends n (severed_from (length (slots_at b n)) 0 n (pin b n))
+          (step-severed (length (slots_at b n)) 0 n (pin b n) (step-pin P edits pins ends n b h)))

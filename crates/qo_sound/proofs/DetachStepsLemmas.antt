@@ -47,12 +47,16 @@ module _ (On : ℕ → Type 0) (P : Board → Type 0) (edits : KeepsEdits P) (ac
 
   step-device : (d : ℕ) → On d → (c : Board) → P c → P (unrealized_device d c)
   step-device d on c h =
-      step-unnoticed d _ (step-unheld d _ (step-set P edits d (codes "realized") (val.Bool false) _ (step-disconnected (clock_of c d) _ (acts Unrealize d (device_period c d) refl on c h))))
+      step-unnoticed d _
+      (step-unheld d _
+      (step-set P edits d (codes "realized") (val.Bool false) _
+      (step-disconnected (clock_of c d) _ (acts Unrealize d (device_period c d) refl on c h))))
 
   step-bus : (m : ℕ) → On m → (c : Board) → P c → P (unrealized_bus m c)
   step-bus m on c h = step-unheld m _ (acts Unrealize m 0 refl on c h)
 
-  step-each : (f : ℕ → Board → Board) → ((n : ℕ) → On n → (c : Board) → P c → P (f n c)) → (ns : List ℕ) → AllByRecursion On ns → (c : Board) → P c → P (each f ns c)
+  step-each : (f : ℕ → Board → Board) → ((n : ℕ) → On n → (c : Board) → P c → P (f n c)) → (ns : List ℕ) → AllByRecursion On ns → (c : Board) → P c
+      → P (each f ns c)
   step-each f keeps [] on c h = h
   step-each f keeps (n ∷ ns) on c h = step-each f keeps ns on.1 (f n c) (keeps n on.0 c h)
 
@@ -61,8 +65,11 @@ module _ (On : ℕ → Type 0) (P : Board → Type 0) (edits : KeepsEdits P) (ac
     step-turns zero d on c h = h
     step-turns (suc depth) d on c h = turn (step-turns depth)
       where
-        turn : ((k : ℕ) → On k → (e : Board) → P e → P (by_depth (unrealize_turn b) (λ d c. c) depth k e)) → P (by_depth (unrealize_turn b) (λ d c. c) (suc depth) d c)
-        turn keeps = step-device d on _ (step-each _ (λ m there e k. step-bus m there _ (step-each _ keeps (kids_of b m) (kids m) e k)) (buses_of b d) (buses d) c h)
+        turn : ((k : ℕ) → On k → (e : Board) → P e → P (by_depth (unrealize_turn b) (λ d c. c) depth k e))
+            → P (by_depth (unrealize_turn b) (λ d c. c) (suc depth) d c)
+        turn keeps =
+            step-device d on _
+            (step-each _ (λ m there e k. step-bus m there _ (step-each _ keeps (kids_of b m) (kids m) e k)) (buses_of b d) (buses d) c h)
 
     pub step-unrealize : (d : ℕ) → On d → P b → P (unrealize b d)
     unfolding unrealize

@@ -114,7 +114,8 @@ module _ (b : Board) (t : TypeId) (a : Wanted) (spot : Spot) where
   passed-leaves : AttemptLeaves made passed_on
   passed-leaves =
       step-plugged (λ m. ⊤) (AttemptLeaves made) (attempt-acts made) n _ (all-any (post (acted_all Realize (n ∷ bus_births n t) made) n))
-      (step-acted_all (λ m. ⊤) (AttemptLeaves made) (attempt-acts made) Realize refl (n ∷ bus_births n t) (all-any (n ∷ bus_births n t)) made (attempt-none made))
+      (step-acted_all (λ m. ⊤) (AttemptLeaves made) (attempt-acts made) Realize refl (n ∷ bus_births n t) (all-any (n ∷ bus_births n t)) made
+      (attempt-none made))
 
   made-leaves : AddLeaves b made
   made-leaves = add-then b placed made (attempt-adds b placed placed-leaves) (counted-leaves a.id placed)

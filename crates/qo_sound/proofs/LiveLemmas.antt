@@ -78,14 +78,14 @@ kid-there b (name, strong t None) m h e = absurd (let clash : None ≡ Some m = 
 kid-there b (name, strong t (Some k)) m h e = ap (is_live b) (sym (same_Some k m e)) ∙ sym (kind-live b k) ∙ fits-some (kind_of b k) _ h
 
 pub kids-there : (b : Board) → AllLinked (kind_of b) b.records → (n : ℕ) → AllByRecursion (IsThere b) (kids_of b n)
-kids-there b linked n = go (record_of b n) refl
+kids-there b linked n =
+    all-came (IsThere b) (λ (s : List ℕ × Slot). strong_in s.1) (λ (s : List ℕ × Slot). Linked (kind_of b) s.1) (kid-there b)
+    (slots_at b n) (links (record_of b n) refl)
   where
-    links : (o : Option Record) → record_of b n ≡ o → AllByRecursion (λ (s : List ℕ × Slot). Linked (kind_of b) s.1) (option_map_or (λ (r : Record). r.slots) o [])
+    links : (o : Option Record) → record_of b n ≡ o
+        → AllByRecursion (λ (s : List ℕ × Slot). Linked (kind_of b) s.1) (option_map_or (λ (r : Record). r.slots) o [])
     links None e = tt
     links (Some r) e = found-passes (λ (x : Record). AllByRecursion (λ (s : List ℕ × Slot). Linked (kind_of b) s.1) x.slots) n b.records r e linked
-
-    go : (o : Option Record) → record_of b n ≡ o → AllByRecursion (IsThere b) (kids_of b n)
-    go o e = all-came (IsThere b) (λ (s : List ℕ × Slot). strong_in s.1) (λ (s : List ℕ × Slot). Linked (kind_of b) s.1) (kid-there b) (slots_at b n) (links (record_of b n) refl)
 
 -- all that is below an object
 module _ (b : Board) (linked : AllLinked (kind_of b) b.records) where
@@ -96,7 +96,8 @@ module _ (b : Board) (linked : AllLinked (kind_of b) b.records) where
       go true p = rw (below, p) (kids-there b linked n)
       go false p = rw (below, p) (buses-there b n)
 
-  all-below : (f : ℕ → List ℕ) → ((n : ℕ) → IsThere b n → AllByRecursion (IsThere b) (f n)) → (ns : List ℕ) → AllByRecursion (IsThere b) ns → AllByRecursion (IsThere b) (flat_map f ns)
+  all-below : (f : ℕ → List ℕ) → ((n : ℕ) → IsThere b n → AllByRecursion (IsThere b) (f n)) → (ns : List ℕ) → AllByRecursion (IsThere b) ns
+      → AllByRecursion (IsThere b) (flat_map f ns)
   all-below f there [] h = tt
   all-below f there (n ∷ ns) h = all-append (IsThere b) (f n) (flat_map f ns) (there n h.0) (all-below f there ns h.1)
 
@@ -104,8 +105,11 @@ module _ (b : Board) (linked : AllLinked (kind_of b) b.records) where
   post-turns zero n h = tt
   post-turns (suc depth) n h = turn (post-turns depth)
     where
-      turn : ((m : ℕ) → IsThere b m → AllByRecursion (IsThere b) (by_depth (post_turn b) (λ _. []) depth m)) → AllByRecursion (IsThere b) (by_depth (post_turn b) (λ _. []) (suc depth) n)
-      turn there = all-append (IsThere b) (flat_map (by_depth (post_turn b) (λ _. []) depth) (below b n)) (n ∷ []) (all-below _ there (below b n) (below-there n)) (h, tt)
+      turn : ((m : ℕ) → IsThere b m → AllByRecursion (IsThere b) (by_depth (post_turn b) (λ _. []) depth m))
+          → AllByRecursion (IsThere b) (by_depth (post_turn b) (λ _. []) (suc depth) n)
+      turn there =
+          all-append (IsThere b) (flat_map (by_depth (post_turn b) (λ _. []) depth) (below b n)) (n ∷ [])
+          (all-below _ there (below b n) (below-there n)) (h, tt)
 
   pub post-there : (n : ℕ) → IsThere b n → AllByRecursion (IsThere b) (post b n)
   unfolding post

@@ -132,8 +132,11 @@ module _ (P : Board → Type 0) (edits : KeepsEdits P) where
   step-source source (Some m) c h = step-link m (codes "source") source c h
 
   -- its id, and the range of a DIMM, are written beside its slots
-  pub step-stood : (b : Board) (n : ℕ) (a : Wanted) (spot : Spot) → ((c : Board) → P c → P (edit n (with_body_of a.id spot.range) c)) → (c : Board) → P c → P (clocked (source_for b spot.bus) n (stood b n a spot c))
-  step-stood b n a spot body c h = step-source (source_for b spot.bus) _ _ (body _ (step-addressed n spot.range _ (step-valued b n a spot _ (step-joined b n a spot c h))))
+  pub step-stood : (b : Board) (n : ℕ) (a : Wanted) (spot : Spot) → ((c : Board) → P c → P (edit n (with_body_of a.id spot.range) c)) → (c : Board)
+      → P c → P (clocked (source_for b spot.bus) n (stood b n a spot c))
+  step-stood b n a spot body c h =
+      step-source (source_for b spot.bus) _ _
+      (body _ (step-addressed n spot.range _ (step-valued b n a spot _ (step-joined b n a spot c h))))
 
 -- acts
 module _ (On : ℕ → Type 0) (P : Board → Type 0) (acts : KeepsActs On P) where
@@ -156,7 +159,9 @@ module _ (On : ℕ → Type 0) (P : Board → Type 0) (acts : KeepsActs On P) wh
   -- phases of what is plugged
   pub step-plugged : (d : ℕ) (c : Board) → AllByRecursion On (post c d) → P c → P (plugged c d)
   unfolding plugged
-  step-plugged d c on h = step-phased Exit refl (filter (is_out c) (post c d)) (some-of (is_out c) (post c d) on) _ (step-phased Hold refl (post c d) on _ (step-phased Enter refl (post c d) on c h))
+  step-plugged d c on h =
+      step-phased Exit refl (filter (is_out c) (post c d)) (some-of (is_out c) (post c d) on) _
+      (step-phased Hold refl (post c d) on _ (step-phased Enter refl (post c d) on c h))
 
 -- acts of every object
 pub all-any : (ns : List ℕ) → AllByRecursion (λ (n : ℕ). ⊤) ns

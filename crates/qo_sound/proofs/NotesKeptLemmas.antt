@@ -105,7 +105,8 @@ new-grows b t slots o =
           filter-append (λ (y : Note). y.birth == x) b.notes (init_notes (b.born + 1) t)
           ∙ ap (λ (xs : List Note). notes_on x b.notes ++ xs) (noted-other (b.born + 1) x e (λ k. Did (Init k)) (inits t))
           ∙ append-nil (notes_on x b.notes);
-      kind = ap (option_map (λ (r : Record). r.kind)) (last-own b.records (new_with b t slots) (unmapped (found_at (b.born + 1) b.records) (next-absent b o (kind_of b (b.born + 1)) refl)));
+      kind = ap (option_map (λ (r : Record). r.kind)) (last-own b.records (new_with b t slots)
+          (unmapped (found_at (b.born + 1) b.records) (next-absent b o (kind_of b (b.born + 1)) refl)));
       story =
           record {
             between = [];
@@ -169,11 +170,8 @@ last-some None r = refl
 last-some (Some x) r = refl
 
 there-new : (n : ℕ) → KeepsNew (λ k. ⊤) (AllThere n)
-there-new n k slots made c h x low high = ap is_some (find-append (λ (y : Record). y.birth == x) c.records (r ∷ [])) ∙ go (c.born + 1 == x) refl
+there-new n k slots made c h x low high = ap is_some (find-append (λ (y : Record). y.birth == x) c.records (new_with c k slots ∷ [])) ∙ go (c.born + 1 == x) refl
   where
-    r : Record
-    r = new_with c k slots
-
     go : (u : Bool) → (c.born + 1 == x) ≡ u → is_some (option_or (found_at x c.records) (found_at x (new_with c k slots ∷ []))) ≡ true
     go true p = rw p (last-some (found_at x c.records) (new_with c k slots))
     go false p =
@@ -198,17 +196,16 @@ unfolding add
 rows-born n t [] c = omega arith
 rows-born n t (p ∷ ps) c = go p.kind refl (rows-born n t ps)
   where
-    name : List ℕ
-    name = property_name p.name
-
-    go : (kind : RowKind) → p.kind ≡ kind → ((x : Board) → (rows_made n t ps x).born ≡ x.born + length (kinds_in ps)) → (rows_made n t (p ∷ ps) c).born ≡ c.born + length (kinds_in (p ∷ ps))
+    go : (kind : RowKind) → p.kind ≡ kind → ((x : Board) → (rows_made n t ps x).born ≡ x.born + length (kinds_in ps))
+        → (rows_made n t (p ∷ ps) c).born ≡ c.born + length (kinds_in (p ∷ ps))
     go (row.Plain type first) e rest = rw e (rest (row_made n t (property_name p.name) (row.Plain type first) c))
     go (row.Link target true) e rest = rw e (rest (row_made n t (property_name p.name) (row.Link target true) c))
     go (row.Link target false) e rest = rw e (rest (row_made n t (property_name p.name) (row.Link target false) c))
     go (row.Child k) e rest = rw e (rest (row_made n t (property_name p.name) (row.Child k) c) ∙ omega arith)
     go (row.Alias owner of) e rest =
         let m : Option ℕ = owned c n (property_name owner) in
-        rw e (rest (aliased n (property_name p.name) (property_name of) m c) ∙ ap (λ (k : ℕ). k + length (kinds_in ps)) (aliased-born n (property_name p.name) (property_name of) m c))
+        rw e (rest (aliased n (property_name p.name) (property_name of) m c)
+        ∙ ap (λ (k : ℕ). k + length (kinds_in ps)) (aliased-born n (property_name p.name) (property_name of) m c))
 
 drafted-born : (b : Board) (t : TypeId) → (drafted b t).born ≡ b.born + length (types_in t)
 drafted-born b t = rows-born (b.born + 1) t (slots_of t) (with_new (fresh (b.born + 1) t) b) ∙ omega arith
@@ -272,11 +269,14 @@ module _ (b : Board) (t : TypeId) (a : Wanted) (spot : Spot) (rest : AtRest b) (
       let d : Board = edit n (with_path (canonical c n)) c in
       same-keep d (with_plugged b t a spot) refl refl (λ x. refl) (edit-keeps n (with_path (canonical c n)) (λ r. refl) (λ r. refl) c passed-tells.notes)
 
-late-notes : (b : Board) (t : TypeId) (bus : ℕ) (a : Wanted) → AtRest b → NotesInOrder b → (barred_late b t bus a.props ≡ None → IsPlace b t a (spot_of b t bus a.props)) → (r : Option (ℕ × Code)) → barred_late b t bus a.props ≡ r → NotesInOrder (plug_late b t bus a r).board
+late-notes : (b : Board) (t : TypeId) (bus : ℕ) (a : Wanted) → AtRest b → NotesInOrder b
+    → (barred_late b t bus a.props ≡ None → IsPlace b t a (spot_of b t bus a.props)) → (r : Option (ℕ × Code)) → barred_late b t bus a.props ≡ r
+    → NotesInOrder (plug_late b t bus a r).board
 late-notes b t bus a rest o place (Some refusal) e = plug_attempt-keeps b t bus refusal.0 o
 late-notes b t bus a rest o place None e = plugged-notes b t a (spot_of b t bus a.props) rest (place e) o
 
-as-notes : (b : Board) (t : TypeId) (a : Wanted) → is_a t (codes "device") ≡ true → AtRest b → NotesInOrder b → (r : Option (ℕ × Code)) → barred_early b t a ≡ r → NotesInOrder (plug_as b t a r).board
+as-notes : (b : Board) (t : TypeId) (a : Wanted) → is_a t (codes "device") ≡ true → AtRest b → NotesInOrder b → (r : Option (ℕ × Code))
+    → barred_early b t a ≡ r → NotesInOrder (plug_as b t a r).board
 as-notes b t a device rest o (Some refusal) e = o
 as-notes b t a device rest o None e = go (bus_for b t a.bus) refl
   where
@@ -320,14 +320,11 @@ detach-notes b d h there o = step-detach NotesInOrder notes-edits notes-pins not
 
 -- the phases of what is there
 
-some-there : (b : Board) (p : ℕ → Bool) (ns : List ℕ) → AllByRecursion (IsThere b) ns → AllByRecursion (IsThere b) (filter p ns)
-some-there b p ns h = all-filter (IsThere b) p ns h
-
 held-notes : (b : Board) (n : ℕ) → AtRest b → IsThere b n → NotesInOrder b → Tells b (held b n)
 unfolding held
 held-notes b n rest there o =
     let out : List ℕ = filter (is_out b) (post b n) in
-    let on : AllByRecursion (IsThere b) out = some-there b (is_out b) (post b n) (post-there b rest.used.firm.linked n there) in
+    let on : AllByRecursion (IsThere b) out = all-filter (IsThere b) (is_out b) (post b n) (post-there b rest.used.firm.linked n there) in
     let entered : Tells b (phased Enter out b) = step-phased (IsThere b) (Tells b) (tells-acts b) Enter refl out on b (tells-none b o) in
     let c : Board = phased Hold out (phased Enter out b) in
     let h : Tells b c = step-phased (IsThere b) (Tells b) (tells-acts b) Hold refl out on (phased Enter out b) entered in
@@ -337,7 +334,7 @@ released-notes : (b : Board) (n : ℕ) → AllLinked (kind_of b) b.records → I
 unfolding released
 released-notes b n linked there o =
     let c : Board = record b { holds = without_first n b.holds } in
-    let on : AllByRecursion (IsThere c) (filter (is_out c) (post c n)) = some-there c (is_out c) (post c n) (post-there c linked n there) in
+    let on : AllByRecursion (IsThere c) (filter (is_out c) (post c n)) = all-filter (IsThere c) (is_out c) (post c n) (post-there c linked n there) in
     let h : Tells c (phased Exit (filter (is_out c) (post c n)) c) =
     step-phased (IsThere c) (Tells c) (tells-acts c) Exit refl (filter (is_out c) (post c n)) on c (tells-none c (same-keep b c refl refl (λ x. refl) o))
     in
@@ -347,7 +344,8 @@ held-linked : (b : Board) (n : ℕ) → AtRest b → AllLinked (kind_of (held b 
 unfolding held
 held-linked b n rest =
     let out : List ℕ = filter (is_out b) (post b n) in
-    let h : Sits (1 ∷ []) (phased Hold out (phased Enter out b)) = held-phased (1 ∷ []) Hold out _ (held-phased (1 ∷ []) Enter out b (record { near = rest.used; pins = rest.pinned })) in
+    let entered : Sits (1 ∷ []) (phased Enter out b) = held-phased (1 ∷ []) Enter out b (record { near = rest.used; pins = rest.pinned }) in
+    let h : Sits (1 ∷ []) (phased Hold out (phased Enter out b)) = held-phased (1 ∷ []) Hold out (phased Enter out b) entered in
     h.near.firm.linked
 
 pulse-notes : (b : Board) (n : ℕ) → SoundTree b → IsThere b n → NotesInOrder b → NotesInOrder (pulse b n)

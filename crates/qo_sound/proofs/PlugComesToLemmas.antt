@@ -30,11 +30,8 @@ NotFull o = o ≡ Some E43 → ⊥
 
 target-not_full : (b : Board) (t : TypeId) (path : List ℕ) → NotFull (code_of (link_target b t path))
 target-not_full b t [] e = cc
-target-not_full b t (c ∷ cs) e = go (resolve b path (type_name t)) refl (resolve b path (codes "object")) refl
+target-not_full b t (c ∷ cs) e = go (resolve b (c ∷ cs) (type_name t)) refl (resolve b (c ∷ cs) (codes "object")) refl
   where
-    path : List ℕ
-    path = c ∷ cs
-
     go : (p : Place) → resolve b (c ∷ cs) (type_name t) ≡ p → (q : Place) → resolve b (c ∷ cs) (codes "object") ≡ q → ⊥
     go (found m) p any q = let clash : None ≡ Some E43 = rw (link_target, p) at e in cc
     go several p any q = let clash : Some E16 ≡ Some E43 = rw (link_target, p) at e in cc
@@ -169,9 +166,11 @@ given-up b a r c is h =
     full-not (property four other) same = other (ap (λ (x : ℕ × Code). x.1) same)
     full-not (later high) same = let is : r.0 ≡ 4 = ap (λ (x : ℕ × Code). x.0) same in omega (arith, high, is)
 
-late-comes : (b : Board) (a : Wanted) (row : TypeRow) (bus : ℕ) → IsAttempted b a row bus → (o : Option (ℕ × Code)) → barred_late b row.id bus a.props ≡ o → ComesTo b a (plug_late b row.id bus a o)
+late-comes : (b : Board) (a : Wanted) (row : TypeRow) (bus : ℕ) → IsAttempted b a row bus → (o : Option (ℕ × Code))
+    → barred_late b row.id bus a.props ≡ o → ComesTo b a (plug_late b row.id bus a o)
 late-comes b a row bus h (Some refusal) e =
-    given-up b a refusal (plug_attempt b row.id bus refusal.0) (late-stage b row.id bus a refusal e) (record { row = row; bus = bus; attempted = h; late = e; board = refl })
+    given-up b a refusal (plug_attempt b row.id bus refusal.0) (late-stage b row.id bus a refusal e)
+    (record { row = row; bus = bus; attempted = h; late = e; board = refl })
 late-comes b a row bus h None e =
     record {
       early = λ stage code k low. absurd (let clash : None ≡ Some (stage, code) = k in cc);
@@ -191,13 +190,16 @@ no-bus b t a none e =
     let after : stages (bus_for b t a.bus) ≡ None = (or-none (at_stage 2 (id_barred b a.id)) (stages (bus_for b t a.bus)) e).1 in
     some-not (3, E25) (sym (ap stages none) ∙ after)
 
-as-comes : (b : Board) (a : Wanted) (row : TypeRow) → type_barred a.driver ≡ None → row_named a.driver ≡ Some row → (o : Option (ℕ × Code)) → barred_early b row.id a ≡ o → ComesTo b a (plug_as b row.id a o)
+as-comes : (b : Board) (a : Wanted) (row : TypeRow) → type_barred a.driver ≡ None → row_named a.driver ≡ Some row → (o : Option (ℕ × Code))
+    → barred_early b row.id a ≡ o → ComesTo b a (plug_as b row.id a o)
 as-comes b a row fits named (Some refusal) e = nothing-made b a refusal (early-stage b row.id a refusal e)
 as-comes b a row fits named None e = go (bus_for b row.id a.bus) refl
   where
     go : (m : Option ℕ) → bus_for b row.id a.bus ≡ m → ComesTo b a (plug_as b row.id a None)
     go None p = absurd (no-bus b row.id a p e)
-    go (Some bus) p = rw (plug_as, p) (late-comes b a row bus (record { fits = fits; named = named; early = e; chosen = p }) (barred_late b row.id bus a.props) refl)
+    go (Some bus) p =
+        let h : IsAttempted b a row bus = record { fits = fits; named = named; early = e; chosen = p } in
+        rw (plug_as, p) (late-comes b a row bus h (barred_late b row.id bus a.props) refl)
 
 by-comes : (b : Board) (a : Wanted) (o : Option Code) → type_barred a.driver ≡ o → ComesTo b a (plug_by b a o)
 by-comes b a (Some code) e = nothing-made b a (1, code) (first (omega arith))

@@ -178,7 +178,8 @@ timerless-ends o c h = after_keeps (λ (work : List (ℕ × ℕ)) (d : Board). T
 
 -- the commands on objects
 
-added-timerless : (b : Board) (t : TypeId) (id : List ℕ) (props : List Given) → NoTimerType t → (o : Option Code) → Timerless b → Timerless (added_as b t id props o).board
+added-timerless : (b : Board) (t : TypeId) (id : List ℕ) (props : List Given) → NoTimerType t → (o : Option Code) → Timerless b
+    → Timerless (added_as b t id props o).board
 added-timerless b t id props made (Some code) h = h
 added-timerless b t id props made None h =
     all-append NoTimer _ _ (all-map NoTimer NoTimer _ (edited-no_timer OBJECTS_BIRTH _ (λ r k. k)) b.records h) (made, tt)

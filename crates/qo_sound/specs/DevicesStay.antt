@@ -43,6 +43,7 @@ pub record DevicesStayLaw : Type 0 where
   -- a device that is added: the guest is told, and without an id it counts
   pub added : (b : Board) (t : TypeId) (a : Wanted) (spot : Spot) → AddLeaves b (with_plugged b t a spot)
   pub counted : (b : Board) (t : TypeId) (a : Wanted) (spot : Spot) → (with_plugged b t a spot).anonymous ≡ anonymous_behind b a.id
-  pub told : (b : Board) (t : TypeId) (a : Wanted) (spot : Spot) → (with_plugged b t a spot).notices ≡ b.notices ++ record { plug = true; birth = b.born + 1 } ∷ []
+  pub told : (b : Board) (t : TypeId) (a : Wanted) (spot : Spot)
+      → (with_plugged b t a spot).notices ≡ b.notices ++ record { plug = true; birth = b.born + 1 } ∷ []
   -- a device that is detached
   pub detached : (b : Board) (d : ℕ) → DetachLeaves b (detach b d)

@@ -36,6 +36,7 @@ pub record PlugComesToLaw : Type 0 where
   pub full : (b : Board) (a : Wanted) → (plug b a).refusal ≡ Some (4, E43) → (plug b a).board ≡ b
   -- refused for a property, or at a later stage, an attempt was given up
   pub property : (b : Board) (a : Wanted) (code : Code) → (plug b a).refusal ≡ Some (4, code) → code ≢ E43 → GivenUp b a (4, code) (plug b a).board
-  pub late : (b : Board) (a : Wanted) (stage : ℕ) (code : Code) → (plug b a).refusal ≡ Some (stage, code) → 5 ≤ stage → GivenUp b a (stage, code) (plug b a).board
+  pub late : (b : Board) (a : Wanted) (stage : ℕ) (code : Code) → (plug b a).refusal ≡ Some (stage, code) → 5 ≤ stage
+      → GivenUp b a (stage, code) (plug b a).board
   -- where nothing refuses it the device is added
   pub added : (b : Board) (a : Wanted) → (plug b a).refusal ≡ None → Added b a (plug b a).board
