@@ -1,0 +1,127 @@
+-- A device is unrealized and taken out, while it is held: the parts of the board behind it.
+use Rattle.std.proofs.Common.{◌≡◌, refl, ap, sym, subst, ◌∙◌, ℕ, suc, ◌+◌, ◌^◌, ◌<◌, ◌≤◌, List, length, map, arith}
+use Rattle.std.proofs.lemmas.List.{length-map}
+use Rattle.qo_values.specs.declared.limits.TheConstants.{LIVE_OBJECTS_MAX}
+use Rattle.qo_slots.specs.declared.keys.Key.{Key}
+use Rattle.qo_table.specs.Rows.{edit}
+use Rattle.qo_object.specs.Content.{Content, with_pin}
+use Rattle.qo_model.specs.Board.{Board}
+use Rattle.qo_model.specs.Paths as paths
+use Rattle.qo_model.specs.Release.{pin, unpin}
+use Rattle.qo_model.specs.Unplug.{apart_within, detach, taken_by, unrealize}
+use Rattle.qo_model.proofs.ReleaseLeavesLemmas.{unpin-leaves}
+use Rattle.qo_hotplug.specs.Asked.{Asked}
+use Rattle.qo_heap.specs.Board.{Shows}
+use Rattle.qo_heap.specs.Objects.{IsHeap, Objects, pins_of, with_edit}
+use Rattle.qo_heap.proofs.HeapLemmas.{length-edit}
+use Rattle.qo_heap.proofs.ShowsReads.{shows-births}
+use Rattle.qo_life.specs.Life.{Goes}
+use Rattle.qo_life.proofs.TreeLemmas.{goes-shows}
+use Rattle.qo_properties.specs.Claims.{KeepsBook}
+use Rattle.qo_unplug.specs.Apart.{HasRoom, held_times, taken_within}
+use Rattle.qo_unplug.specs.Beside.{Beside}
+use Rattle.qo_unplug.specs.Timerless.{Timerless}
+use Rattle.qo_unplug.specs.Unrealizing.{Parts, Undoes, device_within, parts}
+use Rattle.qo_unplug.proofs.ApartLemmas.{held-pins, pin-most, pin-own}
+use Rattle.qo_unplug.proofs.TakesLemmas.{takes-taken_within, times}
+use Rattle.qo_unplug.proofs.TimerLemmas.{edit-timerless}
+use Rattle.qo_unplug.proofs.TreeLemmas.{same-none}
+
+-- the pin of meanwhile
+
+pub pin-beside : (v u : Objects) (held : List ℕ) (asked : Asked) (n : ℕ) → Goes (λ b. pin b n) v u → (b : Board) → Beside b v held asked
+    → Beside (pin b n) u held asked
+unfolding pin
+pin-beside v u held asked n goes b beside =
+    record { shown = goes-shows (λ c. pin c n) v u goes b beside.shown; holds = beside.holds; pending = beside.pending; notices = beside.notices }
+
+pub pin-timerless : (v u : Objects) (n : ℕ) → u ≡ with_edit n with_pin v → Timerless v → Timerless u
+pin-timerless v u n is none = subst (λ (x : Objects). Timerless x) (sym is) (edit-timerless v n with_pin (λ c. refl) none)
+
+pin-length : (v u : Objects) (n : ℕ) → u ≡ with_edit n with_pin v → length u.rows ≡ length v.rows
+pin-length v u n is = ap (λ (x : Objects). length x.rows) is ∙ length-edit n with_pin v.rows
+
+-- a heap as a part of some board, and what unrealizing leaves of its pins
+some-board : (v : Objects) (held : List ℕ) (asked : Asked) (b : Board) → Shows b v
+    → Beside (record b { holds = held; pending = asked.pending; notices = asked.notices }) v held asked
+some-board v held asked b s =
+    record {
+      shown = record { records = s.records; born = s.born; pins = s.pins; notes = s.notes; events = s.events; now = s.now };
+      holds = refl;
+      pending = refl;
+      notices = refl;
+    }
+
+undone-times : (f : Board → Board → Board) (s t : Parts) → Undoes f s t → (c : Board) → Beside c s.heap s.held s.asked → (n : ℕ)
+    → held_times t.heap n ≡ held_times s.heap n
+undone-times f s t undoes c beside n =
+    let behind = undoes.shown c c (same-none c) beside in
+    let tree = undoes.tree c c (same-none c) beside in
+    ap (times n) (sym behind.shown.pins ∙ tree.pins ∙ beside.shown.pins)
+
+pub unrealized-times : (f : Board → Board → Board) (v u w : Objects) (held after : List ℕ) (asked told : Asked) (d : ℕ) (b : Board) → Shows b v
+    → Goes (λ c. pin c d) v u → Undoes f (parts u held asked) (parts w after told) → (n : ℕ) → held_times w n ≡ held_times u n
+unrealized-times f v u w held after asked told d b s goes undoes n =
+    let c : Board = record b { holds = held; pending = asked.pending; notices = asked.notices } in
+    undone-times f (parts u held asked) (parts w after told) undoes (pin c d) (pin-beside v u held asked d goes c (some-board v held asked b s)) n
+
+pub unrealized-pinned : (f : Board → Board → Board) (v u w : Objects) (held after : List ℕ) (asked told : Asked) (d : ℕ) (b : Board) → Shows b v
+    → Goes (λ c. pin c d) v u → Undoes f (parts u held asked) (parts w after told) → 0 < held_times w d
+unrealized-pinned f v u w held after asked told d b s goes undoes =
+    omega (arith, unrealized-times f v u w held after asked told d b s goes undoes d, pin-own v u d goes)
+
+pub detach-room : (v u w : Objects) → IsHeap v → (d levels : ℕ) → ((n : ℕ) → pins_of v n ≤ 1) → levels ≡ length v.rows → Goes (λ b. pin b d) v u
+    → ((n : ℕ) → held_times w n ≡ held_times u n) → HasRoom w levels
+detach-room v u w good d levels once is goes same n =
+    let few : length v.rows ≤ LIVE_OBJECTS_MAX = good.few in
+    omega (arith, few, is, once n, held-pins v good n, pin-most v u d goes n, same n)
+
+-- the whole
+
+depth-of : (b : Board) (v : Objects) → Shows b v → length (paths.births b) ≡ length v.rows
+depth-of b v s = ap (λ (l : List ℕ). length l) (shows-births b v s) ∙ length-map v.rows (λ row. row.0.birth)
+
+unrealized-is : (b : Board) (v : Objects) → Shows b v → (d : ℕ) → device_within b (length v.rows + 1) d b ≡ unrealize b d
+unfolding device_within unrealize
+unrealized-is b v s d =
+    let same : length v.rows + 1 ≡ suc (length (paths.births b)) = omega (arith, depth-of b v s) in
+    ap (λ (k : ℕ). device_within b k d b) same
+
+taken-is : (b c : Board) (v : Objects) → Shows b v → (levels d : ℕ) → levels ≡ length v.rows
+    → taken_within levels d c ≡ taken_by (apart_within (length (paths.births b))) d c
+unfolding taken_within
+taken-is b c v s levels d is =
+    let same : levels ≡ length (paths.births b) = is ∙ sym (depth-of b v s) in
+    ap (λ (k : ℕ). taken_by (apart_within k) d c) same
+
+detach-is : (b : Board) (d : ℕ) → detach b d ≡ unpin (taken_by (apart_within (length (paths.births b))) d (unrealize (pin b d) d)) d
+unfolding detach
+detach-is b d = refl
+
+pub beside-detached : (v u w x y : Objects) (held after : List ℕ) (asked told : Asked) (d levels : ℕ) → levels ≡ length v.rows
+    → u ≡ with_edit d with_pin v → Goes (λ b. pin b d) v u
+    → Undoes (λ b. device_within b (length u.rows + 1) d) (parts u held asked) (parts w after told) → Goes (taken_within levels d) w x
+    → Goes (λ b. unpin b d) x y → (b : Board) → Beside b v held asked → Beside (detach b d) y after told
+beside-detached v u w x y held after asked told d levels is pins pinned undoes taken unpinned b beside =
+    let b1 : Board = pin b d in
+    let beside1 = pin-beside v u held asked d pinned b beside in
+    let b2 : Board = device_within b1 (length u.rows + 1) d b1 in
+    let beside2 : Beside b2 w after told = undoes.shown b1 b1 (same-none b1) beside1 in
+    let b3 : Board = taken_within levels d b2 in
+    let takes = takes-taken_within levels d b2 in
+    let leaves = unpin-leaves b3 d in
+    let b4 : Beside (unpin b3 d) y after told = record {
+      shown = goes-shows (λ c. unpin c d) x y unpinned b3 (goes-shows (taken_within levels d) w x taken b2 beside2.shown);
+      holds = leaves.holds ∙ takes.holds ∙ beside2.holds;
+      pending = leaves.pending ∙ takes.pending ∙ beside2.pending;
+      notices = leaves.notices ∙ takes.notices ∙ beside2.notices;
+    } in
+    let same : unpin b3 d ≡ detach b d =
+    ap (λ (c : Board). unpin c d)
+    (ap (taken_within levels d) (unrealized-is b1 u beside1.shown d) ∙ taken-is b (unrealize b1 d) v beside.shown levels d is)
+    ∙ sym (detach-is b d) in
+    subst (λ (c : Board). Beside c y after told) same b4
+
+pub book-detached : (f : Board → Board → Board) (g : Board → Board) (v u w x y : Objects) (held after : List ℕ) (asked told : Asked) (d : ℕ)
+    → Goes (λ b. pin b d) v u → Undoes f (parts u held asked) (parts w after told) → Goes g w x → Goes (λ b. unpin b d) x y → KeepsBook v y
+book-detached f g v u w x y held after asked told d pinned undoes taken unpinned out h = unpinned.book out (taken.book out (undoes.book out (pinned.book out h)))

@@ -1,0 +1,201 @@
+-- The own step of what is unrealized: its act, its clock, that it is realized, and its claims.
+use Rattle.std.proofs.Common.{◌≡◌, refl, ap, ap₂, sym, subst, ◌∙◌, ℕ, ◌+◌, ◌==◌, cond, codes, Bool, true, false, List, [], ◌∷◌, map, sum_by, Option, None, Some, arith}
+use Rattle.qo_values.specs.Registers.{Registers}
+use Rattle.qo_values.specs.declared.kinds.Act.TheVariants.{Unrealize}
+use Rattle.qo_values.specs.declared.properties.Val.{Val}
+use Rattle.qo_values.specs.declared.properties.Val.TheVariants as val
+use Rattle.qo_claims.specs.Held.{Held}
+use Rattle.qo_claims.specs.declared.claims.Claimed.{Claimed}
+use Rattle.qo_claims.specs.declared.claims.Claimed.TheVariants as on
+use Rattle.qo_kinds.specs.Bodies.{kept_of, none_kept, registers_of, with_kept}
+use Rattle.qo_kinds.specs.declared.bodies.Body.{Body}
+use Rattle.qo_kinds.specs.declared.bodies.Body.TheVariants.{Uart, Timer, Dimm, Bridge, Bus, Clock, Backend, Plain}
+use Rattle.qo_kinds.specs.declared.kept.KeptSet.{KeptSet}
+use Rattle.qo_slots.specs.declared.keys.Key.{Key}
+use Rattle.qo_table.specs.Rows.{IsLive}
+use Rattle.qo_model.specs.Board.{Board, Record}
+use Rattle.qo_model.specs.Clocks.{acted, device_period}
+use Rattle.qo_model.specs.Devices.{clock_of}
+use Rattle.qo_model.specs.Release.{edit, edited}
+use Rattle.qo_model.specs.Unplug.{disconnected, set_named}
+use Rattle.qo_model.specs.declared.notes.Deed.TheVariants.{Did}
+use Rattle.qo_notes.specs.Log.{empty_log, noted_all}
+use Rattle.qo_object.specs.declared.slots.Slot.{Slot}
+use Rattle.qo_object.specs.Content.{Content, acted_at}
+use Rattle.qo_object.specs.Shown.{birth_of, shown}
+use Rattle.qo_object.specs.Slots.{with_val}
+use Rattle.qo_hotplug.specs.Asked.{Asked}
+use Rattle.qo_heap.specs.Board.{Shows}
+use Rattle.qo_heap.specs.Book.{IsBook, counted, kept_times, one, owned}
+use Rattle.qo_heap.specs.Objects.{IsHeap, Objects, content_of, with_edit, with_note, without_kept}
+use Rattle.qo_heap.proofs.ActsLemmas.{acts-act, acts-book}
+use Rattle.qo_heap.proofs.BookLemmas.{book-edit, kept-without, sum-changed}
+use Rattle.qo_heap.proofs.HeapLemmas.{edit-is, live-edit}
+use Rattle.qo_heap.proofs.ShowsActs.{shows-acted}
+use Rattle.qo_heap.proofs.ShowsEdits.{shows-edit}
+use Rattle.qo_life.specs.Life.{Goes, with_log}
+use Rattle.qo_life.proofs.TreeLemmas.{goes-shows, tree, tree-shows}
+use Rattle.qo_clocks.specs.Links.{changed_named, place_on, unseen_on, with_slot_changed}
+use Rattle.qo_clocks.proofs.LinkLemmas.{live-changed}
+use Rattle.qo_unplug.specs.Timerless.{Timerless, has_timer, is_timer}
+use Rattle.qo_unplug.specs.Unrealizing.{Parts, Undoes, parts}
+use Rattle.qo_unplug.proofs.TimerLemmas.{acted-same, acted-timer, bare-timer, edit-timerless, same-timerless}
+use Rattle.qo_unplug.proofs.TreeLemmas.{quiet-acted, quiet-disconnected, quiet-set_named}
+use Rattle.qo_unplug.proofs.TreeLemmas as boards
+use Rattle.qo_unplug.proofs.UndoesLemmas.{undoes-none, undoes-quiet, undoes-same, undoes-then}
+
+-- the act
+
+abbrev acted_on : ℕ → Objects → Objects
+acted_on n v = with_note (record { birth = n; deed = Did Unrealize }) (with_edit n (acted_at Unrealize v.time 0) v)
+
+pub undoes-act : (v w : Objects) (n : ℕ) → Timerless v
+    → w ≡ with_note (record { birth = n; deed = Did Unrealize }) (with_edit n (acted_at Unrealize v.time 0) v) → (period : ℕ) (held : List ℕ) (asked : Asked)
+    → Undoes (λ _ c. acted Unrealize n period c) (parts v held asked) (parts w held asked)
+undoes-act v w n none is period held asked =
+    undoes-quiet (acted Unrealize n period) v w held asked
+    (λ c s.
+    subst (λ (d : Board). Shows d w) (acted-same c v s none n 0 period)
+    (subst (λ (x : Objects). Shows (acted Unrealize n 0 c) x) (sym is) (shows-acted c v s Unrealize n 0)))
+    (λ c. quiet-acted c n period)
+    (λ key here. subst (λ (x : Objects). IsLive x.rows key) (sym is) (live-edit n (acted_at Unrealize v.time 0) v.rows key here))
+    (λ out h.
+    subst (λ (x : Objects). IsBook out x) (sym is)
+    (acts-book out v (acted_on n v) (acts-act v (record { birth = n; deed = Did Unrealize }) n Unrealize v.time 0) h))
+    (λ still.
+    subst (λ (x : Objects). Timerless x) (sym is)
+    (edit-timerless v n (acted_at Unrealize v.time 0) (λ c. acted-timer v.time 0 c.body) still))
+
+-- a clock loses its source and stands still
+
+module _ (n : ℕ) (name : List ℕ) (f : Slot → Slot) (v : Objects) where
+  changed-book : (out : List Claimed) → IsBook out v → IsBook out (changed_named n name f v)
+  changed-book out h = go (place_on v n name)
+    where
+      go : (o : Option ℕ) → IsBook out (elim o as (λ _. Objects) [ None ↦ v | Some i ↦ with_edit n (with_slot_changed f i) v ])
+      go None = h
+      go (Some i) = book-edit out v n (with_slot_changed f i) (λ c. refl) h
+
+  changed-timerless : Timerless v → Timerless (changed_named n name f v)
+  changed-timerless none = go (place_on v n name)
+    where
+      go : (o : Option ℕ) → Timerless (elim o as (λ _. Objects) [ None ↦ v | Some i ↦ with_edit n (with_slot_changed f i) v ])
+      go None = none
+      go (Some i) = edit-timerless v n (with_slot_changed f i) (λ c. refl) none
+
+pub undoes-disconnected : (v w : Objects) (n : ℕ) → ((b : Board) → Shows b v → Shows (disconnected (Some n) b) w)
+    → w ≡ changed_named n (codes "period") (with_val (val.Uint 0)) (changed_named n (codes "source") unseen_on v) → (held : List ℕ) (asked : Asked)
+    → Undoes (λ _. disconnected (Some n)) (parts v held asked) (parts w held asked)
+undoes-disconnected v w n shows is held asked =
+    let u : Objects = changed_named n (codes "source") unseen_on v in
+    undoes-quiet (disconnected (Some n)) v w held asked shows (λ c. quiet-disconnected c n)
+    (λ key here.
+    subst (λ (x : Objects). IsLive x.rows key) (sym is)
+    (live-changed n (codes "period") (with_val (val.Uint 0)) u key (live-changed n (codes "source") unseen_on v key here)))
+    (λ out h.
+    subst (λ (x : Objects). IsBook out x) (sym is)
+    (changed-book n (codes "period") (with_val (val.Uint 0)) u out (changed-book n (codes "source") unseen_on v out h)))
+    (λ none.
+    subst (λ (x : Objects). Timerless x) (sym is)
+    (changed-timerless n (codes "period") (with_val (val.Uint 0)) u (changed-timerless n (codes "source") unseen_on v none)))
+
+-- an act with the period that a board says
+undoes-at : (f : ℕ → Board → Board) (p : Board → ℕ) (s t : Parts) → ((period : ℕ) → Undoes (λ _ c. f period c) s t) → Undoes (λ _ c. f (p c) c) s t
+undoes-at f p s t undoes =
+    record {
+      shown = λ b c same beside. (undoes (p c)).shown b c same beside;
+      tree = λ b c same beside. (undoes (p c)).tree b c same beside;
+      live = (undoes 0).live;
+      book = (undoes 0).book;
+      timerless = (undoes 0).timerless;
+    }
+
+pub undoes-stop : (s t u : Parts) (d : ℕ) (clock : Option Key) → ((b : Board) → Shows b s.heap → birth_of clock ≡ clock_of b d)
+    → ((period : ℕ) → Undoes (λ _ c. acted Unrealize d period c) s t) → Undoes (λ _. disconnected (birth_of clock)) t u
+    → Undoes (λ _ c. disconnected (clock_of c d) (acted Unrealize d (device_period c d) c)) s u
+undoes-stop s t u d clock is acts behind =
+    undoes-same (λ _ c. disconnected (birth_of clock) (acted Unrealize d (device_period c d) c))
+    (λ _ c. disconnected (clock_of c d) (acted Unrealize d (device_period c d) c)) s u
+    (undoes-then (λ _ c. acted Unrealize d (device_period c d) c) (λ _. disconnected (birth_of clock)) s t u
+    (undoes-at (acted Unrealize d) (λ c. device_period c d) s t acts) behind)
+    (λ b c same beside. ap (λ (o : Option ℕ). disconnected o (acted Unrealize d (device_period c d) c)) (sym (is c beside.shown)))
+
+-- a value is set
+
+pub undoes-set : (v w : Objects) (n : ℕ) (name : List ℕ) (value : Val) → Goes (set_named n name value) v w
+    → ((key : Key) → IsLive v.rows key → IsLive w.rows key) → (held : List ℕ) (asked : Asked)
+    → Undoes (λ _. set_named n name value) (parts v held asked) (parts w held asked)
+undoes-set v w n name value goes live held asked =
+    undoes-quiet (set_named n name value) v w held asked (goes-shows (set_named n name value) v w goes) (λ c. quiet-set_named c n name value) live goes.book
+    (λ none.
+    same-timerless (tree v) (set_named n name value (tree v)) (with_log empty_log v) (with_log (noted_all goes.more empty_log) w)
+    (quiet-set_named (tree v) n name value).tree (tree-shows v) (goes.shown (tree v) empty_log (tree-shows v)) none)
+
+-- claims end that no board sees
+
+abbrev pub bared : Content → Content
+bared c = record c { body = with_kept none_kept c.body }
+
+bare-registers : (body : Body) → registers_of (with_kept none_kept body) ≡ registers_of body
+bare-registers (Uart u k) = refl
+bare-registers (Timer t k) = refl
+bare-registers (Dimm d k) = refl
+bare-registers (Bridge raised holds k) = refl
+bare-registers Bus = refl
+bare-registers Clock = refl
+bare-registers Backend = refl
+bare-registers Plain = refl
+
+bare-kept : (body : Body) → kept_of (with_kept none_kept body) ≡ none_kept
+bare-kept (Uart u k) = refl
+bare-kept (Timer t k) = refl
+bare-kept (Dimm d k) = refl
+bare-kept (Bridge raised holds k) = refl
+bare-kept Bus = refl
+bare-kept Clock = refl
+bare-kept Backend = refl
+bare-kept Plain = refl
+
+-- the claims were taken out of the body of the object that is there
+pub bare-left : (v : Objects) → IsHeap v → (n : ℕ) (c : Content) → content_of v n ≡ Some c → (body : Body) → body ≡ with_kept none_kept c.body
+    → with_edit n (λ (d : Content). record d { body = body }) v ≡ with_edit n bared v
+bare-left v good n c there body is =
+    let d : Content = record c { body = body } in
+    sym (edit-is v good n (λ (x : Content). record x { body = body }) c d there refl)
+    ∙ edit-is v good n bared c d there (ap (λ (x : Body). record c { body = x }) is)
+
+edited-same : (n : ℕ) (rs : List Record) → map (edited n (λ (r : Record). r)) rs ≡ rs
+edited-same n [] = refl
+edited-same n (r ∷ rs) = ap₂ (λ (x : Record) (xs : List Record). x ∷ xs) (go (r.birth == n)) (edited-same n rs)
+  where
+    go : (t : Bool) → cond t r r ≡ r
+    go true = refl
+    go false = refl
+
+shows-bared : (b : Board) (v : Objects) → Shows b v → (n : ℕ) (claims : Held) → Shows b (record (with_edit n bared v) { claims = claims })
+shows-bared b v s n claims =
+    let t = shows-edit n bared b v s (λ (r : Record). r) (λ m c. ap (λ (x : Registers). record (shown m c) { registers = x }) (bare-registers c.body)) (λ c. refl) in
+    record { records = sym (edited-same n b.records) ∙ t.records; born = t.born; pins = t.pins; notes = t.notes; events = t.events; now = t.now }
+
+book-freed : (out : List Claimed) (v : Objects) → IsHeap v → (n : ℕ) (c : Content) → content_of v n ≡ Some c → IsBook out v
+    → IsBook out (record (with_edit n bared v) { claims = without_kept (kept_of c.body) v.claims })
+book-freed out v good n c there book x =
+    let sums : (y : Claimed) → sum_by (owned y) (with_edit n bared v).rows + owned y (record { index = 0; birth = 0 }, c) ≡ sum_by (owned y) v.rows + owned y (record { index = 0; birth = 0 }, bared c) =
+    (λ y. sum-changed (owned y) n bared 0 v.born v.rows good.rising c there (λ key d. refl)) in
+    let none : (y : Claimed) → kept_times y (kept_of (bared c).body) ≡ 0 = (λ y. ap (kept_times y) (bare-kept c.body)) in
+    let less = kept-without (kept_of c.body) v.claims (λ y. omega (arith, book y, sums y, none y)) x in
+    omega (arith, less, book x, sums x, none x)
+
+pub undoes-freed : (v u w : Objects) → IsHeap v → (n : ℕ) (c : Content) → content_of v n ≡ Some c → (kept : KeptSet) → kept_of c.body ≡ kept
+    → u ≡ with_edit n bared v → w ≡ record u { claims = without_kept kept u.claims } → (held : List ℕ) (asked : Asked)
+    → Undoes (λ _ d. d) (parts v held asked) (parts w held asked)
+undoes-freed v u w good n c there kept own bare frees held asked =
+    let is : w ≡ record (with_edit n bared v) { claims = without_kept (kept_of c.body) v.claims } =
+    frees ∙ ap (λ (x : Objects). record x { claims = without_kept kept x.claims }) bare
+    ∙ ap (λ (k : KeptSet). record (with_edit n bared v) { claims = without_kept k v.claims }) (sym own) in
+    undoes-quiet (λ d. d) v w held asked
+    (λ d s. subst (λ (x : Objects). Shows d x) (sym is) (shows-bared d v s n (without_kept (kept_of c.body) v.claims)))
+    boards.quiet-none
+    (λ key here. subst (λ (x : Objects). IsLive x.rows key) (sym is) (live-edit n bared v.rows key here))
+    (λ out h. subst (λ (x : Objects). IsBook out x) (sym is) (book-freed out v good n c there h))
+    (λ none. subst (λ (x : Objects). Timerless x) (sym is) (edit-timerless v n bared (λ d. bare-timer d.body) none))

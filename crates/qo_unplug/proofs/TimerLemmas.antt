@@ -1,0 +1,155 @@
+-- Heaps without timers: no act needs a moment or a period, and no timer comes.
+use Rattle.std.proofs.Common.{◌≡◌, refl, ap, ap₂, sym, subst, ◌∙◌, ℕ, ◌==◌, eqb, cond, Bool, true, false, List, [], ◌∷◌, map, Option, None, Some, IfSome}
+use Rattle.std.specs.Prelude.{◌||◌}
+use Rattle.std.specs.List.{list_any}
+use Rattle.qo_values.specs.Bodies.{body_act}
+use Rattle.qo_values.specs.Registers.{Registers, uart, timer, dimm, bridge, bare}
+use Rattle.qo_values.specs.declared.kinds.Act.TheVariants.{Unrealize}
+use Rattle.qo_kinds.specs.Bodies.{MayAct, acted, none_kept, registers_of, with_kept}
+use Rattle.qo_kinds.specs.declared.bodies.Body.{Body}
+use Rattle.qo_kinds.specs.declared.bodies.Body.TheVariants.{Uart, Timer, Dimm, Bridge, Bus, Clock, Backend, Plain}
+use Rattle.qo_slots.specs.declared.keys.Key.{Key}
+use Rattle.qo_table.specs.Rows.{edit, object_at}
+use Rattle.qo_model.specs.Board.{Board, Record}
+use Rattle.qo_model.specs.Clocks as clocks
+use Rattle.qo_model.specs.Clocks.{with_act_on}
+use Rattle.qo_model.specs.Release.{edited}
+use Rattle.qo_object.specs.Content.{Content}
+use Rattle.qo_heap.specs.Board.{Shows, record_of}
+use Rattle.qo_heap.specs.Objects.{Objects, content_of, with_edit}
+use Rattle.qo_unplug.specs.Timerless.{Timerless, has_timer, is_timer}
+use Rattle.qo_unplug.specs.Unrealizing.{SameTree, still, still_registers}
+
+-- of two tests neither passes
+neither : (s t : Bool) → (s || t) ≡ false → (s ≡ false) × (t ≡ false)
+neither true t e = absurd (let clash : true ≡ false = e in cc)
+neither false t e = (refl, e)
+
+-- no timer is found, so the act of an object needs no moment
+timely : (time : ℕ) (body : Body) → is_timer body ≡ false → MayAct Unrealize time body
+timely time (Uart u k) none = λ _. tt
+timely time (Timer t k) none = absurd (let clash : true ≡ false = none in cc)
+timely time (Dimm d k) none = λ _. tt
+timely time (Bridge raised holds k) none = λ _. tt
+timely time Bus none = λ _. tt
+timely time Clock none = λ _. tt
+timely time Backend none = λ _. tt
+timely time Plain none = λ _. tt
+
+may-act-in : (time n : ℕ) (rows : List (Key × Content)) → list_any has_timer rows ≡ false
+    → IfSome (object_at rows n) (λ c. MayAct Unrealize time c.body)
+may-act-in time n [] none = tt
+may-act-in time n (row ∷ rows) none =
+    let (here, rest) = neither (has_timer row) (list_any has_timer rows) none in
+    go here (eqb row.0.birth n) refl (may-act-in time n rows rest)
+  where
+    go : has_timer row ≡ false → (t : Bool) → eqb row.0.birth n ≡ t → IfSome (object_at rows n) (λ c. MayAct Unrealize time c.body)
+        → IfSome (object_at (row ∷ rows) n) (λ c. MayAct Unrealize time c.body)
+    go here true is rest = rw is (timely time row.1.body here)
+    go here false is rest = rw is rest
+
+pub may-act : (v : Objects) (n : ℕ) → Timerless v → IfSome (content_of v n) (λ c. MayAct Unrealize v.time c.body)
+may-act v n none = may-act-in v.time n v.rows none
+
+-- on a board
+
+abbrev timer_in : Registers → Bool
+timer_in (timer t) = true
+timer_in r = false
+
+abbrev timed : Record → Bool
+timed r = timer_in r.registers
+
+in-body : (body : Body) → timer_in (registers_of body) ≡ is_timer body
+in-body (Uart u k) = refl
+in-body (Timer t k) = refl
+in-body (Dimm d k) = refl
+in-body (Bridge raised holds k) = refl
+in-body Bus = refl
+in-body Clock = refl
+in-body Backend = refl
+in-body Plain = refl
+
+timed-shown : (rows : List (Key × Content)) → list_any timed (map record_of rows) ≡ list_any has_timer rows
+timed-shown [] = refl
+timed-shown (row ∷ rows) = ap₂ (λ (s t : Bool). s || t) (in-body row.1.body) (timed-shown rows)
+
+shows-timed : (b : Board) (v : Objects) → Shows b v → list_any timed b.records ≡ list_any has_timer v.rows
+shows-timed b v s = ap (list_any timed) s.records ∙ timed-shown v.rows
+
+in-still : (r : Registers) → timer_in (still_registers r) ≡ timer_in r
+in-still (uart r) = refl
+in-still (timer r) = refl
+in-still (dimm r) = refl
+in-still (bridge r) = refl
+in-still bare = refl
+
+timed-still : (rs : List Record) → list_any timed (map still rs) ≡ list_any timed rs
+timed-still [] = refl
+timed-still (r ∷ rs) = ap₂ (λ (s t : Bool). s || t) (in-still r.registers) (timed-still rs)
+
+-- a board of the same tree has no more timers
+pub same-timerless : (b c : Board) (v w : Objects) → SameTree b c → Shows b v → Shows c w → Timerless v → Timerless w
+same-timerless b c v w same s t none =
+    sym (shows-timed c w t) ∙ sym (timed-still c.records) ∙ ap (list_any timed) same.records ∙ timed-still b.records ∙ shows-timed b v s ∙ none
+
+-- no period is needed
+
+same-act : (now p q : ℕ) (r : Registers) → timer_in r ≡ false → body_act Unrealize now p r ≡ body_act Unrealize now q r
+same-act now p q (uart r) none = refl
+same-act now p q (timer r) none = absurd (let clash : true ≡ false = none in cc)
+same-act now p q (dimm r) none = refl
+same-act now p q (bridge r) none = refl
+same-act now p q bare none = refl
+
+same-acts : (now n p q : ℕ) (rs : List Record) → list_any timed rs ≡ false
+    → map (edited n (with_act_on Unrealize now p)) rs ≡ map (edited n (with_act_on Unrealize now q)) rs
+same-acts now n p q [] none = refl
+same-acts now n p q (r ∷ rs) none =
+    let (here, rest) = neither (timed r) (list_any timed rs) none in
+    ap₂ (λ (x : Record) (xs : List Record). x ∷ xs) (go here (r.birth == n)) (same-acts now n p q rs rest)
+  where
+    go : timed r ≡ false → (t : Bool) → cond t (with_act_on Unrealize now p r) r ≡ cond t (with_act_on Unrealize now q r) r
+    go here true = ap (λ (x : Registers). record r { registers = x }) (same-act now p q r.registers here)
+    go here false = refl
+
+pub acted-same : (b : Board) (v : Objects) → Shows b v → Timerless v → (n p q : ℕ) → clocks.acted Unrealize n p b ≡ clocks.acted Unrealize n q b
+unfolding clocks.acted
+acted-same b v s none n p q =
+    ap (λ (rs : List Record). record b { records = rs; notes = (clocks.acted Unrealize n q b).notes })
+    (same-acts b.now n p q b.records (shows-timed b v s ∙ none))
+
+-- an edit that brings no timer
+
+edit-timers : (n : ℕ) (f : Content → Content) → ((c : Content) → is_timer (f c).body ≡ is_timer c.body) → (rows : List (Key × Content))
+    → list_any has_timer (edit n f rows) ≡ list_any has_timer rows
+edit-timers n f same [] = refl
+edit-timers n f same (row ∷ rows) = ap₂ (λ (s t : Bool). s || t) (go (eqb row.0.birth n)) (edit-timers n f same rows)
+  where
+    go : (t : Bool) → has_timer (cond t (row.0, f row.1) row) ≡ has_timer row
+    go true = same row.1
+    go false = refl
+
+pub edit-timerless : (v : Objects) (n : ℕ) (f : Content → Content) → ((c : Content) → is_timer (f c).body ≡ is_timer c.body) → Timerless v
+    → Timerless (with_edit n f v)
+edit-timerless v n f same none = edit-timers n f same v.rows ∙ none
+
+pub acted-timer : (now p : ℕ) (body : Body) → is_timer (acted Unrealize now p body) ≡ is_timer body
+acted-timer now p (Uart u k) = refl
+acted-timer now p (Timer t k) = refl
+acted-timer now p (Dimm d k) = refl
+acted-timer now p (Bridge raised holds k) = refl
+acted-timer now p Bus = refl
+acted-timer now p Clock = refl
+acted-timer now p Backend = refl
+acted-timer now p Plain = refl
+
+pub bare-timer : (body : Body) → is_timer (with_kept none_kept body) ≡ is_timer body
+bare-timer (Uart u k) = refl
+bare-timer (Timer t k) = refl
+bare-timer (Dimm d k) = refl
+bare-timer (Bridge raised holds k) = refl
+bare-timer Bus = refl
+bare-timer Clock = refl
+bare-timer Backend = refl
+bare-timer Plain = refl

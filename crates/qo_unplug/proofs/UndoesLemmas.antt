@@ -1,0 +1,97 @@
+-- Steps of the parts of a board: alone, one behind another, and as another step.
+use Rattle.std.proofs.Common.{◌≡◌, refl, ap, sym, subst, ◌∙◌, ℕ, List, filter, not, ◌==◌}
+use Rattle.qo_slots.specs.declared.keys.Key.{Key}
+use Rattle.qo_table.specs.Rows.{IsLive}
+use Rattle.qo_model.specs.Board.{Board, Notice}
+use Rattle.qo_model.specs.Unplug.{unheld, unnoticed, without_all}
+use Rattle.qo_hotplug.specs.Asked.{Asked, gone}
+use Rattle.qo_heap.specs.Board.{Shows}
+use Rattle.qo_heap.specs.Objects.{Objects}
+use Rattle.qo_properties.specs.Claims.{KeepsBook}
+use Rattle.qo_unplug.specs.Beside.{Beside}
+use Rattle.qo_unplug.specs.Timerless.{Timerless}
+use Rattle.qo_unplug.specs.Unrealizing.{Parts, SameTree, Undoes, parts}
+use Rattle.qo_unplug.proofs.TreeLemmas.{Quiet, same-then}
+
+abbrev pub Stands : Board → Parts → Type 0
+Stands c s = Beside c s.heap s.held s.asked
+
+pub undoes-none : (s : Parts) → Undoes (λ _ c. c) s s
+undoes-none s = record { shown = λ b c same beside. beside; tree = λ b c same beside. same; live = λ key here. here; book = λ out h. h; timerless = λ none. none }
+
+pub undoes-then : (f g : Board → Board → Board) (s t u : Parts) → Undoes f s t → Undoes g t u → Undoes (λ b c. g b (f b c)) s u
+undoes-then f g s t u first then =
+    record {
+      shown = λ b c same beside. then.shown b (f b c) (first.tree b c same beside) (first.shown b c same beside);
+      tree = λ b c same beside. then.tree b (f b c) (first.tree b c same beside) (first.shown b c same beside);
+      live = λ key here. then.live key (first.live key here);
+      book = λ out h. then.book out (first.book out h);
+      timerless = λ none. then.timerless (first.timerless none);
+    }
+
+pub undoes-same : (f g : Board → Board → Board) (s t : Parts) → Undoes f s t
+    → ((b c : Board) → SameTree b c → Beside c s.heap s.held s.asked → g b c ≡ f b c) → Undoes g s t
+undoes-same f g s t undoes is =
+    record {
+      shown = λ b c same beside. subst (λ (d : Board). Stands d t) (sym (is b c same beside)) (undoes.shown b c same beside);
+      tree = λ b c same beside. subst (λ (d : Board). SameTree b d) (sym (is b c same beside)) (undoes.tree b c same beside);
+      live = undoes.live;
+      book = undoes.book;
+      timerless = undoes.timerless;
+    }
+
+-- a step of the heap that leaves the tree and what stands beside it
+pub undoes-quiet : (f : Board → Board) (v w : Objects) (held : List ℕ) (asked : Asked) → ((c : Board) → Shows c v → Shows (f c) w)
+    → ((c : Board) → Quiet c (f c)) → ((key : Key) → IsLive v.rows key → IsLive w.rows key) → KeepsBook v w → (Timerless v → Timerless w)
+    → Undoes (λ _. f) (parts v held asked) (parts w held asked)
+undoes-quiet f v w held asked shown quiet live book timerless =
+    record {
+      shown = λ b c same beside.
+          record {
+            shown = shown c beside.shown;
+            holds = (quiet c).holds ∙ beside.holds;
+            pending = (quiet c).pending ∙ beside.pending;
+            notices = (quiet c).notices ∙ beside.notices;
+          };
+      tree = λ b c same beside. same-then b c (f c) same (quiet c).tree;
+      live = live;
+      book = book;
+      timerless = timerless;
+    }
+
+-- no hold on an object is left, and no removal and no notice of it
+pub undoes-unheld : (n : ℕ) (v : Objects) (held after : List ℕ) (asked : Asked) → after ≡ without_all n held
+    → Undoes (λ _. unheld n) (parts v held asked) (parts v after asked)
+undoes-unheld n v held after asked is =
+    record {
+      shown = λ b c same beside.
+          let s = beside.shown in
+          record {
+            shown = record { records = s.records; born = s.born; pins = s.pins; notes = s.notes; events = s.events; now = s.now };
+            holds = ap (without_all n) beside.holds ∙ sym is;
+            pending = beside.pending;
+            notices = beside.notices;
+          };
+      tree = λ b c same beside. record { records = same.records; pins = same.pins };
+      live = λ key here. here;
+      book = λ out h. h;
+      timerless = λ none. none;
+    }
+
+pub undoes-unnoticed : (n : ℕ) (v : Objects) (held : List ℕ) (asked after : Asked) → after ≡ gone n asked
+    → Undoes (λ _. unnoticed n) (parts v held asked) (parts v held after)
+undoes-unnoticed n v held asked after is =
+    record {
+      shown = λ b c same beside.
+          let s = beside.shown in
+          record {
+            shown = record { records = s.records; born = s.born; pins = s.pins; notes = s.notes; events = s.events; now = s.now };
+            holds = beside.holds;
+            pending = ap (without_all n) beside.pending ∙ ap (λ (a : Asked). a.pending) (sym is);
+            notices = ap (filter (λ (x : Notice). not (x.birth == n))) beside.notices ∙ ap (λ (a : Asked). a.notices) (sym is);
+          };
+      tree = λ b c same beside. record { records = same.records; pins = same.pins };
+      live = λ key here. here;
+      book = λ out h. h;
+      timerless = λ none. none;
+    }

@@ -1,0 +1,141 @@
+-- The kids of a bus, and the buses of a device, are unrealized one after another.
+use Rattle.std.proofs.Common.{◌≡◌, refl, ap, sym, ◌∙◌, ℕ, zero, suc, ◌+◌, ◌-◌, ◌≤◌, List, [], ◌∷◌, length, take, filter_map, slice_get, Option, None, Some, arith}
+use Rattle.std.specs.List.{cons_option}
+use Rattle.std.specs.Option.{option_and_then}
+use Rattle.qo_slots.specs.declared.keys.Key.{Key}
+use Rattle.qo_model.specs.Board.{Board, Slot, slots_at}
+use Rattle.qo_model.specs.Depth.{by_depth}
+use Rattle.qo_model.specs.Devices.{bus_in, buses_of, kids_of}
+use Rattle.qo_model.specs.Unplug.{each, unrealized_bus, unrealized_device}
+use Rattle.qo_object.specs.Shown.{birth_of}
+use Rattle.qo_object.proofs.ShownLemmas.{length-shown}
+use Rattle.qo_heap.specs.Board.{Shows}
+use Rattle.qo_heap.specs.Objects.{Objects, slots_of}
+use Rattle.qo_heap.proofs.ShowsReads.{shows-slots}
+use Rattle.qo_unplug.specs.Beside.{Beside}
+use Rattle.qo_unplug.specs.Unrealizing.{Parts, SameTree, Undoes, bus_at, bus_within, buses_within, device_within, first_buses, first_kids, kid_in, kid_in_place, kids_within, on_one}
+use Rattle.qo_unplug.proofs.TreeLemmas.{same-bus, same-kid, same-length}
+use Rattle.qo_unplug.proofs.UndoesLemmas.{undoes-none, undoes-same, undoes-then}
+
+-- a slot more
+each-more : {X : Type 0} (g : ℕ → Board → Board) (f : X → Option ℕ) (i : ℕ) (xs : List X) (c : Board)
+    → each g (filter_map f (take (suc i) xs)) c ≡ on_one g (option_and_then f (slice_get xs i)) (each g (filter_map f (take i xs)) c)
+each-more g f zero [] c = refl
+each-more g f (suc i) [] c = refl
+each-more {X} g f zero (x ∷ xs) c = go (f x)
+  where
+    go : (o : Option ℕ) → each g (cons_option o (filter_map f (take 0 xs))) c ≡ on_one g o c
+    go None = refl
+    go (Some n) = refl
+each-more {X} g f (suc i) (x ∷ xs) c = go (f x) (each-more g f i xs)
+  where
+    go : (o : Option ℕ)
+        → ((d : Board) → each g (filter_map f (take (suc i) xs)) d ≡ on_one g (option_and_then f (slice_get xs i)) (each g (filter_map f (take i xs)) d))
+        → each g (cons_option o (filter_map f (take (suc i) xs))) c
+        ≡ on_one g (option_and_then f (slice_get xs i)) (each g (cons_option o (filter_map f (take i xs))) c)
+    go None rest = rest c
+    go (Some n) rest = rest (g n c)
+
+take-all : {X : Type 0} (i : ℕ) (xs : List X) → length xs ≤ i → take i xs ≡ xs
+take-all zero [] le = refl
+take-all (suc i) [] le = refl
+take-all zero (x ∷ xs) le = absurd (omega (arith, le))
+take-all {X} (suc i) (x ∷ xs) le = let rest : length xs ≤ i = omega (arith, le) in ap (λ (l : List X). x ∷ l) (take-all i xs rest)
+
+-- as many slots as the heap has there
+all-slots : (b c : Board) → SameTree b c → (v : Objects) → Shows c v → (n count : ℕ) → count ≡ length (slots_of v n) → length (slots_at b n) ≡ count
+all-slots b c same v s n count is =
+    sym (same-length b c same n) ∙ ap (λ (l : List (List ℕ × Slot)). length l) (shows-slots c v s n) ∙ length-shown (slots_of v n) ∙ sym is
+
+-- the kids of a bus
+
+pub kid-read : (s t : Parts) (m i levels : ℕ) (o : Option Key) → ((b : Board) → Shows b s.heap → birth_of o ≡ kid_in_place b m i)
+    → Undoes (λ b. on_one (device_within b levels) (birth_of o)) s t → Undoes (λ b. on_one (device_within b levels) (kid_in_place b m i)) s t
+kid-read s t m i levels o reads undoes =
+    undoes-same (λ b. on_one (device_within b levels) (birth_of o)) (λ b. on_one (device_within b levels) (kid_in_place b m i)) s t undoes
+    (λ b c same beside. ap (λ (k : Option ℕ). on_one (device_within b levels) k c) (sym (same-kid b c same m i) ∙ sym (reads c beside.shown)))
+
+pub kids-first : (s : Parts) (m levels : ℕ) → Undoes (λ b. kids_within b levels m 0) s s
+unfolding kids_within
+kids-first s m levels = undoes-none s
+
+kids-more : (b : Board) (levels m i : ℕ) (c : Board)
+    → kids_within b levels m (i + 1) c ≡ on_one (device_within b levels) (kid_in_place b m i) (kids_within b levels m i c)
+unfolding kids_within
+kids-more b levels m i c =
+    let more : i + 1 ≡ suc i = omega arith in
+    ap (λ (j : ℕ). each (device_within b levels) (filter_map kid_in (take j (slots_at b m))) c) more
+    ∙ each-more (device_within b levels) kid_in i (slots_at b m) c
+
+pub kids-next : (s t u : Parts) (m levels i : ℕ) → Undoes (λ b. kids_within b levels m i) s t
+    → Undoes (λ b. on_one (device_within b levels) (kid_in_place b m i)) t u → Undoes (λ b. kids_within b levels m (i + 1)) s u
+kids-next s t u m levels i before next =
+    undoes-same (λ b c. on_one (device_within b levels) (kid_in_place b m i) (kids_within b levels m i c)) (λ b. kids_within b levels m (i + 1)) s u
+    (undoes-then (λ b. kids_within b levels m i) (λ b. on_one (device_within b levels) (kid_in_place b m i)) s t u before next)
+    (λ b c same beside. kids-more b levels m i c)
+
+kids-all : (b : Board) (levels m i : ℕ) (c : Board) → length (slots_at b m) ≤ i → bus_within b levels m c ≡ unrealized_bus m (kids_within b levels m i c)
+unfolding bus_within kids_within
+kids-all b levels m i c le =
+    ap (λ (l : List (List ℕ × Slot)). unrealized_bus m (each (device_within b levels) (filter_map kid_in l) c)) (sym (take-all i (slots_at b m) le))
+
+pub kids-last : (s t u : Parts) (m levels i count : ℕ) → count ≤ i → count ≡ length (slots_of s.heap m) → Undoes (λ b. kids_within b levels m i) s t
+    → Undoes (λ _. unrealized_bus m) t u → Undoes (λ b. bus_within b levels m) s u
+kids-last s t u m levels i count le is before own =
+    undoes-same (λ b c. unrealized_bus m (kids_within b levels m i c)) (λ b. bus_within b levels m) s u
+    (undoes-then (λ b. kids_within b levels m i) (λ _. unrealized_bus m) s t u before own)
+    (λ b c same beside.
+    let many : length (slots_at b m) ≡ count = all-slots b c same s.heap beside.shown m count is in
+    kids-all b levels m i c (omega (arith, many, le)))
+
+-- the buses of a device
+
+pub bus-read : (s t : Parts) (d i levels : ℕ) (o : Option Key) → ((b : Board) → Shows b s.heap → birth_of o ≡ bus_at b d i)
+    → Undoes (λ b. on_one (bus_within b levels) (birth_of o)) s t → Undoes (λ b. on_one (bus_within b levels) (bus_at b d i)) s t
+bus-read s t d i levels o reads undoes =
+    undoes-same (λ b. on_one (bus_within b levels) (birth_of o)) (λ b. on_one (bus_within b levels) (bus_at b d i)) s t undoes
+    (λ b c same beside. ap (λ (k : Option ℕ). on_one (bus_within b levels) k c) (sym (same-bus b c same d i) ∙ sym (reads c beside.shown)))
+
+pub buses-first : (s : Parts) (d levels : ℕ) → Undoes (λ b. buses_within b levels d 0) s s
+unfolding buses_within
+buses-first s d levels = undoes-none s
+
+buses-more : (b : Board) (levels d i : ℕ) (c : Board)
+    → buses_within b levels d (i + 1) c ≡ on_one (bus_within b levels) (bus_at b d i) (buses_within b levels d i c)
+unfolding buses_within
+buses-more b levels d i c =
+    let more : i + 1 ≡ suc i = omega arith in
+    ap (λ (j : ℕ). each (bus_within b levels) (filter_map (bus_in b) (take j (slots_at b d))) c) more
+    ∙ each-more (bus_within b levels) (bus_in b) i (slots_at b d) c
+
+pub buses-next : (s t u : Parts) (d levels i : ℕ) → Undoes (λ b. buses_within b levels d i) s t
+    → Undoes (λ b. on_one (bus_within b levels) (bus_at b d i)) t u → Undoes (λ b. buses_within b levels d (i + 1)) s u
+buses-next s t u d levels i before next =
+    undoes-same (λ b c. on_one (bus_within b levels) (bus_at b d i) (buses_within b levels d i c)) (λ b. buses_within b levels d (i + 1)) s u
+    (undoes-then (λ b. buses_within b levels d i) (λ b. on_one (bus_within b levels) (bus_at b d i)) s t u before next)
+    (λ b c same beside. buses-more b levels d i c)
+
+-- a level less is left below a device
+one-less : (n : ℕ) → (n ≡ 0 → ⊥) → n ≡ suc (n - 1)
+one-less zero some = absurd (some refl)
+one-less (suc n) some = omega arith
+
+buses-all : (b : Board) (all levels d i : ℕ) (c : Board) → all ≡ suc levels → length (slots_at b d) ≤ i
+    → device_within b all d c ≡ unrealized_device d (buses_within b levels d i c)
+unfolding device_within bus_within buses_within
+buses-all b all levels d i c more le =
+    ap (λ (k : ℕ). device_within b k d c) more
+    ∙ ap (λ (l : List (List ℕ × Slot)). unrealized_device d (each (bus_within b levels) (filter_map (bus_in b) l) c)) (sym (take-all i (slots_at b d) le))
+
+pub buses-last : (s t u : Parts) (d levels i count : ℕ) → (levels ≡ 0 → ⊥) → count ≤ i → count ≡ length (slots_of s.heap d)
+    → Undoes (λ b. buses_within b (levels - 1) d i) s t → Undoes (λ _. unrealized_device d) t u → Undoes (λ b. device_within b levels d) s u
+buses-last s t u d levels i count some le is before own =
+    undoes-same (λ b c. unrealized_device d (buses_within b (levels - 1) d i c)) (λ b. device_within b levels d) s u
+    (undoes-then (λ b. buses_within b (levels - 1) d i) (λ _. unrealized_device d) s t u before own)
+    (λ b c same beside.
+    let many : length (slots_at b d) ≡ count = all-slots b c same s.heap beside.shown d count is in
+    buses-all b levels (levels - 1) d i c (one-less levels some) (omega (arith, many, le)))
+
+pub none-within : (s : Parts) (d levels : ℕ) → levels ≡ 0 → Undoes (λ b. device_within b levels d) s s
+unfolding device_within
+none-within s d levels is = undoes-same (λ _ c. c) (λ b. device_within b levels d) s s (undoes-none s) (λ b c same beside. ap (λ (k : ℕ). device_within b k d c) is)

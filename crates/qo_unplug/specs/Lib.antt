@@ -1,0 +1,4 @@
+pub mod Apart
+pub mod Beside
+pub mod Timerless
+pub mod Unrealizing

@@ -1,0 +1,90 @@
+-- How the parts of a board are unrealized: what stays of a board meanwhile, and each step to a depth.
+use Rattle.std.specs.Prelude.{◌≡◌, ℕ, List, map, take, filter_map, slice_get, Option, None, Some}
+use Rattle.std.specs.Option.{option_and_then}
+use Rattle.qo_values.specs.Registers.{Registers, timer, bare, fresh_timer}
+use Rattle.qo_values.specs.declared.properties.Val.TheVariants as val
+use Rattle.qo_slots.specs.declared.keys.Key.{Key}
+use Rattle.qo_table.specs.Rows.{IsLive}
+use Rattle.qo_model.specs.Board.{Board, Record, Slot, plain, weak, slots_at}
+use Rattle.qo_model.specs.Depth.{by_depth}
+use Rattle.qo_model.specs.Devices.{bus_in, kids_of, strong_in}
+use Rattle.qo_model.specs.Unplug.{each, unrealize_turn, unrealized_bus}
+use Rattle.qo_hotplug.specs.Asked.{Asked}
+use Rattle.qo_heap.specs.Objects.{Objects}
+use Rattle.qo_properties.specs.Claims.{KeepsBook}
+use Rattle.qo_unplug.specs.Beside.{Beside}
+use Rattle.qo_unplug.specs.Timerless.{Timerless}
+
+-- an object without what unrealizing may change: its values, its weak links' targets, and its registers but that it is a timer
+abbrev pub still_slot : Slot → Slot
+still_slot (plain v) = plain (val.Uint 0)
+still_slot (weak t target) = weak t None
+still_slot s = s
+
+abbrev pub still_slots : List (List ℕ × Slot) → List (List ℕ × Slot)
+still_slots slots = map (λ (s : List ℕ × Slot). (s.0, still_slot s.1)) slots
+
+abbrev pub still_registers : Registers → Registers
+still_registers (timer t) = timer fresh_timer
+still_registers r = bare
+
+abbrev pub still : Record → Record
+still r = record r { slots = still_slots r.slots; registers = still_registers r.registers }
+
+-- two boards have the same objects with the same children and strong links, and the same pins
+pub record SameTree (b c : Board) : Type 0 where
+  pub records : map still c.records ≡ map still b.records
+  pub pins : c.pins ≡ b.pins
+
+-- the parts of a board of which unrealizing changes something
+pub record Parts : Type 0 where
+  pub heap : Objects
+  pub held : List ℕ
+  pub asked : Asked
+
+abbrev pub parts : Objects → List ℕ → Asked → Parts
+parts v held asked = record { heap = v; held = held; asked = asked }
+
+-- parts become others as a board does by a step, which may look at an earlier board of the same tree; who is there stays,
+-- the book of claims stays right, and no timer comes
+pub record Undoes (step : Board → Board → Board) (s t : Parts) : Type 0 where
+  pub shown : (b c : Board) → SameTree b c → Beside c s.heap s.held s.asked → Beside (step b c) t.heap t.held t.asked
+  pub tree : (b c : Board) → SameTree b c → Beside c s.heap s.held s.asked → SameTree b (step b c)
+  pub live : (key : Key) → IsLive s.heap.rows key → IsLive t.heap.rows key
+  pub book : KeepsBook s.heap t.heap
+  pub timerless : Timerless s.heap → Timerless t.heap
+
+-- a step on an object, if there is one
+abbrev pub on_one : (ℕ → Board → Board) → Option ℕ → Board → Board
+on_one f None c = c
+on_one f (Some n) c = f n c
+
+-- the bus in a slot of a device, and the kid in a slot of a bus; the buses and the kids in the first slots
+abbrev pub bus_at : Board → ℕ → ℕ → Option ℕ
+bus_at b d i = option_and_then (bus_in b) (slice_get (slots_at b d) i)
+
+abbrev pub kid_in : List ℕ × Slot → Option ℕ
+kid_in s = strong_in s.1
+
+abbrev pub kid_in_place : Board → ℕ → ℕ → Option ℕ
+kid_in_place b m i = option_and_then kid_in (slice_get (slots_at b m) i)
+
+abbrev pub first_buses : Board → ℕ → ℕ → List ℕ
+first_buses b d i = filter_map (bus_in b) (take i (slots_at b d))
+
+abbrev pub first_kids : Board → ℕ → ℕ → List ℕ
+first_kids b m i = filter_map kid_in (take i (slots_at b m))
+
+-- a device is unrealized, to a depth; a bus is
+unfoldable pub device_within : Board → ℕ → ℕ → Board → Board
+device_within b levels d c = by_depth (unrealize_turn b) (λ _ e. e) levels d c
+
+unfoldable pub bus_within : Board → ℕ → ℕ → Board → Board
+bus_within b levels m c = unrealized_bus m (each (device_within b levels) (kids_of b m) c)
+
+-- the buses in the first slots of a device are; the kids in the first slots of a bus
+unfoldable pub buses_within : Board → ℕ → ℕ → ℕ → Board → Board
+buses_within b levels d i c = each (bus_within b levels) (first_buses b d i) c
+
+unfoldable pub kids_within : Board → ℕ → ℕ → ℕ → Board → Board
+kids_within b levels m i c = each (device_within b levels) (first_kids b m i) c

@@ -1,0 +1,60 @@
+//! The claims of a device, which are free once it is unrealized.
+
+ghost use Rattle.std.specs.Prelude.{◌≡◌, ℕ, List, Some, option_map};
+ghost use Rattle.qo_kinds.specs.Bodies.{kept_of, none_kept, with_kept};
+ghost use Rattle.qo_hotplug.specs.Asked.{Asked};
+ghost use Rattle.qo_object.specs.Content.{Content};
+ghost use Rattle.qo_table.specs.Rows.{IsLive};
+ghost use Rattle.qo_heap.specs.Objects.{content_of, with_edit, without_kept, without_one};
+ghost use Rattle.qo_unplug.specs.Unrealizing.{Undoes, parts};
+
+use qo_claims::{Claims, Kept};
+use qo_heap::{Heap, Oid, Steps};
+use qo_kinds::KeptSet;
+use std::sync::ledger::Ledger;
+
+/// Ends a claim, if there is one.
+fn free_one(claims: &mut Claims, kept: Option<Kept>)
+    ensures { claims.new ≡ without_one kept claims.old }
+{
+    match kept {
+        Some(kept) => claims.free(kept),
+        None => {}
+    }
+}
+
+/// Ends the claims of a body.
+fn free_kept(claims: &mut Claims, kept: KeptSet)
+    ensures { claims.new ≡ without_kept kept claims.old }
+{
+    let KeptSet {
+        slot,
+        ring,
+        backend,
+        range,
+    } = kept;
+    free_one(claims, slot);
+    free_one(claims, ring);
+    free_one(claims, backend);
+    free_one(claims, range);
+}
+
+/// Takes the claims out of the body of an object.
+fn take_claims<L: Ledger>(heap: &mut Heap, o: Oid, steps: &mut Steps<L>) -> KeptSet
+    requires { IsLive heap.old.rows o }
+    ensures taken { option_map (λ c. kept_of c.body) (content_of heap.old o.birth) ≡ Some result }
+    ensures left { heap.new ≡ with_edit o.birth (λ (c : Content). record c { body = with_kept none_kept c.body }) heap.old }
+{
+    heap.facts();
+    heap.body_mut(o, steps).take_claims()
+}
+
+/// Ends the claims that the body of an object keeps; no board sees it.
+pub fn free_claims<L: Ledger>(heap: &mut Heap, o: Oid, steps: &mut Steps<L>)
+    requires { IsLive heap.old.rows o }
+    ensures { (held : List ℕ) (asked : Asked) → Undoes (λ _ c. c) (parts heap.old held asked) (parts heap.new held asked) }
+{
+    heap.facts();
+    let kept = take_claims(heap, o, steps);
+    free_kept(heap.claims(), kept);
+}

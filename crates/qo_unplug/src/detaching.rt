@@ -1,0 +1,46 @@
+//! A device is detached: it is unrealized, and then taken out of the tree.
+
+ghost use Rattle.std.specs.Prelude.{ℕ, ◌≤◌};
+ghost use Rattle.qo_model.specs.Board.{Board};
+ghost use Rattle.qo_model.specs.Unplug.{detach};
+ghost use Rattle.qo_table.specs.Rows.{IsLive};
+ghost use Rattle.qo_heap.specs.Objects.{pins_of};
+ghost use Rattle.qo_properties.specs.Claims.{KeepsBook};
+ghost use Rattle.qo_unplug.specs.Beside.{Beside};
+ghost use Rattle.qo_unplug.specs.Timerless.{Timerless};
+
+use crate::apart::take_out;
+use crate::unrealizing::unrealize;
+use qo_heap::{Heap, Oid, Steps};
+use qo_hotplug::Hotplug;
+use qo_life::drop_pin;
+use qo_reset::Resets;
+use std::sync::ledger::Ledger;
+
+/// A device is unrealized, with all that is below it, and taken out of the tree, while it is held
+/// (include/hw/qdev-core.h, "Realization" and `unparent`; include/hw/hotplug.h; the order is the
+/// profile's). What nothing refers to any more is finalised. No hold, no pending removal and no
+/// notice is left of a device that was unrealized. There may be no timers, and each object may be
+/// held from outside the tree once at most. It always succeeds, and takes no memory.
+pub fn detach<L: Ledger>(
+    heap: &mut Heap,
+    resets: &mut Resets,
+    hotplug: &mut Hotplug,
+    dev: Oid,
+    steps: &mut Steps<L>,
+)
+    requires live { IsLive heap.old.rows dev }
+    requires still { Timerless heap.old }
+    requires pins { (n : ℕ) → pins_of heap.old n ≤ 1 }
+    ensures shown { (b : Board) → Beside b heap.old resets.old.births hotplug.old → Beside (detach b dev.birth) heap.new resets.new.births hotplug.new }
+    ensures book { KeepsBook heap.old heap.new }
+{
+    heap.facts();
+    heap.shown();
+    let levels = heap.live();
+    heap.pin(dev, steps);
+    unrealize(heap, resets, hotplug, dev, steps);
+    take_out(heap, dev, levels, steps);
+    heap.facts();
+    drop_pin(heap, dev, steps);
+}

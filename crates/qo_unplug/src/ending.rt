@@ -1,0 +1,82 @@
+//! The own step of a bus, and of a device, that is unrealized (include/hw/qdev-core.h,
+//! "Realization").
+
+ghost use Rattle.std.specs.Prelude.{ℕ, false, List, codes};
+ghost use Rattle.qo_values.specs.declared.kinds.Act.TheVariants.{Unrealize};
+ghost use Rattle.qo_values.specs.declared.properties.Val.TheVariants as val;
+ghost use Rattle.qo_model.specs.Clocks.{acted, device_period};
+ghost use Rattle.qo_model.specs.Devices.{clock_of};
+ghost use Rattle.qo_model.specs.Unplug.{disconnected, set_named, unrealized_bus, unrealized_device};
+ghost use Rattle.qo_hotplug.specs.Asked.{Asked};
+ghost use Rattle.qo_table.specs.Rows.{IsLive};
+ghost use Rattle.qo_unplug.specs.Timerless.{Timerless};
+ghost use Rattle.qo_unplug.specs.Unrealizing.{Undoes, parts};
+
+use crate::claims::free_claims;
+use qo_buses::{clock_of, set_named};
+use qo_clocks::disconnect;
+use qo_heap::{Heap, Oid, Steps};
+use qo_hotplug::Hotplug;
+use qo_reset::Resets;
+use qo_values::{Act, Val};
+use std::sync::ledger::Ledger;
+
+/// The act of an object that is unrealized; without timers it needs no period.
+fn act<L: Ledger>(heap: &mut Heap, o: Oid, steps: &mut Steps<L>)
+    requires live { IsLive heap.old.rows o }
+    requires still { Timerless heap.old }
+    ensures { (period : ℕ) (held : List ℕ) (asked : Asked) → Undoes (λ _ c. acted Unrealize o.birth period c) (parts heap.old held asked) (parts heap.new held asked) }
+{
+    heap.act(o, Act::Unrealize, 0, steps);
+}
+
+/// A bus is unrealized, whose kids are; no hold is left on it.
+pub fn end_bus<L: Ledger>(heap: &mut Heap, resets: &mut Resets, bus: Oid, steps: &mut Steps<L>)
+    requires live { IsLive heap.old.rows bus }
+    requires still { Timerless heap.old }
+    ensures { (asked : Asked) → Undoes (λ _. unrealized_bus bus.birth) (parts heap.old resets.old.births asked) (parts heap.new resets.new.births asked) }
+{
+    act(heap, bus, steps);
+    resets.gone(bus);
+}
+
+/// A device acts, and its clock loses its source and stands still.
+fn stop<L: Ledger>(heap: &mut Heap, dev: Oid, steps: &mut Steps<L>)
+    requires live { IsLive heap.old.rows dev }
+    requires still { Timerless heap.old }
+    ensures { (held : List ℕ) (asked : Asked) → Undoes (λ _ c. disconnected (clock_of c dev.birth) (acted Unrealize dev.birth (device_period c dev.birth) c)) (parts heap.old held asked) (parts heap.new held asked) }
+{
+    let clock = clock_of(heap, dev, steps);
+    act(heap, dev, steps);
+    if let Some(clock) = clock {
+        disconnect(heap, clock, steps);
+    }
+}
+
+/// A device is told to be realized no more.
+fn unset<L: Ledger>(heap: &mut Heap, dev: Oid, steps: &mut Steps<L>)
+    requires { IsLive heap.old.rows dev }
+    ensures { (held : List ℕ) (asked : Asked) → Undoes (λ _. set_named dev.birth (codes "realized") (val.Bool false)) (parts heap.old held asked) (parts heap.new held asked) }
+{
+    set_named(heap, dev, "realized", Val::Bool(false), steps);
+}
+
+/// A device is unrealized, whose buses are: it acts, its clock stands still, it is realized no more,
+/// its claims are free, and no hold, pending removal or notice of it is left.
+pub fn end_device<L: Ledger>(
+    heap: &mut Heap,
+    resets: &mut Resets,
+    hotplug: &mut Hotplug,
+    dev: Oid,
+    steps: &mut Steps<L>,
+)
+    requires live { IsLive heap.old.rows dev }
+    requires still { Timerless heap.old }
+    ensures { Undoes (λ _. unrealized_device dev.birth) (parts heap.old resets.old.births hotplug.old) (parts heap.new resets.new.births hotplug.new) }
+{
+    stop(heap, dev, steps);
+    unset(heap, dev, steps);
+    free_claims(heap, dev, steps);
+    resets.gone(dev);
+    hotplug.gone(dev);
+}

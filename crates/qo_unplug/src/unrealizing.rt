@@ -1,0 +1,117 @@
+//! A device is unrealized, with all that is below it: the kids of each bus, the bus, and then the
+//! device (include/hw/qdev-core.h, "Realization").
+
+ghost use Rattle.std.specs.Prelude.{◌≡◌, ◌+◌, length};
+ghost use Rattle.qo_table.specs.Rows.{IsLive};
+ghost use Rattle.qo_unplug.specs.Timerless.{Timerless};
+ghost use Rattle.qo_unplug.specs.Unrealizing.{Undoes, bus_at, bus_within, device_within, kid_in_place, on_one, parts};
+
+use crate::ending::{end_bus, end_device};
+use crate::slots::slot_count;
+use qo_buses::{bus_in_slot, kid_in_slot};
+use qo_heap::{Heap, Oid, Steps};
+use qo_hotplug::Hotplug;
+use qo_reset::Resets;
+use std::sync::ledger::Ledger;
+
+/// The kid in a slot of a bus is unrealized, if there is one.
+#[cycle(unrealizing)]
+fn unrealize_kid<L: Ledger>(
+    heap: &mut Heap,
+    resets: &mut Resets,
+    hotplug: &mut Hotplug,
+    bus: Oid,
+    at: usize,
+    levels: usize,
+    steps: &mut Steps<L>,
+)
+    requires live { IsLive heap.old.rows bus }
+    requires still { Timerless heap.old }
+    ensures { Undoes (λ b. on_one (device_within b levels) (kid_in_place b bus.birth at)) (parts heap.old resets.old.births hotplug.old) (parts heap.new resets.new.births hotplug.new) }
+{
+    if let Some(kid) = kid_in_slot(heap, bus, at, steps) {
+        unrealize_device(heap, resets, hotplug, kid, levels, steps);
+    }
+}
+
+/// The kids of a bus are unrealized, and then the bus.
+#[cycle(unrealizing)]
+fn unrealize_bus<L: Ledger>(
+    heap: &mut Heap,
+    resets: &mut Resets,
+    hotplug: &mut Hotplug,
+    bus: Oid,
+    levels: usize,
+    steps: &mut Steps<L>,
+)
+    requires live { IsLive heap.old.rows bus }
+    requires still { Timerless heap.old }
+    ensures { Undoes (λ b. bus_within b levels bus.birth) (parts heap.old resets.old.births hotplug.old) (parts heap.new resets.new.births hotplug.new) }
+{
+    let count = slot_count(heap, bus, steps);
+    for at in 0..count {
+        unrealize_kid(heap, resets, hotplug, bus, at, levels, steps);
+    }
+    end_bus(heap, resets, bus, steps);
+}
+
+/// The bus in a slot of a device is unrealized, if there is one.
+#[cycle(unrealizing)]
+fn unrealize_bus_at<L: Ledger>(
+    heap: &mut Heap,
+    resets: &mut Resets,
+    hotplug: &mut Hotplug,
+    dev: Oid,
+    at: usize,
+    levels: usize,
+    steps: &mut Steps<L>,
+)
+    requires live { IsLive heap.old.rows dev }
+    requires still { Timerless heap.old }
+    ensures { Undoes (λ b. on_one (bus_within b levels) (bus_at b dev.birth at)) (parts heap.old resets.old.births hotplug.old) (parts heap.new resets.new.births hotplug.new) }
+{
+    if let Some(bus) = bus_in_slot(heap, dev, at, steps) {
+        unrealize_bus(heap, resets, hotplug, bus, levels, steps);
+    }
+}
+
+/// The buses of a device are unrealized, and then the device, to a depth.
+#[cycle(unrealizing)]
+fn unrealize_device<L: Ledger>(
+    heap: &mut Heap,
+    resets: &mut Resets,
+    hotplug: &mut Hotplug,
+    dev: Oid,
+    levels: usize,
+    steps: &mut Steps<L>,
+)
+    requires live { IsLive heap.old.rows dev }
+    requires still { Timerless heap.old }
+    ensures { Undoes (λ b. device_within b levels dev.birth) (parts heap.old resets.old.births hotplug.old) (parts heap.new resets.new.births hotplug.new) }
+{
+    if levels == 0 {
+        return;
+    }
+    let count = slot_count(heap, dev, steps);
+    for at in 0..count {
+        unrealize_bus_at(heap, resets, hotplug, dev, at, levels - 1, steps);
+    }
+    end_device(heap, resets, hotplug, dev, steps);
+}
+
+/// A device is unrealized, with all that is below it.
+pub fn unrealize<L: Ledger>(
+    heap: &mut Heap,
+    resets: &mut Resets,
+    hotplug: &mut Hotplug,
+    dev: Oid,
+    steps: &mut Steps<L>,
+)
+    requires live { IsLive heap.old.rows dev }
+    requires still { Timerless heap.old }
+    ensures { Undoes (λ b. device_within b (length heap.old.rows + 1) dev.birth) (parts heap.old resets.old.births hotplug.old) (parts heap.new resets.new.births hotplug.new) }
+{
+    heap.facts();
+    let levels = heap.live() + 1;
+    unrealize_device(heap, resets, hotplug, dev, levels, steps);
+}
