@@ -1,5 +1,6 @@
 -- Taking apart on a heap: its steps are those of the boards, and who is held from outside stays.
 use Rattle.std.proofs.Common.{◌≡◌, refl, ap, sym, subst, ◌∙◌, ℕ, zero, suc, ◌+◌, ◌-◌, ◌*◌, ◌^◌, ◌<◌, ◌≤◌, ◌==◌, eqb, cond, Bool, true, false, List, [], ◌∷◌, ◌++◌, length, replicate, count_by, filter_map, Option, None, Some, option_map, arith}
+use Rattle.std.specs.List.{AllByRecursion}
 use Rattle.std.specs.Option.{option_and_then, option_map_or}
 use Rattle.std.proofs.lemmas.Bool.{eqb-true}
 use Rattle.std.proofs.lemmas.List.Sums.{sum_by-append}
@@ -10,6 +11,7 @@ use Rattle.qo_model.specs.Board.{Board, Slot, slots_at}
 use Rattle.qo_model.specs.Devices.{buses_of, first_bus, kids_of, strong_in}
 use Rattle.qo_model.specs.Release.{pin, put_in_order, unpin}
 use Rattle.qo_model.specs.Unplug.{apart_within, drained, first_of, is_bus_slot, left_bus, left_parent, let_go_where, lost_bus, lost_buses}
+use Rattle.qo_model.proofs.PinLemmas.{IsUp}
 use Rattle.qo_notes.specs.Log.{Log, empty_log, noted_all}
 use Rattle.qo_object.specs.Content.{Content, with_pin}
 use Rattle.qo_object.specs.Shown.{birth_of, shown_slots}
@@ -17,14 +19,16 @@ use Rattle.qo_object.proofs.ShownLemmas.{length-shown}
 use Rattle.qo_heap.specs.Board.{Shows, pins_in}
 use Rattle.qo_heap.specs.Objects.{IsHeap, Objects, content_of, pins_of, slots_of, with_edit}
 use Rattle.qo_heap.proofs.BookLemmas.{book-edit}
-use Rattle.qo_heap.proofs.HeapLemmas.{live-edit}
-use Rattle.qo_heap.proofs.ShowsEdits.{shows-pin}
+use Rattle.qo_heap.proofs.HeapLemmas.{all-weaker, live-edit}
+use Rattle.qo_heap.proofs.ShowsEdits.{all-replicate, pins-above, shows-pin}
 use Rattle.qo_heap.proofs.ShowsLive.{live-content}
 use Rattle.qo_heap.proofs.ShowsReads.{shows-live, shows-live_key, shows-slots}
 use Rattle.qo_life.specs.Life.{Goes, with_log}
 use Rattle.qo_life.proofs.TreeLemmas.{goes-names, goes-none, goes-same, goes-then, heap-with_log, live-before_edit, tree, tree-shows}
 use Rattle.qo_unplug.specs.Apart.{HasRoom, bus_lost, buses_lost, drained_within, first_apart, first_lost, held_times, taken_within}
+use Rattle.qo_unplug.specs.Timerless.{Timerless}
 use Rattle.qo_unplug.specs.Unrealizing.{on_one}
+use Rattle.qo_unplug.proofs.TimerLemmas.{goes-timerless}
 use Rattle.qo_unplug.proofs.TakesLemmas.{Takes, put-most, takes-apart, takes-bus_lost, takes-buses_lost, takes-drained_within, takes-first_apart, takes-first_lost, takes-left_bus, takes-none, takes-taken_within, takes-then, times, times-own}
 
 -- how often an object is held
@@ -79,6 +83,21 @@ pub pin-room : (v : Objects) (n levels : ℕ) → (levels ≡ 0 → ⊥) → Has
 pin-room v n zero more room = absurd (more refl)
 pin-room v n (suc levels) more room = omega (arith, room n, times-within n v.rows)
 
+-- they never fall, in the order of births
+first-up : (k n : ℕ) (ms : List ℕ) → AllByRecursion (λ m. n < m) ms → IsUp ms → IsUp (replicate k n ++ ms)
+first-up zero n ms low up = up
+first-up (suc k) n ms low up =
+    (all-replicate (λ m. n ≤ m) k n ms (omega arith) (all-weaker (λ m. n < m) (λ m. n ≤ m) (λ m less. omega (arith, less)) ms low), first-up k n ms low up)
+
+rows-up : (above last : ℕ) (rows : List (Key × Content)) → Rises above (births rows) last → IsUp (pins_in rows)
+rows-up above last [] rises = tt
+rows-up above last (row ∷ rows) rises =
+    let n : ℕ = row.0.birth in
+    first-up row.1.pins n (pins_in rows) (pins-above n n last rows (omega arith) rises.1) (rows-up n last rows rises.1)
+
+pub pins-up : (v : Objects) → IsHeap v → IsUp (pins_in v.rows)
+pins-up v good = rows-up 0 v.born v.rows good.rising
+
 -- a pin
 
 pub goes-pin : (v u : Objects) → IsHeap v → (o : Key) → IsLive v.rows o → u ≡ with_edit o.birth with_pin v → Goes (λ b. pin b o.birth) v u
@@ -99,9 +118,12 @@ goes-pin v u good o live is =
 pub pin-live : (v u : Objects) (n : ℕ) → u ≡ with_edit n with_pin v → (key : Key) → IsLive v.rows key → IsLive u.rows key
 pin-live v u n is key live = subst (λ (x : Objects). IsLive x.rows key) (sym is) (live-edit n with_pin v.rows key live)
 
-pin-times : (v u : Objects) (d : ℕ) → Goes (λ b. pin b d) v u → (n : ℕ) → held_times u n ≡ times n (put_in_order d (pins_in v.rows))
+pub pin-same : (v u : Objects) (d : ℕ) → Goes (λ b. pin b d) v u → pins_in u.rows ≡ put_in_order d (pins_in v.rows)
 unfolding pin
-pin-times v u d goes n = ap (times n) (sym (goes.shown (tree v) empty_log (tree-shows v)).pins)
+pin-same v u d goes = sym (goes.shown (tree v) empty_log (tree-shows v)).pins
+
+pin-times : (v u : Objects) (d : ℕ) → Goes (λ b. pin b d) v u → (n : ℕ) → held_times u n ≡ times n (put_in_order d (pins_in v.rows))
+pin-times v u d goes n = ap (times n) (pin-same v u d goes)
 
 pub pin-own : (v u : Objects) (d : ℕ) → Goes (λ b. pin b d) v u → 0 < held_times u d
 pin-own v u d goes = omega (arith, pin-times v u d goes d, times-own d (pins_in v.rows))
@@ -130,6 +152,12 @@ module _ (step : Board → Board) (v w : Objects) (goes : Goes step v w) (takes 
 
   pub taken-pinned : (n : ℕ) → 0 < held_times v n → 0 < held_times w n
   taken-pinned n some = omega (arith, some, taken-times n)
+
+  pub taken-same : IsUp (pins_in v.rows) → pins_in w.rows ≡ pins_in v.rows
+  taken-same up = sym (goes.shown (tree v) empty_log (tree-shows v)).pins ∙ (takes (tree v)).same up
+
+  pub taken-timerless : Timerless v → Timerless w
+  taken-timerless = goes-timerless step v w goes (λ b. (takes b).untimed)
 
 -- steps one after another, of which some are left
 

@@ -1,5 +1,6 @@
 -- A device is unrealized and taken out, while it is held: the parts of the board behind it.
-use Rattle.std.proofs.Common.{◌≡◌, refl, ap, sym, subst, ◌∙◌, ℕ, suc, ◌+◌, ◌^◌, ◌<◌, ◌≤◌, List, length, map, arith}
+use Rattle.std.proofs.Common.{◌≡◌, refl, ap, sym, subst, ◌∙◌, ℕ, suc, ◌+◌, ◌^◌, ◌<◌, ◌≤◌, nat_eq, Bool, true, List, length, map, arith}
+use Rattle.std.specs.List.{list_any}
 use Rattle.std.proofs.lemmas.List.{length-map}
 use Rattle.qo_values.specs.declared.limits.TheConstants.{LIVE_OBJECTS_MAX}
 use Rattle.qo_slots.specs.declared.keys.Key.{Key}
@@ -7,24 +8,26 @@ use Rattle.qo_table.specs.Rows.{edit}
 use Rattle.qo_object.specs.Content.{Content, with_pin}
 use Rattle.qo_model.specs.Board.{Board}
 use Rattle.qo_model.specs.Paths as paths
-use Rattle.qo_model.specs.Release.{pin, unpin}
+use Rattle.qo_model.specs.Release.{pin, put_in_order, unpin, without_first}
 use Rattle.qo_model.specs.Unplug.{apart_within, detach, taken_by, unrealize}
+use Rattle.qo_model.proofs.PinLemmas.{IsUp, put-among, put-back, put-up, unpin-pins}
 use Rattle.qo_model.proofs.ReleaseLeavesLemmas.{unpin-leaves}
+use Rattle.qo_notes.specs.Log.{empty_log}
 use Rattle.qo_hotplug.specs.Asked.{Asked}
-use Rattle.qo_heap.specs.Board.{Shows}
+use Rattle.qo_heap.specs.Board.{Shows, pins_in}
 use Rattle.qo_heap.specs.Objects.{IsHeap, Objects, pins_of, with_edit}
 use Rattle.qo_heap.proofs.HeapLemmas.{length-edit}
 use Rattle.qo_heap.proofs.ShowsReads.{shows-births}
-use Rattle.qo_life.specs.Life.{Goes}
-use Rattle.qo_life.proofs.TreeLemmas.{goes-shows}
+use Rattle.qo_life.specs.Life.{Goes, KeepsNames}
+use Rattle.qo_life.proofs.TreeLemmas.{goes-names, goes-shows, goes-then, tree, tree-shows}
 use Rattle.qo_properties.specs.Claims.{KeepsBook}
 use Rattle.qo_unplug.specs.Apart.{HasRoom, held_times, taken_within}
 use Rattle.qo_unplug.specs.Beside.{Beside}
 use Rattle.qo_unplug.specs.Timerless.{Timerless}
 use Rattle.qo_unplug.specs.Unrealizing.{Parts, Undoes, device_within, parts}
-use Rattle.qo_unplug.proofs.ApartLemmas.{held-pins, pin-most, pin-own}
+use Rattle.qo_unplug.proofs.ApartLemmas.{held-pins, pin-live, pin-most, pin-own, pin-same, pins-up, taken-same, taken-timerless}
 use Rattle.qo_unplug.proofs.TakesLemmas.{takes-taken_within, times}
-use Rattle.qo_unplug.proofs.TimerLemmas.{edit-timerless}
+use Rattle.qo_unplug.proofs.TimerLemmas.{edit-timerless, goes-timerless, unpin-untimed}
 use Rattle.qo_unplug.proofs.TreeLemmas.{same-none}
 
 -- the pin of meanwhile
@@ -52,18 +55,22 @@ some-board v held asked b s =
       notices = refl;
     }
 
-undone-times : (f : Board → Board → Board) (s t : Parts) → Undoes f s t → (c : Board) → Beside c s.heap s.held s.asked → (n : ℕ)
-    → held_times t.heap n ≡ held_times s.heap n
-undone-times f s t undoes c beside n =
+undone-pins : (f : Board → Board → Board) (s t : Parts) → Undoes f s t → (c : Board) → Beside c s.heap s.held s.asked
+    → pins_in t.heap.rows ≡ pins_in s.heap.rows
+undone-pins f s t undoes c beside =
     let behind = undoes.shown c c (same-none c) beside in
     let tree = undoes.tree c c (same-none c) beside in
-    ap (times n) (sym behind.shown.pins ∙ tree.pins ∙ beside.shown.pins)
+    sym behind.shown.pins ∙ tree.pins ∙ beside.shown.pins
+
+pub unrealized-pins : (f : Board → Board → Board) (v u w : Objects) (held after : List ℕ) (asked told : Asked) (d : ℕ) (b : Board) → Shows b v
+    → Goes (λ c. pin c d) v u → Undoes f (parts u held asked) (parts w after told) → pins_in w.rows ≡ pins_in u.rows
+unrealized-pins f v u w held after asked told d b s goes undoes =
+    let c : Board = record b { holds = held; pending = asked.pending; notices = asked.notices } in
+    undone-pins f (parts u held asked) (parts w after told) undoes (pin c d) (pin-beside v u held asked d goes c (some-board v held asked b s))
 
 pub unrealized-times : (f : Board → Board → Board) (v u w : Objects) (held after : List ℕ) (asked told : Asked) (d : ℕ) (b : Board) → Shows b v
     → Goes (λ c. pin c d) v u → Undoes f (parts u held asked) (parts w after told) → (n : ℕ) → held_times w n ≡ held_times u n
-unrealized-times f v u w held after asked told d b s goes undoes n =
-    let c : Board = record b { holds = held; pending = asked.pending; notices = asked.notices } in
-    undone-times f (parts u held asked) (parts w after told) undoes (pin c d) (pin-beside v u held asked d goes c (some-board v held asked b s)) n
+unrealized-times f v u w held after asked told d b s goes undoes n = ap (times n) (unrealized-pins f v u w held after asked told d b s goes undoes)
 
 pub unrealized-pinned : (f : Board → Board → Board) (v u w : Objects) (held after : List ℕ) (asked told : Asked) (d : ℕ) (b : Board) → Shows b v
     → Goes (λ c. pin c d) v u → Undoes f (parts u held asked) (parts w after told) → 0 < held_times w d
@@ -125,3 +132,30 @@ beside-detached v u w x y held after asked told d levels is pins pinned undoes t
 pub book-detached : (f : Board → Board → Board) (g : Board → Board) (v u w x y : Objects) (held after : List ℕ) (asked told : Asked) (d : ℕ)
     → Goes (λ b. pin b d) v u → Undoes f (parts u held asked) (parts w after told) → Goes g w x → Goes (λ b. unpin b d) x y → KeepsBook v y
 book-detached f g v u w x y held after asked told d pinned undoes taken unpinned out h = unpinned.book out (taken.book out (undoes.book out (pinned.book out h)))
+
+-- the pins, the names, and that there are no timers
+
+pub pins-detached : (v u w x y : Objects) → IsHeap v → (d levels : ℕ) → Goes (λ b. pin b d) v u → pins_in w.rows ≡ pins_in u.rows
+    → Goes (taken_within levels d) w x → Goes (λ b. unpin b d) x y → pins_in y.rows ≡ pins_in v.rows
+pins-detached v u w x y good d levels pinned same taken unpinned =
+    let up : IsUp (pins_in v.rows) = pins-up v good in
+    let first : pins_in u.rows ≡ put_in_order d (pins_in v.rows) = pin-same v u d pinned in
+    let before : pins_in w.rows ≡ put_in_order d (pins_in v.rows) = same ∙ first in
+    let up_too : IsUp (pins_in w.rows) = subst (λ (l : List ℕ). IsUp l) (sym before) (put-up d (pins_in v.rows) up) in
+    let behind : pins_in x.rows ≡ put_in_order d (pins_in v.rows) =
+    taken-same (taken_within levels d) w x taken (takes-taken_within levels d) up_too ∙ before in
+    let there : list_any (nat_eq d) (pins_in x.rows) ≡ true = ap (list_any (nat_eq d)) behind ∙ put-among d (pins_in v.rows) in
+    sym (unpinned.shown (tree x) empty_log (tree-shows x)).pins ∙ unpin-pins (tree x) d there ∙ ap (without_first d) behind
+    ∙ put-back d (pins_in v.rows) up
+
+pub names-detached : (f : Board → Board → Board) (g : Board → Board) (v u w x y : Objects) (held after : List ℕ) (asked told : Asked) (d : ℕ)
+    → u ≡ with_edit d with_pin v → Undoes f (parts u held asked) (parts w after told) → Goes g w x → Goes (λ b. unpin b d) x y → KeepsNames v y
+names-detached f g v u w x y held after asked told d pins undoes taken unpinned key live some =
+    goes-names (λ b. unpin (g b) d) w y (goes-then g (λ b. unpin b d) w x y taken unpinned) key (undoes.live key (pin-live v u d pins key live)) some
+
+pub timerless-detached : (f : Board → Board → Board) (v u w x y : Objects) (held after : List ℕ) (asked told : Asked) (d levels : ℕ)
+    → u ≡ with_edit d with_pin v → Undoes f (parts u held asked) (parts w after told) → Goes (taken_within levels d) w x
+    → Goes (λ b. unpin b d) x y → Timerless v → Timerless y
+timerless-detached f v u w x y held after asked told d levels pins undoes taken unpinned none =
+    goes-timerless (λ b. unpin b d) x y unpinned (λ b. unpin-untimed b d)
+    (taken-timerless (taken_within levels d) w x taken (takes-taken_within levels d) (undoes.timerless (pin-timerless v u d pins none)))

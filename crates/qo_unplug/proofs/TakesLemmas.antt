@@ -12,12 +12,13 @@ use Rattle.qo_model.specs.References.{refs}
 use Rattle.qo_model.specs.Release.{after, drop_slot, edited, finalise, finish, let_go, pin, put_in_order, unpin, without_first, without_pin}
 use Rattle.qo_model.specs.ReleaseKeeps.{KeepsRelease}
 use Rattle.qo_model.specs.Unplug.{apart_within, drained, first_of, is_bus_slot, is_child_slot, is_named, left_bus, left_parent, let_go_where, lost_bus, lost_buses, names_kid, take_slot, take_where, taken_by}
-use Rattle.qo_model.proofs.PinLemmas.{release-pins}
+use Rattle.qo_model.proofs.PinLemmas.{IsUp, put-back, put-up, release-pins}
 use Rattle.qo_model.proofs.ReleaseKeepsLemmas.{after_keeps}
 use Rattle.qo_model.proofs.ReleaseLeavesLemmas.{release_leaves}
 use Rattle.qo_model.proofs.StepLemmas.{drop-live, finish-live, found-edited, is_some-map}
 use Rattle.qo_unplug.specs.Apart.{bus_lost, buses_lost, drained_within, first_apart, first_lost, taken_within}
 use Rattle.qo_unplug.specs.Unrealizing.{on_one}
+use Rattle.qo_unplug.proofs.TimerLemmas.{Untimed, after-untimed, cut-untimed, drop-untimed}
 
 -- how often a number stands in a list
 
@@ -81,19 +82,23 @@ among-some n (m ∷ ms) some = go (eqb n m) refl (among-some n ms)
 
 pub record Takes (b c : Board) : Type 0 where
   pub pins : (x : ℕ) → times x c.pins ≡ times x b.pins
+  pub same : IsUp b.pins → c.pins ≡ b.pins
   pub live : (x : ℕ) → is_live b x ≡ true → 0 < times x b.pins → is_live c x ≡ true
+  pub untimed : Untimed b → Untimed c
   pub holds : c.holds ≡ b.holds
   pub pending : c.pending ≡ b.pending
   pub notices : c.notices ≡ b.notices
 
 pub takes-none : (b : Board) → Takes b b
-takes-none b = record { pins = λ x. refl; live = λ x live some. live; holds = refl; pending = refl; notices = refl }
+takes-none b = record { pins = λ x. refl; same = λ up. refl; live = λ x live some. live; untimed = λ none. none; holds = refl; pending = refl; notices = refl }
 
 pub takes-then : (b c d : Board) → Takes b c → Takes c d → Takes b d
 takes-then b c d p q =
     record {
       pins = λ x. q.pins x ∙ p.pins x;
+      same = λ up. let first : c.pins ≡ b.pins = p.same up in q.same (subst (λ (l : List ℕ). IsUp l) (sym first) up) ∙ first;
       live = λ x live some. q.live x (p.live x live some) (omega (arith, some, p.pins x));
+      untimed = λ none. q.untimed (p.untimed none);
       holds = q.holds ∙ p.holds;
       pending = q.pending ∙ p.pending;
       notices = q.notices ∙ p.notices;
@@ -156,7 +161,9 @@ takes-after b o =
     let beside = beside-after b o in
     record {
       pins = λ x. ap (times x) (release-pins b o);
+      same = λ up. release-pins b o;
       live = λ x live some. (held-after x b o (record { live = live; pinned = some })).live;
+      untimed = after-untimed b o;
       holds = beside.holds;
       pending = beside.pending;
       notices = beside.notices;
@@ -164,13 +171,24 @@ takes-after b o =
 
 takes-drop : (b : Board) (n i : ℕ) → Takes b (drop_slot b n i)
 unfolding drop_slot
-takes-drop b n i = record { pins = λ x. refl; live = λ x live some. drop-live b n i x ∙ live; holds = refl; pending = refl; notices = refl }
+takes-drop b n i =
+    record {
+      pins = λ x. refl;
+      same = λ up. refl;
+      live = λ x live some. drop-live b n i x ∙ live;
+      untimed = drop-untimed b n i;
+      holds = refl;
+      pending = refl;
+      notices = refl;
+    }
 
 takes-cut : (b : Board) (n i : ℕ) → Takes b (cut n i b)
 unfolding cut
 takes-cut b n i =
     record {
       pins = λ x. refl;
+      same = λ up. refl;
+      untimed = cut-untimed b n i;
       live = λ x live some. ap is_some (found-edited n (with_cut i) (λ r. refl) x b.records) ∙ is_some-map (edited n (with_cut i)) (record_of b x) ∙ live;
       holds = refl;
       pending = refl;
@@ -237,6 +255,11 @@ takes-unpinned b c d t =
     let behind : Takes w (after finalise w (Some d)) = takes-after w (Some d) in
     let all : Takes b (after finalise w (Some d)) = record {
       pins = λ x. behind.pins x ∙ pins x;
+      same = λ up.
+          release-pins w (Some d)
+          ∙ ap (without_first d) (t.same (put-up d b.pins up))
+          ∙ put-back d b.pins up;
+      untimed = λ none. behind.untimed (t.untimed none);
       live = λ x live pinned. behind.live x (t.live x live (omega (arith, pinned, times-put x d b.pins))) (omega (arith, pinned, pins x));
       holds = behind.holds ∙ t.holds;
       pending = behind.pending ∙ t.pending;

@@ -1,5 +1,5 @@
 -- Heaps without timers: no act needs a moment or a period, and no timer comes.
-use Rattle.std.proofs.Common.{◌≡◌, refl, ap, ap₂, sym, subst, ◌∙◌, ℕ, ◌==◌, eqb, cond, Bool, true, false, List, [], ◌∷◌, map, Option, None, Some, IfSome}
+use Rattle.std.proofs.Common.{◌≡◌, refl, ap, ap₂, sym, subst, ◌∙◌, ℕ, ◌==◌, eqb, nat_eq, cond, not, filter, Bool, true, false, List, [], ◌∷◌, map, Option, None, Some, IfSome}
 use Rattle.std.specs.Prelude.{◌||◌}
 use Rattle.std.specs.List.{list_any}
 use Rattle.qo_values.specs.Bodies.{body_act}
@@ -9,14 +9,22 @@ use Rattle.qo_kinds.specs.Bodies.{MayAct, acted, none_kept, registers_of, with_k
 use Rattle.qo_kinds.specs.declared.bodies.Body.{Body}
 use Rattle.qo_kinds.specs.declared.bodies.Body.TheVariants.{Uart, Timer, Dimm, Bridge, Bus, Clock, Backend, Plain}
 use Rattle.qo_slots.specs.declared.keys.Key.{Key}
-use Rattle.qo_table.specs.Rows.{edit, object_at}
-use Rattle.qo_model.specs.Board.{Board, Record}
+use Rattle.qo_table.specs.Rows as rows
+use Rattle.qo_table.specs.Rows.{object_at}
+use Rattle.qo_model.specs.Board.{Board, Record, Slot, held, slot_at}
+use Rattle.qo_model.specs.Changes.{cut, with_cut}
 use Rattle.qo_model.specs.Clocks as clocks
 use Rattle.qo_model.specs.Clocks.{with_act_on}
-use Rattle.qo_model.specs.Release.{edited}
+use Rattle.qo_model.specs.Release.{after, drop_slot, edit, edited, finalise, finish, forgotten, let_go, unpin, with_dropped, without_pin}
+use Rattle.qo_model.specs.ReleaseKeeps.{KeepsRelease}
+use Rattle.qo_model.specs.Unplug.{take_slot}
+use Rattle.qo_model.proofs.ReleaseKeepsLemmas.{after_keeps}
+use Rattle.qo_notes.specs.Log.{empty_log, noted_all}
 use Rattle.qo_object.specs.Content.{Content}
 use Rattle.qo_heap.specs.Board.{Shows, record_of}
 use Rattle.qo_heap.specs.Objects.{Objects, content_of, with_edit}
+use Rattle.qo_life.specs.Life.{Goes, with_log}
+use Rattle.qo_life.proofs.TreeLemmas.{tree, tree-shows}
 use Rattle.qo_unplug.specs.Timerless.{Timerless, has_timer, is_timer}
 use Rattle.qo_unplug.specs.Unrealizing.{SameTree, still, still_registers}
 
@@ -53,12 +61,16 @@ may-act v n none = may-act-in v.time n v.rows none
 
 -- on a board
 
-abbrev timer_in : Registers → Bool
+abbrev pub timer_in : Registers → Bool
 timer_in (timer t) = true
 timer_in r = false
 
-abbrev timed : Record → Bool
+abbrev pub timed : Record → Bool
 timed r = timer_in r.registers
+
+-- no registers are a timer's
+abbrev pub Untimed : Board → Type 0
+Untimed b = list_any timed b.records ≡ false
 
 in-body : (body : Body) → timer_in (registers_of body) ≡ is_timer body
 in-body (Uart u k) = refl
@@ -74,7 +86,7 @@ timed-shown : (rows : List (Key × Content)) → list_any timed (map record_of r
 timed-shown [] = refl
 timed-shown (row ∷ rows) = ap₂ (λ (s t : Bool). s || t) (in-body row.1.body) (timed-shown rows)
 
-shows-timed : (b : Board) (v : Objects) → Shows b v → list_any timed b.records ≡ list_any has_timer v.rows
+pub shows-timed : (b : Board) (v : Objects) → Shows b v → list_any timed b.records ≡ list_any has_timer v.rows
 shows-timed b v s = ap (list_any timed) s.records ∙ timed-shown v.rows
 
 in-still : (r : Registers) → timer_in (still_registers r) ≡ timer_in r
@@ -88,10 +100,97 @@ timed-still : (rs : List Record) → list_any timed (map still rs) ≡ list_any 
 timed-still [] = refl
 timed-still (r ∷ rs) = ap₂ (λ (s t : Bool). s || t) (in-still r.registers) (timed-still rs)
 
+-- a heap has no timers exactly where a board that it shows has none
+pub shows-untimed : (b : Board) (v : Objects) → Shows b v → Timerless v → Untimed b
+shows-untimed b v s none = shows-timed b v s ∙ none
+
+pub untimed-shows : (b : Board) (v : Objects) → Shows b v → Untimed b → Timerless v
+untimed-shows b v s none = sym (shows-timed b v s) ∙ none
+
+-- a heap goes by a step that brings no timer
+pub goes-timerless : (step : Board → Board) (v w : Objects) → Goes step v w → ((b : Board) → Untimed b → Untimed (step b)) → Timerless v → Timerless w
+goes-timerless step v w goes keeps none =
+    untimed-shows (step (tree v)) (with_log (noted_all goes.more empty_log) w) (goes.shown (tree v) empty_log (tree-shows v))
+    (keeps (tree v) (shows-untimed (tree v) (with_log empty_log v) (tree-shows v) none))
+
 -- a board of the same tree has no more timers
 pub same-timerless : (b c : Board) (v w : Objects) → SameTree b c → Shows b v → Shows c w → Timerless v → Timerless w
 same-timerless b c v w same s t none =
     sym (shows-timed c w t) ∙ sym (timed-still c.records) ∙ ap (list_any timed) same.records ∙ timed-still b.records ∙ shows-timed b v s ∙ none
+
+-- steps that bring no timer
+
+timed-edited : (n : ℕ) (change : Record → Record) → ((r : Record) → timed (change r) ≡ timed r) → (rs : List Record)
+    → list_any timed (map (edited n change) rs) ≡ list_any timed rs
+timed-edited n change same [] = refl
+timed-edited n change same (r ∷ rs) = ap₂ (λ (s t : Bool). s || t) (go (r.birth == n)) (timed-edited n change same rs)
+  where
+    go : (t : Bool) → timed (cond t (change r) r) ≡ timed r
+    go true = same r
+    go false = refl
+
+-- an object is changed, but not its registers
+pub edit-untimed : (n : ℕ) (change : Record → Record) → ((r : Record) → timed (change r) ≡ timed r) → (b : Board) → Untimed b → Untimed (edit n change b)
+edit-untimed n change same b none = timed-edited n change same b.records ∙ none
+
+pub drop-untimed : (b : Board) (n i : ℕ) → Untimed b → Untimed (drop_slot b n i)
+unfolding drop_slot
+drop-untimed b n i none = edit-untimed n (with_dropped i) (λ r. refl) b none
+
+timed-left : (keep : Record → Bool) (n : ℕ) (rs : List Record) → list_any timed rs ≡ false
+    → list_any timed (map (forgotten n) (filter keep rs)) ≡ false
+timed-left keep n [] none = refl
+timed-left keep n (r ∷ rs) none =
+    let (here, rest) = neither (timed r) (list_any timed rs) none in
+    go here (keep r) refl (timed-left keep n rs rest)
+  where
+    go : timed r ≡ false → (t : Bool) → keep r ≡ t → list_any timed (map (forgotten n) (filter keep rs)) ≡ false
+        → list_any timed (map (forgotten n) (filter keep (r ∷ rs))) ≡ false
+    go here true is rest = rw is (ap₂ (λ (s t : Bool). s || t) here rest)
+    go here false is rest = rw is rest
+
+finish-untimed : (b : Board) (n : ℕ) → Untimed b → Untimed (finish b n)
+unfolding finish
+finish-untimed b n none = timed-left (λ (r : Record). not (r.birth == n)) n b.records none
+
+release-untimed : KeepsRelease (λ (work : List (ℕ × ℕ)) (b : Board). Untimed b)
+release-untimed =
+    record {
+      ended = λ b n i work none e. finish-untimed b n none;
+      freed = λ b n i work s m none e h free. drop-untimed b n i none;
+      kept = λ b n i work s none e held_on. drop-untimed b n i none;
+    }
+
+-- an object that was held ends where nothing refers to it; a slot is let go; a link is taken; an object is unpinned
+pub after-untimed : (b : Board) (o : Option ℕ) → Untimed b → Untimed (after finalise b o)
+after-untimed b o none = after_keeps (λ (work : List (ℕ × ℕ)) (c : Board). Untimed c) release-untimed b o [] (λ m e free. none) (λ held_on. none)
+
+pub let_go-untimed : (b : Board) (n i : ℕ) → Untimed b → Untimed (let_go b n i)
+unfolding let_go
+let_go-untimed b n i none = go (slot_at b n i)
+  where
+    go : (o : Option Slot) → Untimed (elim o as (λ _. Board) [ None ↦ b | Some s ↦ after finalise (drop_slot b n i) (held s) ])
+    go None = none
+    go (Some s) = after-untimed (drop_slot b n i) (held s) (drop-untimed b n i none)
+
+pub cut-untimed : (b : Board) (n i : ℕ) → Untimed b → Untimed (cut n i b)
+unfolding cut
+cut-untimed b n i none = edit-untimed n (with_cut i) (λ r. refl) b none
+
+pub take_slot-untimed : (b : Board) (n i : ℕ) → Untimed b → Untimed (take_slot b n i)
+take_slot-untimed b n i none = go (slot_at b n i)
+  where
+    go : (o : Option Slot) → Untimed (elim o as (λ _. Board) [ None ↦ b | Some s ↦ after finalise (cut n i (drop_slot b n i)) (held s) ])
+    go None = none
+    go (Some s) = after-untimed (cut n i (drop_slot b n i)) (held s) (cut-untimed (drop_slot b n i) n i (drop-untimed b n i none))
+
+pub unpin-untimed : (b : Board) (n : ℕ) → Untimed b → Untimed (unpin b n)
+unfolding unpin
+unpin-untimed b n none = go (list_any (nat_eq n) b.pins)
+  where
+    go : (t : Bool) → Untimed (elim t as (λ _. Board) [ true ↦ after finalise (without_pin b n) (Some n) | false ↦ b ])
+    go true = after-untimed (without_pin b n) (Some n) none
+    go false = none
 
 -- no period is needed
 
@@ -121,10 +220,10 @@ acted-same b v s none n p q =
 
 -- an edit that brings no timer
 
-edit-timers : (n : ℕ) (f : Content → Content) → ((c : Content) → is_timer (f c).body ≡ is_timer c.body) → (rows : List (Key × Content))
-    → list_any has_timer (edit n f rows) ≡ list_any has_timer rows
+edit-timers : (n : ℕ) (f : Content → Content) → ((c : Content) → is_timer (f c).body ≡ is_timer c.body) → (rs : List (Key × Content))
+    → list_any has_timer (rows.edit n f rs) ≡ list_any has_timer rs
 edit-timers n f same [] = refl
-edit-timers n f same (row ∷ rows) = ap₂ (λ (s t : Bool). s || t) (go (eqb row.0.birth n)) (edit-timers n f same rows)
+edit-timers n f same (row ∷ rs) = ap₂ (λ (s t : Bool). s || t) (go (eqb row.0.birth n)) (edit-timers n f same rs)
   where
     go : (t : Bool) → has_timer (cond t (row.0, f row.1) row) ≡ has_timer row
     go true = same row.1

@@ -1,10 +1,12 @@
 //! A device is detached: it is unrealized, and then taken out of the tree.
 
-ghost use Rattle.std.specs.Prelude.{ℕ, ◌≤◌};
+ghost use Rattle.std.specs.Prelude.{◌≡◌, ℕ, ◌≤◌};
 ghost use Rattle.qo_model.specs.Board.{Board};
 ghost use Rattle.qo_model.specs.Unplug.{detach};
 ghost use Rattle.qo_table.specs.Rows.{IsLive};
+ghost use Rattle.qo_heap.specs.Board.{pins_in};
 ghost use Rattle.qo_heap.specs.Objects.{pins_of};
+ghost use Rattle.qo_life.specs.Life.{KeepsNames};
 ghost use Rattle.qo_properties.specs.Claims.{KeepsBook};
 ghost use Rattle.qo_unplug.specs.Beside.{Beside};
 ghost use Rattle.qo_unplug.specs.Timerless.{Timerless};
@@ -34,6 +36,9 @@ pub fn detach<L: Ledger>(
     requires pins { (n : ℕ) → pins_of heap.old n ≤ 1 }
     ensures shown { (b : Board) → Beside b heap.old resets.old.births hotplug.old → Beside (detach b dev.birth) heap.new resets.new.births hotplug.new }
     ensures book { KeepsBook heap.old heap.new }
+    ensures names { KeepsNames heap.old heap.new }
+    ensures pins { pins_in heap.new.rows ≡ pins_in heap.old.rows }
+    ensures still { Timerless heap.new }
 {
     heap.facts();
     heap.shown();

@@ -3,7 +3,7 @@ use Rattle.std.proofs.Common.{◌+◌, length, arith}
 use Rattle.qo_unplug.specs.Apart.{taken_within}
 use Rattle.qo_unplug.specs.Unrealizing.{device_within}
 use Rattle.qo_unplug.proofs.ApartLemmas.{goes-pin, pin-live, pin-own, pinned-of, taken-live, taken-pinned}
-use Rattle.qo_unplug.proofs.DetachLemmas.{beside-detached, book-detached, detach-room, pin-timerless, unrealized-pinned, unrealized-times}
+use Rattle.qo_unplug.proofs.DetachLemmas.{beside-detached, book-detached, detach-room, names-detached, pin-timerless, pins-detached, timerless-detached, unrealized-pinned, unrealized-pins, unrealized-times}
 use Rattle.qo_unplug.proofs.TakesLemmas.{takes-taken_within}
 use Rattle.qo_unplug.proofs.detaching.detach.Goals as goal
 
@@ -66,3 +66,25 @@ returns-clause-book g c =
     book-detached (λ b. device_within b (length c.pin.new.self.rows + 1) c.args.dev.birth) (taken_within c.live-levels.result c.args.dev.birth)
     c.args.heap.now c.pin.new.self c.unrealize.new.heap c.take_out.new.heap c.drop_pin.new.heap c.args.resets.now.births c.unrealize.new.resets.births
     c.args.hotplug.now c.unrealize.new.hotplug c.args.dev.birth pinned c.unrealize.ensures c.take_out.ensures c.drop_pin.ensures.goes
+
+pub returns-clause-names : goal.returns-clause-names
+returns-clause-names g c =
+    names-detached (λ b. device_within b (length c.pin.new.self.rows + 1) c.args.dev.birth) (taken_within c.live-levels.result c.args.dev.birth)
+    c.args.heap.now c.pin.new.self c.unrealize.new.heap c.take_out.new.heap c.drop_pin.new.heap c.args.resets.now.births c.unrealize.new.resets.births
+    c.args.hotplug.now c.unrealize.new.hotplug c.args.dev.birth c.pin.ensures.now c.unrealize.ensures c.take_out.ensures c.drop_pin.ensures.goes
+
+pub returns-clause-pins : goal.returns-clause-pins
+returns-clause-pins g c =
+    let pinned = goes-pin c.args.heap.now c.pin.new.self c.facts.ensures c.args.dev c.requires.live c.pin.ensures.now in
+    pins-detached c.args.heap.now c.pin.new.self c.unrealize.new.heap c.take_out.new.heap c.drop_pin.new.heap c.facts.ensures c.args.dev.birth
+    c.live-levels.result pinned
+    (unrealized-pins (λ b. device_within b (length c.pin.new.self.rows + 1) c.args.dev.birth) c.args.heap.now c.pin.new.self c.unrealize.new.heap
+    c.args.resets.now.births c.unrealize.new.resets.births c.args.hotplug.now c.unrealize.new.hotplug c.args.dev.birth c.shown.ensures.0 c.shown.ensures.1
+    pinned c.unrealize.ensures)
+    c.take_out.ensures c.drop_pin.ensures.goes
+
+pub returns-clause-still : goal.returns-clause-still
+returns-clause-still g c =
+    timerless-detached (λ b. device_within b (length c.pin.new.self.rows + 1) c.args.dev.birth) c.args.heap.now c.pin.new.self c.unrealize.new.heap
+    c.take_out.new.heap c.drop_pin.new.heap c.args.resets.now.births c.unrealize.new.resets.births c.args.hotplug.now c.unrealize.new.hotplug
+    c.args.dev.birth c.live-levels.result c.pin.ensures.now c.unrealize.ensures c.take_out.ensures c.drop_pin.ensures.goes c.requires.still
