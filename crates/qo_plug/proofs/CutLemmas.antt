@@ -79,16 +79,16 @@ take-drop {X = X} (suc k) (x ∷ xs) = ap (λ (l : List X). x ∷ l) (take-drop 
 
 -- the device is held from outside alone
 module _ (b : Board) (t : TypeId) (sound : SoundTree b) where
-  rest : AtRest b
+  pub rest : AtRest b
   rest = rest-from_sound b sound
 
-  abbrev held : List ℕ
+  abbrev pub held : List ℕ
   held = put_in_order (b.born + 1) b.pins
 
-  held-is : held ≡ put_in_order (b.born + 1) (1 ∷ [])
+  pub held-is : held ≡ put_in_order (b.born + 1) (1 ∷ [])
   held-is = ap (put_in_order (b.born + 1)) rest.pinned
 
-  begun : created b t ≡ with_pins held (with_new (fresh (b.born + 1) t) b)
+  pub begun : created b t ≡ with_pins held (with_new (fresh (b.born + 1) t) b)
   begun = pinned.created t b
 
   -- all of it was made, and it is given up

@@ -41,7 +41,7 @@ use Rattle.qo_properties.specs.Fresh.{begun, first_slots, new_slots, slot_begun,
 use Rattle.qo_properties.proofs.AddLemmas.{all-first, child-settled, newest-beside, newest-content, newest-live, shows-tried}
 use Rattle.qo_properties.proofs.FreshLemmas.{RowAt, is_name, named-of, new-shown, past, row-at, with-none}
 use Rattle.qo_plug.specs.Drafts.{Fell, Grows, IsDraft, Makes, bare, created, held_draft, stopped, unjoined, is_own, own_slots, own_slots_of}
-use Rattle.qo_plug.proofs.GrowsLemmas.{grows-edit, grows-newest, grows-none, grows-then, live-low, row-before}
+use Rattle.qo_plug.proofs.GrowsLemmas.{fresh-quiet, grows-edit, grows-newest, grows-none, grows-then, live-low, row-before}
 
 -- the names of properties are names
 is-named : (p : PropertyName) → is_name (property_name p) ≡ true
@@ -201,7 +201,7 @@ module _ {v w : Objects} {o parent : Key} {name : List ℕ} {t : TypeId} (good :
   kid-grows =
       let beside : Objects = with_edit parent.birth (with_slot name (Child o)) v in
       subst (Grows v) (sym kid-is)
-      (grows-then v beside (with_newest o (as_made t (new_slots t) 0) beside) (grows-edit v beside parent.birth (with_slot name (Child o)) (λ c. refl) refl) (grows-newest beside o (as_made t (new_slots t) 0) made.birth (fresh-bare t) refl))
+      (grows-then v beside (with_newest o (as_made t (new_slots t) 0) beside) (grows-edit v beside parent.birth (with_slot name (Child o)) (λ c. refl) refl) (grows-newest beside o (as_made t (new_slots t) 0) made.birth (fresh-bare t) refl (fresh-quiet t v.time)))
 
 -- what adding a row comes to
 pub record RowAdded (v w : Objects) (o : Key) (t : TypeId) (p : Property) (result : Result (Unit {0}) AllocError) : Type 0 where
@@ -304,7 +304,7 @@ fell-at o t k p v u w at r (inr (further, kind, is)) =
 -- a device that was created, and then made
 module _ (v u w : Objects) (o : Key) (t : TypeId) (good : IsHeap v) (birth : o.birth ≡ v.born + 1) (is : u ≡ with_newest o (fresh t) v) (more : Grows u w) where
   created-grows : Grows v u
-  created-grows = subst (Grows v) (sym is) (grows-newest v o (fresh t) birth (fresh-bare t) refl)
+  created-grows = subst (Grows v) (sym is) (grows-newest v o (fresh t) birth (fresh-bare t) refl (fresh-quiet t v.time))
 
   pub drafting-grows : Grows v w
   drafting-grows = grows-then v u w created-grows more

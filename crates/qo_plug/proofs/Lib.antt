@@ -1,4 +1,17 @@
+pub mod AddLemmas
+pub mod AdmitLemmas
 pub mod BarLemmas
+pub mod BesideLemmas
 pub mod CutLemmas
 pub mod DraftLemmas
 pub mod GrowsLemmas
+pub mod JudgeLemmas
+pub mod PassLemmas
+pub mod PlugSteps
+pub mod SeatLemmas
+pub mod SourceLemmas
+pub mod StandBoards
+pub mod StandFills
+pub mod StandLemmas
+pub mod StandSteps
+pub mod StartLemmas

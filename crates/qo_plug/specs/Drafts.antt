@@ -1,5 +1,5 @@
 -- A device as it is made over the heap, and what is left where memory ran out (include/hw/qdev-core.h, "Realization").
-use Rattle.std.specs.Prelude.{◌≡◌, ℕ, ◌+◌, ◌≤◌, Bool, true, false, List, [], ◌++◌, ◌⊎◌, filter, take, slice_get, Some, option_map}
+use Rattle.std.specs.Prelude.{◌≡◌, ℕ, ◌+◌, ◌≤◌, Bool, true, false, List, [], ◌++◌, ◌⊎◌, filter, take, slice_get, Some, option_map, IfSome}
 use Rattle.qo_values.specs.declared.kinds.TypeId.{TypeId}
 use Rattle.qo_model.specs.Board.{Board}
 use Rattle.qo_model.specs.Changes.{make}
@@ -8,6 +8,7 @@ use Rattle.qo_model.specs.Plug.{cut_attempt, objects_in, rows_made}
 use Rattle.qo_model.specs.Types as types
 use Rattle.qo_model.specs.declared.properties.Property.{Property}
 use Rattle.qo_model.specs.declared.properties.RowKind.TheVariants.{Child}
+use Rattle.qo_kinds.specs.Bodies.{IsTimely}
 use Rattle.qo_slots.specs.declared.keys.Key.{Key}
 use Rattle.qo_table.specs.Rows.{IsLive}
 use Rattle.qo_object.specs.declared.slots.Slot.{Slot}
@@ -48,12 +49,17 @@ own_slots slots = filter (λ (s : Named). is_own s.1) slots
 abbrev pub own_slots_of : Objects → ℕ → List Named
 own_slots_of v n = own_slots (slots_of v n)
 
--- a heap has grown, or its objects have other slots: who was there is there under the same name, and has all else as before; the book of claims stays right; events and the time stay
+-- an object has begun and ended no segment after the heap's time, or is not there
+abbrev pub IsQuiet : Objects → ℕ → Type 0
+IsQuiet v n = IfSome (content_of v n) (λ (c : Content). IsTimely v.time c.body)
+
+-- a heap has grown, or its objects have other slots: who was there is there under the same name, and has all else as before; the book of claims stays right; events and the time stay; who is new has begun no segment
 pub record Grows (v w : Objects) : Type 0 where
   pub names : KeepsNames v w
   pub rest : (n : ℕ) → n ≤ v.born → option_map bare (content_of w n) ≡ option_map bare (content_of v n)
   pub born : v.born ≤ w.born
   pub book : KeepsBook v w
+  pub quiet : (n : ℕ) → IsQuiet v n → IsQuiet w n
   pub events : w.events ≡ v.events
   pub time : w.time ≡ v.time
 

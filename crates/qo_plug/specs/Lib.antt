@@ -1,1 +1,6 @@
+pub mod Added
+pub mod Adding
+pub mod Attempts
 pub mod Drafts
+pub mod Standing
+pub mod Taking

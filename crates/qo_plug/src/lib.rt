@@ -3,10 +3,25 @@
 //! "Realization"; include/hw/hotplug.h).
 #![tactic(auto)]
 
+mod adding;
+mod admitting;
+mod attempting;
 mod barring;
+mod claiming;
 mod drafting;
+mod judging;
+mod refusals;
+mod standing;
+mod starting;
 #[cfg(test)]
 mod tests;
 
+pub use adding::{Added, add};
+pub use admitting::{Place, Site, admit};
+pub use attempting::attempt;
 pub use barring::{device_kind, open_bus, room, vacant};
 pub use drafting::{give_up, make_device};
+pub use judging::judge;
+pub use refusals::{AddRefusal, Barred};
+pub use standing::{Seat, stand};
+pub use starting::start;

@@ -90,7 +90,7 @@ low-records b f (r ∷ rs) w h = let low : r.birth ≤ b.born = w.0 in (record {
 low-pins : (b : Board) → AtRest b → AllByRecursion (λ p. p < b.born + 1) b.pins
 low-pins b h = subst (AllByRecursion (λ p. p < b.born + 1)) (sym h.pinned) (let begun : 8 ≤ b.born = h.used.firm.begun in omega (arith, begun), tt)
 
-draft-of : (b : Board) (t : TypeId) (ps : List Property) → AtRest b → IsDraft b (b.born + 1) t (kinds_in ps) (rows_made (b.born + 1) t ps (with_new (fresh (b.born + 1) t) b))
+pub draft-of : (b : Board) (t : TypeId) (ps : List Property) → AtRest b → IsDraft b (b.born + 1) t (kinds_in ps) (rows_made (b.born + 1) t ps (with_new (fresh (b.born + 1) t) b))
 draft-of b t ps h = draft-rows b (b.born + 1) t (low-records b h.used.firm b.records h.used.firm.within h.used.firm.linked) ps [] (with_new (fresh (b.born + 1) t) b) (draft-begun b t)
 
 -- the steps of an attempt: the first properties of a device were made, and it is let go

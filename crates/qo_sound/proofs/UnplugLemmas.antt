@@ -40,7 +40,7 @@ pub record Found (p : List ℕ × Slot → Bool) (slots : List (List ℕ × Slot
   pub at : slice_get slots j ≡ Some entry
   pub passes : p entry ≡ true
 
-found-from : (p : List ℕ × Slot → Bool) (i j : ℕ) (slots : List (List ℕ × Slot)) → place_from p i slots ≡ Some j → (k : ℕ) × ((j ≡ k + i) × Found p slots k)
+pub found-from : (p : List ℕ × Slot → Bool) (i j : ℕ) (slots : List (List ℕ × Slot)) → place_from p i slots ≡ Some j → (k : ℕ) × ((j ≡ k + i) × Found p slots k)
 found-from p i j [] e = cc
 found-from p i j (s ∷ slots) e = go (p s) refl (found-from p (suc i) j slots)
   where
@@ -60,7 +60,7 @@ pub slot-of : (b : Board) (n i : ℕ) (s : List ℕ × Slot) → slice_get (slot
 slot-of b n i s e = ap (option_map (λ (x : List ℕ × Slot). x.1)) e
 
 -- a slot found on the record is the one found on the board
-on-record : (b : Board) (n i : ℕ) (s x : List ℕ × Slot) (r : Record) → slice_get (slots_at b n) i ≡ Some s → record_of b n ≡ Some r → slice_get r.slots i ≡ Some x → s ≡ x
+pub on-record : (b : Board) (n i : ℕ) (s x : List ℕ × Slot) (r : Record) → slice_get (slots_at b n) i ≡ Some s → record_of b n ≡ Some r → slice_get r.slots i ≡ Some x → s ≡ x
 on-record b n i s x r e q k =
     let own : slots_at b n ≡ r.slots = ap (λ (o : Option Record). option_map_or (λ (y : Record). y.slots) o []) q in
     same_Some s x (sym e ∙ ap (λ (slots : List (List ℕ × Slot)). slice_get slots i) own ∙ k)
@@ -74,14 +74,14 @@ pub record Sits (ps : List ℕ) (c : Board) : Type 0 where
 held-let_go : (ps : List ℕ) (c : Board) (n i : ℕ) → Nearly None (let_go c n i) → Sits ps c → Sits ps (let_go c n i)
 held-let_go ps c n i near h = record { near = near; pins = (let_go-leaves c n i).pins ∙ h.pins }
 
-held-where_open : (ps : List ℕ) (p : List ℕ × Slot → Bool) (n : ℕ) (c : Board) → is_open n ≡ true → Sits ps c → Sits ps (let_go_where p n c)
+pub held-where_open : (ps : List ℕ) (p : List ℕ × Slot → Bool) (n : ℕ) (c : Board) → is_open n ≡ true → Sits ps c → Sits ps (let_go_where p n c)
 held-where_open ps p n c wide h = go (place_from p 0 (slots_at c n)) refl
   where
     go : (o : Option ℕ) → place_from p 0 (slots_at c n) ≡ o → Sits ps (let_go_where p n c)
     go None e = rw (let_go_where, e) h
     go (Some i) e = rw (let_go_where, e) (held-let_go ps c n i (near-let_go c n i (λ s q. open-last c n i wide) h.near) h)
 
-held-where_other : (ps : List ℕ) (p : List ℕ × Slot → Bool) → ((s : List ℕ × Slot) → p s ≡ true → is_clock_slot s ≡ false) → (n : ℕ) (c : Board) → Sits ps c → Sits ps (let_go_where p n c)
+pub held-where_other : (ps : List ℕ) (p : List ℕ × Slot → Bool) → ((s : List ℕ × Slot) → p s ≡ true → is_clock_slot s ≡ false) → (n : ℕ) (c : Board) → Sits ps c → Sits ps (let_go_where p n c)
 held-where_other ps p apart n c h = go (place_from p 0 (slots_at c n)) refl
   where
     go : (o : Option ℕ) → place_from p 0 (slots_at c n) ≡ o → Sits ps (let_go_where p n c)
@@ -92,10 +92,10 @@ held-where_other ps p apart n c h = go (place_from p 0 (slots_at c n)) refl
         rw (let_go_where, e) (held-let_go ps c n i (near-let_go c n i (other-lasts c n i other) h.near) h)
 
 -- names that are not the clock's
-named-apart : (name : List ℕ) → bytes_eq name (codes "clk") ≡ false → (s : List ℕ × Slot) → is_named name s ≡ true → is_clock_slot s ≡ false
+pub named-apart : (name : List ℕ) → bytes_eq name (codes "clk") ≡ false → (s : List ℕ × Slot) → is_named name s ≡ true → is_clock_slot s ≡ false
 named-apart name apart s e = subst (λ (x : List ℕ). bytes_eq x (codes "clk") ≡ false) (sym ((bytes_eq-Decides s.0 name).0 e)) apart
 
-bus-apart : (m : ℕ) (s : List ℕ × Slot) → is_bus_slot m s ≡ true → is_clock_slot s ≡ false
+pub bus-apart : (m : ℕ) (s : List ℕ × Slot) → is_bus_slot m s ≡ true → is_clock_slot s ≡ false
 bus-apart m s e = go (is_clock_slot s) refl
   where
     go : (t : Bool) → is_clock_slot s ≡ t → is_clock_slot s ≡ false
@@ -220,7 +220,7 @@ held-turns ps b (suc depth) d c h = turn (held-turns ps b depth)
     turn : ((k : ℕ) (e : Board) → Sits ps e → Sits ps (by_depth (unrealize_turn b) (λ d c. c) depth k e)) → Sits ps (by_depth (unrealize_turn b) (λ d c. c) (suc depth) d c)
     turn keeps = held-device ps d _ (held-each (Sits ps) _ (λ m e k. held-unheld ps m _ (held-acted ps Unrealize m 0 _ (held-each (Sits ps) _ keeps (kids_of b m) e k))) (buses_of b d) c h)
 
-held-unrealize : (ps : List ℕ) (d : ℕ) (c : Board) → Sits ps c → Sits ps (unrealize c d)
+pub held-unrealize : (ps : List ℕ) (d : ℕ) (c : Board) → Sits ps c → Sits ps (unrealize c d)
 unfolding unrealize
 held-unrealize ps d c h = held-turns ps c (suc (length (births c))) d c h
 
@@ -243,7 +243,7 @@ held-buses P f d keeps (suc times) c h = go (first_of (buses_of c d)) refl (held
     go (Some m) e rest = rw (lost_buses, e) (rest (lost_bus f d m c) (keeps m c h))
 
 -- a link of a bus is let go and removed
-kid-held : (d : ℕ) (s : List ℕ × Slot) → names_kid d s ≡ true → (t : TypeId) × (s.1 ≡ strong t (Some d))
+pub kid-held : (d : ℕ) (s : List ℕ × Slot) → names_kid d s ≡ true → (t : TypeId) × (s.1 ≡ strong t (Some d))
 kid-held d (name, plain v) e = cc
 kid-held d (name, child m) e = cc
 kid-held d (name, strong t None) e = cc
@@ -251,7 +251,7 @@ kid-held d (name, strong t (Some m)) e = (t, ap (λ (k : ℕ). strong t (Some k)
 kid-held d (name, weak t target) e = cc
 kid-held d (name, alias m property) e = cc
 
-held-taken : (ps : List ℕ) (d m : ℕ) (c : Board) → Sits ps c → Sits ps (take_where (names_kid d) m c)
+pub held-taken : (ps : List ℕ) (d m : ℕ) (c : Board) → Sits ps c → Sits ps (take_where (names_kid d) m c)
 unfolding cut drop_slot
 held-taken ps d m c h = go (place_from (names_kid d) 0 (slots_at c m)) refl
   where

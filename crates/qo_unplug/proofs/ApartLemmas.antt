@@ -1,7 +1,8 @@
 -- Taking apart on a heap: its steps are those of the boards, and who is held from outside stays.
-use Rattle.std.proofs.Common.{◌≡◌, refl, ap, sym, subst, ◌∙◌, ℕ, zero, suc, ◌+◌, ◌-◌, ◌*◌, ◌^◌, ◌<◌, ◌≤◌, ◌==◌, eqb, cond, Bool, true, false, List, [], ◌∷◌, ◌++◌, length, replicate, count_by, filter_map, Option, None, Some, option_map, arith}
+use Rattle.std.proofs.Common.{◌≡◌, refl, ap, sym, subst, ◌∙◌, ℕ, zero, suc, ◌+◌, ◌-◌, ◌*◌, ◌^◌, ◌<◌, ◌≤◌, eqb, cond, Bool, true, false, List, [], ◌∷◌}
+use Rattle.std.proofs.Common.{◌++◌, length, replicate, filter_map, Option, None, Some, arith}
 use Rattle.std.specs.List.{AllByRecursion}
-use Rattle.std.specs.Option.{option_and_then, option_map_or}
+use Rattle.std.specs.Option.{option_map_or}
 use Rattle.std.proofs.lemmas.Bool.{eqb-true}
 use Rattle.std.proofs.lemmas.List.Sums.{sum_by-append}
 use Rattle.std.proofs.lemmas.List.Folds.{sum_by-replicate}
@@ -14,7 +15,7 @@ use Rattle.qo_model.specs.Unplug.{apart_within, drained, first_of, is_bus_slot, 
 use Rattle.qo_model.proofs.PinLemmas.{IsUp}
 use Rattle.qo_notes.specs.Log.{Log, empty_log, noted_all}
 use Rattle.qo_object.specs.Content.{Content, with_pin}
-use Rattle.qo_object.specs.Shown.{birth_of, shown_slots}
+use Rattle.qo_object.specs.Shown.{shown_slots}
 use Rattle.qo_object.proofs.ShownLemmas.{length-shown}
 use Rattle.qo_heap.specs.Board.{Shows, pins_in}
 use Rattle.qo_heap.specs.Objects.{IsHeap, Objects, content_of, pins_of, slots_of, with_edit}
@@ -29,7 +30,7 @@ use Rattle.qo_unplug.specs.Apart.{HasRoom, bus_lost, buses_lost, drained_within,
 use Rattle.qo_unplug.specs.Timerless.{Timerless}
 use Rattle.qo_unplug.specs.Unrealizing.{on_one}
 use Rattle.qo_unplug.proofs.TimerLemmas.{goes-timerless}
-use Rattle.qo_unplug.proofs.TakesLemmas.{Takes, put-most, takes-apart, takes-bus_lost, takes-buses_lost, takes-drained_within, takes-first_apart, takes-first_lost, takes-left_bus, takes-none, takes-taken_within, takes-then, times, times-own}
+use Rattle.qo_unplug.proofs.TakesLemmas.{Takes, put-most, takes-first_apart, takes-first_lost, takes-none, takes-then, times, times-own}
 
 -- how often an object is held
 
@@ -48,6 +49,9 @@ times-within n (row ∷ rows) = go (eqb row.0.birth n) refl (times-within n rows
         let own : row.1.pins * cond {A = ℕ} (eqb row.0.birth n) 1 0 ≡ row.1.pins = rw is (omega arith) in
         rw is (omega (arith, own, times-replicate n row.1.pins row.0.birth (pins_in rows)))
     go false is rest = rw is (omega (arith, rest, times-replicate n row.1.pins row.0.birth (pins_in rows)))
+
+pub pins-within : (v : Objects) (n : ℕ) → pins_of v n ≤ held_times v n
+pins-within v n = times-within n v.rows
 
 times-high : (n above last : ℕ) (rows : List (Key × Content)) → n ≤ above → Rises above (births rows) last → times n (pins_in rows) ≡ 0
 times-high n above last [] le rises = refl

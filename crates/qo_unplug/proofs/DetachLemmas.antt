@@ -1,11 +1,10 @@
 -- A device is unrealized and taken out, while it is held: the parts of the board behind it.
-use Rattle.std.proofs.Common.{◌≡◌, refl, ap, sym, subst, ◌∙◌, ℕ, suc, ◌+◌, ◌^◌, ◌<◌, ◌≤◌, nat_eq, Bool, true, List, length, map, arith}
+use Rattle.std.proofs.Common.{◌≡◌, refl, ap, sym, subst, ◌∙◌, ℕ, suc, ◌+◌, ◌<◌, ◌≤◌, nat_eq, true, List, [], length, arith}
 use Rattle.std.specs.List.{list_any}
 use Rattle.std.proofs.lemmas.List.{length-map}
+use Rattle.qo_values.specs.declared.births.TheConstants.{ROOT_BIRTH}
 use Rattle.qo_values.specs.declared.limits.TheConstants.{LIVE_OBJECTS_MAX}
-use Rattle.qo_slots.specs.declared.keys.Key.{Key}
-use Rattle.qo_table.specs.Rows.{edit}
-use Rattle.qo_object.specs.Content.{Content, with_pin}
+use Rattle.qo_object.specs.Content.{with_pin}
 use Rattle.qo_model.specs.Board.{Board}
 use Rattle.qo_model.specs.Paths as paths
 use Rattle.qo_model.specs.Release.{pin, put_in_order, unpin, without_first}
@@ -21,12 +20,13 @@ use Rattle.qo_heap.proofs.ShowsReads.{shows-births}
 use Rattle.qo_life.specs.Life.{Goes, KeepsNames}
 use Rattle.qo_life.proofs.TreeLemmas.{goes-names, goes-shows, goes-then, tree, tree-shows}
 use Rattle.qo_properties.specs.Claims.{KeepsBook}
+use Rattle.qo_properties.specs.Pinned.{OnlyRootPinned}
 use Rattle.qo_unplug.specs.Apart.{HasRoom, held_times, taken_within}
 use Rattle.qo_unplug.specs.Beside.{Beside}
 use Rattle.qo_unplug.specs.Timerless.{Timerless}
 use Rattle.qo_unplug.specs.Unrealizing.{Parts, Undoes, device_within, parts}
-use Rattle.qo_unplug.proofs.ApartLemmas.{held-pins, pin-live, pin-most, pin-own, pin-same, pins-up, taken-same, taken-timerless}
-use Rattle.qo_unplug.proofs.TakesLemmas.{takes-taken_within, times}
+use Rattle.qo_unplug.proofs.ApartLemmas.{held-pins, pin-live, pin-most, pin-own, pin-same, pins-up, pins-within, taken-same, taken-timerless}
+use Rattle.qo_unplug.proofs.TakesLemmas.{put-most, takes-taken_within, times}
 use Rattle.qo_unplug.proofs.TimerLemmas.{edit-timerless, goes-timerless, unpin-untimed}
 use Rattle.qo_unplug.proofs.TreeLemmas.{same-none}
 
@@ -83,6 +83,12 @@ detach-room v u w good d levels once is goes same n =
     let few : length v.rows ≤ LIVE_OBJECTS_MAX = good.few in
     omega (arith, few, is, once n, held-pins v good n, pin-most v u d goes n, same n)
 
+-- where `/` alone is pinned, once, no object is pinned twice
+pub once-pinned : (v : Objects) → OnlyRootPinned v → (n : ℕ) → pins_of v n ≤ 1
+once-pinned v only n =
+    let most : times n (put_in_order ROOT_BIRTH []) ≤ 1 + times n [] = put-most n ROOT_BIRTH [] in
+    omega (arith, pins-within v n, ap (times n) only, most)
+
 -- the whole
 
 depth-of : (b : Board) (v : Objects) → Shows b v → length (paths.births b) ≡ length v.rows
@@ -131,7 +137,8 @@ beside-detached v u w x y held after asked told d levels is pins pinned undoes t
 
 pub book-detached : (f : Board → Board → Board) (g : Board → Board) (v u w x y : Objects) (held after : List ℕ) (asked told : Asked) (d : ℕ)
     → Goes (λ b. pin b d) v u → Undoes f (parts u held asked) (parts w after told) → Goes g w x → Goes (λ b. unpin b d) x y → KeepsBook v y
-book-detached f g v u w x y held after asked told d pinned undoes taken unpinned out h = unpinned.book out (taken.book out (undoes.book out (pinned.book out h)))
+book-detached f g v u w x y held after asked told d pinned undoes taken unpinned out h =
+    unpinned.book out (taken.book out (undoes.book out (pinned.book out h)))
 
 -- the pins, the names, and that there are no timers
 

@@ -1,12 +1,12 @@
 -- The own step of what is unrealized: its act, its clock, that it is realized, and its claims.
-use Rattle.std.proofs.Common.{◌≡◌, refl, ap, ap₂, sym, subst, ◌∙◌, ℕ, ◌+◌, ◌==◌, cond, codes, Bool, true, false, List, [], ◌∷◌, map, sum_by, Option, None, Some, arith}
+use Rattle.std.proofs.Common.{◌≡◌, refl, ap, ap₂, sym, subst, ◌∙◌, ℕ, ◌+◌, ◌==◌, cond, codes, Bool, true, false, List, [], ◌∷◌, map, sum_by, Option}
+use Rattle.std.proofs.Common.{None, Some, option_map, arith}
 use Rattle.qo_values.specs.Registers.{Registers}
 use Rattle.qo_values.specs.declared.kinds.Act.TheVariants.{Unrealize}
 use Rattle.qo_values.specs.declared.properties.Val.{Val}
 use Rattle.qo_values.specs.declared.properties.Val.TheVariants as val
 use Rattle.qo_claims.specs.Held.{Held}
 use Rattle.qo_claims.specs.declared.claims.Claimed.{Claimed}
-use Rattle.qo_claims.specs.declared.claims.Claimed.TheVariants as on
 use Rattle.qo_kinds.specs.Bodies.{kept_of, none_kept, registers_of, with_kept}
 use Rattle.qo_kinds.specs.declared.bodies.Body.{Body}
 use Rattle.qo_kinds.specs.declared.bodies.Body.TheVariants.{Uart, Timer, Dimm, Bridge, Bus, Clock, Backend, Plain}
@@ -16,7 +16,7 @@ use Rattle.qo_table.specs.Rows.{IsLive}
 use Rattle.qo_model.specs.Board.{Board, Record}
 use Rattle.qo_model.specs.Clocks.{acted, device_period}
 use Rattle.qo_model.specs.Devices.{clock_of}
-use Rattle.qo_model.specs.Release.{edit, edited}
+use Rattle.qo_model.specs.Release.{edited}
 use Rattle.qo_model.specs.Unplug.{disconnected, set_named}
 use Rattle.qo_model.specs.declared.notes.Deed.TheVariants.{Did}
 use Rattle.qo_notes.specs.Log.{empty_log, noted_all}
@@ -26,23 +26,24 @@ use Rattle.qo_object.specs.Shown.{birth_of, shown}
 use Rattle.qo_object.specs.Slots.{with_val}
 use Rattle.qo_hotplug.specs.Asked.{Asked}
 use Rattle.qo_heap.specs.Board.{Shows}
-use Rattle.qo_heap.specs.Book.{IsBook, counted, kept_times, one, owned}
+use Rattle.qo_heap.specs.Book.{IsBook, kept_times, owned}
 use Rattle.qo_heap.specs.Objects.{IsHeap, Objects, content_of, with_edit, with_note, without_kept}
 use Rattle.qo_heap.proofs.ActsLemmas.{acts-act, acts-book}
 use Rattle.qo_heap.proofs.BookLemmas.{book-edit, kept-without, sum-changed}
 use Rattle.qo_heap.proofs.HeapLemmas.{edit-is, live-edit}
 use Rattle.qo_heap.proofs.ShowsActs.{shows-acted}
 use Rattle.qo_heap.proofs.ShowsEdits.{shows-edit}
+use Rattle.qo_heap.proofs.ShowsLive.{content-edited, live-content}
 use Rattle.qo_life.specs.Life.{Goes, with_log}
 use Rattle.qo_life.proofs.TreeLemmas.{goes-shows, tree, tree-shows}
 use Rattle.qo_clocks.specs.Links.{changed_named, place_on, unseen_on, with_slot_changed}
 use Rattle.qo_clocks.proofs.LinkLemmas.{live-changed}
-use Rattle.qo_unplug.specs.Timerless.{Timerless, has_timer, is_timer}
+use Rattle.qo_unplug.specs.Timerless.{Timerless}
 use Rattle.qo_unplug.specs.Unrealizing.{Parts, Undoes, parts}
 use Rattle.qo_unplug.proofs.TimerLemmas.{acted-same, acted-timer, bare-timer, edit-timerless, same-timerless}
 use Rattle.qo_unplug.proofs.TreeLemmas.{quiet-acted, quiet-disconnected, quiet-set_named}
 use Rattle.qo_unplug.proofs.TreeLemmas as boards
-use Rattle.qo_unplug.proofs.UndoesLemmas.{undoes-none, undoes-quiet, undoes-same, undoes-then}
+use Rattle.qo_unplug.proofs.UndoesLemmas.{undoes-quiet, undoes-same, undoes-then}
 
 -- the act
 
@@ -164,6 +165,15 @@ bare-left v good n c there body is =
     sym (edit-is v good n (λ (x : Content). record x { body = body }) c d there refl)
     ∙ edit-is v good n bared c d there (ap (λ (x : Body). record c { body = x }) is)
 
+-- it keeps none then
+pub bare-now : (v u : Objects) (o : Key) → IsLive v.rows o → u ≡ with_edit o.birth bared v
+    → option_map (λ (c : Content). kept_of c.body) (content_of u o.birth) ≡ Some none_kept
+bare-now v u o live is =
+    let (c, there) = live-content v o live in
+    ap (λ (x : Objects). option_map (λ (d : Content). kept_of d.body) (content_of x o.birth)) is
+    ∙ ap (option_map (λ (d : Content). kept_of d.body)) (content-edited v o.birth bared ∙ ap (option_map bared) there)
+    ∙ ap Some (bare-kept c.body)
+
 edited-same : (n : ℕ) (rs : List Record) → map (edited n (λ (r : Record). r)) rs ≡ rs
 edited-same n [] = refl
 edited-same n (r ∷ rs) = ap₂ (λ (x : Record) (xs : List Record). x ∷ xs) (go (r.birth == n)) (edited-same n rs)
@@ -174,13 +184,16 @@ edited-same n (r ∷ rs) = ap₂ (λ (x : Record) (xs : List Record). x ∷ xs) 
 
 shows-bared : (b : Board) (v : Objects) → Shows b v → (n : ℕ) (claims : Held) → Shows b (record (with_edit n bared v) { claims = claims })
 shows-bared b v s n claims =
-    let t = shows-edit n bared b v s (λ (r : Record). r) (λ m c. ap (λ (x : Registers). record (shown m c) { registers = x }) (bare-registers c.body)) (λ c. refl) in
+    let t = shows-edit n bared b v s (λ (r : Record). r)
+    (λ m c. ap (λ (x : Registers). record (shown m c) { registers = x }) (bare-registers c.body)) (λ c. refl) in
     record { records = sym (edited-same n b.records) ∙ t.records; born = t.born; pins = t.pins; notes = t.notes; events = t.events; now = t.now }
 
 book-freed : (out : List Claimed) (v : Objects) → IsHeap v → (n : ℕ) (c : Content) → content_of v n ≡ Some c → IsBook out v
     → IsBook out (record (with_edit n bared v) { claims = without_kept (kept_of c.body) v.claims })
 book-freed out v good n c there book x =
-    let sums : (y : Claimed) → sum_by (owned y) (with_edit n bared v).rows + owned y (record { index = 0; birth = 0 }, c) ≡ sum_by (owned y) v.rows + owned y (record { index = 0; birth = 0 }, bared c) =
+    let none_key : Key = record { index = 0; birth = 0 } in
+    let sums : (y : Claimed) →
+    sum_by (owned y) (with_edit n bared v).rows + owned y (none_key, c) ≡ sum_by (owned y) v.rows + owned y (none_key, bared c) =
     (λ y. sum-changed (owned y) n bared 0 v.born v.rows good.rising c there (λ key d. refl)) in
     let none : (y : Claimed) → kept_times y (kept_of (bared c).body) ≡ 0 = (λ y. ap (kept_times y) (bare-kept c.body)) in
     let less = kept-without (kept_of c.body) v.claims (λ y. omega (arith, book y, sums y, none y)) x in

@@ -1,17 +1,19 @@
 -- What taking apart leaves on each board: pins, who is held from outside the tree, and what stands beside the tree.
-use Rattle.std.proofs.Common.{◌≡◌, refl, ap, sym, subst, ◌∙◌, ℕ, zero, suc, ◌+◌, ◌<◌, ◌≤◌, ◌==◌, eqb, nat_eq, leb, cond, codes, not, ◌&&◌, Bool, true, false, List, [], ◌∷◌, length, count_by, Option, None, Some, is_some, option_map, arith}
+use Rattle.std.proofs.Common.{◌≡◌, refl, ap, sym, subst, ◌∙◌, ℕ, zero, suc, ◌+◌, ◌<◌, ◌≤◌, ◌==◌, eqb, nat_eq, leb, cond, codes, Bool, true, false}
+use Rattle.std.proofs.Common.{List, [], ◌∷◌, length, count_by, Option, None, Some, is_some, arith}
 use Rattle.std.specs.List.{AllByRecursion, list_any}
 use Rattle.std.proofs.lemmas.Bool.{eqb-true, eq-eqb}
 use Rattle.std.proofs.lemmas.List.Sums.{sum_by-cons}
 use Rattle.qo_values.specs.declared.births.TheConstants.{ANONYMOUS_BIRTH, PERIPHERAL_BIRTH}
-use Rattle.qo_model.specs.Board.{Board, Record, Slot, held, is_live, record_of, slot_at, slots_at}
+use Rattle.qo_model.specs.Board.{Board, Slot, held, is_live, record_of, slot_at, slots_at}
 use Rattle.qo_model.specs.Changes.{cut, with_cut}
 use Rattle.qo_model.specs.Devices.{bus_of, buses_of, kids_of}
 use Rattle.qo_model.specs.Objects.{place_from}
 use Rattle.qo_model.specs.References.{refs}
 use Rattle.qo_model.specs.Release.{after, drop_slot, edited, finalise, finish, let_go, pin, put_in_order, unpin, without_first, without_pin}
 use Rattle.qo_model.specs.ReleaseKeeps.{KeepsRelease}
-use Rattle.qo_model.specs.Unplug.{apart_within, drained, first_of, is_bus_slot, is_child_slot, is_named, left_bus, left_parent, let_go_where, lost_bus, lost_buses, names_kid, take_slot, take_where, taken_by}
+use Rattle.qo_model.specs.Unplug.{apart_within, drained, first_of, is_bus_slot, is_child_slot, is_named, left_bus, left_parent, let_go_where}
+use Rattle.qo_model.specs.Unplug.{lost_bus, lost_buses, names_kid, take_slot, take_where, taken_by}
 use Rattle.qo_model.proofs.PinLemmas.{IsUp, put-back, put-up, release-pins}
 use Rattle.qo_model.proofs.ReleaseKeepsLemmas.{after_keeps}
 use Rattle.qo_model.proofs.ReleaseLeavesLemmas.{release_leaves}

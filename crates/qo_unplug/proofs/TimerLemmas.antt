@@ -1,10 +1,12 @@
 -- Heaps without timers: no act needs a moment or a period, and no timer comes.
-use Rattle.std.proofs.Common.{◌≡◌, refl, ap, ap₂, sym, subst, ◌∙◌, ℕ, ◌==◌, eqb, nat_eq, cond, not, filter, Bool, true, false, List, [], ◌∷◌, map, Option, None, Some, IfSome}
+use Rattle.std.proofs.Common.{◌≡◌, refl, ap, ap₂, sym, ◌∙◌, ℕ, ◌==◌, eqb, nat_eq, cond, not, filter, Bool, true, false, List, [], ◌∷◌, map, Option}
+use Rattle.std.proofs.Common.{None, Some, IfSome}
 use Rattle.std.specs.Prelude.{◌||◌}
 use Rattle.std.specs.List.{list_any}
 use Rattle.qo_values.specs.Bodies.{body_act}
 use Rattle.qo_values.specs.Registers.{Registers, uart, timer, dimm, bridge, bare}
-use Rattle.qo_values.specs.declared.kinds.Act.TheVariants.{Unrealize}
+use Rattle.qo_values.specs.declared.kinds.Act.{Act}
+use Rattle.qo_values.specs.declared.kinds.Act.TheVariants.{Enter, Exit, Hold, Init, Pre, Realize, Unrealize, Update}
 use Rattle.qo_kinds.specs.Bodies.{MayAct, acted, none_kept, registers_of, with_kept}
 use Rattle.qo_kinds.specs.declared.bodies.Body.{Body}
 use Rattle.qo_kinds.specs.declared.bodies.Body.TheVariants.{Uart, Timer, Dimm, Bridge, Bus, Clock, Backend, Plain}
@@ -17,6 +19,7 @@ use Rattle.qo_model.specs.Clocks as clocks
 use Rattle.qo_model.specs.Clocks.{with_act_on}
 use Rattle.qo_model.specs.Release.{after, drop_slot, edit, edited, finalise, finish, forgotten, let_go, unpin, with_dropped, without_pin}
 use Rattle.qo_model.specs.ReleaseKeeps.{KeepsRelease}
+use Rattle.qo_model.specs.Reset.{phased}
 use Rattle.qo_model.specs.Unplug.{take_slot}
 use Rattle.qo_model.proofs.ReleaseKeepsLemmas.{after_keeps}
 use Rattle.qo_notes.specs.Log.{empty_log, noted_all}
@@ -191,6 +194,58 @@ unpin-untimed b n none = go (list_any (nat_eq n) b.pins)
     go : (t : Bool) → Untimed (elim t as (λ _. Board) [ true ↦ after finalise (without_pin b n) (Some n) | false ↦ b ])
     go true = after-untimed (without_pin b n) (Some n) none
     go false = none
+
+-- an act of any kind
+
+in-act : (act : Act) (now p : ℕ) (r : Registers) → timer_in (body_act act now p r) ≡ timer_in r
+in-act (Init ty) now p (uart r) = refl
+in-act Realize now p (uart r) = refl
+in-act Unrealize now p (uart r) = refl
+in-act Enter now p (uart r) = refl
+in-act Hold now p (uart r) = refl
+in-act Exit now p (uart r) = refl
+in-act Pre now p (uart r) = refl
+in-act Update now p (uart r) = refl
+in-act (Init ty) now p (timer r) = refl
+in-act Realize now p (timer r) = refl
+in-act Unrealize now p (timer r) = refl
+in-act Enter now p (timer r) = refl
+in-act Hold now p (timer r) = refl
+in-act Exit now p (timer r) = refl
+in-act Pre now p (timer r) = refl
+in-act Update now p (timer r) = refl
+in-act (Init ty) now p (dimm r) = refl
+in-act Realize now p (dimm r) = refl
+in-act Unrealize now p (dimm r) = refl
+in-act Enter now p (dimm r) = refl
+in-act Hold now p (dimm r) = refl
+in-act Exit now p (dimm r) = refl
+in-act Pre now p (dimm r) = refl
+in-act Update now p (dimm r) = refl
+in-act (Init ty) now p (bridge r) = refl
+in-act Realize now p (bridge r) = refl
+in-act Unrealize now p (bridge r) = refl
+in-act Enter now p (bridge r) = refl
+in-act Hold now p (bridge r) = refl
+in-act Exit now p (bridge r) = refl
+in-act Pre now p (bridge r) = refl
+in-act Update now p (bridge r) = refl
+in-act (Init ty) now p bare = refl
+in-act Realize now p bare = refl
+in-act Unrealize now p bare = refl
+in-act Enter now p bare = refl
+in-act Hold now p bare = refl
+in-act Exit now p bare = refl
+in-act Pre now p bare = refl
+in-act Update now p bare = refl
+
+pub acted-untimed : (act : Act) (n p : ℕ) (b : Board) → Untimed b → Untimed (clocks.acted act n p b)
+unfolding clocks.acted
+acted-untimed act n p b none = edit-untimed n (with_act_on act b.now p) (λ r. in-act act b.now p r.registers) b none
+
+pub phased-untimed : (act : Act) (os : List ℕ) (b : Board) → Untimed b → Untimed (phased act os b)
+phased-untimed act [] b none = none
+phased-untimed act (o ∷ os) b none = phased-untimed act os (clocks.acted act o 0 b) (acted-untimed act o 0 b none)
 
 -- no period is needed
 

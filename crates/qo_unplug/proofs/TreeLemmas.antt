@@ -1,5 +1,6 @@
 -- What stays of a board while it is unrealized: its tree, and what stands beside it.
-use Rattle.std.proofs.Common.{◌≡◌, refl, ap, ap₂, sym, subst, ◌∙◌, ℕ, zero, suc, ◌==◌, cond, not, ◌&&◌, Bool, true, false, List, [], ◌∷◌, map, length, find, filter_map, slice_get, codes, Option, None, Some, option_map}
+use Rattle.std.proofs.Common.{◌≡◌, refl, ap, ap₂, sym, ◌∙◌, ℕ, zero, suc, ◌==◌, cond, not, ◌&&◌, Bool, true, false, List, [], ◌∷◌, map, length, find}
+use Rattle.std.proofs.Common.{slice_get, codes, Option, None, Some, option_map}
 use Rattle.std.specs.Option.{option_and_then, option_map_or}
 use Rattle.std.specs.Str.{bytes_eq}
 use Rattle.std.proofs.lemmas.List.{length-map}
@@ -9,12 +10,11 @@ use Rattle.qo_values.specs.declared.kinds.Act.TheVariants.{Unrealize}
 use Rattle.qo_values.specs.declared.kinds.TypeId.{TypeId}
 use Rattle.qo_values.specs.declared.properties.Val.{Val}
 use Rattle.qo_values.specs.declared.properties.Val.TheVariants as val
-use Rattle.qo_model.specs.Board.{Board, Notice, Record, Slot, plain, child, strong, weak, alias, kind_of, record_of, slots_at}
+use Rattle.qo_model.specs.Board.{Board, Record, Slot, plain, child, strong, weak, alias, kind_of, record_of, slots_at}
 use Rattle.qo_model.specs.Changes.{changed_at, set, with_changed, with_val}
 use Rattle.qo_model.specs.Clocks.{acted, with_act_on}
-use Rattle.qo_model.specs.Devices.{bus_in, clock_name, strong_in}
+use Rattle.qo_model.specs.Devices.{bus_in, clock_name}
 use Rattle.qo_model.specs.Objects.{place_from}
-use Rattle.qo_model.specs.Paths.{is_of}
 use Rattle.qo_model.specs.Release.{edit, edited}
 use Rattle.qo_model.specs.Types.{is_a}
 use Rattle.qo_model.specs.Unplug.{disconnected, is_named, set_named, unseen, unseen_named}

@@ -1,5 +1,5 @@
 -- Steps of the parts of a board: alone, one behind another, and as another step.
-use Rattle.std.proofs.Common.{◌≡◌, refl, ap, sym, subst, ◌∙◌, ℕ, List, filter, not, ◌==◌}
+use Rattle.std.proofs.Common.{◌≡◌, ap, sym, subst, ◌∙◌, ℕ, List, filter, not, ◌==◌}
 use Rattle.qo_slots.specs.declared.keys.Key.{Key}
 use Rattle.qo_table.specs.Rows.{IsLive}
 use Rattle.qo_model.specs.Board.{Board, Notice}
@@ -17,7 +17,14 @@ abbrev pub Stands : Board → Parts → Type 0
 Stands c s = Beside c s.heap s.held s.asked
 
 pub undoes-none : (s : Parts) → Undoes (λ _ c. c) s s
-undoes-none s = record { shown = λ b c same beside. beside; tree = λ b c same beside. same; live = λ key here. here; book = λ out h. h; timerless = λ none. none }
+undoes-none s =
+    record {
+      shown = λ b c same beside. beside;
+      tree = λ b c same beside. same;
+      live = λ key here. here;
+      book = λ out h. h;
+      timerless = λ none. none;
+    }
 
 pub undoes-then : (f g : Board → Board → Board) (s t u : Parts) → Undoes f s t → Undoes g t u → Undoes (λ b c. g b (f b c)) s u
 undoes-then f g s t u first then =

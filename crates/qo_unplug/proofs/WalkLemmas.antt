@@ -1,19 +1,18 @@
 -- The kids of a bus, and the buses of a device, are unrealized one after another.
-use Rattle.std.proofs.Common.{◌≡◌, refl, ap, sym, ◌∙◌, ℕ, zero, suc, ◌+◌, ◌-◌, ◌≤◌, List, [], ◌∷◌, length, take, filter_map, slice_get, Option, None, Some, arith}
+use Rattle.std.proofs.Common.{◌≡◌, refl, ap, sym, ◌∙◌, ℕ, zero, suc, ◌+◌, ◌-◌, ◌≤◌, List, [], ◌∷◌, length, take, filter_map, slice_get, Option, None}
+use Rattle.std.proofs.Common.{Some, arith}
 use Rattle.std.specs.List.{cons_option}
 use Rattle.std.specs.Option.{option_and_then}
 use Rattle.qo_slots.specs.declared.keys.Key.{Key}
 use Rattle.qo_model.specs.Board.{Board, Slot, slots_at}
-use Rattle.qo_model.specs.Depth.{by_depth}
-use Rattle.qo_model.specs.Devices.{bus_in, buses_of, kids_of}
+use Rattle.qo_model.specs.Devices.{bus_in}
 use Rattle.qo_model.specs.Unplug.{each, unrealized_bus, unrealized_device}
 use Rattle.qo_object.specs.Shown.{birth_of}
 use Rattle.qo_object.proofs.ShownLemmas.{length-shown}
 use Rattle.qo_heap.specs.Board.{Shows}
 use Rattle.qo_heap.specs.Objects.{Objects, slots_of}
 use Rattle.qo_heap.proofs.ShowsReads.{shows-slots}
-use Rattle.qo_unplug.specs.Beside.{Beside}
-use Rattle.qo_unplug.specs.Unrealizing.{Parts, SameTree, Undoes, bus_at, bus_within, buses_within, device_within, first_buses, first_kids, kid_in, kid_in_place, kids_within, on_one}
+use Rattle.qo_unplug.specs.Unrealizing.{Parts, SameTree, Undoes, bus_at, bus_within, buses_within, device_within, kid_in, kid_in_place, kids_within, on_one}
 use Rattle.qo_unplug.proofs.TreeLemmas.{same-bus, same-kid, same-length}
 use Rattle.qo_unplug.proofs.UndoesLemmas.{undoes-none, undoes-same, undoes-then}
 
@@ -138,4 +137,5 @@ buses-last s t u d levels i count some le is before own =
 
 pub none-within : (s : Parts) (d levels : ℕ) → levels ≡ 0 → Undoes (λ b. device_within b levels d) s s
 unfolding device_within
-none-within s d levels is = undoes-same (λ _ c. c) (λ b. device_within b levels d) s s (undoes-none s) (λ b c same beside. ap (λ (k : ℕ). device_within b k d c) is)
+none-within s d levels is =
+    undoes-same (λ _ c. c) (λ b. device_within b levels d) s s (undoes-none s) (λ b c same beside. ap (λ (k : ℕ). device_within b k d c) is)

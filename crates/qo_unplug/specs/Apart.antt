@@ -1,5 +1,5 @@
 -- How what is below a device is taken apart.
-use Rattle.std.specs.Prelude.{◌≡◌, ℕ, ◌+◌, ◌≤◌, ◌^◌, ◌==◌, length, count_by}
+use Rattle.std.specs.Prelude.{ℕ, ◌+◌, ◌≤◌, ◌^◌, ◌==◌, length, count_by}
 use Rattle.qo_model.specs.Board.{Board, slots_at}
 use Rattle.qo_model.specs.Devices.{buses_of, kids_of}
 use Rattle.qo_model.specs.Unplug.{apart_within, drained, first_of, lost_bus, lost_buses, taken_by}

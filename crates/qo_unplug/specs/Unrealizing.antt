@@ -2,13 +2,15 @@
 use Rattle.std.specs.Prelude.{◌≡◌, ℕ, List, map, take, filter_map, slice_get, Option, None, Some}
 use Rattle.std.specs.Option.{option_and_then}
 use Rattle.qo_values.specs.Registers.{Registers, timer, bare, fresh_timer}
+use Rattle.qo_values.specs.declared.kinds.Act.TheVariants.{Unrealize}
 use Rattle.qo_values.specs.declared.properties.Val.TheVariants as val
 use Rattle.qo_slots.specs.declared.keys.Key.{Key}
 use Rattle.qo_table.specs.Rows.{IsLive}
 use Rattle.qo_model.specs.Board.{Board, Record, Slot, plain, weak, slots_at}
+use Rattle.qo_model.specs.Clocks.{acted, device_period}
 use Rattle.qo_model.specs.Depth.{by_depth}
-use Rattle.qo_model.specs.Devices.{bus_in, kids_of, strong_in}
-use Rattle.qo_model.specs.Unplug.{each, unrealize_turn, unrealized_bus}
+use Rattle.qo_model.specs.Devices.{bus_in, clock_of, kids_of, strong_in}
+use Rattle.qo_model.specs.Unplug.{disconnected, each, unrealize_turn, unrealized_bus}
 use Rattle.qo_hotplug.specs.Asked.{Asked}
 use Rattle.qo_heap.specs.Objects.{Objects}
 use Rattle.qo_properties.specs.Claims.{KeepsBook}
@@ -54,6 +56,14 @@ pub record Undoes (step : Board → Board → Board) (s t : Parts) : Type 0 wher
   pub book : KeepsBook s.heap t.heap
   pub timerless : Timerless s.heap → Timerless t.heap
 
+-- the same of a heap alone, whatever stands beside it
+abbrev pub HeapUndoes : (Board → Board → Board) → Objects → Objects → Type 0
+HeapUndoes step v w = (held : List ℕ) (asked : Asked) → Undoes step (parts v held asked) (parts w held asked)
+
+-- a device acts, and its clock loses its source and stands still
+abbrev pub stopped : ℕ → Board → Board
+stopped d c = disconnected (clock_of c d) (acted Unrealize d (device_period c d) c)
+
 -- a step on an object, if there is one
 abbrev pub on_one : (ℕ → Board → Board) → Option ℕ → Board → Board
 on_one f None c = c
@@ -88,3 +98,10 @@ buses_within b levels d i c = each (bus_within b levels) (first_buses b d i) c
 
 unfoldable pub kids_within : Board → ℕ → ℕ → ℕ → Board → Board
 kids_within b levels m i c = each (device_within b levels) (first_kids b m i) c
+
+-- the kid in a slot of a bus is unrealized, if there is one; the bus in a slot of a device
+abbrev pub kid_undone : Board → ℕ → ℕ → ℕ → Board → Board
+kid_undone b levels m i c = on_one (device_within b levels) (kid_in_place b m i) c
+
+abbrev pub bus_undone : Board → ℕ → ℕ → ℕ → Board → Board
+bus_undone b levels d i c = on_one (bus_within b levels) (bus_at b d i) c

@@ -30,12 +30,7 @@ fn first_kid_of<L: Ledger>(heap: &Heap, bus: u64, steps: &mut Steps<L>) -> Optio
 
 /// The first kid of the bus of a birth is taken apart, if there is one; `false` where there is none.
 #[cycle(apart)]
-fn take_first_kid<L: Ledger>(
-    heap: &mut Heap,
-    bus: u64,
-    levels: usize,
-    steps: &mut Steps<L>,
-) -> bool
+fn take_first_kid<L: Ledger>(heap: &mut Heap, bus: u64, levels: usize, steps: &mut Steps<L>) -> bool
     requires { HasRoom heap.old levels }
     ensures goes { Goes (first_apart levels bus) heap.old heap.new }
     ensures none { result ≡ false → (b : Board) (log : Log) → Shows b (with_log log heap.new) → first_of (kids_of b bus) ≡ None }
@@ -65,13 +60,7 @@ fn drain<L: Ledger>(heap: &mut Heap, bus: Oid, levels: usize, steps: &mut Steps<
 
 /// A bus of a device is lost: its kids are taken apart, and it is let go.
 #[cycle(apart)]
-fn lose_bus<L: Ledger>(
-    heap: &mut Heap,
-    dev: Oid,
-    bus: Oid,
-    levels: usize,
-    steps: &mut Steps<L>,
-)
+fn lose_bus<L: Ledger>(heap: &mut Heap, dev: Oid, bus: Oid, levels: usize, steps: &mut Steps<L>)
     requires live { IsLive heap.old.rows dev }
     requires pinned { 0 < held_times heap.old dev.birth }
     requires bus { IsLive heap.old.rows bus }
@@ -84,12 +73,7 @@ fn lose_bus<L: Ledger>(
 
 /// The first bus of a device is lost, if there is one; `false` where there is none.
 #[cycle(apart)]
-fn lose_first_bus<L: Ledger>(
-    heap: &mut Heap,
-    dev: Oid,
-    levels: usize,
-    steps: &mut Steps<L>,
-) -> bool
+fn lose_first_bus<L: Ledger>(heap: &mut Heap, dev: Oid, levels: usize, steps: &mut Steps<L>) -> bool
     requires live { IsLive heap.old.rows dev }
     requires pinned { 0 < held_times heap.old dev.birth }
     requires room { HasRoom heap.old levels }

@@ -1,12 +1,11 @@
 //! The claims of a device, which are free once it is unrealized.
 
-ghost use Rattle.std.specs.Prelude.{◌≡◌, ℕ, List, Some, option_map};
+ghost use Rattle.std.specs.Prelude.{◌≡◌, Some, option_map};
 ghost use Rattle.qo_kinds.specs.Bodies.{kept_of, none_kept, with_kept};
-ghost use Rattle.qo_hotplug.specs.Asked.{Asked};
 ghost use Rattle.qo_object.specs.Content.{Content};
 ghost use Rattle.qo_table.specs.Rows.{IsLive};
 ghost use Rattle.qo_heap.specs.Objects.{content_of, with_edit, without_kept, without_one};
-ghost use Rattle.qo_unplug.specs.Unrealizing.{Undoes, parts};
+ghost use Rattle.qo_unplug.specs.Unrealizing.{HeapUndoes};
 
 use qo_claims::{Claims, Kept};
 use qo_heap::{Heap, Oid, Steps};
@@ -52,7 +51,8 @@ fn take_claims<L: Ledger>(heap: &mut Heap, o: Oid, steps: &mut Steps<L>) -> Kept
 /// Ends the claims that the body of an object keeps; no board sees it.
 pub fn free_claims<L: Ledger>(heap: &mut Heap, o: Oid, steps: &mut Steps<L>)
     requires { IsLive heap.old.rows o }
-    ensures { (held : List ℕ) (asked : Asked) → Undoes (λ _ c. c) (parts heap.old held asked) (parts heap.new held asked) }
+    ensures bare { option_map (λ c. kept_of c.body) (content_of heap.new o.birth) ≡ Some none_kept }
+    ensures undoes { HeapUndoes (λ _ c. c) heap.old heap.new }
 {
     heap.facts();
     let kept = take_claims(heap, o, steps);

@@ -34,7 +34,8 @@ pub fn detach<L: Ledger>(
     requires live { IsLive heap.old.rows dev }
     requires still { Timerless heap.old }
     requires pins { (n : ℕ) → pins_of heap.old n ≤ 1 }
-    ensures shown { (b : Board) → Beside b heap.old resets.old.births hotplug.old → Beside (detach b dev.birth) heap.new resets.new.births hotplug.new }
+    ensures shown { (b : Board) → Beside b heap.old resets.old.births hotplug.old →
+        Beside (detach b dev.birth) heap.new resets.new.births hotplug.new }
     ensures book { KeepsBook heap.old heap.new }
     ensures names { KeepsNames heap.old heap.new }
     ensures pins { pins_in heap.new.rows ≡ pins_in heap.old.rows }

@@ -1,16 +1,17 @@
 //! The own step of a bus, and of a device, that is unrealized (include/hw/qdev-core.h,
 //! "Realization").
 
-ghost use Rattle.std.specs.Prelude.{ℕ, false, List, codes};
+ghost use Rattle.std.specs.Prelude.{◌≡◌, ℕ, false, codes, Some, option_map};
 ghost use Rattle.qo_values.specs.declared.kinds.Act.TheVariants.{Unrealize};
 ghost use Rattle.qo_values.specs.declared.properties.Val.TheVariants as val;
-ghost use Rattle.qo_model.specs.Clocks.{acted, device_period};
-ghost use Rattle.qo_model.specs.Devices.{clock_of};
-ghost use Rattle.qo_model.specs.Unplug.{disconnected, set_named, unrealized_bus, unrealized_device};
+ghost use Rattle.qo_kinds.specs.Bodies.{kept_of, none_kept};
+ghost use Rattle.qo_model.specs.Clocks.{acted};
+ghost use Rattle.qo_model.specs.Unplug.{set_named, unrealized_bus, unrealized_device};
 ghost use Rattle.qo_hotplug.specs.Asked.{Asked};
 ghost use Rattle.qo_table.specs.Rows.{IsLive};
+ghost use Rattle.qo_heap.specs.Objects.{content_of};
 ghost use Rattle.qo_unplug.specs.Timerless.{Timerless};
-ghost use Rattle.qo_unplug.specs.Unrealizing.{Undoes, parts};
+ghost use Rattle.qo_unplug.specs.Unrealizing.{HeapUndoes, Undoes, parts, stopped};
 
 use crate::claims::free_claims;
 use qo_buses::{clock_of, set_named};
@@ -25,7 +26,7 @@ use std::sync::ledger::Ledger;
 fn act<L: Ledger>(heap: &mut Heap, o: Oid, steps: &mut Steps<L>)
     requires live { IsLive heap.old.rows o }
     requires still { Timerless heap.old }
-    ensures { (period : ℕ) (held : List ℕ) (asked : Asked) → Undoes (λ _ c. acted Unrealize o.birth period c) (parts heap.old held asked) (parts heap.new held asked) }
+    ensures { (period : ℕ) → HeapUndoes (λ _ c. acted Unrealize o.birth period c) heap.old heap.new }
 {
     heap.act(o, Act::Unrealize, 0, steps);
 }
@@ -34,7 +35,8 @@ fn act<L: Ledger>(heap: &mut Heap, o: Oid, steps: &mut Steps<L>)
 pub fn end_bus<L: Ledger>(heap: &mut Heap, resets: &mut Resets, bus: Oid, steps: &mut Steps<L>)
     requires live { IsLive heap.old.rows bus }
     requires still { Timerless heap.old }
-    ensures { (asked : Asked) → Undoes (λ _. unrealized_bus bus.birth) (parts heap.old resets.old.births asked) (parts heap.new resets.new.births asked) }
+    ensures { (asked : Asked) → Undoes (λ _. unrealized_bus bus.birth)
+        (parts heap.old resets.old.births asked) (parts heap.new resets.new.births asked) }
 {
     act(heap, bus, steps);
     resets.gone(bus);
@@ -44,7 +46,7 @@ pub fn end_bus<L: Ledger>(heap: &mut Heap, resets: &mut Resets, bus: Oid, steps:
 fn stop<L: Ledger>(heap: &mut Heap, dev: Oid, steps: &mut Steps<L>)
     requires live { IsLive heap.old.rows dev }
     requires still { Timerless heap.old }
-    ensures { (held : List ℕ) (asked : Asked) → Undoes (λ _ c. disconnected (clock_of c dev.birth) (acted Unrealize dev.birth (device_period c dev.birth) c)) (parts heap.old held asked) (parts heap.new held asked) }
+    ensures { HeapUndoes (λ _. stopped dev.birth) heap.old heap.new }
 {
     let clock = clock_of(heap, dev, steps);
     act(heap, dev, steps);
@@ -56,7 +58,7 @@ fn stop<L: Ledger>(heap: &mut Heap, dev: Oid, steps: &mut Steps<L>)
 /// A device is told to be realized no more.
 fn unset<L: Ledger>(heap: &mut Heap, dev: Oid, steps: &mut Steps<L>)
     requires { IsLive heap.old.rows dev }
-    ensures { (held : List ℕ) (asked : Asked) → Undoes (λ _. set_named dev.birth (codes "realized") (val.Bool false)) (parts heap.old held asked) (parts heap.new held asked) }
+    ensures { HeapUndoes (λ _. set_named dev.birth (codes "realized") (val.Bool false)) heap.old heap.new }
 {
     set_named(heap, dev, "realized", Val::Bool(false), steps);
 }
@@ -72,7 +74,9 @@ pub fn end_device<L: Ledger>(
 )
     requires live { IsLive heap.old.rows dev }
     requires still { Timerless heap.old }
-    ensures { Undoes (λ _. unrealized_device dev.birth) (parts heap.old resets.old.births hotplug.old) (parts heap.new resets.new.births hotplug.new) }
+    ensures bare { option_map (λ c. kept_of c.body) (content_of heap.new dev.birth) ≡ Some none_kept }
+    ensures undoes { Undoes (λ _. unrealized_device dev.birth)
+        (parts heap.old resets.old.births hotplug.old) (parts heap.new resets.new.births hotplug.new) }
 {
     stop(heap, dev, steps);
     unset(heap, dev, steps);

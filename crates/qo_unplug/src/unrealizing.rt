@@ -4,7 +4,7 @@
 ghost use Rattle.std.specs.Prelude.{◌≡◌, ◌+◌, length};
 ghost use Rattle.qo_table.specs.Rows.{IsLive};
 ghost use Rattle.qo_unplug.specs.Timerless.{Timerless};
-ghost use Rattle.qo_unplug.specs.Unrealizing.{Undoes, bus_at, bus_within, device_within, kid_in_place, on_one, parts};
+ghost use Rattle.qo_unplug.specs.Unrealizing.{Undoes, bus_undone, bus_within, device_within, kid_undone, parts};
 
 use crate::ending::{end_bus, end_device};
 use crate::slots::slot_count;
@@ -27,7 +27,8 @@ fn unrealize_kid<L: Ledger>(
 )
     requires live { IsLive heap.old.rows bus }
     requires still { Timerless heap.old }
-    ensures { Undoes (λ b. on_one (device_within b levels) (kid_in_place b bus.birth at)) (parts heap.old resets.old.births hotplug.old) (parts heap.new resets.new.births hotplug.new) }
+    ensures { Undoes (λ b. kid_undone b levels bus.birth at)
+        (parts heap.old resets.old.births hotplug.old) (parts heap.new resets.new.births hotplug.new) }
 {
     if let Some(kid) = kid_in_slot(heap, bus, at, steps) {
         unrealize_device(heap, resets, hotplug, kid, levels, steps);
@@ -46,7 +47,8 @@ fn unrealize_bus<L: Ledger>(
 )
     requires live { IsLive heap.old.rows bus }
     requires still { Timerless heap.old }
-    ensures { Undoes (λ b. bus_within b levels bus.birth) (parts heap.old resets.old.births hotplug.old) (parts heap.new resets.new.births hotplug.new) }
+    ensures { Undoes (λ b. bus_within b levels bus.birth)
+        (parts heap.old resets.old.births hotplug.old) (parts heap.new resets.new.births hotplug.new) }
 {
     let count = slot_count(heap, bus, steps);
     for at in 0..count {
@@ -68,7 +70,8 @@ fn unrealize_bus_at<L: Ledger>(
 )
     requires live { IsLive heap.old.rows dev }
     requires still { Timerless heap.old }
-    ensures { Undoes (λ b. on_one (bus_within b levels) (bus_at b dev.birth at)) (parts heap.old resets.old.births hotplug.old) (parts heap.new resets.new.births hotplug.new) }
+    ensures { Undoes (λ b. bus_undone b levels dev.birth at)
+        (parts heap.old resets.old.births hotplug.old) (parts heap.new resets.new.births hotplug.new) }
 {
     if let Some(bus) = bus_in_slot(heap, dev, at, steps) {
         unrealize_bus(heap, resets, hotplug, bus, levels, steps);
@@ -87,7 +90,8 @@ fn unrealize_device<L: Ledger>(
 )
     requires live { IsLive heap.old.rows dev }
     requires still { Timerless heap.old }
-    ensures { Undoes (λ b. device_within b levels dev.birth) (parts heap.old resets.old.births hotplug.old) (parts heap.new resets.new.births hotplug.new) }
+    ensures { Undoes (λ b. device_within b levels dev.birth)
+        (parts heap.old resets.old.births hotplug.old) (parts heap.new resets.new.births hotplug.new) }
 {
     if levels == 0 {
         return;
@@ -109,7 +113,8 @@ pub fn unrealize<L: Ledger>(
 )
     requires live { IsLive heap.old.rows dev }
     requires still { Timerless heap.old }
-    ensures { Undoes (λ b. device_within b (length heap.old.rows + 1) dev.birth) (parts heap.old resets.old.births hotplug.old) (parts heap.new resets.new.births hotplug.new) }
+    ensures { Undoes (λ b. device_within b (length heap.old.rows + 1) dev.birth)
+        (parts heap.old resets.old.births hotplug.old) (parts heap.new resets.new.births hotplug.new) }
 {
     heap.facts();
     let levels = heap.live() + 1;

@@ -1,7 +1,10 @@
 -- Kids and buses are lost one after another, and who is held stays meanwhile.
-use Rattle.std.proofs.Common.{◌-◌, ◌+◌, ◌<◌, Some, None, arith}
+use Rattle.std.proofs.Common.{◌-◌, ◌+◌, Some, None, arith}
 use Rattle.qo_unplug.specs.Apart.{buses_lost, drained_within, taken_within}
-use Rattle.qo_unplug.proofs.ApartLemmas.{bus-any, buses-done, buses-lost, buses-stopped, buses_left, goes-apart, goes-bus_lost, goes-first_bus, goes-first_kid, goes-no_bus, goes-no_kid, goes-pin, goes-taken, kid-any, kids-done, kids-lost, kids-stopped, kids_left, losing-none, none-apart, pin-left, pin-live, pin-own, pin-room, pinned-of, taken-live, taken-pinned, taken-room}
+use Rattle.qo_unplug.proofs.ApartLemmas.{bus-any, buses-done, buses-lost, buses-stopped, buses_left, goes-apart, goes-bus_lost, goes-first_bus}
+use Rattle.qo_unplug.proofs.ApartLemmas.{goes-first_kid, goes-no_bus, goes-no_kid, goes-pin, goes-taken, kid-any, kids-done, kids-lost, kids-stopped}
+use Rattle.qo_unplug.proofs.ApartLemmas.{kids_left, losing-none, none-apart, pin-left, pin-live, pin-own, pin-room, pinned-of, taken-live}
+use Rattle.qo_unplug.proofs.ApartLemmas.{taken-pinned, taken-room}
 use Rattle.qo_unplug.proofs.TakesLemmas.{takes-buses_lost, takes-drained_within, takes-taken_within}
 use Rattle.qo_unplug.proofs.apart.+apart.Goals as goal
 
@@ -75,11 +78,19 @@ lose_buses-loop-turn-init g t c = losing-none (buses_left c.args.levels c.args.d
 
 pub lose_buses-lose_first_bus-requires : goal.lose_buses-lose_first_bus-requires
 lose_buses-lose_first_bus-requires g t c κs within =
-    let l = c.loop-turn.invariant in
-    (omega arith, (within,
-    (taken-live l.step c.args.heap.now c.loop-turn.heap l.goes l.takes c.args.dev c.requires.live c.requires.pinned,
-    (taken-pinned l.step c.args.heap.now c.loop-turn.heap l.goes l.takes c.args.dev.birth c.requires.pinned,
-    taken-room l.step c.args.heap.now c.loop-turn.heap l.goes l.takes c.args.levels c.requires.room))))
+    let l = c.loop-turn.invariant in (
+      omega arith,
+      (
+        within,
+        (
+          taken-live l.step c.args.heap.now c.loop-turn.heap l.goes l.takes c.args.dev c.requires.live c.requires.pinned,
+          (
+            taken-pinned l.step c.args.heap.now c.loop-turn.heap l.goes l.takes c.args.dev.birth c.requires.pinned,
+            taken-room l.step c.args.heap.now c.loop-turn.heap l.goes l.takes c.args.levels c.requires.room,
+          ),
+        ),
+      ),
+    )
 
 pub lose_buses-loop-turn-preserved : goal.lose_buses-loop-turn-preserved
 lose_buses-loop-turn-preserved g t c =
@@ -121,11 +132,19 @@ take_apart-pin-requires-clause-room g t c = pin-room c.args.heap.now c.args.dev.
 
 pub take_apart-take_out-requires : goal.take_apart-take_out-requires
 take_apart-take_out-requires g t c κs within =
-    let pinned = goes-pin c.args.heap.now c.pin.new.self c.facts.ensures c.args.dev c.requires.live c.pin.ensures.now in
-    (omega arith, (within,
-    (pin-live c.args.heap.now c.pin.new.self c.args.dev.birth c.pin.ensures.now c.args.dev c.requires.live,
-    (pin-own c.args.heap.now c.pin.new.self c.args.dev.birth pinned,
-    pin-left c.args.heap.now c.pin.new.self c.args.dev.birth c.args.levels c.if-levels-eq0.false pinned c.requires.room))))
+    let pinned = goes-pin c.args.heap.now c.pin.new.self c.facts.ensures c.args.dev c.requires.live c.pin.ensures.now in (
+      omega arith,
+      (
+        within,
+        (
+          pin-live c.args.heap.now c.pin.new.self c.args.dev.birth c.pin.ensures.now c.args.dev c.requires.live,
+          (
+            pin-own c.args.heap.now c.pin.new.self c.args.dev.birth pinned,
+            pin-left c.args.heap.now c.pin.new.self c.args.dev.birth c.args.levels c.if-levels-eq0.false pinned c.requires.room,
+          ),
+        ),
+      ),
+    )
 
 pub take_apart-drop_pin-requires-clause-live : goal.take_apart-drop_pin-requires-clause-live
 take_apart-drop_pin-requires-clause-live g t c =

@@ -1,5 +1,5 @@
 -- The body that was there is left without its claims.
-use Rattle.std.proofs.Common.{Some, ap, sym, ◌∙◌, option_map}
+use Rattle.std.proofs.Common.{ap, sym, ◌∙◌, option_map}
 use Rattle.std.proofs.lemmas.Option.{same_Some}
 use Rattle.qo_kinds.specs.Bodies.{none_kept, with_kept}
 use Rattle.qo_kinds.specs.declared.bodies.Body.{Body}

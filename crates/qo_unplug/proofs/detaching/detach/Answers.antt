@@ -1,9 +1,10 @@
 -- The device is held, unrealized, taken out, and let go.
-use Rattle.std.proofs.Common.{◌+◌, length, arith}
+use Rattle.std.proofs.Common.{◌+◌, length}
 use Rattle.qo_unplug.specs.Apart.{taken_within}
 use Rattle.qo_unplug.specs.Unrealizing.{device_within}
-use Rattle.qo_unplug.proofs.ApartLemmas.{goes-pin, pin-live, pin-own, pinned-of, taken-live, taken-pinned}
-use Rattle.qo_unplug.proofs.DetachLemmas.{beside-detached, book-detached, detach-room, names-detached, pin-timerless, pins-detached, timerless-detached, unrealized-pinned, unrealized-pins, unrealized-times}
+use Rattle.qo_unplug.proofs.ApartLemmas.{goes-pin, pin-live, pinned-of, taken-live, taken-pinned}
+use Rattle.qo_unplug.proofs.DetachLemmas.{beside-detached, book-detached, detach-room, names-detached, pin-timerless, pins-detached}
+use Rattle.qo_unplug.proofs.DetachLemmas.{timerless-detached, unrealized-pinned, unrealized-pins, unrealized-times}
 use Rattle.qo_unplug.proofs.TakesLemmas.{takes-taken_within}
 use Rattle.qo_unplug.proofs.detaching.detach.Goals as goal
 

@@ -18,8 +18,8 @@ pub free_claims-requires : goal.free_claims-requires
 free_claims-requires g c =
     (c.unset.ensures [] nothing_asked).live c.args.dev ((c.stop.ensures [] nothing_asked).live c.args.dev c.requires.live)
 
-pub returns : goal.returns
-returns g c =
+pub returns-clause-undoes : goal.returns-clause-undoes
+returns-clause-undoes g c =
     let n = c.args.dev.birth in
     let held = c.args.resets.now.births in
     let asked = c.args.hotplug.now in
@@ -34,6 +34,6 @@ returns g c =
     (undoes-then second (λ _ d. d) (parts c.args.heap.now held asked) (parts c.unset.new.heap held asked) (parts c.free_claims.new.heap held asked)
     (undoes-then first (λ _. set_named n (codes "realized") (val.Bool false)) (parts c.args.heap.now held asked) (parts c.stop.new.heap held asked)
     (parts c.unset.new.heap held asked) (c.stop.ensures held asked) (c.unset.ensures held asked))
-    (c.free_claims.ensures held asked))
+    (c.free_claims.ensures.undoes held asked))
     (undoes-unheld n c.free_claims.new.heap held after asked c.gone.ensures.holds))
     (undoes-unnoticed n c.free_claims.new.heap after asked c.gone-2.new.self c.gone-2.ensures)

@@ -1,0 +1,176 @@
+-- What adding a device comes to, by what was done of it.
+use Rattle.std.proofs.Common.{◌≡◌, refl, ap, sym, subst, ◌∙◌, ℕ, suc, ◌+◌, ◌≤◌, true, codes, List, [], ◌∷◌, Option, Some, None, option_map, Err, Result, IfSome, inl, inr, arith}
+use Rattle.std.specs.Prelude.{option_and_then}
+use Rattle.std.specs.List.{AllByRecursion}
+use Rattle.std.proofs.lemmas.Option.{same_Some}
+use Rattle.qo_values.specs.declared.codes.Code.{Code}
+use Rattle.qo_values.specs.declared.kinds.TypeId.{TypeId}
+use Rattle.qo_values.specs.declared.kinds.TypeId.TheVariants.{SlotBridge}
+use Rattle.qo_model.specs.Board.{Board}
+use Rattle.qo_kinds.specs.Bodies.{kept_of}
+use Rattle.qo_kinds.proofs.BodyLemmas.{fresh-bare}
+use Rattle.qo_slots.specs.declared.keys.Key.{Key}
+use Rattle.qo_table.specs.Rows.{IsLive}
+use Rattle.qo_model.specs.Devices.{buses_of}
+use Rattle.qo_model.specs.Paths.{canonical}
+use Rattle.qo_model.specs.Plug.{Plugged, Spot, Wanted, barred_late, bus_births, bus_for, clocked, counted, objects_in, plug_attempt, plug_late, source_for, spot_of, started, stood, with_plugged}
+use Rattle.qo_model.specs.Release.{unpin}
+use Rattle.qo_model.specs.Types.{TypeRow, is_a, row_named, types}
+use Rattle.qo_sound.proofs.PlugLemmas.{IsPlace, place-of}
+use Rattle.qo_heap.specs.Board.{Shows}
+use Rattle.qo_heap.specs.Objects.{Objects, content_of}
+use Rattle.qo_object.specs.Content.{Content, HasNoClaim, fresh}
+use Rattle.qo_properties.specs.Filling.{target_in}
+use Rattle.qo_properties.specs.Start.{KeepsNames}
+use Rattle.qo_properties.specs.declared.adding.filling.Fill.{Fill}
+use Rattle.qo_reset.specs.Phases.{Holds}
+use Rattle.qo_sound.specs.Kept.{SoundTree}
+use Rattle.qo_hotplug.specs.Asked.{Asked}
+use Rattle.qo_plug.specs.declared.adding.Added.{Added}
+use Rattle.qo_plug.specs.declared.admitting.Site.{Site}
+use Rattle.qo_plug.specs.declared.refusals.AddRefusal.{AddRefusal}
+use Rattle.qo_plug.specs.declared.refusals.AddRefusal.TheVariants.{Refused, Memory}
+use Rattle.qo_plug.specs.declared.refusals.Barred.{Barred}
+use Rattle.qo_plug.specs.Added.{IfRefused, IsAdmitted, added, is_built}
+use Rattle.qo_plug.specs.Adding.{IsAdded, IsCut, IsOpen, IsPlugged, IsRefused, turned_down}
+use Rattle.qo_plug.specs.Drafts.{CutShort, bare, held_draft}
+use Rattle.qo_plug.specs.Standing.{Stood, spot_in}
+use Rattle.qo_plug.proofs.AdmitLemmas.{added-late}
+use Rattle.qo_plug.proofs.JudgeLemmas.{built-is}
+use Rattle.qo_plug.proofs.PlugSteps.{counted-path, cut-whole, let-go, plugged-notices, plugged-pending, seat-holds, seat-notices, seated}
+use Rattle.qo_plug.proofs.SeatLemmas.{bridge-buses}
+
+-- a bridge is a device
+bridge-device : is_a SlotBridge (codes "device") ≡ true
+unfolding types
+bridge-device = refl
+
+pub built-device : (t : TypeId) → is_built t ≡ true → is_a t (codes "device") ≡ true
+built-device t built = ap (λ (k : TypeId). is_a k (codes "device")) (sym (built-is t built)) ∙ bridge-device
+
+-- all of it was made, and ended
+pub whole-cut : (b : Board) (t : TypeId) (bus : ℕ) (w : Objects) → Shows (plug_attempt b t bus 0) w → CutShort b t w
+whole-cut b t bus w s = inr (objects_in t, true, omega arith, omega arith, subst (λ (c : Board). Shows c w) (cut-whole b t bus) s)
+
+module _ (b : Board) (a : Wanted) where
+  -- nothing bars the device, and it is plugged in
+  module _ (site : Site) (slot : ℕ) (o : IsOpen b a site slot) where
+    pub open-place : is_built site.kind ≡ true → IsPlace b site.kind a (spot_in site.bus.birth slot)
+    open-place built =
+        subst (IsPlace b site.kind a) o.spot (place-of b site.kind site.bus.birth a (built-device site.kind built) o.admitted.bus o.admitted.early o.late)
+
+    added-plugged : added b a ≡ record { refusal = None; board = with_plugged b site.kind a (spot_in site.bus.birth slot) }
+    added-plugged =
+        added-late b a site.kind o.admitted.kind o.admitted.driver site.bus.birth o.admitted.early o.admitted.bus
+        ∙ ap (plug_late b site.kind site.bus.birth a) o.late
+        ∙ ap (λ (spot : Spot). late_as spot) o.spot
+      where
+        late_as : Spot → Plugged
+        late_as spot = record { refusal = None; board = with_plugged b site.kind a spot }
+
+    pub is-added : (x : Added) (h : Asked) (w : Objects) → IsPlugged b site.kind a (spot_in site.bus.birth slot) h w → x ≡ record { birth = b.born + 1; slot = slot } → IsAdded b a x h w
+    is-added x h w p is =
+        record {
+          refusal = ap (λ (q : Plugged). q.refusal) added-plugged;
+          shown = subst (λ (q : Plugged). Shows q.board w) (sym added-plugged) p.shown;
+          pending = ap (λ (q : Plugged). q.board.pending) added-plugged ∙ p.pending;
+          notices = ap (λ (q : Plugged). q.board.notices) added-plugged ∙ p.notices;
+          birth = ap (λ (y : Added). y.birth) is;
+          slot = own;
+        }
+      where
+        own : (t : TypeId) (bus : ℕ) → option_map (λ (row : TypeRow). row.id) (row_named a.driver) ≡ Some t → bus_for b t a.bus ≡ Some bus → x.slot ≡ (spot_of b t bus a.props).slot
+        own t bus kind goes =
+            let type_is : site.kind ≡ t = same_Some site.kind t (sym o.admitted.kind ∙ kind) in
+            let goes_as : bus_for b site.kind a.bus ≡ Some bus = ap (λ (k : TypeId). bus_for b k a.bus) type_is ∙ goes in
+            let bus_is : site.bus.birth ≡ bus = same_Some site.bus.birth bus (sym o.admitted.bus ∙ goes_as) in
+            ap (λ (y : Added). y.slot) is
+            ∙ ap (λ (s : Spot). s.slot) (sym o.spot)
+            ∙ ap (λ (k : TypeId). (spot_of b k site.bus.birth a.props).slot) type_is
+            ∙ ap (λ (m : ℕ). (spot_of b t m a.props).slot) bus_is
+
+  -- it is refused before an attempt
+  pub refused-early : (T U : Type 0) (r : AddRefusal) (w : Objects) → Shows b w → IfRefused {T = T} (Err r) (λ stage code. added b a ≡ record { refusal = Some (stage, code); board = b })
+      → IfRefused {T = U} (Err r) (λ stage code. IsRefused b a stage code w)
+  refused-early T U (Refused stage code) w s e = record { refusal = ap (λ (q : Plugged). q.refusal) e; shown = subst (λ (q : Plugged). Shows q.board w) (sym e) s }
+  refused-early T U Memory w s e = tt
+
+  -- or behind one
+  module _ (site : Site) (bar : Barred) (admitted : IsAdmitted b a site) (late : Some (bar.stage, bar.code) ≡ barred_late b site.kind site.bus.birth a.props) (w : Objects) where
+    added-refused : added b a ≡ record { refusal = Some (bar.stage, bar.code); board = plug_attempt b site.kind site.bus.birth bar.stage }
+    added-refused =
+        added-late b a site.kind admitted.kind admitted.driver site.bus.birth admitted.early admitted.bus
+        ∙ ap (plug_late b site.kind site.bus.birth a) (sym late)
+
+    pub refused-late : (T : Type 0) (r : AddRefusal) → turned_down b site.kind site.bus.birth bar r w → IfRefused {T = T} (Err r) (λ stage code. IsRefused b a stage code w)
+    refused-late T (Refused stage code) h =
+        record {
+          refusal = ap (λ (q : Plugged). q.refusal) added-refused ∙ (λ i. Some (stage_is i, code_is i));
+          shown = subst (λ (q : Plugged). Shows q.board w) (sym added-refused) h.2;
+        }
+      where
+        stage_is : bar.stage ≡ stage
+        stage_is = sym h.0
+
+        code_is : bar.code ≡ code
+        code_is = sym h.1
+    refused-late T Memory h = tt
+
+    pub cut-late : (r : AddRefusal) → turned_down b site.kind site.bus.birth bar r w → r ≡ Memory → IsCut b a w
+    cut-late (Refused stage code) h e = cc
+    cut-late Memory h e = inr (site.kind, admitted.kind, admitted.driver, admitted.early, h)
+
+-- what a plan names stays
+pub plan-live : (v w : Objects) → KeepsNames v w → (fs : List Fill) → AllByRecursion (λ (f : Fill). IfSome (target_in f) (IsLive v.rows)) fs → AllByRecursion (λ (f : Fill). IfSome (target_in f) (IsLive w.rows)) fs
+plan-live v w keeps [] h = tt
+plan-live v w keeps (f ∷ fs) h = (go (target_in f) h.0, plan-live v w keeps fs h.1)
+  where
+    go : (o : Option Key) → IfSome o (IsLive v.rows) → IfSome o (IsLive w.rows)
+    go None p = tt
+    go (Some key) p = keeps key p
+
+-- how many devices were added does not show in the heap
+counted-shown : (id : Option (List ℕ)) (c : Board) (w : Objects) → Shows c w → Shows (counted id c) w
+counted-shown None c w s = record { records = s.records; born = s.born; pins = s.pins; notes = s.notes; events = s.events; now = s.now }
+counted-shown (Some id) c w s = s
+
+-- a bridge that stands starts, and is let go
+module _ (b : Board) (t : TypeId) (sound : SoundTree b) (built : is_built t ≡ true) (a : Wanted) (bus slot : ℕ) where
+  abbrev spot : Spot
+  spot = spot_in bus slot
+
+  abbrev here : Board
+  here = seated b t sound a spot
+
+  abbrev n : ℕ
+  n = b.born + 1
+
+  own-buses : buses_of here n ≡ bus_births n t
+  own-buses =
+      subst (λ (k : TypeId). buses_of (counted a.id (clocked (source_for b bus) n (stood b n a spot (held_draft b k)))) n ≡ bus_births n k) (built-is t built)
+      (bridge-buses b sound a spot)
+
+  abbrev Starts : List ℕ → List ℕ → Objects → Objects → ℕ → Type 0
+  Starts holds path w x m = (c : Board) (u : TypeId) → Holds c holds w → buses_of c m ≡ bus_births m u → canonical c m ≡ Some path → Shows (started m u c) x
+
+  abbrev Tells : Asked → Asked → ℕ → Type 0
+  Tells h k m = (c : Board) (u : TypeId) → c.notices ≡ h.notices → (started m u c).notices ≡ k.notices
+
+  abbrev LetsGo : Objects → Objects → ℕ → Type 0
+  LetsGo x y m = (c : Board) → Shows c x → Shows (unpin c m) y
+
+  pub plugged-in : (m : ℕ) → m ≡ b.born + 1 → (path holds : List ℕ) (h k : Asked) (w x y : Objects) → b.holds ≡ holds → b.pending ≡ h.pending → b.notices ≡ h.notices
+      → IsPlace b t a spot → Stood b (held_draft b t) m a spot path w → Starts holds path w x m → Tells h k m → k.pending ≡ h.pending → LetsGo x y m → IsPlugged b t a spot k y
+  plugged-in m is path holds h k w x y held pending notices place stood_at starts tells kept goes =
+      let own : Stood b (held_draft b t) n a spot path w = subst (λ (i : ℕ). Stood b (held_draft b t) i a spot path w) is stood_at in
+      let begins : Starts holds path w x n = subst (Starts holds path w x) is starts in
+      let told : Tells h k n = subst (Tells h k) is tells in
+      let ends : LetsGo x y n = subst (LetsGo x y) is goes in
+      let shown : Shows here w = counted-shown a.id (clocked (source_for b bus) n (stood b n a spot (held_draft b t))) w own.shown in
+      let path_is : canonical here n ≡ Some path = counted-path a.id (clocked (source_for b bus) n (stood b n a spot (held_draft b t))) n ∙ own.path_is in
+      let started_is : Shows (started n t here) x = begins here t (shown, seat-holds b t sound a spot ∙ held) own-buses path_is in
+      record {
+        shown = subst (λ (c : Board). Shows c y) (let-go b t sound a spot place) (ends (started n t here) started_is);
+        pending = plugged-pending b t sound a spot ∙ pending ∙ sym kept;
+        notices = plugged-notices b t sound a spot ∙ told here t (seat-notices b t sound a spot ∙ notices);
+      }

@@ -1,0 +1,98 @@
+-- What bars a device from its properties on, stage by stage.
+use Rattle.std.proofs.Common.{◌≡◌, refl, ap, ap₂, sym, ◌∙◌, ℕ, zero, suc, ◌+◌, ◌<◌, Bool, true, false, not, List, [], ◌∷◌, codes, nat_le, nat_lt, length, Option, Some, None, Result, Ok, Err, arith}
+use Rattle.std.specs.Prelude.{if◌then◌else◌, IfSome, option_and_then}
+use Rattle.std.specs.Option.{option_or}
+use Rattle.std.proofs.lemmas.Option.{same_Some}
+use Rattle.qo_values.specs.Placing.{least}
+use Rattle.qo_values.specs.declared.codes.Code.{Code}
+use Rattle.qo_values.specs.declared.codes.Code.TheVariants.{E28, E29, E30, E42, E44}
+use Rattle.qo_values.specs.declared.kinds.TypeId.{TypeId}
+use Rattle.qo_values.specs.declared.kinds.TypeId.TheVariants.{SlotBridge}
+use Rattle.qo_values.specs.declared.limits.TheConstants.{BUS_SLOTS, NOTICES_MAX}
+use Rattle.qo_model.specs.Board.{Board}
+use Rattle.qo_model.specs.Devices.{kid_name}
+use Rattle.qo_model.specs.Objects.{Given, has_slot, refusal_of}
+use Rattle.qo_model.specs.Plug.{Spot, at_stage, barred_late, first_of, is_free, kind_barred, notice_barred, number_for, place_barred, realize_barred, slot_for, spot_of}
+use Rattle.qo_plug.specs.Added.{is_built}
+
+-- the least number that passes does pass
+least-passes : (test : ℕ → Bool) (first n k : ℕ) → least test first n ≡ Some k → test k ≡ true
+unfolding least
+least-passes test first zero k e = cc
+least-passes test first (suc n) k e = go (test first) refl (least-passes test (first + 1) n k)
+  where
+    go : (t : Bool) → test first ≡ t → (least test (first + 1) n ≡ Some k → test k ≡ true) → test k ≡ true
+    go true p rest = let same : first ≡ k = same_Some first k (rw p at e) in ap test (sym same) ∙ p
+    go false p rest = rest (rw p at e)
+
+flipped : (t : Bool) → not t ≡ true → t ≡ false
+flipped true e = absurd (let clash : false ≡ true = e in cc)
+flipped false e = refl
+
+module _ (b : Board) (bus : ℕ) where
+  pub least-free : (slot : ℕ) → Some slot ≡ least (is_free b bus) 0 BUS_SLOTS → has_slot b bus (kid_name slot) ≡ false
+  least-free slot e = flipped (has_slot b bus (kid_name slot)) (least-passes (is_free b bus) 0 BUS_SLOTS slot (sym e))
+
+  -- the slot
+  abbrev chosen_as : ℕ → Bool → Bool → Result ℕ Code
+  chosen_as slot within free = if within then (if free then Ok slot else Err E29) else Err E28
+
+  pub slot-high : (slot : ℕ) → nat_lt slot BUS_SLOTS ≡ false → slot_for b bus (Some slot) ≡ Err E28
+  slot-high slot over = ap (λ (t : Bool). chosen_as slot t (is_free b bus slot)) over
+
+  pub slot-taken : (slot : ℕ) → nat_lt slot BUS_SLOTS ≡ true → has_slot b bus (kid_name slot) ≡ true → slot_for b bus (Some slot) ≡ Err E29
+  slot-taken slot within taken = ap₂ (chosen_as slot) within (ap not taken)
+
+  pub slot-own : (slot : ℕ) → nat_lt slot BUS_SLOTS ≡ true → has_slot b bus (kid_name slot) ≡ false → slot_for b bus (Some slot) ≡ Ok slot
+  slot-own slot within free = ap₂ (chosen_as slot) within (ap not free)
+
+  pub slot-least : (o : Option ℕ) → o ≡ least (is_free b bus) 0 BUS_SLOTS → slot_for b bus None ≡ (elim o as (λ _. Result ℕ Code) [ None ↦ Err E30 | Some slot ↦ Ok slot ])
+  slot-least o e = ap (λ (p : Option ℕ). elim p as (λ _. Result ℕ Code) [ None ↦ Err E30 | Some slot ↦ Ok slot ]) (sym e)
+
+  -- the place of a bridge
+  module _ (props : List Given) where
+    abbrev asked : Option ℕ
+    asked = number_for props (codes "slot")
+
+    abbrev place_as : Result ℕ Code → Option Code → Option Code
+    place_as slot deep = option_or (elim slot as (λ _. Option Code) [ Ok s ↦ None | Err code ↦ Some code ]) deep
+
+    pub place-slot : (code : Code) → slot_for b bus asked ≡ Err code → Some code ≡ place_barred b SlotBridge bus props
+    place-slot code e = sym (ap (λ (r : Result ℕ Code). place_as r (kind_barred b SlotBridge bus props)) e)
+
+    pub place-depth : (slot : ℕ) (o : Option Code) → slot_for b bus asked ≡ Ok slot → o ≡ kind_barred b SlotBridge bus props → o ≡ place_barred b SlotBridge bus props
+    place-depth slot o e deep = deep ∙ sym (ap (λ (r : Result ℕ Code). place_as r (kind_barred b SlotBridge bus props)) e)
+
+    abbrev spot_as : ℕ → Spot
+    spot_as s = record { bus = bus; slot = s; range = None }
+
+    pub spot-is : (slot : ℕ) → slot_for b bus asked ≡ Ok slot → spot_of b SlotBridge bus props ≡ record { bus = bus; slot = slot; range = None }
+    spot-is slot e = ap (λ (r : Result ℕ Code). spot_as (elim r as (λ _. ℕ) [ Ok s ↦ s | Err code ↦ 0 ])) e
+
+    -- what bars a bridge
+    abbrev late_as : Option Code → Option Code → Option Code → Option (ℕ × Code)
+    late_as given place notices = first_of (at_stage 4 given ∷ at_stage 5 place ∷ at_stage 6 None ∷ at_stage 8 notices ∷ [])
+
+    pub late-given : (code : Code) → Some code ≡ refusal_of b SlotBridge props → Some (4, code) ≡ barred_late b SlotBridge bus props
+    late-given code e = ap (λ (o : Option Code). late_as o (place_barred b SlotBridge bus props) (notice_barred b)) e
+
+    pub late-place : (code : Code) → None ≡ refusal_of b SlotBridge props → Some code ≡ place_barred b SlotBridge bus props → Some (5, code) ≡ barred_late b SlotBridge bus props
+    late-place code given e = ap₂ (λ (o p : Option Code). late_as o p (notice_barred b)) given e
+
+    abbrev notice_as : Bool → Option Code
+    notice_as full = if full then Some E44 else None
+
+    late-notices : (full : Bool) → None ≡ refusal_of b SlotBridge props → None ≡ place_barred b SlotBridge bus props → nat_le NOTICES_MAX (length b.notices) ≡ full
+        → late_as None None (notice_as full) ≡ barred_late b SlotBridge bus props
+    late-notices full given place e = ap₂ (λ (o p : Option Code). late_as o p (notice_as full)) given place ∙ ap (λ (t : Bool). late_as (refusal_of b SlotBridge props) (place_barred b SlotBridge bus props) (notice_as t)) (sym e)
+
+    pub late-full : None ≡ refusal_of b SlotBridge props → None ≡ place_barred b SlotBridge bus props → nat_le NOTICES_MAX (length b.notices) ≡ true → Some (8, E44) ≡ barred_late b SlotBridge bus props
+    late-full given place e = late-notices true given place e
+
+    pub late-open : None ≡ refusal_of b SlotBridge props → None ≡ place_barred b SlotBridge bus props → nat_le NOTICES_MAX (length b.notices) ≡ false → None ≡ barred_late b SlotBridge bus props
+    late-open given place e = late-notices false given place e
+
+-- only bridges are built
+pub built-is : (t : TypeId) → is_built t ≡ true → SlotBridge ≡ t
+built-is SlotBridge e = refl
+built-is t e = absurd (let clash : false ≡ true = e in cc)

@@ -1,0 +1,172 @@
+-- Each step keeps what the ones before it made.
+use Rattle.std.proofs.Common.{◌≡◌, ◌++◌, List, Option, option_map, sym, subst, ◌∙◌}
+use Rattle.std.specs.List.{AllZip}
+use Rattle.qo_table.specs.Rows.{IsLive}
+use Rattle.qo_model.specs.Board.{Board}
+use Rattle.qo_model.specs.Plug.{joined, valued}
+use Rattle.qo_object.specs.Slots.{Named}
+use Rattle.qo_heap.specs.Board.{Shows}
+use Rattle.qo_heap.specs.Book.{IsBook}
+use Rattle.qo_heap.specs.Objects.{Objects}
+use Rattle.qo_properties.specs.Filling.{Fits, IsGiven}
+use Rattle.qo_properties.proofs.FillingLemmas.{all-live}
+use Rattle.qo_properties.proofs.WriteLemmas.{some-live}
+use Rattle.qo_plug.specs.declared.claiming.Label.{Label}
+use Rattle.qo_plug.specs.Drafts.{own_slots_of}
+use Rattle.qo_plug.specs.Standing.{slot_kept, spot_in}
+use Rattle.qo_plug.specs.Taking.{labels_out, taken_out}
+use Rattle.qo_plug.proofs.StandSteps.{alike-then, pinned-same}
+use Rattle.qo_plug.proofs.StandLemmas.{joined-alike, joined-bare, named-alike, named-shown, placed-alike, placed-book, placed-ids, placed-kept, placed-own, placed-shown, reserved-book, reserved-live, reserved-shows, rows-joined, stands, still-unnamed}
+use Rattle.qo_plug.proofs.standing.stand.Goals as goal
+
+pub returns-in_err-taken-clause-book : goal.returns-in_err-taken-clause-book
+returns-in_err-taken-clause-book g c = λ out h.
+    c.in_err-taken.ensures.err out (reserved-book out c.args.heap.now c.reserve_event.new.self c.reserve_event.new.self.events.spare
+    c.reserve_event.ensures.kept h)
+
+pub keep_slot-requires-clause-live : goal.keep_slot-requires-clause-live
+keep_slot-requires-clause-live g c =
+    (joined-alike c.args.heap.now c.join.new.heap c.args.seat.container c.args.seat.bus c.args.device c.args.seat.name c.args.seat.slot (rows-joined
+    c.args.heap.now c.reserve_event.new.self c.take_claims.new.heap c.join.new.heap c.reserve_event.new.self.events.spare c.args.seat.container
+    c.args.seat.bus c.args.device c.args.seat.name c.args.seat.slot c.reserve_event.ensures.kept c.in_ok-taken.ensures.rest
+    c.in-Ok.ensures.now)).names c.args.device c.requires.live
+
+pub keep_slot-requires-clause-bare : goal.keep_slot-requires-clause-bare
+keep_slot-requires-clause-bare g c =
+    joined-bare c.args.heap.now c.join.new.heap c.args.seat.container c.args.seat.bus c.args.device c.args.seat.name c.args.seat.slot (rows-joined
+    c.args.heap.now c.reserve_event.new.self c.take_claims.new.heap c.join.new.heap c.reserve_event.new.self.events.spare c.args.seat.container
+    c.args.seat.bus c.args.device c.args.seat.name c.args.seat.slot c.reserve_event.ensures.kept c.in_ok-taken.ensures.rest c.in-Ok.ensures.now)
+    c.args.device.birth c.requires.new
+
+pub put_values-requires-clause-live : goal.put_values-requires-clause-live
+put_values-requires-clause-live g c =
+    (placed-alike c.args.heap.now c.reserve_event.new.self c.take_claims.new.heap c.join.new.heap c.keep_slot.new.heap
+    c.reserve_event.new.self.events.spare c.args.device c.args.seat.container c.args.seat.bus c.args.seat.name c.args.seat.slot (slot_kept
+    c.in_ok-taken.taken.slot) c.reserve_event.ensures.kept c.in_ok-taken.ensures.rest c.in-Ok.ensures.now c.keep_slot.ensures.rest).names
+    c.args.device c.requires.live
+
+pub put_values-requires-clause-bus : goal.put_values-requires-clause-bus
+put_values-requires-clause-bus g c =
+    (placed-alike c.args.heap.now c.reserve_event.new.self c.take_claims.new.heap c.join.new.heap c.keep_slot.new.heap
+    c.reserve_event.new.self.events.spare c.args.device c.args.seat.container c.args.seat.bus c.args.seat.name c.args.seat.slot (slot_kept
+    c.in_ok-taken.taken.slot) c.reserve_event.ensures.kept c.in_ok-taken.ensures.rest c.in-Ok.ensures.now c.keep_slot.ensures.rest).names
+    c.args.seat.bus c.requires.bus
+
+pub put_values-requires-clause-targets : goal.put_values-requires-clause-targets
+put_values-requires-clause-targets g c =
+    all-live (IsLive c.args.heap.now.rows) (IsLive c.keep_slot.new.heap.rows) (placed-alike c.args.heap.now c.reserve_event.new.self
+    c.take_claims.new.heap c.join.new.heap c.keep_slot.new.heap c.reserve_event.new.self.events.spare c.args.device c.args.seat.container
+    c.args.seat.bus c.args.seat.name c.args.seat.slot (slot_kept c.in_ok-taken.taken.slot) c.reserve_event.ensures.kept c.in_ok-taken.ensures.rest
+    c.in-Ok.ensures.now c.keep_slot.ensures.rest).names c.args.plan.items c.requires.targets
+
+pub put_values-requires-clause-fits : goal.put_values-requires-clause-fits
+put_values-requires-clause-fits g c =
+    subst (λ (l : List Named). AllZip Fits c.args.plan.items l) (sym (placed-own c.args.heap.now c.reserve_event.new.self c.take_claims.new.heap
+    c.join.new.heap c.keep_slot.new.heap c.reserve_event.new.self.events.spare c.args.device c.args.seat.container c.args.seat.bus c.args.seat.name
+    c.args.seat.slot (slot_kept c.in_ok-taken.taken.slot) c.reserve_event.ensures.kept c.in_ok-taken.ensures.rest c.in-Ok.ensures.now
+    c.keep_slot.ensures.rest c.requires.apart)) c.requires.fits
+
+pub keep_label-requires-clause-live : goal.keep_label-requires-clause-live
+keep_label-requires-clause-live g c =
+    (alike-then c.args.heap.now c.keep_slot.new.heap c.put_values.new.heap (placed-alike c.args.heap.now c.reserve_event.new.self
+    c.take_claims.new.heap c.join.new.heap c.keep_slot.new.heap c.reserve_event.new.self.events.spare c.args.device c.args.seat.container
+    c.args.seat.bus c.args.seat.name c.args.seat.slot (slot_kept c.in_ok-taken.taken.slot) c.reserve_event.ensures.kept c.in_ok-taken.ensures.rest
+    c.in-Ok.ensures.now c.keep_slot.ensures.rest) c.put_values.ensures.stays.alike).names c.args.device c.requires.live
+
+pub keep_label-requires-clause-unnamed : goal.keep_label-requires-clause-unnamed
+keep_label-requires-clause-unnamed g c =
+    still-unnamed _ _ (c.put_values.ensures.stays.ids c.args.device.birth ∙ placed-ids c.args.heap.now c.reserve_event.new.self
+    c.take_claims.new.heap c.join.new.heap c.keep_slot.new.heap c.reserve_event.new.self.events.spare c.args.device c.args.seat.container
+    c.args.seat.bus c.args.seat.name c.args.seat.slot (slot_kept c.in_ok-taken.taken.slot) c.reserve_event.ensures.kept c.in_ok-taken.ensures.rest
+    c.in-Ok.ensures.now c.keep_slot.ensures.rest c.args.device.birth) c.requires.new
+
+pub connect_clock-requires-clause-live : goal.connect_clock-requires-clause-live
+connect_clock-requires-clause-live g c =
+    (alike-then c.args.heap.now c.put_values.new.heap c.keep_label.new.heap (alike-then c.args.heap.now c.keep_slot.new.heap c.put_values.new.heap
+    (placed-alike c.args.heap.now c.reserve_event.new.self c.take_claims.new.heap c.join.new.heap c.keep_slot.new.heap
+    c.reserve_event.new.self.events.spare c.args.device c.args.seat.container c.args.seat.bus c.args.seat.name c.args.seat.slot (slot_kept
+    c.in_ok-taken.taken.slot) c.reserve_event.ensures.kept c.in_ok-taken.ensures.rest c.in-Ok.ensures.now c.keep_slot.ensures.rest)
+    c.put_values.ensures.stays.alike) (named-alike c.put_values.new.heap c.keep_label.new.heap c.args.device.birth (option_map (λ (l : Label). l.id)
+    c.in_ok-taken.taken.label) c.keep_label.ensures.now)).names c.args.device c.requires.live
+
+pub connect_clock-requires-clause-source : goal.connect_clock-requires-clause-source
+connect_clock-requires-clause-source g c =
+    some-live (IsLive c.reserve_event.new.self.rows) (IsLive c.keep_label.new.heap.rows) (λ key live. (alike-then c.args.heap.now
+    c.put_values.new.heap c.keep_label.new.heap (alike-then c.args.heap.now c.keep_slot.new.heap c.put_values.new.heap (placed-alike c.args.heap.now
+    c.reserve_event.new.self c.take_claims.new.heap c.join.new.heap c.keep_slot.new.heap c.reserve_event.new.self.events.spare c.args.device
+    c.args.seat.container c.args.seat.bus c.args.seat.name c.args.seat.slot (slot_kept c.in_ok-taken.taken.slot) c.reserve_event.ensures.kept
+    c.in_ok-taken.ensures.rest c.in-Ok.ensures.now c.keep_slot.ensures.rest) c.put_values.ensures.stays.alike) (named-alike c.put_values.new.heap
+    c.keep_label.new.heap c.args.device.birth (option_map (λ (l : Label). l.id) c.in_ok-taken.taken.label) c.keep_label.ensures.now)).names key
+    (reserved-live c.args.heap.now c.reserve_event.new.self c.take_claims.new.heap c.join.new.heap c.keep_slot.new.heap
+    c.reserve_event.new.self.events.spare c.args.device c.args.seat.container c.args.seat.bus c.args.seat.name c.args.seat.slot (slot_kept
+    c.in_ok-taken.taken.slot) c.reserve_event.ensures.kept c.in_ok-taken.ensures.rest c.in-Ok.ensures.now c.keep_slot.ensures.rest key live))
+    c.source_of-source.result c.source_of-source.ensures.live
+
+pub returns-in-Ok-clause-stood : goal.returns-in-Ok-clause-stood
+returns-in-Ok-clause-stood g c = λ b d a s seat same told.
+    let here : Board = joined b c.args.device.birth a (spot_in c.args.seat.bus.birth c.args.seat.slot) d in
+    let first : Shows d c.reserve_event.new.self =
+    reserved-shows d c.args.heap.now c.reserve_event.new.self c.reserve_event.new.self.events.spare c.reserve_event.ensures.kept s in
+    let given : AllZip (IsGiven b a.props) c.args.plan.items (own_slots_of c.keep_slot.new.heap c.args.device.birth) =
+    subst (λ (l : List Named). AllZip (IsGiven b a.props) c.args.plan.items l) (sym (placed-own c.args.heap.now c.reserve_event.new.self
+    c.take_claims.new.heap c.join.new.heap c.keep_slot.new.heap c.reserve_event.new.self.events.spare c.args.device c.args.seat.container
+    c.args.seat.bus c.args.seat.name c.args.seat.slot (slot_kept c.in_ok-taken.taken.slot) c.reserve_event.ensures.kept c.in_ok-taken.ensures.rest
+    c.in-Ok.ensures.now c.keep_slot.ensures.rest c.requires.apart)) told in
+    let valued_is : Shows (valued b c.args.device.birth a.props (spot_in c.args.seat.bus.birth c.args.seat.slot) here) c.put_values.new.heap =
+    c.put_values.ensures.shown b here a.props (placed-kept c.args.heap.now c.reserve_event.new.self c.take_claims.new.heap c.join.new.heap
+    c.keep_slot.new.heap c.reserve_event.new.self.events.spare c.args.device c.args.seat.container c.args.seat.bus c.args.seat.name c.args.seat.slot
+    (slot_kept c.in_ok-taken.taken.slot) c.reserve_event.ensures.kept c.in_ok-taken.ensures.rest c.in-Ok.ensures.now c.keep_slot.ensures.rest b d a
+    c.args.id s seat) given in
+    stands b d a c.args.device c.args.seat.bus c.args.seat.slot c.in-Ok.path c.keep_label.new.heap c.connect_clock.new.heap c.source_of-source.result
+    (c.in-Ok.ensures.path here (placed-shown c.args.heap.now c.reserve_event.new.self c.take_claims.new.heap c.join.new.heap c.keep_slot.new.heap
+    c.reserve_event.new.self.events.spare c.args.device c.args.seat.container c.args.seat.bus c.args.seat.name c.args.seat.slot (slot_kept
+    c.in_ok-taken.taken.slot) c.reserve_event.ensures.kept c.in_ok-taken.ensures.rest c.in-Ok.ensures.now c.keep_slot.ensures.rest b d a c.args.id s
+    seat)) (named-shown (valued b c.args.device.birth a.props (spot_in c.args.seat.bus.birth c.args.seat.slot) here) c.put_values.new.heap
+    c.keep_label.new.heap c.args.device.birth a.id (option_map (λ (l : Label). l.id) c.in_ok-taken.taken.label) c.keep_label.ensures.now (seat.id_is
+    ∙ sym c.in_ok-taken.ensures.id) valued_is) (c.source_of-source.ensures.source d first) (c.source_of-source.ensures.none d first)
+    c.connect_clock.ensures.shown c.connect_clock.ensures.none same
+
+pub returns-in-Ok-clause-names : goal.returns-in-Ok-clause-names
+returns-in-Ok-clause-names g c =
+    (alike-then c.args.heap.now c.keep_label.new.heap c.connect_clock.new.heap (alike-then c.args.heap.now c.put_values.new.heap
+    c.keep_label.new.heap (alike-then c.args.heap.now c.keep_slot.new.heap c.put_values.new.heap (placed-alike c.args.heap.now
+    c.reserve_event.new.self c.take_claims.new.heap c.join.new.heap c.keep_slot.new.heap c.reserve_event.new.self.events.spare c.args.device
+    c.args.seat.container c.args.seat.bus c.args.seat.name c.args.seat.slot (slot_kept c.in_ok-taken.taken.slot) c.reserve_event.ensures.kept
+    c.in_ok-taken.ensures.rest c.in-Ok.ensures.now c.keep_slot.ensures.rest) c.put_values.ensures.stays.alike) (named-alike c.put_values.new.heap
+    c.keep_label.new.heap c.args.device.birth (option_map (λ (l : Label). l.id) c.in_ok-taken.taken.label) c.keep_label.ensures.now))
+    c.connect_clock.ensures.stays.alike).names
+
+pub returns-in-Ok-clause-paths : goal.returns-in-Ok-clause-paths
+returns-in-Ok-clause-paths g c =
+    (alike-then c.args.heap.now c.keep_label.new.heap c.connect_clock.new.heap (alike-then c.args.heap.now c.put_values.new.heap
+    c.keep_label.new.heap (alike-then c.args.heap.now c.keep_slot.new.heap c.put_values.new.heap (placed-alike c.args.heap.now
+    c.reserve_event.new.self c.take_claims.new.heap c.join.new.heap c.keep_slot.new.heap c.reserve_event.new.self.events.spare c.args.device
+    c.args.seat.container c.args.seat.bus c.args.seat.name c.args.seat.slot (slot_kept c.in_ok-taken.taken.slot) c.reserve_event.ensures.kept
+    c.in_ok-taken.ensures.rest c.in-Ok.ensures.now c.keep_slot.ensures.rest) c.put_values.ensures.stays.alike) (named-alike c.put_values.new.heap
+    c.keep_label.new.heap c.args.device.birth (option_map (λ (l : Label). l.id) c.in_ok-taken.taken.label) c.keep_label.ensures.now))
+    c.connect_clock.ensures.stays.alike).paths c.args.device.birth
+
+pub returns-in-Ok-clause-pinned : goal.returns-in-Ok-clause-pinned
+returns-in-Ok-clause-pinned g c =
+    pinned-same c.args.heap.now c.connect_clock.new.heap c.facts.ensures c.facts-in-Ok.ensures (alike-then c.args.heap.now c.keep_label.new.heap
+    c.connect_clock.new.heap (alike-then c.args.heap.now c.put_values.new.heap c.keep_label.new.heap (alike-then c.args.heap.now c.keep_slot.new.heap
+    c.put_values.new.heap (placed-alike c.args.heap.now c.reserve_event.new.self c.take_claims.new.heap c.join.new.heap c.keep_slot.new.heap
+    c.reserve_event.new.self.events.spare c.args.device c.args.seat.container c.args.seat.bus c.args.seat.name c.args.seat.slot (slot_kept
+    c.in_ok-taken.taken.slot) c.reserve_event.ensures.kept c.in_ok-taken.ensures.rest c.in-Ok.ensures.now c.keep_slot.ensures.rest)
+    c.put_values.ensures.stays.alike) (named-alike c.put_values.new.heap c.keep_label.new.heap c.args.device.birth (option_map (λ (l : Label). l.id)
+    c.in_ok-taken.taken.label) c.keep_label.ensures.now)) c.connect_clock.ensures.stays.alike).pins c.args.device.birth
+
+pub returns-in-Ok-clause-book : goal.returns-in-Ok-clause-book
+returns-in-Ok-clause-book g c = λ out h.
+    c.connect_clock.ensures.stays.book out (c.keep_label.ensures.book out (c.put_values.ensures.stays.book (labels_out c.in_ok-taken.taken.label ++
+    out) (placed-book c.args.heap.now c.reserve_event.new.self c.take_claims.new.heap c.join.new.heap c.keep_slot.new.heap
+    c.reserve_event.new.self.events.spare c.args.device c.args.seat.container c.args.seat.bus c.args.seat.name c.args.seat.slot (slot_kept
+    c.in_ok-taken.taken.slot) c.reserve_event.ensures.kept c.in_ok-taken.ensures.rest c.in-Ok.ensures.now c.keep_slot.ensures.rest
+    c.in_ok-taken.taken.slot (labels_out c.in_ok-taken.taken.label) out c.keep_slot.ensures.book (c.in_ok-taken.ensures.book out (reserved-book out
+    c.args.heap.now c.reserve_event.new.self c.reserve_event.new.self.events.spare c.reserve_event.ensures.kept h)))))
+
+pub returns-in-Err-clause-book : goal.returns-in-Err-clause-book
+returns-in-Err-clause-book g c = λ out h.
+    c.give_back.ensures.book out (subst (λ (x : Objects). IsBook (taken_out c.in_ok-taken.taken ++ out) x) (sym c.in-Err.ensures.err)
+    (c.in_ok-taken.ensures.book out (reserved-book out c.args.heap.now c.reserve_event.new.self c.reserve_event.new.self.events.spare
+    c.reserve_event.ensures.kept h)))

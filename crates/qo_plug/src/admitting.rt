@@ -1,0 +1,216 @@
+//! Whether a device is admitted: what bars it before anything of it is made, and where it is to go.
+
+ghost use Rattle.std.specs.Prelude.{◌≡◌, ℕ, List, true, false, Some, None, IfOk, OnOk, map, option_map};
+ghost use Rattle.qo_values.specs.declared.births.TheConstants.{ANONYMOUS_BIRTH, PERIPHERAL_BIRTH};
+ghost use Rattle.qo_values.specs.Ids.{is_id};
+ghost use Rattle.qo_model.specs.Board.{Board};
+ghost use Rattle.qo_model.specs.Objects.{Given};
+ghost use Rattle.qo_model.specs.Plug.{id_barred, id_refused};
+ghost use Rattle.qo_model.specs.Types.{row_named};
+ghost use Rattle.qo_table.specs.Rows.{IsLive};
+ghost use Rattle.qo_heap.specs.Board.{Shows};
+ghost use Rattle.qo_properties.specs.Changes.{refusal_in};
+ghost use Rattle.qo_plug.specs.Added.{IfRefused, IsAdmitted, IsPlaced, added, driver_barred, is_built, wanted};
+
+use crate::barring::{device_kind, open_bus, room, vacant};
+use crate::refusals::AddRefusal;
+use qo_buses::{anonymous_name, device_named};
+use qo_heap::{Heap, Oid, Steps};
+use qo_properties::name_of;
+use qo_values::{ANONYMOUS_BIRTH, Code, Id, IdError, Name, PERIPHERAL_BIRTH, TypeId};
+use std::alloc::Global;
+use std::sync::ledger::Ledger;
+
+/// The place of a new device in the tree.
+#[derive(Drop)]
+pub struct Place {
+    /// The container that it is to be a child of.
+    pub container: Oid,
+    /// Its name there.
+    pub name: Name,
+    /// Its id, if it has one.
+    pub id: Option<Id>,
+}
+
+/// Where an admitted device is to go.
+#[derive(Drop)]
+pub struct Site {
+    /// Its type.
+    pub kind: TypeId,
+    /// Its place in the tree.
+    pub place: Place,
+    /// The bus that it is to be plugged into.
+    pub bus: Oid,
+}
+
+/// Whether the devices of a type are built.
+pub(crate) fn is_built(kind: TypeId) -> bool
+    ensures { result ≡ is_built kind }
+{
+    matches!(kind, TypeId::SlotBridge)
+}
+
+/// The type of a name, where it is one of devices that are built. `E20` comes where no type has the
+/// name, `E21` where it is abstract, `E22` where it is not one of devices, or of devices that are not
+/// built.
+fn driver_kind(driver: &str) -> Result<TypeId, Code>
+    ensures kind { IfOk result (λ kind. option_map (λ r. r.id) (row_named driver.now) ≡ Some kind) }
+    ensures built { IfOk result (λ kind. is_built kind ≡ true) }
+    ensures refused { refusal_in result ≡ driver_barred driver.now }
+{
+    match device_kind(driver) {
+        Ok(kind) => {
+            if is_built(kind) {
+                Ok(kind)
+            } else {
+                Err(Code::E22)
+            }
+        }
+        Err(code) => Err(code),
+    }
+}
+
+/// The id that a text is, where no device has it. `E23` comes where the text is no id, `E24` where a
+/// device has it.
+fn free_id<L: Ledger>(
+    heap: &Heap,
+    text: &str,
+    alloc: Global,
+    steps: &mut Steps<L>,
+) -> Result<Id, AddRefusal>
+    ensures id { IfOk result (λ id. (id ≡ text.now) × (is_id text.now ≡ true)) }
+    ensures open { OnOk result ((b : Board) → Shows b heap.now → id_refused b (Some text.now) ≡ None) }
+    ensures refused { (b : Board) → Shows b heap.now → IfRefused result (λ stage code. (stage ≡ 2) × (id_refused b (Some text.now) ≡ Some code)) }
+{
+    let id = match Id::parse(alloc, text) {
+        Ok(id) => id,
+        Err(IdError::Malformed) => {
+            return Err(AddRefusal::Refused {
+                stage: 2,
+                code: Code::E23,
+            });
+        }
+        Err(IdError::Memory) => return Err(AddRefusal::Memory),
+    };
+    if device_named(heap, text, steps) {
+        return Err(AddRefusal::Refused {
+            stage: 2,
+            code: Code::E24,
+        });
+    }
+    Ok(id)
+}
+
+/// The place of a device with an id, which is its name in its container.
+fn named_place<L: Ledger>(
+    heap: &Heap,
+    text: &str,
+    alloc: Global,
+    steps: &mut Steps<L>,
+) -> Result<Place, AddRefusal>
+    ensures live { IfOk result (λ p. IsLive heap.now.rows p.container) }
+    ensures place { (b : Board) → IfOk result (IsPlaced b (Some text.now)) }
+    ensures open { OnOk result ((b : Board) → Shows b heap.now → id_barred b (Some text.now) ≡ None) }
+    ensures refused { (b : Board) → Shows b heap.now → IfRefused result (λ stage code. (stage ≡ 2) × (id_barred b (Some text.now) ≡ Some code)) }
+{
+    let id = match free_id(heap, text, alloc, steps) {
+        Ok(id) => id,
+        Err(refusal) => return Err(refusal),
+    };
+    let name = match name_of(text, alloc) {
+        Ok(name) => name,
+        Err(_) => return Err(AddRefusal::Memory),
+    };
+    match vacant(heap, PERIPHERAL_BIRTH, text, steps) {
+        Ok(container) => Ok(Place {
+            container,
+            name,
+            id: Some(id),
+        }),
+        Err(code) => Err(AddRefusal::Refused { stage: 2, code }),
+    }
+}
+
+/// The place of a device without an id: its name tells how many such devices were added before.
+fn anonymous_place<L: Ledger>(
+    heap: &Heap,
+    anonymous: u64,
+    alloc: Global,
+    steps: &mut Steps<L>,
+) -> Result<Place, AddRefusal>
+    ensures live { IfOk result (λ p. IsLive heap.now.rows p.container) }
+    ensures place { (b : Board) → b.anonymous ≡ anonymous → IfOk result (IsPlaced b None) }
+    ensures open { OnOk result ((b : Board) → Shows b heap.now → b.anonymous ≡ anonymous → id_barred b None ≡ None) }
+    ensures refused { (b : Board) → Shows b heap.now → b.anonymous ≡ anonymous → IfRefused result (λ stage code. (stage ≡ 2) × (id_barred b None ≡ Some code)) }
+{
+    let name = match anonymous_name(anonymous, alloc) {
+        Ok(name) => name,
+        Err(_) => return Err(AddRefusal::Memory),
+    };
+    match vacant(heap, ANONYMOUS_BIRTH, name.as_str(), steps) {
+        Ok(container) => Ok(Place {
+            container,
+            name,
+            id: None,
+        }),
+        Err(code) => Err(AddRefusal::Refused { stage: 2, code }),
+    }
+}
+
+/// The place of a device in the tree, by the id that is asked for, if one is.
+fn place_for<L: Ledger>(
+    heap: &Heap,
+    anonymous: u64,
+    id: Option<&str>,
+    alloc: Global,
+    steps: &mut Steps<L>,
+) -> Result<Place, AddRefusal>
+    ensures live { IfOk result (λ p. IsLive heap.now.rows p.container) }
+    ensures place { (b : Board) → b.anonymous ≡ anonymous → IfOk result (IsPlaced b (option_map (λ t. t.now) id.entry)) }
+    ensures open { OnOk result ((b : Board) → Shows b heap.now → b.anonymous ≡ anonymous → id_barred b (option_map (λ t. t.now) id.entry) ≡ None) }
+    ensures refused { (b : Board) → Shows b heap.now → b.anonymous ≡ anonymous → IfRefused result (λ stage code. (stage ≡ 2) × (id_barred b (option_map (λ t. t.now) id.entry) ≡ Some code)) }
+{
+    match id {
+        Some(text) => named_place(heap, text, alloc, steps),
+        None => anonymous_place(heap, anonymous, alloc, steps),
+    }
+}
+
+/// Where a device that is asked for is to go: its type, its place in the tree and its bus, where
+/// nothing bars it before an attempt. `pending` are the devices whose removal is asked for,
+/// `anonymous` is how many devices without an id were added. A refusal is the first in the order of
+/// the stages: of its type (stage 1: `E20`, `E21`, `E22`), its id and its place in the container
+/// (2: `E23`, `E24`, `E15`), its bus (3: `E25`, `E26`, `E27`), and the room for its objects
+/// (4: `E43`); nothing of it is made then.
+pub fn admit<L: Ledger>(
+    heap: &Heap,
+    pending: &[Oid],
+    anonymous: u64,
+    driver: &str,
+    id: Option<&str>,
+    bus: Option<&str>,
+    alloc: Global,
+    steps: &mut Steps<L>,
+) -> Result<Site, AddRefusal>
+    ensures live { IfOk result (λ s. IsLive heap.now.rows s.place.container × IsLive heap.now.rows s.bus) }
+    ensures built { IfOk result (λ s. is_built s.kind ≡ true) }
+    ensures admitted { (b : Board) (props : List Given) → Shows b heap.now → b.pending ≡ map (λ o. o.birth) pending.now → b.anonymous ≡ anonymous → IfOk result (IsAdmitted b (wanted driver.now (option_map (λ t. t.now) id.entry) (option_map (λ t. t.now) bus.entry) props)) }
+    ensures refused { (b : Board) (props : List Given) → Shows b heap.now → b.pending ≡ map (λ o. o.birth) pending.now → b.anonymous ≡ anonymous → IfRefused result (λ stage code. added b (wanted driver.now (option_map (λ t. t.now) id.entry) (option_map (λ t. t.now) bus.entry) props) ≡ record { refusal = Some (stage, code); board = b }) }
+{
+    let kind = match driver_kind(driver) {
+        Ok(kind) => kind,
+        Err(code) => return Err(AddRefusal::Refused { stage: 1, code }),
+    };
+    let place = match place_for(heap, anonymous, id, alloc, steps) {
+        Ok(place) => place,
+        Err(refusal) => return Err(refusal),
+    };
+    let bus = match open_bus(heap, kind, bus, pending, steps) {
+        Ok(bus) => bus,
+        Err(code) => return Err(AddRefusal::Refused { stage: 3, code }),
+    };
+    match room(heap, kind) {
+        Ok(()) => Ok(Site { kind, place, bus }),
+        Err(code) => Err(AddRefusal::Refused { stage: 4, code }),
+    }
+}

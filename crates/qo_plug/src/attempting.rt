@@ -1,0 +1,151 @@
+//! An attempt at a device that is refused: the device is made, and given up with nothing left but its
+//! births and notes. Where the notices refuse it, it is realized and reset before.
+
+ghost use Rattle.std.specs.Prelude.{◌≡◌, ◌+◌, ◌≤◌, ◌<◌, ◌==◌, ℕ, slice_get, IfSome, OnOk, OnErr};
+ghost use Rattle.std.specs.Option.{option_and_then};
+ghost use Rattle.qo_values.specs.declared.kinds.Act.TheVariants.{Exit};
+ghost use Rattle.qo_values.specs.declared.kinds.TypeId.{TypeId};
+ghost use Rattle.qo_model.specs.Board.{Board};
+ghost use Rattle.qo_model.specs.Plug.{plug_attempt};
+ghost use Rattle.qo_model.specs.Reset.{count};
+ghost use Rattle.qo_sound.specs.Kept.{SoundTree};
+ghost use Rattle.qo_table.specs.Rows.{IsLive};
+ghost use Rattle.qo_heap.specs.Acts.{Acts};
+ghost use Rattle.qo_heap.specs.Board.{Shows};
+ghost use Rattle.qo_heap.specs.Objects.{pins_of};
+ghost use Rattle.qo_properties.specs.Claims.{KeepsBook};
+ghost use Rattle.qo_reset.specs.Phases.{walked};
+ghost use Rattle.qo_plug.specs.Attempts.{first_acted, last_acted, let_out, new_bus, new_buses, passed_on};
+ghost use Rattle.qo_plug.specs.Drafts.{CutShort, IsQuiet, held_draft};
+
+use crate::drafting::{give_up, make_device};
+use qo_heap::{Heap, Oid, Steps};
+use qo_life::drop_pin;
+use qo_reset::Resets;
+use qo_types::TypeTable;
+use qo_values::{Act, TypeId};
+use std::alloc::{AllocError, Global};
+use std::sync::ledger::Ledger;
+
+/// The stage at which the notices refuse a device: it was realized before.
+const NOTICES_STAGE: u8 = 8;
+
+/// The bus that the object at a place in the order of births is, if it is one of a new device: of the
+/// device's birth or a later one.
+fn new_bus_at<L: Ledger>(
+    heap: &Heap,
+    place: usize,
+    device: Oid,
+    steps: &mut Steps<L>,
+) -> Option<Oid>
+    ensures bus { result ≡ option_and_then (new_bus device.birth) (slice_get heap.now.rows place) }
+    ensures live { IfSome result (IsLive heap.now.rows) }
+    ensures later { IfSome result (λ o. device.birth ≤ o.birth) }
+{
+    heap.facts();
+    let o = heap.oid_at(place)?;
+    if o.birth < device.birth {
+        return None;
+    }
+    if TypeTable::board().is_a(heap.kind(o, steps), "bus") {
+        return Some(o);
+    }
+    None
+}
+
+/// An act of the buses of a new device, in the order of their births.
+fn act_buses<L: Ledger>(heap: &mut Heap, device: Oid, act: Act, steps: &mut Steps<L>)
+    requires quiet { (n : ℕ) → device.birth ≤ n → IsQuiet heap.old n }
+    ensures { heap.new ≡ walked act (new_buses device.birth heap.old.rows) heap.old }
+{
+    for place in 0..heap.live() {
+        if let Some(bus) = new_bus_at(heap, place, device, steps) {
+            heap.act(bus, act, 0, steps);
+        }
+    }
+}
+
+/// An act of a new device, and then of its buses.
+fn act_first<L: Ledger>(heap: &mut Heap, device: Oid, act: Act, steps: &mut Steps<L>)
+    requires live { IsLive heap.old.rows device }
+    requires quiet { (n : ℕ) → device.birth ≤ n → IsQuiet heap.old n }
+    ensures { heap.new ≡ first_acted act device.birth heap.old }
+{
+    heap.act(device, act, 0, steps);
+    act_buses(heap, device, act, steps);
+}
+
+/// An act of the buses of a new device, and then of the device.
+fn act_last<L: Ledger>(heap: &mut Heap, device: Oid, act: Act, steps: &mut Steps<L>)
+    requires live { IsLive heap.old.rows device }
+    requires quiet { (n : ℕ) → device.birth ≤ n → IsQuiet heap.old n }
+    ensures { heap.new ≡ last_acted act device.birth heap.old }
+{
+    act_buses(heap, device, act, steps);
+    heap.act(device, act, 0, steps);
+}
+
+/// A new device and its buses leave their reset, where no hold is on the bus.
+fn let_out<L: Ledger>(heap: &mut Heap, device: Oid, out: bool, steps: &mut Steps<L>)
+    requires live { IsLive heap.old.rows device }
+    requires quiet { (n : ℕ) → device.birth ≤ n → IsQuiet heap.old n }
+    ensures { heap.new ≡ let_out out device.birth heap.old }
+{
+    if out {
+        act_last(heap, device, Act::Exit, steps);
+    }
+}
+
+/// A new device that stands nowhere is realized, goes through the phases of a reset, to the last one
+/// only where it is told so, and is unrealized, with its buses.
+fn pass<L: Ledger>(heap: &mut Heap, device: Oid, out: bool, steps: &mut Steps<L>)
+    requires live { IsLive heap.old.rows device }
+    requires quiet { (n : ℕ) → device.birth ≤ n → IsQuiet heap.old n }
+    ensures { heap.new ≡ passed_on out device.birth heap.old }
+{
+    act_first(heap, device, Act::Realize, steps);
+    act_last(heap, device, Act::Enter, steps);
+    act_last(heap, device, Act::Hold, steps);
+    let_out(heap, device, out, steps);
+    act_last(heap, device, Act::Unrealize, steps);
+}
+
+/// Gives a new device up that a stage refuses; `out` tells that no hold is on the bus.
+fn refuse<L: Ledger>(heap: &mut Heap, device: Oid, stage: u8, out: bool, steps: &mut Steps<L>)
+    requires live { IsLive heap.old.rows device }
+    requires pinned { 0 < pins_of heap.old device.birth }
+    requires quiet { (n : ℕ) → device.birth ≤ n → IsQuiet heap.old n }
+    ensures shown { (b : Board) (t : TypeId) (bus : ℕ) → SoundTree b → device.birth ≡ b.born + 1 → out ≡ (count b bus == 0) → Shows (held_draft b t) heap.old → Shows (plug_attempt b t bus stage) heap.new }
+    ensures book { KeepsBook heap.old heap.new }
+{
+    if stage == NOTICES_STAGE {
+        pass(heap, device, out, steps);
+        drop_pin(heap, device, steps);
+    } else {
+        give_up(heap, device, steps);
+    }
+}
+
+/// Makes a device of a type for a bus and gives it up, as a stage refuses it: its births and notes
+/// are left. The stage of the notices refuses it once it is realized and reset, to the last phase
+/// only where no hold is on the bus. Where memory wants, the attempt was cut: what was made has
+/// ended.
+pub fn attempt<L: Ledger>(
+    heap: &mut Heap,
+    holds: &Resets,
+    kind: TypeId,
+    bus: Oid,
+    stage: u8,
+    alloc: Global,
+    steps: &mut Steps<L>,
+) -> Result<(), AllocError>
+    ensures ok { OnOk result ((b : Board) → Shows b heap.old → b.holds ≡ holds.now.births → SoundTree b → Shows (plug_attempt b kind bus.birth stage) heap.new) }
+    ensures err { OnErr result ((b : Board) → Shows b heap.old → SoundTree b → CutShort b kind heap.new) }
+    ensures book { KeepsBook heap.old heap.new }
+{
+    heap.facts();
+    let out = holds.count(heap, bus, steps) == 0;
+    let device = make_device(heap, kind, alloc, steps)?;
+    refuse(heap, device, stage, out, steps);
+    Ok(())
+}

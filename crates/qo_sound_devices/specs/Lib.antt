@@ -1,0 +1,2 @@
+pub mod PlacesKept
+pub mod SoundPlaces
