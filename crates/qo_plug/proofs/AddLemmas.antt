@@ -1,22 +1,24 @@
 -- What adding a device comes to, by what was done of it.
-use Rattle.std.proofs.Common.{◌≡◌, refl, ap, sym, subst, ◌∙◌, ℕ, suc, ◌+◌, ◌≤◌, true, codes, List, [], ◌∷◌, Option, Some, None, option_map, Err, Result, IfSome, inl, inr, arith}
+use Rattle.std.proofs.Common.{◌≡◌, refl, ap, sym, subst, ◌∙◌, ℕ, suc, ◌+◌, ◌≤◌, true, codes, List, [], ◌∷◌, Option, Some, None, option_map, Err, Result, IfSome, inl, inr, arith, ◌<◌, ◌==◌, false, find, map}
 use Rattle.std.specs.Prelude.{option_and_then}
 use Rattle.std.specs.List.{AllByRecursion}
+use Rattle.std.proofs.lemmas.Bool.Decides.{nat_tests}
 use Rattle.std.proofs.lemmas.Option.{same_Some}
 use Rattle.qo_values.specs.declared.codes.Code.{Code}
 use Rattle.qo_values.specs.declared.kinds.TypeId.{TypeId}
 use Rattle.qo_values.specs.declared.kinds.TypeId.TheVariants.{SlotBridge}
-use Rattle.qo_model.specs.Board.{Board}
+use Rattle.qo_model.specs.Board.{Board, Record, kind_of}
 use Rattle.qo_kinds.specs.Bodies.{kept_of}
 use Rattle.qo_kinds.proofs.BodyLemmas.{fresh-bare}
 use Rattle.qo_slots.specs.declared.keys.Key.{Key}
 use Rattle.qo_table.specs.Rows.{IsLive}
 use Rattle.qo_model.specs.Devices.{buses_of}
 use Rattle.qo_model.specs.Paths.{canonical}
-use Rattle.qo_model.specs.Plug.{Plugged, Spot, Wanted, barred_late, bus_births, bus_for, clocked, counted, objects_in, plug_attempt, plug_late, source_for, spot_of, started, stood, with_plugged}
+use Rattle.qo_model.specs.Plug.{Plugged, Spot, Wanted, barred_late, bus_births, bus_for, clocked, counted, objects_in, parent_for, plug_attempt, plug_late, source_for, spot_of, started, stood, with_plugged}
 use Rattle.qo_model.specs.Release.{unpin}
 use Rattle.qo_model.specs.Types.{TypeRow, is_a, row_named, types}
 use Rattle.qo_sound.proofs.PlugLemmas.{IsPlace, place-of}
+use Rattle.qo_sound.proofs.ViewLemmas.{AtRest, rest-from_sound}
 use Rattle.qo_heap.specs.Board.{Shows}
 use Rattle.qo_heap.specs.Objects.{Objects, content_of}
 use Rattle.qo_object.specs.Content.{Content, HasNoClaim, fresh}
@@ -38,7 +40,7 @@ use Rattle.qo_plug.specs.Standing.{Stood, spot_in}
 use Rattle.qo_plug.proofs.AdmitLemmas.{added-late}
 use Rattle.qo_plug.proofs.JudgeLemmas.{built-is}
 use Rattle.qo_plug.proofs.PlugSteps.{counted-path, cut-whole, let-go, plugged-notices, plugged-pending, seat-holds, seat-notices, seated}
-use Rattle.qo_plug.proofs.SeatLemmas.{bridge-buses}
+use Rattle.qo_plug.proofs.StartBuses.{plugged-buses}
 
 -- a bridge is a device
 bridge-device : is_a SlotBridge (codes "device") ≡ true
@@ -134,7 +136,18 @@ counted-shown : (id : Option (List ℕ)) (c : Board) (w : Objects) → Shows c w
 counted-shown None c w s = record { records = s.records; born = s.born; pins = s.pins; notes = s.notes; events = s.events; now = s.now }
 counted-shown (Some id) c w s = s
 
--- a bridge that stands starts, and is let go
+counted-buses : (id : Option (List ℕ)) (c : Board) (m : ℕ) → buses_of (counted id c) m ≡ buses_of c m
+counted-buses None c m = refl
+counted-buses (Some id) c m = refl
+
+old-none : (k m : ℕ) → k < m → (rs : List Record) → AllByRecursion (λ x. x ≤ k) (map (λ (r : Record). r.birth) rs) → find (λ (r : Record). r.birth == m) rs ≡ None
+old-none k m less [] low = refl
+old-none k m less (r ∷ rs) low =
+    let lower : r.birth ≤ k = low.0 in
+    let other : (r.birth == m) ≡ false = grind (arith, nat_tests, less, lower) in
+    rw other (old-none k m less rs low.1)
+
+-- a device that stands starts, and is let go
 module _ (b : Board) (t : TypeId) (sound : SoundTree b) (built : is_built t ≡ true) (a : Wanted) (bus slot : ℕ) where
   abbrev spot : Spot
   spot = spot_in bus slot
@@ -145,10 +158,21 @@ module _ (b : Board) (t : TypeId) (sound : SoundTree b) (built : is_built t ≡ 
   abbrev n : ℕ
   n = b.born + 1
 
+  rest : AtRest b
+  rest = rest-from_sound b sound
+
+  -- births 3 and 4 were given when the machine began, and no object has a later birth than the last
+  container-apart : (id : Option (List ℕ)) → (parent_for id == n) ≡ false
+  container-apart None = let begun : 8 ≤ b.born = rest.used.firm.begun in grind (arith, nat_tests, begun)
+  container-apart (Some id) = let begun : 8 ≤ b.born = rest.used.firm.begun in grind (arith, nat_tests, begun)
+
+  none-later : (m : ℕ) → b.born < m → kind_of b m ≡ None
+  none-later m up = ap (option_map (λ (r : Record). r.kind)) (old-none b.born m up b.records rest.used.firm.within)
+
   own-buses : buses_of here n ≡ bus_births n t
   own-buses =
-      subst (λ (k : TypeId). buses_of (counted a.id (clocked (source_for b bus) n (stood b n a spot (held_draft b k)))) n ≡ bus_births n k) (built-is t built)
-      (bridge-buses b sound a spot)
+      counted-buses a.id (clocked (source_for b bus) n (stood b n a spot (held_draft b t))) n
+      ∙ plugged-buses b t a bus slot none-later (built-device t built) (container-apart a.id)
 
   abbrev Starts : List ℕ → List ℕ → Objects → Objects → ℕ → Type 0
   Starts holds path w x m = (c : Board) (u : TypeId) → Holds c holds w → buses_of c m ≡ bus_births m u → canonical c m ≡ Some path → Shows (started m u c) x

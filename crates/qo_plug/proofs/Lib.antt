@@ -8,10 +8,10 @@ pub mod GrowsLemmas
 pub mod JudgeLemmas
 pub mod PassLemmas
 pub mod PlugSteps
-pub mod SeatLemmas
 pub mod SourceLemmas
 pub mod StandBoards
 pub mod StandFills
 pub mod StandLemmas
 pub mod StandSteps
+pub mod StartBuses
 pub mod StartLemmas

@@ -1,19 +1,18 @@
 -- A device that takes its place on a board: what stays of the tree, and of ids and paths.
-use Rattle.std.proofs.Common.{◌≡◌, refl, ap, sym, subst, ◌∙◌, ℕ, zero, suc, Bool, true, false, cond, ◌==◌, codes, List, [], ◌∷◌, map, find, Option, Some, None, option_map}
+use Rattle.std.proofs.Common.{◌≡◌, refl, ap, ◌∙◌, ℕ, zero, suc, Bool, true, false, cond, ◌==◌, codes, List, [], ◌∷◌, map, find, Option, Some, None, option_map}
 use Rattle.std.specs.Prelude.{if◌then◌else◌}
 use Rattle.std.specs.Option.{option_map_or}
 use Rattle.std.specs.Str.{bytes_eq}
 use Rattle.qo_values.specs.Kinds.{type_name}
 use Rattle.qo_values.specs.declared.kinds.TypeId.{TypeId}
-use Rattle.qo_values.specs.declared.kinds.TypeId.TheVariants.{Device}
 use Rattle.qo_values.specs.declared.properties.Val.{Val}
 use Rattle.qo_values.specs.declared.properties.Val.TheVariants as val
 use Rattle.qo_model.specs.Board.{Board, Record, Slot, child, plain, strong, weak, alias, kind_of, record_of, slots_at}
 use Rattle.qo_model.specs.Changes.{add, changed_at, set, with_added, with_changed, with_val}
 use Rattle.qo_model.specs.Devices.{clock_of}
 use Rattle.qo_model.specs.Objects.{Given, given_to, place_from, slot_given}
-use Rattle.qo_model.specs.Paths.{canonical, is_child, is_of, only_of, place_in}
-use Rattle.qo_model.specs.Plug.{Spot, Wanted, clocked, fitted, joined, link_named, source_for, stood, valued, with_body_of, with_given, with_source}
+use Rattle.qo_model.specs.Paths.{canonical, is_child, only_of}
+use Rattle.qo_model.specs.Plug.{Spot, Wanted, fitted, joined, link_named, source_for, stood, valued, with_body_of, with_given, with_source}
 use Rattle.qo_model.specs.Release.{edit, edited}
 use Rattle.qo_model.specs.Types.{is_a}
 use Rattle.qo_model.specs.Unplug.{is_named, set_named}
@@ -108,7 +107,7 @@ tree-link n name m b = go (place_from (is_named name) 0 (slots_at b n)) refl
 tree-given : (b : Board) (n : ℕ) (props : List Given) (c : Board) → SameTree c (edit n (with_given b props) c)
 tree-given b n props c = tree-edit c n (with_given b props) (λ r. refl) (λ r. refl) (λ k r. find-given r.birth k b props r.slots)
 
-tree-source : (source : ℕ) (clock : Option ℕ) (c : Board) → SameTree c (with_source source clock c)
+pub tree-source : (source : ℕ) (clock : Option ℕ) (c : Board) → SameTree c (with_source source clock c)
 tree-source source None c = tree-same c
 tree-source source (Some m) c = tree-link m (codes "source") source c
 
@@ -142,7 +141,7 @@ seated-path b n a bus slot c path is =
 
 -- types stay where objects join
 
-kinds-added : (n : ℕ) (name : List ℕ) (s : Slot) (b : Board) (m : ℕ) → kind_of (add n name s b) m ≡ kind_of b m
+pub kinds-added : (n : ℕ) (name : List ℕ) (s : Slot) (b : Board) (m : ℕ) → kind_of (add n name s b) m ≡ kind_of b m
 unfolding add
 kinds-added n name s b m = read-edit n (with_added name s) (λ r. refl) (λ (o : Option Record). option_map (λ (r : Record). r.kind) o) (λ r. refl) m b.records
 

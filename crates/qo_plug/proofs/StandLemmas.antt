@@ -1,27 +1,26 @@
 -- A device takes its place on the heap: joining and what of it is taken back, and all of it on the boards.
-use Rattle.std.proofs.Common.{◌≡◌, refl, ap, sym, subst, ◌∙◌, ℕ, zero, suc, ◌<◌, Bool, true, false, cond, eqb, List, [], ◌∷◌, ◌++◌, length, filter, remove, Option, Some, None, IfSome, IfNone, option_map, arith}
+use Rattle.std.proofs.Common.{◌≡◌, refl, ap, sym, subst, ◌∙◌, ℕ, ◌+◌, ◌≤◌, Bool, true, false, cond, eqb, List, [], ◌∷◌, ◌++◌, length, remove, Option, Some, None, IfSome, IfNone, option_map, arith}
 use Rattle.std.specs.Prelude.{option_and_then}
-use Rattle.std.specs.List.{AllByRecursion, AllZip}
 use Rattle.std.specs.Option.{option_map_or}
 use Rattle.std.proofs.lemmas.Option.{same_Some}
 use Rattle.qo_values.specs.declared.kinds.TypeId.{TypeId}
 use Rattle.qo_values.specs.declared.kinds.TypeId.TheVariants.{Device}
 use Rattle.qo_slots.specs.declared.keys.Key.{Key}
 use Rattle.qo_claims.specs.declared.claims.Claimed.{Claimed}
-use Rattle.qo_events.specs.Waiting.{Waiting}
 use Rattle.qo_table.specs.Rows.{IsLive, edit, object_at}
-use Rattle.qo_kinds.specs.Bodies.{IsBare}
+use Rattle.qo_kinds.proofs.BodyLemmas.{fresh-bare}
+use Rattle.qo_kinds.specs.Bodies.{IsBare, kept_of}
 use Rattle.qo_kinds.specs.declared.bodies.Body.{Body}
 use Rattle.qo_kinds.specs.declared.kept.KeptSet.{KeptSet}
 use Rattle.qo_model.specs.Board as board
 use Rattle.qo_model.specs.Changes.{add}
 use Rattle.qo_model.specs.Devices.{clock_of, kid_name}
 use Rattle.qo_model.specs.Paths.{canonical}
-use Rattle.qo_model.specs.Plug.{Wanted, joined, name_for, source_for, stood, valued, with_body_of, with_source}
+use Rattle.qo_model.specs.Plug.{Wanted, joined, name_for, source_for, stood, with_body_of, with_source}
 use Rattle.qo_model.specs.Release as release
 use Rattle.qo_object.specs.declared.slots.Slot.{Slot}
 use Rattle.qo_object.specs.declared.slots.Slot.TheVariants.{Child, Link}
-use Rattle.qo_object.specs.Content.{Content, HasNoClaim, cut_at, dropped_at, empty_link_at, with_slot}
+use Rattle.qo_object.specs.Content.{Content, HasNoClaim, cut_at, dropped_at, empty_link_at, fresh, with_slot}
 use Rattle.qo_object.specs.Slots.{Named, is_empty_link, let_go_at, slot_in}
 use Rattle.qo_heap.specs.Board.{Shows}
 use Rattle.qo_heap.specs.Book.{IsBook}
@@ -32,11 +31,10 @@ use Rattle.qo_heap.proofs.HeapLemmas.{edit-same as heap-same}
 use Rattle.qo_heap.proofs.ShowsChanges.{shows-added}
 use Rattle.qo_heap.proofs.ShowsEdits.{shows-edit}
 use Rattle.qo_heap.proofs.ShowsLive.{content-edited, content-other, live-content}
-use Rattle.qo_properties.specs.declared.adding.filling.Fill.{Fill}
-use Rattle.qo_properties.specs.Filling.{Fits, IsGiven, target_in}
-use Rattle.qo_properties.proofs.FillingLemmas.{all-live, edit-twice}
-use Rattle.qo_plug.specs.Drafts.{is_own, own_slots, own_slots_of}
-use Rattle.qo_plug.specs.Standing.{Alike, IsSeat, Stays, Stood, joined_on, kept_in, named, seated, spot_in, with_book}
+use Rattle.qo_properties.proofs.FillingLemmas.{edit-twice}
+use Rattle.qo_plug.specs.Drafts.{bare, is_own, own_slots, own_slots_of}
+use Rattle.qo_plug.specs.Standing.{Alike, IsSeat, Stood, joined_on, kept_in, named, spot_in, with_book}
+use Rattle.qo_plug.proofs.GrowsLemmas.{live-low}
 use Rattle.qo_plug.proofs.StandBoards.{kinds-stood, seated-path, source-missing}
 use Rattle.qo_plug.proofs.StandFills.{edit-on}
 use Rattle.qo_plug.proofs.StandSteps.{alike-edit, alike-kept, alike-then, read-content, shows-book, shows-kept}
@@ -275,3 +273,22 @@ module _ (h0 h1 h2 h3 h4 : Objects) (e : ℕ) (o container bus : Key) (name : Li
 
   pub reserved-live : (key : Key) → IsLive h1.rows key → IsLive h0.rows key
   reserved-live key live = subst (λ (x : Objects). IsLive x.rows key) first live
+
+-- a device as it was made is new, and keeps no path
+pub draft-new : (t : TypeId) (x : Option Content) → option_map bare x ≡ Some (bare (fresh t)) → IfSome x HasNoClaim
+draft-new t None e = tt
+draft-new t (Some c) e =
+    let same : bare c ≡ bare (fresh t) = same_Some (bare c) (bare (fresh t)) e in
+    (ap (λ (d : Content). kept_of d.body) same ∙ fresh-bare t, ap (λ (d : Content). d.device_id) same)
+
+pub draft-pathless : (t : TypeId) (x y : Option Content) → option_map bare x ≡ Some (bare (fresh t)) → option_map (λ (c : Content). c.kept_path) y ≡ option_map (λ (c : Content). c.kept_path) x
+    → option_and_then (λ (c : Content). c.kept_path) y ≡ None
+draft-pathless t x None e same = refl
+draft-pathless t None (Some d) e same = cc
+draft-pathless t (Some c) (Some d) e same =
+    let first : bare c ≡ bare (fresh t) = same_Some (bare c) (bare (fresh t)) e in
+    same_Some d.kept_path c.kept_path same ∙ ap (λ (x : Content). x.kept_path) first
+
+-- what was there before it is another object
+pub draft-apart : (v : Objects) → IsHeap v → (o other : Key) → o.birth ≡ v.born + 1 → IsLive v.rows other → eqb o.birth other.birth ≡ false
+draft-apart v good o other birth live = let low : other.birth ≤ v.born = live-low v good other live in grind (arith, birth, low)

@@ -1,7 +1,7 @@
 -- What the steps of a heap keep, by which a device takes its place.
-use Rattle.std.proofs.Common.{◌≡◌, refl, ap, sym, subst, ◌∙◌, ℕ, zero, suc, ◌+◌, ◌≤◌, ◌<◌, Bool, true, false, cond, eqb, leb, nat_eq, List, [], ◌∷◌, ◌++◌, map, replicate, count_by, Option, Some, None, IfSome, IfNone, option_map, unwrap_or, arith}
+use Rattle.std.proofs.Common.{◌≡◌, refl, ap, sym, subst, ◌∙◌, ℕ, zero, suc, ◌+◌, ◌≤◌, ◌<◌, Bool, true, false, cond, eqb, nat_eq, List, [], ◌∷◌, map, count_by, Option, Some, None, IfSome, IfNone, option_map, unwrap_or, arith}
 use Rattle.std.specs.Prelude.{option_and_then, not}
-use Rattle.std.specs.List.{AllByRecursion, AllZip, list_any}
+use Rattle.std.specs.List.{AllZip, list_any}
 use Rattle.std.specs.Option.{option_map_or}
 use Rattle.std.proofs.lemmas.Bool.{eqb-true}
 use Rattle.std.proofs.lemmas.List.Sums.{sum_by-cons}
@@ -26,7 +26,7 @@ use Rattle.qo_model.specs.Release as release
 use Rattle.qo_model.specs.Unplug.{set_named}
 use Rattle.qo_object.specs.declared.slots.Slot.{Slot}
 use Rattle.qo_object.specs.Content.{Content, with_id}
-use Rattle.qo_object.specs.Shown.{shown, shown_slots}
+use Rattle.qo_object.specs.Shown.{shown}
 use Rattle.qo_object.specs.Slots.{Named}
 use Rattle.qo_heap.specs.Board.{Shows, pins_in, record_of}
 use Rattle.qo_heap.specs.Book.{IsBook, claim_eq, kept_times, one}
@@ -39,7 +39,6 @@ use Rattle.qo_heap.proofs.ShowsReads.{records_of, shows-kind, shows-pinned, show
 use Rattle.qo_life.proofs.TreeLemmas.{heap-with_log, tree, tree-shows}
 use Rattle.qo_life.specs.Life.{Goes, with_log}
 use Rattle.qo_notes.specs.Log.{empty_log}
-use Rattle.qo_properties.specs.Claims.{KeepsBook}
 use Rattle.qo_properties.specs.Filling.{IsGiven}
 use Rattle.qo_properties.specs.Start.{KeepsNames}
 use Rattle.qo_properties.specs.declared.adding.filling.Fill.{Fill}

@@ -10,11 +10,11 @@ use Rattle.qo_values.specs.declared.kinds.TypeId.{TypeId}
 use Rattle.qo_slots.specs.declared.keys.Key.{Key}
 use Rattle.qo_claims.specs.declared.claims.Claimed.{Claimed}
 use Rattle.qo_table.specs.Rows.{IsLive, edit}
-use Rattle.qo_model.specs.Board.{Board, Notice, Record, Slot, child, plain, strong, weak, alias, kind_of, record_of, slots_at}
+use Rattle.qo_model.specs.Board.{Board, Notice, Record, Slot, child, plain, strong, weak, alias, kind_of, slots_at}
 use Rattle.qo_model.specs.Clocks.{acted, with_act_on}
 use Rattle.qo_model.specs.Depth.{by_depth}
 use Rattle.qo_model.specs.Devices.{bus_in, buses_of, clock_name}
-use Rattle.qo_model.specs.Paths.{births, canonical, is_of, place_in, place_of, steps_to, steps_turn}
+use Rattle.qo_model.specs.Paths.{births, canonical, place_in, place_of, steps_to, steps_turn}
 use Rattle.qo_model.specs.Plug.{acted_all, bus_births, started, told_plug}
 use Rattle.qo_model.specs.Plug as plug
 use Rattle.qo_model.specs.Release.{edited}

@@ -1,6 +1,7 @@
 pub mod Added
 pub mod Adding
 pub mod Attempts
+pub mod Cuts
 pub mod Drafts
 pub mod Standing
 pub mod Taking

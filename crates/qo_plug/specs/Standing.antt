@@ -1,7 +1,6 @@
 -- A device takes its place: its container and its bus have it, its own slots have what was given, and it keeps its claims (include/hw/qdev-core.h; docs/devel/qom.rst).
-use Rattle.std.specs.Prelude.{◌≡◌, ◌≤◌, ◌<◌, ℕ, true, if◌then◌else◌, List, [], ◌∷◌, ◌++◌, Option, Some, None, option_map}
+use Rattle.std.specs.Prelude.{◌≡◌, ℕ, true, if◌then◌else◌, List, [], ◌∷◌, Option, Some, None, option_map}
 use Rattle.qo_claims.specs.declared.claims.Claimed.{Claimed}
-use Rattle.qo_claims.specs.declared.claims.Claimed.TheVariants as on
 use Rattle.qo_claims.specs.Held.{Held}
 use Rattle.qo_values.specs.declared.kinds.TypeId.TheVariants.{Device}
 use Rattle.qo_slots.specs.declared.keys.Key.{Key}
@@ -15,7 +14,6 @@ use Rattle.qo_object.specs.declared.slots.Slot.TheVariants.{Child, Link}
 use Rattle.qo_object.specs.Slots.{Named}
 use Rattle.qo_object.specs.Content.{Content, with_slot}
 use Rattle.qo_heap.specs.Board.{Shows, pins_in}
-use Rattle.qo_heap.specs.Book.{IsBook}
 use Rattle.qo_heap.specs.Objects.{Objects, content_of, with_edit}
 use Rattle.qo_properties.specs.Claims.{KeepsBook}
 use Rattle.qo_properties.specs.Filling.{filled_with}

@@ -14,6 +14,8 @@ mod refusals;
 mod standing;
 mod starting;
 #[cfg(test)]
+mod stood_tests;
+#[cfg(test)]
 mod tests;
 
 pub use adding::{Added, add};

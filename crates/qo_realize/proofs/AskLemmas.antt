@@ -8,18 +8,18 @@ use Rattle.qo_model.specs.Board as model
 use Rattle.qo_model.specs.Devices.{child_named}
 use Rattle.qo_model.specs.Objects.{Changed}
 use Rattle.qo_model.specs.Paths.{child_of}
-use Rattle.qo_model.specs.SoundGraph.{graph_of}
 use Rattle.qo_heap.specs.Board.{Shows}
 use Rattle.qo_heap.specs.Objects.{Objects}
 use Rattle.qo_properties.specs.declared.refusals.Refusal.{Refusal}
 use Rattle.qo_properties.specs.declared.refusals.Refusal.TheVariants.{Refused, Memory}
 use Rattle.qo_reset.specs.HoldList.{HoldList}
-use Rattle.qo_sound.specs.Kept.{SoundTree}
+use Rattle.qo_realize.specs.Good.{Good}
 use Rattle.qo_realize.specs.Answers.{Changes}
 use Rattle.qo_realize.specs.Guest.{polled}
+use Rattle.qo_realize.proofs.SoundLemmas.{asked-good}
 use Rattle.qo_realize.specs.Parts.{Parts, parts_of}
 use Rattle.qo_realize.specs.Removals.{Asks, IsAsked, with_asked}
-use Rattle.qo_realize.specs.Stands.{Stands, StandsForSound}
+use Rattle.qo_realize.specs.Stands.{Stands, StandsForGood}
 
 -- the child that a slot names
 pub child-alike : (o : Option Slot) → option_and_then child_named o ≡ option_and_then child_of o
@@ -48,10 +48,6 @@ with_asked-stands b anonymous running holds old new v s =
       book = s.book;
     }
 
-with_asked-sound : (b : Board) (h : Asked) → SoundTree b → SoundTree (with_asked b h)
-unfolding graph_of
-with_asked-sound b h sound = sound
-
 -- what is asked for is the board's
 pub is_asked : (b : Board) (anonymous : ℕ) (running : Bool) (holds : HoldList) (asked : Asked) (v : Objects) → Stands b (parts_of anonymous running holds asked v) → IsAsked b asked
 is_asked b anonymous running holds asked v s = record { pending = s.pending; notices = s.notices }
@@ -69,9 +65,9 @@ asks-stands b anonymous running holds old new v change (Err (Refused code)) s is
 asks-stands b anonymous running holds old new v change (Err Memory) s is same = subst (λ (h : Asked). Stands b (parts_of anonymous running holds h v)) (sym same) s
 
 pub asks-sound : (b : Board) (anonymous : ℕ) (running : Bool) (holds : HoldList) (old new : Asked) (v : Objects) (change : Changed) (result : Result Unit Refusal)
-    → Stands b (parts_of anonymous running holds old v) → SoundTree b → Asks b change result new → OnErr result (new ≡ old)
-    → StandsForSound (parts_of anonymous running holds new v)
-asks-sound b anonymous running holds old new v change (Ok u) s sound is same = (with_asked b new, with_asked-stands b anonymous running holds old new v s, with_asked-sound b new sound)
+    → Stands b (parts_of anonymous running holds old v) → Good b → Asks b change result new → OnErr result (new ≡ old)
+    → StandsForGood (parts_of anonymous running holds new v)
+asks-sound b anonymous running holds old new v change (Ok u) s sound is same = (with_asked b new, with_asked-stands b anonymous running holds old new v s, asked-good b new sound)
 asks-sound b anonymous running holds old new v change (Err e) s sound is same = (b, subst (λ (h : Asked). Stands b (parts_of anonymous running holds h v)) (sym same) s, sound)
 
 pub asks-err : {T E : Type 0} (r : Result T E) (anonymous : ℕ) (running : Bool) (holds : HoldList) (old new : Asked) (v : Objects) (p : Parts)
@@ -93,7 +89,3 @@ polled-stands b anonymous running holds old v s =
       rings = s.rings;
       book = s.book;
     }
-
-pub polled-sound : (b : Board) → SoundTree b → SoundTree (polled b)
-unfolding graph_of
-polled-sound b sound = sound

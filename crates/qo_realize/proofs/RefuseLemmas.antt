@@ -11,7 +11,6 @@ use Rattle.qo_model.specs.Unplug.{without_all}
 use Rattle.qo_heap.specs.Book.{IsBook}
 use Rattle.qo_model.specs.Hotplug.{refused}
 use Rattle.qo_model.specs.Hotplug as model
-use Rattle.qo_model.specs.SoundGraph.{graph_of}
 use Rattle.qo_object.specs.Content.{Content}
 use Rattle.qo_object.specs.Shown.{shown}
 use Rattle.qo_heap.specs.Board.{Shows}
@@ -19,12 +18,12 @@ use Rattle.qo_heap.specs.Objects.{Objects, content_of, refused_event, with_event
 use Rattle.qo_heap.proofs.ShowsReads.{shows-record}
 use Rattle.qo_properties.specs.Claims.{KeepsBook}
 use Rattle.qo_reset.specs.HoldList.{HoldList}
-use Rattle.qo_sound.specs.Kept.{SoundTree}
+use Rattle.qo_realize.specs.Good.{Good}
 use Rattle.qo_realize.specs.Parts.{parts_of}
 use Rattle.qo_realize.specs.Removals.{IsAsked}
-use Rattle.qo_realize.specs.Stands.{Stands, StandsForSound}
+use Rattle.qo_realize.specs.Stands.{Stands, StandsForGood}
 use Rattle.qo_realize.proofs.AskLemmas.{is_asked}
-use Rattle.qo_realize.proofs.SoundLemmas.{root-pinned}
+use Rattle.qo_realize.proofs.SoundLemmas.{refused-good, root-pinned}
 use Rattle.qo_properties.specs.Pinned.{OnlyRootPinned}
 
 -- the heap with the event of a device that stays
@@ -85,10 +84,6 @@ refused-stands b anonymous running holds old new v w n s shows asked keeps =
       book = keeps [] s.book;
     }
 
-pub refused-sound : (b : Board) (n : ℕ) → SoundTree b → SoundTree (refused b n)
-unfolding graph_of
-refused-sound b n sound = sound
-
 -- what the call answers, and what it leaves
 abbrev pub IfRefused : {E : Type 0} → Result Unit E → Objects → Objects → Asked → Asked → ℕ → Type 0
 IfRefused r v w old new n = OnOk r ((b : Board) → Shows b v → IsAsked b old → Shows (refused b n) w × IsAsked (refused b n) new)
@@ -102,15 +97,15 @@ refuse-returns b anonymous running holds old new v w n (Ok u) s told keeps =
     refused-stands b anonymous running holds old new v w n s both.0 both.1 keeps
 
 pub refuse-invariant : {E : Type 0} (anonymous : ℕ) (running : Bool) (holds : HoldList) (old new : Asked) (v w : Objects) (n : ℕ) (r : Result Unit E)
-    → OnlyRootPinned v × StandsForSound (parts_of anonymous running holds old v) → IfRefused r v w old new n → KeepsBook v w → OnErr r ((w ≡ v) × (new ≡ old))
-    → OnlyRootPinned w × StandsForSound (parts_of anonymous running holds new w)
+    → OnlyRootPinned v × StandsForGood (parts_of anonymous running holds old v) → IfRefused r v w old new n → KeepsBook v w → OnErr r ((w ≡ v) × (new ≡ old))
+    → OnlyRootPinned w × StandsForGood (parts_of anonymous running holds new w)
 refuse-invariant anonymous running holds old new v w n (Err e) h told keeps (heap, asked) =
-    subst (λ (x : Objects). OnlyRootPinned x × StandsForSound (parts_of anonymous running holds new x)) (sym heap)
-    (subst (λ (x : Asked). OnlyRootPinned v × StandsForSound (parts_of anonymous running holds x v)) (sym asked) h)
+    subst (λ (x : Objects). OnlyRootPinned x × StandsForGood (parts_of anonymous running holds new x)) (sym heap)
+    (subst (λ (x : Asked). OnlyRootPinned v × StandsForGood (parts_of anonymous running holds x v)) (sym asked) h)
 refuse-invariant anonymous running holds old new v w n (Ok u) h told keeps same =
     let (b, s, sound) = h.1 in
     let stands : Stands (refused b n) (parts_of anonymous running holds new w) = refuse-returns b anonymous running holds old new v w n (the (Result Unit Unit) (Ok tt)) s told keeps in
-    (root-pinned (refused b n) (parts_of anonymous running holds new w) stands (refused-sound b n sound), (refused b n, stands, refused-sound b n sound))
+    (root-pinned (refused b n) (parts_of anonymous running holds new w) stands (refused-good b n sound), (refused b n, stands, refused-good b n sound))
   where
     the : (T : Type 0) → T → T
     the T x = x

@@ -1,71 +1,180 @@
--- The tree of the board that stands is sound behind each call.
-use Rattle.std.proofs.Common.{◌≡◌, refl, ap, sym, subst, ◌∙◌, ℕ, List, [], Option, None, Some, Result, Ok, Err}
-use Rattle.std.specs.Option.{option_map_or}
+-- The board that stands is good behind each call.
+use Rattle.std.proofs.Common.{◌≡◌, ◌==◌, refl, ap, ap₂, sym, subst, ◌∙◌, ℕ, Bool, true, false, List, [], ◌∷◌, Option, None, Some, Result, Ok, Err, if◌then◌else◌}
+use Rattle.std.specs.Option.{option_map_or, option_or}
+use Rattle.std.proofs.lemmas.Bool.{true≢false}
+use Rattle.qo_values.specs.Registers.{fresh_registers}
 use Rattle.qo_values.specs.declared.codes.Code.{Code}
+use Rattle.qo_values.specs.declared.codes.Code.TheVariants.{E22}
+use Rattle.qo_values.specs.declared.kinds.TypeId.{TypeId}
+use Rattle.qo_values.specs.declared.kinds.TypeId.TheVariants as type
 use Rattle.qo_values.specs.declared.properties.Val.{Val}
+use Rattle.qo_hotplug.specs.Asked.{Asked}
 use Rattle.qo_model.specs.Access.{write_at}
 use Rattle.qo_model.specs.Board.{Board}
-use Rattle.qo_model.specs.FinalNotesRuns.{behind_write, wrote}
+use Rattle.qo_model.specs.FinalNotesRuns.{Change, behind_write, changed, wrote}
+use Rattle.qo_model.specs.Hotplug.{refused}
 use Rattle.qo_model.specs.Objects.{attempted_as, barred_by, with_attempt}
 use Rattle.qo_model.specs.Opening.{opening_board}
+use Rattle.qo_model.specs.Plug.{Plugged, Wanted, barred_early, cut_attempt, plug, type_barred}
 use Rattle.qo_model.specs.Properties.{object_at, write}
 use Rattle.qo_model.specs.SoundGraph.{graph_of}
 use Rattle.qo_model.specs.Types.{TypeRow, row_named}
+use Rattle.qo_model.specs.Unplug.{detach}
 use Rattle.qo_model.proofs.OpeningLemmas.{opening_sound}
+use Rattle.qo_plug.specs.Added.{added, driver_barred, is_built, unbuilt}
+use Rattle.qo_plug.specs.Cuts.{cut_as, cut_of, cut_open}
 use Rattle.qo_properties.specs.Pinned.{OnlyRootPinned}
 use Rattle.qo_sound.specs.Kept.{SoundTree}
+use Rattle.qo_sound.specs.Timerless.{Timerless, is_timer, makes_timer}
 use Rattle.qo_sound.proofs.KeptLemmas.{changed-sound, sound_kept_lem}
+use Rattle.qo_sound.proofs.TimerlessLemmas.{timerless_kept_lem}
+use Rattle.qo_realize.specs.Good.{Good}
+use Rattle.qo_realize.specs.Guest.{polled}
 use Rattle.qo_realize.specs.Parts.{Parts}
-use Rattle.qo_realize.specs.Stands.{Stands, StandsForSound}
+use Rattle.qo_realize.specs.Removals.{with_asked}
+use Rattle.qo_realize.specs.Stands.{Stands, StandsForGood}
+
+-- each change by command on objects
+pub changed-good : (b : Board) (change : Change) → Good b → Good (changed b change)
+changed-good b change h = record { tree = changed-sound b change h.tree; timerless = timerless_kept_lem.change b change h.timerless }
 
 -- a value that was written
-pub wrote-sound : (b c : Board) (path name : List ℕ) (val : Val) → write_at b path name val ≡ Ok c → SoundTree b → SoundTree c
-wrote-sound b c path name val is sound = go (object_at b path) refl
+pub wrote-good : (b c : Board) (path name : List ℕ) (val : Val) → write_at b path name val ≡ Ok c → Good b → Good c
+wrote-good b c path name val is good = go (object_at b path) refl
   where
-    go : (o : Result ℕ Code) → object_at b path ≡ o → SoundTree c
+    go : (o : Result ℕ Code) → object_at b path ≡ o → Good c
     go (Ok n) e =
         let its : write b n name val ≡ Ok c = rw (write_at, e) at is in
-        subst SoundTree (ap (behind_write b) its) (changed-sound b (wrote n name val) sound)
+        subst Good (ap (behind_write b) its) (changed-good b (wrote n name val) good)
     go (Err code) e = absurd (let clash : Err code ≡ Ok c = rw (write_at, e) at is in cc)
 
 -- an attempt to make a user's object
-pub attempted-sound : (b : Board) (driver id : List ℕ) → SoundTree b → SoundTree (attempted_as b driver id)
-attempted-sound b driver id sound = by (barred_by b driver id) (row_named driver)
+attempt-good : (b : Board) (t : TypeId) → Good b → Good (with_attempt b t)
+attempt-good b t h =
+    record {
+      tree = (sound_kept_lem.attempt b t h.tree.0, sound_kept_lem.attempt_aliases b t h.tree.1);
+      timerless = timerless_kept_lem.attempt b t h.timerless;
+    }
+
+pub attempted-good : (b : Board) (driver id : List ℕ) → Good b → Good (attempted_as b driver id)
+attempted-good b driver id good = by (barred_by b driver id) (row_named driver)
   where
-    by : (bar : Option Code) (row : Option TypeRow) → SoundTree (elim bar as (λ o. Board) [ Some code ↦ b | None ↦ option_map_or (λ (row : TypeRow). with_attempt b row.id) row b ])
-    by (Some code) row = sound
-    by None None = sound
-    by None (Some row) = (sound_kept_lem.attempt b row.id sound.0, sound_kept_lem.attempt_aliases b row.id sound.1)
+    by : (bar : Option Code) (row : Option TypeRow) → Good (elim bar as (λ o. Board) [ Some code ↦ b | None ↦ option_map_or (λ (row : TypeRow). with_attempt b row.id) row b ])
+    by (Some code) row = good
+    by None None = good
+    by None (Some row) = attempt-good b row.id good
 
--- events are no matter to it
-pub cleared-sound : (b : Board) → SoundTree b → SoundTree (record b { events = [] })
+-- boards with the same objects, births and pins are good alike
+sound-alike : (b c : Board) → c.records ≡ b.records → c.born ≡ b.born → c.pins ≡ b.pins → SoundTree b → SoundTree c
 unfolding graph_of
-cleared-sound b sound = sound
-
-pub opening-tree : SoundTree opening_board
-opening-tree = (opening_sound.graph, opening_sound.aliases)
-
--- boards with the same objects, births and pins are sound alike
-sound-alike : (b c : Board) → b.records ≡ c.records → b.born ≡ c.born → b.pins ≡ c.pins → SoundTree b → SoundTree c
-unfolding graph_of
-sound-alike b c records born pins sound =
-    subst SoundTree same sound'
+sound-alike b c records born pins sound = subst SoundTree same sound'
   where
-    with_rest : Board → Board
-    with_rest x = record c { records = x.records; born = x.born; pins = x.pins }
+    behind : Board
+    behind = record c { records = b.records; born = b.born; pins = b.pins }
 
-    sound' : SoundTree (with_rest b)
+    sound' : SoundTree behind
     sound' = sound
 
-    same : with_rest b ≡ c
-    same = rw (records, born, pins) refl
+    same : behind ≡ c
+    same = rw (sym records, sym born, sym pins) refl
 
--- so each board that stands at the same parts as a sound one is sound
-pub sound-of : (p : Parts) → StandsForSound p → (b : Board) → Stands b p → SoundTree b
-sound-of p (c, s, sound) b t =
-    sound-alike c b (s.shows.records ∙ sym t.shows.records) (s.shows.born ∙ sym t.shows.born) (s.shows.pins ∙ sym t.shows.pins) sound
+good-alike : (b c : Board) → c.records ≡ b.records → c.born ≡ b.born → c.pins ≡ b.pins → Good b → Good c
+good-alike b c records born pins h =
+    record { tree = sound-alike b c records born pins h.tree; timerless = timerless_kept_lem.same b c records h.timerless }
+
+-- what stands beside the objects is no matter to it
+pub cleared-good : (b : Board) → Good b → Good (record b { events = [] })
+cleared-good b = good-alike b (record b { events = [] }) refl refl refl
+
+pub asked-good : (b : Board) (h : Asked) → Good b → Good (with_asked b h)
+asked-good b h = good-alike b (with_asked b h) refl refl refl
+
+pub polled-good : (b : Board) → Good b → Good (polled b)
+polled-good b = good-alike b (polled b) refl refl refl
+
+pub refused-good : (b : Board) (n : ℕ) → Good b → Good (refused b n)
+refused-good b n = good-alike b (refused b n) refl refl refl
+
+-- the beginning
+pub opening-good : Good opening_board
+opening-good = record { tree = (opening_sound.graph, opening_sound.aliases); timerless = timerless_kept_lem.opening }
+
+-- a device that is built is no timer
+built-timerless : (t : TypeId) → is_built t ≡ true → is_timer (fresh_registers t) ≡ false
+built-timerless type.SlotBridge is = refl
+built-timerless type.Object is = absurd (true≢false (sym is))
+built-timerless type.Container is = absurd (true≢false (sym is))
+built-timerless type.Machine is = absurd (true≢false (sym is))
+built-timerless type.Device is = absurd (true≢false (sym is))
+built-timerless type.SlotDevice is = absurd (true≢false (sym is))
+built-timerless type.SlotUart is = absurd (true≢false (sym is))
+built-timerless type.SlotTimer is = absurd (true≢false (sym is))
+built-timerless type.MemDimm is = absurd (true≢false (sym is))
+built-timerless type.Bus is = absurd (true≢false (sym is))
+built-timerless type.SlotBus is = absurd (true≢false (sym is))
+built-timerless type.MemBus is = absurd (true≢false (sym is))
+built-timerless type.Clock is = absurd (true≢false (sym is))
+built-timerless type.MemoryBackend is = absurd (true≢false (sym is))
+built-timerless type.MemoryBackendRam is = absurd (true≢false (sym is))
+built-timerless type.Tag is = absurd (true≢false (sym is))
+
+row-built : (t : TypeId) → (if is_built t then None else Some E22) ≡ None → is_built t ≡ true
+row-built t e = go (is_built t) refl
+  where
+    go : (u : Bool) → is_built t ≡ u → is_built t ≡ true
+    go true is = is
+    go false is = absurd (let clash : Some E22 ≡ None = rw is at e in cc)
+
+no-timer : (driver : List ℕ) → driver_barred driver ≡ None → makes_timer driver ≡ false
+no-timer driver e = go (type_barred driver) (row_named driver) refl refl
+  where
+    go : (bar : Option Code) (row : Option TypeRow) → type_barred driver ≡ bar → row_named driver ≡ row → makes_timer driver ≡ false
+    go (Some code) row is named = absurd (let clash : Some code ≡ None = rw is at e in cc)
+    go None None is named = rw named refl
+    go None (Some row) is named =
+        let free : unbuilt driver ≡ None = rw is at e in
+        rw named (built-timerless row.id (row-built row.id (rw (named, unbuilt) at free)))
+
+-- a device is added, or not
+pub added-good : (b : Board) (a : Wanted) → Good b → Good (added b a).board
+unfolding added
+added-good b a good = by (driver_barred a.driver) refl
+  where
+    by : (bar : Option Code) → driver_barred a.driver ≡ bar → Good (elim bar as (λ o. Plugged) [ Some code ↦ record { refusal = Some (1, code); board = b } | None ↦ plug b a ]).board
+    by (Some code) is = good
+    by None is = record { tree = sound_kept_lem.plugged b a good.tree; timerless = timerless_kept_lem.plugged b a (no-timer a.driver is) good.timerless }
+
+-- an attempt at one is cut
+cut-good : (b : Board) (t : TypeId) (i : ℕ) (joined : Bool) → Good b → Good (cut_attempt b t i joined)
+cut-good b t i joined good = record { tree = sound_kept_lem.cut b t i joined good.tree; timerless = timerless_kept_lem.cut b t i joined good.timerless }
+
+pub cut_as-good : (b : Board) (a : Wanted) (i : ℕ) (joined : Bool) → Good b → Good (cut_as b a i joined)
+unfolding cut_as
+cut_as-good b a i joined good = by (driver_barred a.driver) (row_named a.driver)
+  where
+    some : (t : TypeId) (u : Bool) → Good (if u then cut_attempt b t i joined else b)
+    some t true = cut-good b t i joined good
+    some t false = good
+
+    free : (row : TypeRow) (bar : Option (ℕ × Code)) → Good (elim bar as (λ o. Board) [ None ↦ cut_of b row.id i joined | Some found ↦ b ])
+    free row None = some row.id _
+    free row (Some found) = good
+
+    by : (bar : Option Code) (row : Option TypeRow) → Good (elim bar as (λ o. Board) [ Some code ↦ b | None ↦ option_map_or (λ (row : TypeRow). cut_open b a row i joined) row b ])
+    by (Some code) row = good
+    by None None = good
+    by None (Some row) = free row (barred_early b row.id a)
+
+-- a device that is detached
+pub detached-good : (b : Board) (d : ℕ) → Good b → Good (detach b d)
+detached-good b d good = record { tree = sound_kept_lem.detached b d good.tree; timerless = timerless_kept_lem.detached b d good.timerless }
+
+-- each board that stands at the same parts as a good one is good
+pub good-of : (p : Parts) → StandsForGood p → (b : Board) → Stands b p → Good b
+good-of p (c, s, good) b t =
+    good-alike c b (t.shows.records ∙ sym s.shows.records) (t.shows.born ∙ sym s.shows.born) (t.shows.pins ∙ sym s.shows.pins) good
 
 -- and the root alone is pinned
-pub root-pinned : (b : Board) (p : Parts) → Stands b p → SoundTree b → OnlyRootPinned p.objects
+pub root-pinned : (b : Board) (p : Parts) → Stands b p → Good b → OnlyRootPinned p.objects
 unfolding graph_of
-root-pinned b p s sound = sym s.shows.pins ∙ sound.0.pinned
+root-pinned b p s good = sym s.shows.pins ∙ good.tree.0.pinned

@@ -38,11 +38,11 @@ use Rattle.qo_properties.proofs.StartLemmas.{all-is_opening, shows-none}
 use Rattle.qo_realize.specs.Answers.{Adds, IsAnswered, Writes}
 use Rattle.qo_hotplug.specs.Asked.{Asked, nothing_asked}
 use Rattle.qo_reset.specs.HoldList.{HoldList, no_holds}
-use Rattle.qo_sound.specs.Kept.{SoundTree}
-use Rattle.qo_sound.proofs.KeptLemmas.{changed-sound}
-use Rattle.qo_realize.proofs.SoundLemmas.{attempted-sound, wrote-sound}
+use Rattle.qo_realize.specs.Good.{Good}
+use Rattle.qo_realize.proofs.SoundLemmas.{changed-good}
+use Rattle.qo_realize.proofs.SoundLemmas.{attempted-good, wrote-good}
 use Rattle.qo_realize.specs.Parts.{Parts, parts_of, ring_claim}
-use Rattle.qo_realize.specs.Stands.{Stands, StandsForSound}
+use Rattle.qo_realize.specs.Stands.{Stands, StandsForGood}
 
 -- other objects, beside the same
 abbrev pub with_objects : Objects → Parts → Parts
@@ -102,20 +102,20 @@ err-stays (Ok t) anonymous running holds asked v w p is same = tt
 err-stays (Err e) anonymous running holds asked v w p is same = ap (parts_of anonymous running holds asked) same ∙ is
 
 -- a sound board stands behind each call
-pub answered-sound : (change : Changed) (result : Result (Unit {0}) Code) (p : Parts) → SoundTree change.board → IsAnswered change result p → StandsForSound p
+pub answered-sound : (change : Changed) (result : Result (Unit {0}) Code) (p : Parts) → Good change.board → IsAnswered change result p → StandsForGood p
 answered-sound change result p sound h = (change.board, h.board, sound)
 
 pub written-sound : (b : Board) (p : Parts) (w : Objects) (path name : List ℕ) (val : Val) (result : Result (Unit {0}) Refusal)
-    → Stands b p → SoundTree b → Writes (with_objects w p) result (write_at b path name val) → OnErr result (w ≡ p.objects) → StandsForSound (with_objects w p)
-written-sound b p w path name val (Ok u) s sound (c, is, stands) same = (c, stands, wrote-sound b c path name val is sound)
+    → Stands b p → Good b → Writes (with_objects w p) result (write_at b path name val) → OnErr result (w ≡ p.objects) → StandsForGood (with_objects w p)
+written-sound b p w path name val (Ok u) s sound (c, is, stands) same = (c, stands, wrote-good b c path name val is sound)
 written-sound b p w path name val (Err e) s sound h same = (b, subst (λ (x : Objects). Stands b (with_objects x p)) (sym same) s, sound)
 
 pub added-sound : (b : Board) (driver id : List ℕ) (props : List Given) (result : Result (Unit {0}) Refusal) (p : Parts)
-    → SoundTree b → Adds b driver id props result p → StandsForSound p
-added-sound b driver id props (Ok u) p sound h = ((object_add b driver id props).board, h.1, changed-sound b (added driver id props) sound)
-added-sound b driver id props (Err (Refused code)) p sound h = ((object_add b driver id props).board, h.1, changed-sound b (added driver id props) sound)
+    → Good b → Adds b driver id props result p → StandsForGood p
+added-sound b driver id props (Ok u) p sound h = ((object_add b driver id props).board, h.1, changed-good b (added driver id props) sound)
+added-sound b driver id props (Err (Refused code)) p sound h = ((object_add b driver id props).board, h.1, changed-good b (added driver id props) sound)
 added-sound b driver id props (Err Memory) p sound (inl s) = (b, s, sound)
-added-sound b driver id props (Err Memory) p sound (inr s) = (attempted_as b driver id, s, attempted-sound b driver id sound)
+added-sound b driver id props (Err Memory) p sound (inr s) = (attempted_as b driver id, s, attempted-good b driver id sound)
 
 -- the beginning
 opening-stands : (v : Objects) → Shows opening_board v → IsBook [] v → Stands opening_board (parts_of 0 true no_holds nothing_asked v)

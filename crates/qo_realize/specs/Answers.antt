@@ -1,8 +1,14 @@
 -- What the calls that change a board answer and leave.
-use Rattle.std.specs.Prelude.{◌≡◌, ℕ, List, ◌⊎◌, Some, None, Result, Ok, Err, ⊤}
+use Rattle.std.specs.Prelude.{◌≡◌, ℕ, Bool, List, ◌⊎◌, Some, None, Result, Ok, Err, ⊤}
 use Rattle.qo_values.specs.declared.codes.Code.{Code}
 use Rattle.qo_model.specs.Board.{Board}
 use Rattle.qo_model.specs.Objects.{Changed, Given, attempted_as, object_add}
+use Rattle.qo_model.specs.Plug.{Wanted}
+use Rattle.qo_plug.specs.Added.{added}
+use Rattle.qo_plug.specs.Cuts.{cut_as}
+use Rattle.qo_plug.specs.declared.adding.Added.{Added}
+use Rattle.qo_plug.specs.declared.refusals.AddRefusal.{AddRefusal}
+use Rattle.qo_plug.specs.declared.refusals.AddRefusal.TheVariants.{Refused as Barred, Memory as NoMemory}
 use Rattle.qo_properties.specs.Changes.{refusal_in}
 use Rattle.qo_properties.specs.declared.refusals.Refusal.{Refusal}
 use Rattle.qo_properties.specs.declared.refusals.Refusal.TheVariants.{Refused, Memory}
@@ -31,3 +37,9 @@ abbrev pub Changes : Changed → Board → Result (Unit {0}) Refusal → Parts �
 Changes change b (Ok done) p = (change.refusal ≡ None) × Stands change.board p
 Changes change b (Err (Refused code)) p = (change ≡ record { refusal = Some code; board = b }) × Stands b p
 Changes change b (Err Memory) p = Stands b p
+
+-- `device_add`: the definition's refusal and board; for want of memory the board as it was, or that of an attempt that was cut
+abbrev pub Plugs : Board → Wanted → Result Added AddRefusal → Parts → Type 0
+Plugs b a (Ok device) p = ((added b a).refusal ≡ None) × Stands (added b a).board p
+Plugs b a (Err (Barred stage code)) p = ((added b a).refusal ≡ Some (stage, code)) × Stands (added b a).board p
+Plugs b a (Err NoMemory) p = Stands b p ⊎ ((i : ℕ) × (joined : Bool) × Stands (cut_as b a i joined) p)

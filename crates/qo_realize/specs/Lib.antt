@@ -1,4 +1,5 @@
 pub mod Answers
+pub mod Good
 pub mod Guest
 pub mod Parts
 pub mod Removals

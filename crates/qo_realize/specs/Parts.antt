@@ -1,5 +1,5 @@
 -- What contracts see of a board: its objects, and what stands beside them.
-use Rattle.std.specs.Prelude.{ℕ, Bool, List, []}
+use Rattle.std.specs.Prelude.{ℕ, ◌+◌, Bool, List, [], Option, None, Some}
 use Rattle.qo_claims.specs.declared.claims.Claimed.{Claimed}
 use Rattle.qo_claims.specs.declared.claims.Claimed.TheVariants as on
 use Rattle.qo_model.specs.Board.{Notice, Ring}
@@ -27,3 +27,8 @@ ring_claim r = on.RingId r.id
 abbrev pub parts_of : ℕ → Bool → HoldList → Asked → Objects → Parts
 parts_of anonymous running holds asked v =
     record { objects = v; anonymous = anonymous; running = running; holds = holds.births; pending = asked.pending; notices = asked.notices; rings = [] }
+
+-- how many devices without an id were added behind one more, with an id or without
+abbrev pub counts : ℕ → Option (List ℕ) → ℕ
+counts n None = n + 1
+counts n (Some id) = n

@@ -3,7 +3,7 @@ use Rattle.std.specs.Prelude.{◌≡◌, map}
 use Rattle.qo_model.specs.Board.{Board}
 use Rattle.qo_heap.specs.Board.{Shows}
 use Rattle.qo_heap.specs.Book.{IsBook}
-use Rattle.qo_sound.specs.Kept.{SoundTree}
+use Rattle.qo_realize.specs.Good.{Good}
 use Rattle.qo_realize.specs.Parts.{Parts, ring_claim}
 
 -- the heap shows the board's objects, and what stands beside them is the board's; each claim is kept by a body or by a ring
@@ -17,6 +17,6 @@ pub record Stands (b : Board) (p : Parts) : Type 0 where
   pub rings : b.rings ≡ p.rings
   pub book : IsBook (map ring_claim p.rings) p.objects
 
--- there is a board that they stand for, and its tree is sound
-abbrev pub StandsForSound : Parts → Type 0
-StandsForSound p = (b : Board) × Stands b p × SoundTree b
+-- there is a board that they stand for, and it is good
+abbrev pub StandsForGood : Parts → Type 0
+StandsForGood p = (b : Board) × Stands b p × Good b

@@ -1,5 +1,8 @@
 //! The board.
 
+ghost use Rattle.std.specs.Prelude.{◌≡◌, IfSome, option_map};
+ghost use Rattle.qo_realize.specs.Parts.{counts};
+
 use crate::guests::address_of;
 use crate::removals::{ask, refuse};
 use qo_buses::by_address;
@@ -8,11 +11,13 @@ use qo_guest::{Addr, Steps9};
 use qo_heap::{Heap, Oid, Steps};
 use qo_hotplug::{Hotplug, Notice};
 use qo_model::{Detached, Note};
+use qo_plug::{AddRefusal, Added, add};
 use qo_properties::{
     Refusal, add_object, detached_list, get, make_all, object_at, object_of, property_at, remove,
     set, sever,
 };
 use qo_reset::Resets;
+use qo_unplug::detach;
 use qo_values::{Code, PropList, TypeText, Val};
 use std::alloc::{AllocError, Global};
 use std::marker::Model;
@@ -32,13 +37,24 @@ pub struct Board {
 impl Model for Board {
     ghost use Rattle.qo_properties.specs.Pinned.{OnlyRootPinned};
     ghost use Rattle.qo_realize.specs.Parts.{Parts, parts_of};
-    ghost use Rattle.qo_realize.specs.Stands.{StandsForSound};
+    ghost use Rattle.qo_realize.specs.Stands.{StandsForGood};
 
     ghost Value = { Parts };
 
     ghost view = { λ b. parts_of b.anonymous b.running b.resets b.hotplug b.heap };
 
-    ghost invariant = { λ b. OnlyRootPinned b.heap × StandsForSound (parts_of b.anonymous b.running b.resets b.hotplug b.heap) };
+    ghost invariant = { λ b. OnlyRootPinned b.heap × StandsForGood (parts_of b.anonymous b.running b.resets b.hotplug b.heap) };
+}
+
+/// How many devices without an id there are behind the add of one, with an id or without; `None` where
+/// that is more than 64 bits hold.
+fn next_anonymous(anonymous: u64, id: Option<&str>) -> Option<u64>
+    ensures { IfSome result (λ n. n ≡ counts anonymous (option_map (λ t. t.now) id.entry)) }
+{
+    match id {
+        Some(_) => Some(anonymous),
+        None => anonymous.checked_add(1),
+    }
 }
 
 impl Board {
@@ -59,11 +75,12 @@ impl Board {
     ghost use Rattle.qo_properties.specs.Reads.{Answers};
     ghost use Rattle.qo_buses.specs.Addresses.{addressed};
     ghost use Rattle.qo_model.specs.Depth.{among};
-    ghost use Rattle.qo_model.specs.Hotplug.{asked, refused};
+    ghost use Rattle.qo_model.specs.Hotplug.{asked, completed, refused};
     ghost use Rattle.qo_object.specs.Shown.{birth_of};
-    ghost use Rattle.qo_realize.specs.Answers.{Adds, Changes, IsAnswered, Writes};
+    ghost use Rattle.qo_plug.specs.Added.{wanted};
+    ghost use Rattle.qo_realize.specs.Answers.{Adds, Changes, IsAnswered, Plugs, Writes};
     ghost use Rattle.qo_realize.specs.Guest.{address_of, first_notice, polled};
-    ghost use Rattle.qo_realize.specs.Stands.{Stands, StandsForSound};
+    ghost use Rattle.qo_realize.specs.Stands.{Stands, StandsForGood};
 
     /// The opening board: the eight objects that every machine begins with; it runs. The error is
     /// want of memory.
@@ -81,9 +98,9 @@ impl Board {
         })
     }
 
-    /// What it stands for: there is a board that stands at it, and its tree is sound.
+    /// What it stands for: there is a board that stands at it, and it is good.
     pub fn shown(&self)
-        ensures { StandsForSound self.now }
+        ensures { StandsForGood self.now }
     {
         let _heap = &self.heap;
     }
@@ -261,6 +278,45 @@ impl Board {
         sever(&mut self.heap, birth, steps)
     }
 
+    /// Adds a device of a type's name, under an id if one is given, to the bus at a path or the one that
+    /// its type goes on, with values for its properties (QEMU's QAPI, `device_add`): by the stages of
+    /// docs/PROFILE.md. The first condition of a stage that stands on the board before is the refusal;
+    /// behind stage 3 and `E43` one is refused behind an attempt that is given up. Where memory wants,
+    /// the board is as it was, or an attempt was cut.
+    pub fn add<L: Ledger>(
+        &mut self,
+        driver: &str,
+        id: Option<&str>,
+        bus: Option<&str>,
+        props: &PropList,
+        alloc: Global,
+        steps: &mut Steps<L>,
+    ) -> Result<Added, AddRefusal>
+        ensures change { (b : model.Board) → Stands b self.old → Plugs b (wanted driver.now (option_map (λ t. t.now) id.entry) (option_map (λ t. t.now) bus.entry) props.now) result self.new }
+    {
+        let Some(next) = next_anonymous(self.anonymous, id) else {
+            return Err(AddRefusal::Memory);
+        };
+        match add(
+            &mut self.heap,
+            &self.resets,
+            &mut self.hotplug,
+            self.anonymous,
+            driver,
+            id,
+            bus,
+            props,
+            alloc,
+            steps,
+        ) {
+            Ok(added) => {
+                self.anonymous = next;
+                Ok(added)
+            }
+            Err(refusal) => Err(refusal),
+        }
+    }
+
     /// Asks for the removal of the device that a text is of, and the guest is told so (QEMU's QAPI,
     /// `device_del`): of one that begins with `/` the device at that absolute path, of any other the
     /// child of that name of the container of devices with an id. `E33` comes where there is no such
@@ -304,6 +360,21 @@ impl Board {
         ensures err { OnErr result (self.new ≡ self.old) }
     {
         refuse(&mut self.heap, &mut self.hotplug, dev, alloc, steps)
+    }
+
+    /// The guest lets a device go, whose removal is pending (include/hw/hotplug.h): it is unrealized and
+    /// taken out, with all that is below it. It takes no memory, and always succeeds.
+    pub fn complete<L: Ledger>(&mut self, dev: Oid, steps: &mut Steps<L>)
+        requires { IsLive self.old.objects.rows dev }
+        ensures { (b : model.Board) → Stands b self.old → Stands (completed b dev.birth) self.new }
+    {
+        detach(
+            &mut self.heap,
+            &mut self.resets,
+            &mut self.hotplug,
+            dev,
+            steps,
+        );
     }
 
     /// Takes the notice that has waited longest; `None` exactly where none waits. It takes no memory.

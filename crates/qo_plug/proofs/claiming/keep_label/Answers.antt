@@ -1,5 +1,5 @@
 -- The id that is there has the claim on it.
-use Rattle.std.proofs.Common.{◌≡◌, ◌++◌, ◌∷◌, Option, IfSome, option_map, sym, subst}
+use Rattle.std.proofs.Common.{◌≡◌, ◌++◌, Option, IfSome, option_map, sym, subst}
 use Rattle.qo_claims.specs.declared.claims.Claimed.TheVariants as on
 use Rattle.qo_heap.specs.Book.{IsBook}
 use Rattle.qo_heap.specs.Objects.{with_edit}

@@ -5,7 +5,6 @@ use Rattle.qo_model.specs.Plug.{link_named, with_given}
 use Rattle.qo_model.specs.Release.{edit}
 use Rattle.qo_model.specs.Unplug.{set_named}
 use Rattle.qo_heap.specs.Board.{Shows}
-use Rattle.qo_plug.specs.Standing.{Stays}
 use Rattle.qo_plug.proofs.StandSteps.{shows-given, stays-own, stays-then}
 use Rattle.qo_plug.proofs.standing.put_values.Goals as goal
 

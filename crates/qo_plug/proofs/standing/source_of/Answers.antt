@@ -1,5 +1,5 @@
 -- No clock of a bridge was found.
-use Rattle.std.proofs.Common.{sym, ap, ◌∙◌, ℕ, Option}
+use Rattle.std.proofs.Common.{sym, ap, ◌∙◌}
 use Rattle.std.specs.Option.{option_and_then}
 use Rattle.qo_model.specs.Devices.{clock_of}
 use Rattle.qo_plug.proofs.StandSteps.{source-none}

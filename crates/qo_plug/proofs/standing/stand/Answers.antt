@@ -1,5 +1,5 @@
 -- Each step keeps what the ones before it made.
-use Rattle.std.proofs.Common.{◌≡◌, ◌++◌, List, Option, option_map, sym, subst, ◌∙◌}
+use Rattle.std.proofs.Common.{◌++◌, List, option_map, sym, subst, ◌∙◌}
 use Rattle.std.specs.List.{AllZip}
 use Rattle.qo_table.specs.Rows.{IsLive}
 use Rattle.qo_model.specs.Board.{Board}

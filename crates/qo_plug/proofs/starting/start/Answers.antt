@@ -1,6 +1,5 @@
 -- It acts, goes through the phases, and its path is kept.
 use Rattle.std.proofs.Common.{◌≡◌, ap, ◌∙◌, true}
-use Rattle.qo_heap.specs.Acts.{Acts}
 use Rattle.qo_heap.proofs.ActsLemmas.{acts-book, acts-then}
 use Rattle.qo_heap.proofs.ActsReads.{acts-pins, acts-pins_of}
 use Rattle.qo_hotplug.specs.Asked.{Asked, told}

@@ -3,8 +3,8 @@ use Rattle.std.proofs.Common.{sym, subst, []}
 use Rattle.qo_heap.specs.Objects.{Objects}
 use Rattle.qo_properties.specs.Pinned.{OnlyRootPinned}
 use Rattle.qo_realize.specs.Parts.{parts_of}
-use Rattle.qo_realize.specs.Stands.{StandsForSound}
-use Rattle.qo_realize.proofs.SoundLemmas.{cleared-sound}
+use Rattle.qo_realize.specs.Stands.{StandsForGood}
+use Rattle.qo_realize.proofs.SoundLemmas.{cleared-good}
 use Rattle.qo_realize.proofs.StandsLemmas.{cleared-stands}
 use Rattle.qo_realize.proofs.board.Board.clear_events.Goals as goal
 
@@ -13,5 +13,5 @@ invariant_of-self c =
     let (b, s, sound) = c.self.invariant.1 in
     let inside = c.self.inside in
     let v : Objects = inside.heap in
-    subst (λ (w : Objects). OnlyRootPinned w × StandsForSound (parts_of inside.anonymous inside.running inside.resets inside.hotplug w)) (sym c.clear_events.ensures)
-    (c.self.invariant.0, (record b { events = [] }, cleared-stands b inside.anonymous inside.running inside.resets inside.hotplug v s, cleared-sound b sound))
+    subst (λ (w : Objects). OnlyRootPinned w × StandsForGood (parts_of inside.anonymous inside.running inside.resets inside.hotplug w)) (sym c.clear_events.ensures)
+    (c.self.invariant.0, (record b { events = [] }, cleared-stands b inside.anonymous inside.running inside.resets inside.hotplug v s, cleared-good b sound))

@@ -1,6 +1,6 @@
 use Rattle.std.proofs.Common.{sym, subst, ◌∙◌}
 use Rattle.qo_model.specs.FinalNotesRuns.{deleted}
-use Rattle.qo_sound.proofs.KeptLemmas.{changed-sound}
+use Rattle.qo_realize.proofs.SoundLemmas.{changed-good}
 use Rattle.qo_realize.specs.Parts.{Parts}
 use Rattle.qo_realize.specs.Stands.{Stands}
 use Rattle.qo_realize.proofs.StandsLemmas.{answered-sound, err-stays, del-stands}
@@ -19,4 +19,4 @@ returns-clause-err g c =
 pub invariant_of-self : goal.invariant_of-self
 invariant_of-self g c =
     let (b, s, sound) = c.self.invariant.1 in
-    (c.remove.ensures.pins ∙ c.self.invariant.0, answered-sound _ c.remove.result _ (changed-sound b (deleted c.args.id.now) sound) (del-stands b _ c.remove.new.heap c.args.id.now c.remove.result s (c.remove.ensures.change b s.shows) c.remove.ensures.book))
+    (c.remove.ensures.pins ∙ c.self.invariant.0, answered-sound _ c.remove.result _ (changed-good b (deleted c.args.id.now) sound) (del-stands b _ c.remove.new.heap c.args.id.now c.remove.result s (c.remove.ensures.change b s.shows) c.remove.ensures.book))

@@ -2,9 +2,10 @@
 use Rattle.std.proofs.Common.{sym, subst}
 use Rattle.qo_hotplug.specs.Asked.{Asked}
 use Rattle.qo_realize.specs.Parts.{parts_of}
-use Rattle.qo_realize.specs.Stands.{StandsForSound}
+use Rattle.qo_realize.specs.Stands.{StandsForGood}
 use Rattle.qo_realize.specs.Guest.{polled}
-use Rattle.qo_realize.proofs.AskLemmas.{polled-sound, polled-stands}
+use Rattle.qo_realize.proofs.AskLemmas.{polled-stands}
+use Rattle.qo_realize.proofs.SoundLemmas.{polled-good}
 use Rattle.qo_realize.proofs.board.Board.poll.Goals as goal
 
 pub invariant_of-self : goal.invariant_of-self
@@ -12,6 +13,6 @@ invariant_of-self c =
     let (b, s, sound) = c.self.invariant.1 in
     let inside = c.self.inside in (
       c.self.invariant.0,
-      subst (λ (h : Asked). StandsForSound (parts_of inside.anonymous inside.running inside.resets h inside.heap)) (sym c.poll.ensures.rest)
-          (polled b, polled-stands b inside.anonymous inside.running inside.resets inside.hotplug inside.heap s, polled-sound b sound),
+      subst (λ (h : Asked). StandsForGood (parts_of inside.anonymous inside.running inside.resets h inside.heap)) (sym c.poll.ensures.rest)
+          (polled b, polled-stands b inside.anonymous inside.running inside.resets inside.hotplug inside.heap s, polled-good b sound),
     )

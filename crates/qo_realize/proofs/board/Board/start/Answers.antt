@@ -1,5 +1,5 @@
 use Rattle.qo_model.specs.Opening.{opening_board}
-use Rattle.qo_realize.proofs.SoundLemmas.{opening-tree}
+use Rattle.qo_realize.proofs.SoundLemmas.{opening-good}
 use Rattle.qo_realize.proofs.StandsLemmas.{opens}
 use Rattle.qo_realize.proofs.board.Board.start.Goals as goal
 
@@ -11,4 +11,4 @@ returns g c =
 pub invariant_of-result : goal.invariant_of-result
 invariant_of-result g c =
     let opened = opens _ c.make_all.new.heap c.in_ok-heap.ensures c.in_ok-make_all.ensures.shown c.in_ok-make_all.ensures.book c.new-2.result c.in_ok-new.field-0 c.new-2.ensures c.in_ok-new.ensures in
-    (opened.0, (opening_board, opened.1, opening-tree))
+    (opened.0, (opening_board, opened.1, opening-good))

@@ -1,0 +1,18 @@
+-- What is told of the notice that was taken.
+use Rattle.std.proofs.Common.{rules, ◌≡◌, ap, sym, ◌∙◌, Option}
+use Rattle.std.specs.Prelude.{option_map}
+use Rattle.qo_model.specs.Board.{Notice}
+use Rattle.qo_guest.specs.declared.answers.GuestAnswer.{GuestAnswer}
+use Rattle.qo_realize.specs.Guest.{first_notice, polled}
+use Rattle.qo_lane.specs.Hearing.{answered, outcome_of, told_by}
+use Rattle.qo_lane.proofs.HearLemmas.{told-polled}
+use Rattle.qo_lane.proofs.hearing.poll.Goals as goal
+
+pub returns : goal.returns
+returns g c = λ b s.
+    let stands = c.poll-notice.ensures.polled b s in
+    let same : option_map (λ n. n.now) c.as_ref.result ≡ c.poll-notice.result = search rules in (
+      stands,
+      ap (outcome_of (polled b)) c.answered.ensures
+          ∙ ap (answered (polled b)) (c.told_by.ensures (polled b) stands ∙ told-polled b _ ∙ ap (told_by b) (same ∙ c.poll-notice.ensures.first b s)),
+    )

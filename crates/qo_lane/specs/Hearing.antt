@@ -1,0 +1,95 @@
+-- What a line of the guest does to the board, and what it is answered (docs/PROFILE.md, guest lines).
+use Rattle.std.specs.Prelude.{◌≡◌, ℕ, Bool, true, false, if◌then◌else◌, List, [], ◌∷◌, option_to_list, Option, Some, None}
+use Rattle.qo_guest.specs.Lines.{guest_line}
+use Rattle.qo_guest.specs.declared.addresses.Addr.{Addr}
+use Rattle.qo_guest.specs.declared.answers.GuestAnswer.{GuestAnswer}
+use Rattle.qo_guest.specs.declared.answers.GuestAnswer.TheVariants.{Fine, Plug, Unplug, NoNotice, NoLine, NoStopped, NoDevice, NoPending}
+use Rattle.qo_guest.specs.declared.lines.GuestAct.{GuestAct}
+use Rattle.qo_guest.specs.declared.lines.GuestAct.TheVariants.{Ack, Nack, Poll, Shutdown as power_off}
+use Rattle.qo_model.specs.Board.{Board, Notice}
+use Rattle.qo_model.specs.Depth.{among}
+use Rattle.qo_model.specs.Hotplug.{completed, refused}
+use Rattle.qo_buses.specs.Addresses.{addressed}
+use Rattle.qo_replies.specs.declared.events.Event.{Event}
+use Rattle.qo_replies.specs.declared.events.Event.TheVariants.{Shutdown}
+use Rattle.qo_realize.specs.Guest.{address_of, first_notice, polled}
+use Rattle.qo_realize.specs.Parts.{Parts}
+use Rattle.qo_realize.specs.Stands.{Stands}
+use Rattle.qo_lane.specs.declared.hearing.Heard.{Heard}
+
+-- what a line comes to: its answer, the board behind it, its own events, and whether it ends the run
+pub record Outcome : Type 0 where
+  pub answer : GuestAnswer
+  pub board : Board
+  pub events : List Event
+  pub ends : Bool
+
+-- an answer that leaves the board
+abbrev pub answered : Board → GuestAnswer → Outcome
+answered b answer = record { answer = answer; board = b; events = []; ends = false }
+
+-- it is done, and this is the board then
+abbrev pub fine : Board → Outcome
+fine b = answered b Fine
+
+-- of a device whose removal is pending
+abbrev pub if_pending : Board → ℕ → Board → Outcome
+if_pending b d behind = if among b.pending d then fine behind else answered b NoPending
+
+-- the guest lets a device go, or refuses to
+abbrev pub acked : Board → Option ℕ → Outcome
+acked b None = answered b NoDevice
+acked b (Some d) = if_pending b d (completed b d)
+
+abbrev pub nacked : Board → Option ℕ → Outcome
+nacked b None = answered b NoDevice
+nacked b (Some d) = if_pending b d (refused b d)
+
+-- what the guest is told by a notice
+abbrev pub told_by : Board → Option Notice → GuestAnswer
+told_by b None = NoNotice
+told_by b (Some notice) = if notice.plug then Plug (address_of b notice.birth) else Unplug (address_of b notice.birth)
+
+-- it takes the notice that has waited longest
+abbrev pub polled_by : Board → Outcome
+polled_by b = answered (polled b) (told_by b (first_notice b))
+
+-- it ends the run
+abbrev pub shut_down : Board → Outcome
+shut_down b = record { answer = Fine; board = b; events = Shutdown true ∷ []; ends = true }
+
+-- what an act of the guest comes to where the machine runs; registers and resets are not built, and such a line is none
+abbrev pub acted : Board → GuestAct → Outcome
+acted b (Ack at) = acked b (addressed b at)
+acted b (Nack at) = nacked b (addressed b at)
+acted b Poll = polled_by b
+acted b power_off = shut_down b
+acted b act = answered b NoLine
+
+abbrev pub is_built : GuestAct → Bool
+is_built (Ack at) = true
+is_built (Nack at) = true
+is_built Poll = true
+is_built power_off = true
+is_built act = false
+
+-- the act of a line that is built
+abbrev pub act_in : Option GuestAct → Option GuestAct
+act_in None = None
+act_in (Some act) = if is_built act then Some act else None
+
+-- what a line comes to, without its line end
+abbrev pub heard_act : Board → Option GuestAct → Outcome
+heard_act b None = answered b NoLine
+heard_act b (Some act) = if b.running then acted b act else answered b NoStopped
+
+unfoldable pub heard : Board → List ℕ → Outcome
+heard b line = heard_act b (act_in (guest_line line))
+
+-- the outcome that the code tells, where this board stands behind it
+abbrev pub outcome_of : Board → Heard → Outcome
+outcome_of b h = record { answer = h.answer; board = b; events = option_to_list h.event; ends = h.ends }
+
+-- a line came to what is defined, but for the events on devices that wait
+abbrev pub Came : Outcome → Heard → Parts → Type 0
+Came outcome h p = Stands outcome.board p × (outcome_of outcome.board h ≡ outcome)

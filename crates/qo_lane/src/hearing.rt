@@ -1,0 +1,177 @@
+//! One line of the guest.
+
+ghost use Rattle.std.specs.Prelude.{◌≡◌, false, IfOk, None, OnErr, option_map};
+ghost use Rattle.qo_guest.specs.Lines.{guest_line};
+ghost use Rattle.qo_model.specs.Board.{Board as Tree};
+ghost use Rattle.qo_realize.specs.Stands.{Stands};
+ghost use Rattle.qo_buses.specs.Addresses.{addressed};
+ghost use Rattle.qo_lane.specs.Hearing.{Came, act_in, acked, acted, heard, is_built, nacked, outcome_of, polled_by, shut_down, told_by};
+
+use qo_guest::{Addr, GuestAct, GuestAnswer, read_line};
+use qo_heap::Steps;
+use qo_hotplug::Notice;
+use qo_realize::Board;
+use qo_replies::Event;
+use std::alloc::{AllocError, Global};
+use std::sync::ledger::Ledger;
+
+/// What a line of the guest comes to, but for the events on devices that wait on the board.
+#[derive(Drop)]
+pub struct Heard {
+    /// What it is answered.
+    pub answer: GuestAnswer,
+    /// Its own event, if it has one.
+    pub event: Option<Event>,
+    /// Whether it ends the run.
+    pub ends: bool,
+}
+
+/// An answer, and nothing else.
+fn answered(answer: GuestAnswer) -> Heard
+    ensures { result ≡ record { answer = answer; event = None; ends = false } }
+{
+    Heard {
+        answer,
+        event: None,
+        ends: false,
+    }
+}
+
+/// The guest lets the device at an address go. It takes no memory.
+fn ack<L: Ledger>(board: &mut Board, at: &Addr, steps: &mut Steps<L>) -> Heard
+    ensures { (b : Tree) → Stands b board.old → Came (acked b (addressed b at.now)) result board.new }
+{
+    let Some(dev) = board.guest_find(at, steps) else {
+        return answered(GuestAnswer::NoDevice);
+    };
+    if !board.is_pending(dev) {
+        return answered(GuestAnswer::NoPending);
+    }
+    board.complete(dev, steps);
+    answered(GuestAnswer::Fine)
+}
+
+/// The guest refuses that the device at an address goes. The error is want of memory, and leaves the
+/// board as it was.
+fn nack<L: Ledger>(
+    board: &mut Board,
+    at: &Addr,
+    alloc: Global,
+    steps: &mut Steps<L>,
+) -> Result<Heard, AllocError>
+    ensures came { (b : Tree) → Stands b board.old → IfOk result (λ h. Came (nacked b (addressed b at.now)) h board.new) }
+    ensures err { OnErr result (board.new ≡ board.old) }
+{
+    let Some(dev) = board.guest_find(at, steps) else {
+        return Ok(answered(GuestAnswer::NoDevice));
+    };
+    if !board.is_pending(dev) {
+        return Ok(answered(GuestAnswer::NoPending));
+    }
+    board.refuse(dev, alloc, steps)?;
+    Ok(answered(GuestAnswer::Fine))
+}
+
+/// What the guest is told by a notice, if there is one.
+fn told_by<L: Ledger>(board: &Board, notice: Option<&Notice>, steps: &mut Steps<L>) -> GuestAnswer
+    ensures { (b : Tree) → Stands b board.now → result ≡ told_by b (option_map (λ n. n.now) notice.entry) }
+{
+    let Some(notice) = notice else {
+        return GuestAnswer::NoNotice;
+    };
+    let at = board.guest_address(notice.device().birth, steps);
+    if notice.is_plug() {
+        GuestAnswer::Plug(at)
+    } else {
+        GuestAnswer::Unplug(at)
+    }
+}
+
+/// The guest takes the notice that has waited longest. It takes no memory.
+fn poll<L: Ledger>(board: &mut Board, steps: &mut Steps<L>) -> Heard
+    ensures { (b : Tree) → Stands b board.old → Came (polled_by b) result board.new }
+{
+    let notice = board.poll();
+    answered(told_by(board, notice.as_ref(), steps))
+}
+
+/// The guest ends the run.
+fn shut_down() -> Heard
+    ensures { (b : Tree) → outcome_of b result ≡ shut_down b }
+{
+    Heard {
+        answer: GuestAnswer::Fine,
+        event: Some(Event::Shutdown { guest: true }),
+        ends: true,
+    }
+}
+
+/// What an act of the guest comes to where the machine runs. The error is want of memory, and leaves
+/// the board as it was.
+fn act<L: Ledger>(
+    board: &mut Board,
+    act: &GuestAct,
+    alloc: Global,
+    steps: &mut Steps<L>,
+) -> Result<Heard, AllocError>
+    ensures came { (b : Tree) → Stands b board.old → IfOk result (λ h. Came (acted b act.now) h board.new) }
+    ensures err { OnErr result (board.new ≡ board.old) }
+{
+    match act {
+        GuestAct::Ack(at) => Ok(ack(board, at, steps)),
+        GuestAct::Nack(at) => nack(board, at, alloc, steps),
+        GuestAct::Poll => Ok(poll(board, steps)),
+        GuestAct::Shutdown => Ok(shut_down()),
+        GuestAct::Read(_, _) | GuestAct::Write(_, _, _) | GuestAct::Reset => {
+            Ok(answered(GuestAnswer::NoLine))
+        }
+    }
+}
+
+/// Whether an act of the guest is built.
+fn is_built(act: &GuestAct) -> bool
+    ensures { result ≡ is_built act.now }
+{
+    match act {
+        GuestAct::Ack(_) | GuestAct::Nack(_) | GuestAct::Poll | GuestAct::Shutdown => true,
+        GuestAct::Read(_, _) | GuestAct::Write(_, _, _) | GuestAct::Reset => false,
+    }
+}
+
+/// The act that a line is, if it is one that is built.
+fn act_in(line: &[u8]) -> Option<GuestAct>
+    ensures { result ≡ act_in (guest_line line.now) }
+{
+    match read_line(line) {
+        Ok(act) => {
+            if is_built(&act) {
+                Some(act)
+            } else {
+                None
+            }
+        }
+        Err(_) => None,
+    }
+}
+
+/// What one line of the guest does, without its line end, and what it is answered: `no line` where it
+/// is none, `no stopped` where the machine does not run, `no device` where none is at its address, `no
+/// pending` where no removal of that one is pending. Events on devices wait on the board behind it. The
+/// error is want of memory, and leaves the board as it was.
+pub fn hear<L: Ledger>(
+    board: &mut Board,
+    line: &[u8],
+    alloc: Global,
+    steps: &mut Steps<L>,
+) -> Result<Heard, AllocError>
+    ensures came { (b : Tree) → Stands b board.old → IfOk result (λ h. Came (heard b line.now) h board.new) }
+    ensures err { OnErr result (board.new ≡ board.old) }
+{
+    let Some(read) = act_in(line) else {
+        return Ok(answered(GuestAnswer::NoLine));
+    };
+    if !board.running() {
+        return Ok(answered(GuestAnswer::NoStopped));
+    }
+    act(board, &read, alloc, steps)
+}

@@ -1,0 +1,89 @@
+-- What stands where the guest lets a device go.
+use Rattle.std.proofs.Common.{◌≡◌, ◌≤◌, refl, ap, ap₂, sym, subst, ◌∙◌, ℕ, Bool, true, false, ◌||◌, List, [], ◌∷◌, length, arith}
+use Rattle.std.specs.List.{AllByRecursion, list_any}
+use Rattle.std.specs.Option.{option_map_or}
+use Rattle.std.specs.Prelude.{replicate, ◌++◌, ◌+◌, ◌==◌, zero, suc}
+use Rattle.qo_values.specs.Registers.{Registers, uart, timer, dimm, bridge, bare}
+use Rattle.qo_slots.specs.declared.keys.Key.{Key}
+use Rattle.qo_table.specs.Rows.{object_at}
+use Rattle.qo_object.specs.Content.{Content}
+use Rattle.qo_hotplug.specs.Asked.{Asked}
+use Rattle.qo_model.specs.Board.{Board, Record}
+use Rattle.qo_model.specs.Hotplug.{completed}
+use Rattle.qo_model.specs.Unplug.{detach}
+use Rattle.qo_heap.specs.Board.{Shows, pins_in}
+use Rattle.qo_heap.specs.Objects.{Objects, pins_of}
+use Rattle.qo_properties.specs.Claims.{KeepsBook}
+use Rattle.qo_properties.specs.Pinned.{OnlyRootPinned}
+use Rattle.qo_reset.specs.HoldList.{HoldList}
+use Rattle.qo_sound.specs.DevicesStay.{DetachLeaves}
+use Rattle.qo_sound.specs.Timerless as boards
+use Rattle.qo_sound.proofs.DevicesStayLemmas.{devices_stay_lem}
+use Rattle.qo_unplug.specs.Beside.{Beside}
+use Rattle.qo_unplug.specs.Timerless.{Timerless}
+use Rattle.qo_unplug.proofs.TimerLemmas.{Untimed, timed, timer_in, untimed-shows}
+use Rattle.qo_realize.specs.Parts.{Parts, parts_of}
+use Rattle.qo_realize.specs.Stands.{Stands, StandsForGood}
+use Rattle.qo_realize.proofs.SoundLemmas.{detached-good, root-pinned}
+
+-- no timer on the board is none on the heap
+same-timer : (r : Registers) → boards.is_timer r ≡ timer_in r
+same-timer (uart r) = refl
+same-timer (timer r) = refl
+same-timer (dimm r) = refl
+same-timer (bridge r) = refl
+same-timer bare = refl
+
+none-timed : (rs : List Record) → AllByRecursion (λ (r : Record). boards.is_timer r.registers ≡ false) rs → list_any timed rs ≡ false
+none-timed [] h = refl
+none-timed (r ∷ rs) h = ap₂ (λ (s t : Bool). s || t) (sym (same-timer r.registers) ∙ h.0) (none-timed rs h.1)
+
+pub timerless-heap : (p : Parts) → StandsForGood p → Timerless p.objects
+timerless-heap p (b, s, good) = untimed-shows b p.objects s.shows (none-timed b.records good.timerless)
+
+-- each object is pinned once at most
+length-more : (k m : ℕ) (xs : List ℕ) → length (replicate k m ++ xs) ≡ k + length xs
+length-more zero m xs = omega arith
+length-more (suc k) m xs = omega (arith, length-more k m xs)
+
+pins-within : (n : ℕ) (rows : List (Key × Content)) → option_map_or (λ (c : Content). c.pins) (object_at rows n) 0 ≤ length (pins_in rows)
+pins-within n [] = omega arith
+pins-within n (row ∷ rows) = go (row.0.birth == n) refl (pins-within n rows)
+  where
+    go : (b : Bool) → (row.0.birth == n) ≡ b → option_map_or (λ (c : Content). c.pins) (object_at rows n) 0 ≤ length (pins_in rows) → option_map_or (λ (c : Content). c.pins) (object_at (row ∷ rows) n) 0 ≤ length (pins_in (row ∷ rows))
+    go true p rest = rw p (omega (arith, length-more row.1.pins row.0.birth (pins_in rows)))
+    go false p rest = rw p (omega (arith, rest, length-more row.1.pins row.0.birth (pins_in rows)))
+
+pub pinned-once : (v : Objects) → OnlyRootPinned v → (n : ℕ) → pins_of v n ≤ 1
+pinned-once v only n =
+    let one : length (pins_in v.rows) ≡ 1 = ap (λ (l : List ℕ). length l) only in
+    omega (arith, pins-within n v.rows, one)
+
+-- what is beside the heap is the board's
+pub is_beside : (b : Board) (anonymous : ℕ) (running : Bool) (holds : HoldList) (asked : Asked) (v : Objects)
+    → Stands b (parts_of anonymous running holds asked v) → Beside b v holds.births asked
+is_beside b anonymous running holds asked v s = record { shown = s.shows; holds = s.holds; pending = s.pending; notices = s.notices }
+
+-- the board without the device stands
+pub completed-stands : (b : Board) (n anonymous : ℕ) (running : Bool) (held holds : HoldList) (old new : Asked) (v w : Objects)
+    → Stands b (parts_of anonymous running held old v) → Beside (detach b n) w holds.births new → KeepsBook v w
+    → Stands (completed b n) (parts_of anonymous running holds new w)
+completed-stands b n anonymous running held holds old new v w s beside keeps =
+    let l : DetachLeaves b (detach b n) = devices_stay_lem.detached b n in
+    record {
+      shows = beside.shown;
+      anonymous = l.anonymous ∙ s.anonymous;
+      running = l.running ∙ s.running;
+      holds = beside.holds;
+      pending = beside.pending;
+      notices = beside.notices;
+      rings = l.rings ∙ s.rings;
+      book = keeps [] s.book;
+    }
+
+pub completed-good : (n anonymous : ℕ) (running : Bool) (held holds : HoldList) (old new : Asked) (v w : Objects)
+    → StandsForGood (parts_of anonymous running held old v) → ((b : Board) → Beside b v held.births old → Beside (detach b n) w holds.births new) → KeepsBook v w
+    → OnlyRootPinned w × StandsForGood (parts_of anonymous running holds new w)
+completed-good n anonymous running held holds old new v w (b, s, good) detaches keeps =
+    let stands : Stands (completed b n) (parts_of anonymous running holds new w) = completed-stands b n anonymous running held holds old new v w s (detaches b (is_beside b anonymous running held old v s)) keeps in
+    (root-pinned (completed b n) (parts_of anonymous running holds new w) stands (detached-good b n good), (completed b n, stands, detached-good b n good))

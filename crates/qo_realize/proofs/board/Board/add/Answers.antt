@@ -1,0 +1,55 @@
+-- The device is added, or what refuses it is told.
+use Rattle.std.proofs.Common.{◌≡◌, sym, subst, ◌∙◌, ℕ, List, Option, Result, Ok, Err}
+use Rattle.std.specs.Prelude.{option_map}
+use Rattle.qo_model.specs.Board.{Board}
+use Rattle.qo_model.specs.Plug.{Wanted}
+use Rattle.qo_plug.specs.Added.{wanted}
+use Rattle.qo_realize.specs.Parts.{Parts, parts_of}
+use Rattle.qo_realize.specs.Stands.{Stands}
+use Rattle.qo_realize.proofs.PlugLemmas.{added-stands, barred-stands, is_shown, plugs-good, stands-pinned}
+use Rattle.qo_realize.proofs.SoundLemmas.{good-of}
+use Rattle.qo_realize.proofs.board.Board.add.Goals as goal
+
+pub invariant_of-self : goal.invariant_of-self
+invariant_of-self g c =
+    let (b, s, good) = c.self.invariant.1 in
+    let inside = c.self.inside in
+    let a = wanted c.args.driver.now (option_map (λ t. t.now) c.args.id) (option_map (λ t. t.now) c.args.bus) c.args.props.now in
+    let h = c.in-Ok.ensures.ok b (is_shown b inside.anonymous inside.running inside.resets inside.hotplug inside.heap s good) in
+    let stands = added-stands b a inside.anonymous c.in-Some.next inside.running inside.resets inside.hotplug c.add.new.hotplug inside.heap c.add.new.heap c.in-Ok.added s h c.in-Some.ensures c.in-Ok.ensures.book in
+    let held = plugs-good b a (Ok c.in-Ok.added) (parts_of c.in-Some.next inside.running inside.resets c.add.new.hotplug c.add.new.heap) good stands in
+    (stands-pinned _ held, held)
+
+pub invariant_of-self-in-Err : goal.invariant_of-self-in-Err
+invariant_of-self-in-Err g c =
+    let (b, s, good) = c.self.invariant.1 in
+    let inside = c.self.inside in
+    let a = wanted c.args.driver.now (option_map (λ t. t.now) c.args.id) (option_map (λ t. t.now) c.args.bus) c.args.props.now in
+    let shown = is_shown b inside.anonymous inside.running inside.resets inside.hotplug inside.heap s good in
+    let stands = barred-stands b a inside.anonymous inside.running inside.resets inside.hotplug c.add.new.hotplug inside.heap c.add.new.heap c.in-Err.refusal s (c.in-Err.ensures.refused b shown) (c.in-Err.ensures.memory b shown) c.in-Err.ensures.asked c.in-Err.ensures.book in
+    let held = plugs-good b a (Err c.in-Err.refusal) (parts_of inside.anonymous inside.running inside.resets c.add.new.hotplug c.add.new.heap) good stands in
+    (stands-pinned _ held, held)
+
+pub returns-in-Ok : goal.returns-in-Ok
+returns-in-Ok g c =
+    record {
+      change = λ b s.
+          let inside = c.self.inside in
+          let seen = subst (λ (p : Parts). Stands b p) (sym c.self.view_is) s in
+          let good = good-of (parts_of inside.anonymous inside.running inside.resets inside.hotplug inside.heap) c.self.invariant.1 b seen in
+          let a = wanted c.args.driver.now (option_map (λ t. t.now) c.args.id) (option_map (λ t. t.now) c.args.bus) c.args.props.now in
+          let h = c.in-Ok.ensures.ok b (is_shown b inside.anonymous inside.running inside.resets inside.hotplug inside.heap seen good) in
+          added-stands b a inside.anonymous c.in-Some.next inside.running inside.resets inside.hotplug c.add.new.hotplug inside.heap c.add.new.heap c.in-Ok.added seen h c.in-Some.ensures c.in-Ok.ensures.book;
+    }
+
+pub returns-in-Err : goal.returns-in-Err
+returns-in-Err g c =
+    record {
+      change = λ b s.
+          let inside = c.self.inside in
+          let seen = subst (λ (p : Parts). Stands b p) (sym c.self.view_is) s in
+          let good = good-of (parts_of inside.anonymous inside.running inside.resets inside.hotplug inside.heap) c.self.invariant.1 b seen in
+          let a = wanted c.args.driver.now (option_map (λ t. t.now) c.args.id) (option_map (λ t. t.now) c.args.bus) c.args.props.now in
+          let shown = is_shown b inside.anonymous inside.running inside.resets inside.hotplug inside.heap seen good in
+          barred-stands b a inside.anonymous inside.running inside.resets inside.hotplug c.add.new.hotplug inside.heap c.add.new.heap c.in-Err.refusal seen (c.in-Err.ensures.refused b shown) (c.in-Err.ensures.memory b shown) c.in-Err.ensures.asked c.in-Err.ensures.book;
+    }

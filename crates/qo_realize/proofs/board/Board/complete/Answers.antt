@@ -1,0 +1,26 @@
+-- The device is let go.
+use Rattle.std.proofs.Common.{sym, subst}
+use Rattle.qo_realize.specs.Parts.{Parts, parts_of}
+use Rattle.qo_realize.specs.Stands.{Stands}
+use Rattle.qo_realize.proofs.CompleteLemmas.{completed-good, completed-stands, is_beside, pinned-once, timerless-heap}
+use Rattle.qo_realize.proofs.board.Board.complete.Goals as goal
+
+pub detach-requires-clause-still : goal.detach-requires-clause-still
+detach-requires-clause-still g c =
+    let inside = c.self.inside in timerless-heap (parts_of inside.anonymous inside.running inside.resets inside.hotplug inside.heap) c.self.invariant.1
+
+pub detach-requires-clause-pins : goal.detach-requires-clause-pins
+detach-requires-clause-pins g c = pinned-once c.self.inside.heap c.self.invariant.0
+
+pub invariant_of-self : goal.invariant_of-self
+invariant_of-self g c =
+    let inside = c.self.inside in
+    completed-good c.args.dev.birth inside.anonymous inside.running inside.resets c.detach.new.resets inside.hotplug c.detach.new.hotplug inside.heap c.detach.new.heap
+    c.self.invariant.1 c.detach.ensures.shown c.detach.ensures.book
+
+pub returns : goal.returns
+returns g c = λ b s.
+    let inside = c.self.inside in
+    let seen = subst (λ (p : Parts). Stands b p) (sym c.self.view_is) s in
+    completed-stands b c.args.dev.birth inside.anonymous inside.running inside.resets c.detach.new.resets inside.hotplug c.detach.new.hotplug inside.heap c.detach.new.heap seen
+    (c.detach.ensures.shown b (is_beside b inside.anonymous inside.running inside.resets inside.hotplug inside.heap seen)) c.detach.ensures.book
