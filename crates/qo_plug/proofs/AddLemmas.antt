@@ -1,15 +1,11 @@
 -- What adding a device comes to, by what was done of it.
-use Rattle.std.proofs.Common.{◌≡◌, refl, ap, sym, subst, ◌∙◌, ℕ, suc, ◌+◌, ◌≤◌, true, codes, List, [], ◌∷◌, Option, Some, None, option_map, Err, Result, IfSome, inl, inr, arith, ◌<◌, ◌==◌, false, find, map}
-use Rattle.std.specs.Prelude.{option_and_then}
+use Rattle.std.proofs.Common.{◌≡◌, refl, ap, sym, subst, ◌∙◌, ℕ, ◌+◌, ◌≤◌, true, codes, List, [], ◌∷◌, Option, Some, None, option_map, Err, IfSome, inr, arith, ◌<◌, ◌==◌, false, find, map}
 use Rattle.std.specs.List.{AllByRecursion}
 use Rattle.std.proofs.lemmas.Bool.Decides.{nat_tests}
 use Rattle.std.proofs.lemmas.Option.{same_Some}
-use Rattle.qo_values.specs.declared.codes.Code.{Code}
 use Rattle.qo_values.specs.declared.kinds.TypeId.{TypeId}
 use Rattle.qo_values.specs.declared.kinds.TypeId.TheVariants.{SlotBridge}
 use Rattle.qo_model.specs.Board.{Board, Record, kind_of}
-use Rattle.qo_kinds.specs.Bodies.{kept_of}
-use Rattle.qo_kinds.proofs.BodyLemmas.{fresh-bare}
 use Rattle.qo_slots.specs.declared.keys.Key.{Key}
 use Rattle.qo_table.specs.Rows.{IsLive}
 use Rattle.qo_model.specs.Devices.{buses_of}
@@ -20,8 +16,7 @@ use Rattle.qo_model.specs.Types.{TypeRow, is_a, row_named, types}
 use Rattle.qo_sound.proofs.PlugLemmas.{IsPlace, place-of}
 use Rattle.qo_sound.proofs.ViewLemmas.{AtRest, rest-from_sound}
 use Rattle.qo_heap.specs.Board.{Shows}
-use Rattle.qo_heap.specs.Objects.{Objects, content_of}
-use Rattle.qo_object.specs.Content.{Content, HasNoClaim, fresh}
+use Rattle.qo_heap.specs.Objects.{Objects}
 use Rattle.qo_properties.specs.Filling.{target_in}
 use Rattle.qo_properties.specs.Start.{KeepsNames}
 use Rattle.qo_properties.specs.declared.adding.filling.Fill.{Fill}
@@ -35,7 +30,7 @@ use Rattle.qo_plug.specs.declared.refusals.AddRefusal.TheVariants.{Refused, Memo
 use Rattle.qo_plug.specs.declared.refusals.Barred.{Barred}
 use Rattle.qo_plug.specs.Added.{IfRefused, IsAdmitted, added, is_built}
 use Rattle.qo_plug.specs.Adding.{IsAdded, IsCut, IsOpen, IsPlugged, IsRefused, turned_down}
-use Rattle.qo_plug.specs.Drafts.{CutShort, bare, held_draft}
+use Rattle.qo_plug.specs.Drafts.{CutShort, held_draft}
 use Rattle.qo_plug.specs.Standing.{Stood, spot_in}
 use Rattle.qo_plug.proofs.AdmitLemmas.{added-late}
 use Rattle.qo_plug.proofs.JudgeLemmas.{built-is}

@@ -1,5 +1,5 @@
 -- What bars a device before an attempt, stage by stage.
-use Rattle.std.proofs.Common.{◌≡◌, refl, ap, ap₂, sym, ◌∙◌, ℕ, Bool, true, false, not, List, [], ◌∷◌, codes, nat_le, length, Option, Some, None, option_map, Err}
+use Rattle.std.proofs.Common.{◌≡◌, refl, ap, ap₂, sym, ◌∙◌, ℕ, Bool, true, false, not, List, [], ◌∷◌, Option, Some, None, option_map, Err}
 use Rattle.std.specs.Prelude.{if◌then◌else◌}
 use Rattle.std.specs.Option.{option_or}
 use Rattle.std.proofs.lemmas.Option.{same_Some}

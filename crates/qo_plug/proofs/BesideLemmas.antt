@@ -1,5 +1,5 @@
 -- The holds, the pending removals and the notices stay as they are while a device is made and takes its place.
-use Rattle.std.proofs.Common.{◌≡◌, refl, ap, sym, ◌∙◌, ℕ, ◌+◌, true, false, List, [], ◌∷◌, codes, filter, Option, Some, None}
+use Rattle.std.proofs.Common.{◌≡◌, refl, ◌∙◌, ℕ, ◌+◌, true, false, List, [], ◌∷◌, codes, filter, Option, Some, None}
 use Rattle.qo_values.specs.declared.kinds.Act.{Act}
 use Rattle.qo_values.specs.declared.kinds.Act.TheVariants.{Realize, Enter, Hold, Exit}
 use Rattle.qo_values.specs.declared.kinds.TypeId.{TypeId}
@@ -11,7 +11,7 @@ use Rattle.qo_model.specs.Changes.{add, make, set}
 use Rattle.qo_model.specs.Clocks.{acted}
 use Rattle.qo_model.specs.Devices.{clock_of}
 use Rattle.qo_model.specs.Objects.{place_from}
-use Rattle.qo_model.specs.Plug.{Spot, Wanted, acted_all, addressed_at, aliased, bus_births, clocked, counted, joined, link_named, owned, row_made, rows_made, source_for, started, stood, told_plug, valued, with_body_of, with_given, with_source}
+use Rattle.qo_model.specs.Plug.{Spot, Wanted, acted_all, addressed_at, aliased, bus_births, clocked, counted, joined, link_named, owned, row_made, rows_made, source_for, started, stood, valued, with_given, with_source}
 use Rattle.qo_model.specs.Release.{edit}
 use Rattle.qo_model.specs.Reset.{is_out, phased, plugged, post}
 use Rattle.qo_model.specs.RowNames.{property_name}

@@ -1,18 +1,18 @@
 -- What bars a device from its properties on, stage by stage.
-use Rattle.std.proofs.Common.{◌≡◌, refl, ap, ap₂, sym, ◌∙◌, ℕ, zero, suc, ◌+◌, ◌<◌, Bool, true, false, not, List, [], ◌∷◌, codes, nat_le, nat_lt, length, Option, Some, None, Result, Ok, Err, arith}
-use Rattle.std.specs.Prelude.{if◌then◌else◌, IfSome, option_and_then}
+use Rattle.std.proofs.Common.{◌≡◌, refl, ap, ap₂, sym, ◌∙◌, ℕ, zero, suc, ◌+◌, Bool, true, false, not, List, [], ◌∷◌, codes, nat_le, nat_lt, length, Option, Some, None, Result, Ok, Err}
+use Rattle.std.specs.Prelude.{if◌then◌else◌}
 use Rattle.std.specs.Option.{option_or}
 use Rattle.std.proofs.lemmas.Option.{same_Some}
 use Rattle.qo_values.specs.Placing.{least}
 use Rattle.qo_values.specs.declared.codes.Code.{Code}
-use Rattle.qo_values.specs.declared.codes.Code.TheVariants.{E28, E29, E30, E42, E44}
+use Rattle.qo_values.specs.declared.codes.Code.TheVariants.{E28, E29, E30, E44}
 use Rattle.qo_values.specs.declared.kinds.TypeId.{TypeId}
 use Rattle.qo_values.specs.declared.kinds.TypeId.TheVariants.{SlotBridge}
 use Rattle.qo_values.specs.declared.limits.TheConstants.{BUS_SLOTS, NOTICES_MAX}
 use Rattle.qo_model.specs.Board.{Board}
 use Rattle.qo_model.specs.Devices.{kid_name}
 use Rattle.qo_model.specs.Objects.{Given, has_slot, refusal_of}
-use Rattle.qo_model.specs.Plug.{Spot, at_stage, barred_late, first_of, is_free, kind_barred, notice_barred, number_for, place_barred, realize_barred, slot_for, spot_of}
+use Rattle.qo_model.specs.Plug.{Spot, at_stage, barred_late, first_of, is_free, kind_barred, notice_barred, number_for, place_barred, slot_for, spot_of}
 use Rattle.qo_plug.specs.Added.{is_built}
 
 -- the least number that passes does pass

@@ -1,8 +1,7 @@
 -- A new device acts with its buses, though it stands nowhere, and is given up.
-use Rattle.std.proofs.Common.{◌≡◌, refl, ap, ap₂, sym, subst, ◌∙◌, ℕ, zero, suc, ◌+◌, ◌<◌, ◌≤◌, Bool, true, false, ◌&&◌, cond, eqb, nat_le, List, [], ◌∷◌, ◌++◌, append-nil, codes, filter, filter_map, length, map, min, option_to_list, slice_get, take, Option, Some, None, option_map, IfSome, arith}
+use Rattle.std.proofs.Common.{◌≡◌, refl, ap, ap₂, sym, subst, ◌∙◌, ℕ, zero, suc, ◌+◌, ◌<◌, ◌≤◌, Bool, true, false, ◌&&◌, eqb, nat_le, List, [], ◌∷◌, ◌++◌, append-nil, codes, filter, filter_map, length, map, min, option_to_list, slice_get, take, Option, Some, None, option_map, IfSome, arith}
 use Rattle.std.specs.Prelude.{◌==◌, if◌then◌else◌, option_and_then}
 use Rattle.std.specs.List.{AllByRecursion, cons_option}
-use Rattle.std.specs.Option.{option_map_or}
 use Rattle.std.proofs.lemmas.Bool.{eqb-true}
 use Rattle.std.proofs.lemmas.Bool.Decides.{nat_tests}
 use Rattle.std.proofs.lemmas.List.{take_all}
@@ -17,8 +16,7 @@ use Rattle.qo_model.specs.declared.notes.Deed.TheVariants.{Did}
 use Rattle.qo_model.specs.Board.{Board, Record}
 use Rattle.qo_model.specs.Changes as changes
 use Rattle.qo_model.specs.Opening.{fresh_record}
-use Rattle.qo_model.specs.Paths.{births}
-use Rattle.qo_model.specs.Plug.{acted_all, born_from, bus_births, drafted, is_bus, passed, plug_attempt, rows_made, types_in, with_new}
+use Rattle.qo_model.specs.Plug.{acted_all, born_from, bus_births, drafted, is_bus, passed, plug_attempt, rows_made, with_new}
 use Rattle.qo_model.specs.Release.{unpin}
 use Rattle.qo_model.specs.Reset.{count, phased}
 use Rattle.qo_model.specs.Types.{is_a, slots_of}
@@ -31,7 +29,7 @@ use Rattle.qo_object.specs.Content.{Content, acted_at}
 use Rattle.qo_object.specs.Shown.{birth_of}
 use Rattle.qo_heap.specs.Acts.{Acts, stilled}
 use Rattle.qo_heap.specs.Board.{Shows, record_of}
-use Rattle.qo_heap.specs.Objects.{IsHeap, Objects, content_of, no_objects_made, with_edit}
+use Rattle.qo_heap.specs.Objects.{IsHeap, Objects, content_of, no_objects_made}
 use Rattle.qo_heap.proofs.ActsLemmas.{acts-act, acts-live, acts-none, acts-then}
 use Rattle.qo_heap.proofs.PlacesLemmas.{at-key, object-at-place, past-last}
 use Rattle.qo_heap.proofs.ShowsLive.{content-edited, content-other}
@@ -42,7 +40,7 @@ use Rattle.qo_reset.specs.Phases.{acted_on, walked}
 use Rattle.qo_reset.proofs.BoardLemmas.{shows-walked}
 use Rattle.qo_reset.proofs.WalkLemmas.{walked-acts, walked-append}
 use Rattle.qo_plug.specs.Attempts.{first_acted, last_acted, let_out, new_bus, new_buses, passed_on}
-use Rattle.qo_plug.specs.Drafts.{IsQuiet, created, held_draft}
+use Rattle.qo_plug.specs.Drafts.{IsQuiet, held_draft}
 use Rattle.qo_plug.proofs.CutLemmas.{begun, held, held-is}
 
 -- who is quiet stays quiet

@@ -1,8 +1,8 @@
 -- A bridge is made, takes its place, starts and is let go: this comes to the board with it.
-use Rattle.std.proofs.Common.{◌≡◌, refl, ap, sym, ◌∙◌, ℕ, suc, ◌+◌, ◌≤◌, true, List, [], ◌∷◌, length, map, take, Option, Some, None, arith}
+use Rattle.std.proofs.Common.{◌≡◌, refl, ap, sym, ◌∙◌, ℕ, suc, ◌+◌, ◌≤◌, true, List, [], length, Option, Some, None, arith}
 use Rattle.std.proofs.lemmas.List.{length-map, take_all}
 use Rattle.qo_values.specs.declared.kinds.TypeId.{TypeId}
-use Rattle.qo_model.specs.Board.{Board, Notice}
+use Rattle.qo_model.specs.Board.{Board}
 use Rattle.qo_model.specs.Paths.{canonical, steps_to}
 use Rattle.qo_model.specs.Plug.{Spot, Wanted, born_from, clocked, counted, cut_attempt, device_last, further_of, objects_in, plug_attempt, rows_made, source_for, started, stood, types_in, with_ended, with_plugged}
 use Rattle.qo_model.specs.Release.{unpin}

@@ -1,5 +1,5 @@
 -- A device that was made, and stands nowhere, leaves what is below and above the buses of before.
-use Rattle.std.proofs.Common.{◌≡◌, refl, ap, ap₂, sym, ◌∙◌, ℕ, zero, suc, ◌+◌, ◌<◌, ◌≤◌, Bool, true, false, ◌==◌, List, [], ◌∷◌, ◌++◌, codes, find, map, Option, Some, None, is_some, option_map, arith}
+use Rattle.std.proofs.Common.{◌≡◌, refl, ap, sym, ◌∙◌, ℕ, suc, ◌+◌, ◌<◌, ◌≤◌, Bool, true, false, ◌==◌, List, [], ◌∷◌, ◌++◌, codes, find, map, Option, Some, None, is_some, option_map, arith}
 use Rattle.std.specs.Prelude.{if◌then◌else◌, option_and_then, unwrap_or}
 use Rattle.std.specs.List.{AllByRecursion}
 use Rattle.std.specs.Option.{option_map_or, option_or}
@@ -9,13 +9,13 @@ use Rattle.std.proofs.lemmas.List.Folds.{find-append}
 use Rattle.std.proofs.lemmas.Option.{same_Some}
 use Rattle.qo_values.specs.declared.births.TheConstants.{SYSTEM_CLOCK_BIRTH}
 use Rattle.qo_values.specs.declared.kinds.TypeId.{TypeId}
-use Rattle.qo_model.specs.Board.{Board, Record, Slot, plain, child, strong, weak, alias, kind_of, record_of, slot_named}
+use Rattle.qo_model.specs.Board.{Board, Record, Slot, plain, child, strong, weak, alias, record_of}
 use Rattle.qo_model.specs.Changes as changes
-use Rattle.qo_model.specs.Devices.{bridge_of, child_named, clock_of}
-use Rattle.qo_model.specs.Paths.{is_child, is_of, parent_of, place_in, place_of}
+use Rattle.qo_model.specs.Devices.{child_named, clock_of}
+use Rattle.qo_model.specs.Paths.{is_child, is_of, place_in, place_of}
 use Rattle.qo_model.specs.Plug.{drafted, rows_made, source_for, with_new}
 use Rattle.qo_model.specs.Types.{is_a, slots_of}
-use Rattle.qo_model.proofs.AttemptLemmas.{AreKids, BareKid, BareSlot, IsStar, star-kids}
+use Rattle.qo_model.proofs.AttemptLemmas.{AreKids, BareSlot, IsStar, star-kids}
 use Rattle.qo_model.proofs.DraftEndsLemmas.{IsDraft, kids_from, kinds_in}
 use Rattle.qo_sound.specs.Kept.{SoundTree}
 use Rattle.qo_sound.proofs.DraftLemmas.{rows-blind, with_pins}

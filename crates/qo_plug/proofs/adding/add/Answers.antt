@@ -1,9 +1,8 @@
 -- A device is admitted and judged first.
-use Rattle.std.proofs.Common.{◌≡◌, refl, ap, sym, ◌∙◌, ℕ, Bool, List, nat_le, length, option_map, inr, Err, Some}
+use Rattle.std.proofs.Common.{refl, ap, sym, ◌∙◌, ℕ, List, nat_le, length, option_map, inr}
 use Rattle.qo_values.specs.declared.limits.TheConstants.{NOTICES_MAX}
 use Rattle.qo_model.specs.Board.{Notice}
 use Rattle.qo_model.specs.Plug.{Wanted}
-use Rattle.qo_plug.specs.declared.refusals.AddRefusal.TheVariants.{Memory}
 use Rattle.qo_plug.specs.Added.{IsAdmitted, wanted}
 use Rattle.qo_plug.specs.Adding.{IsOpen}
 use Rattle.qo_plug.proofs.AddLemmas.{cut-late, is-added, refused-early, refused-late}

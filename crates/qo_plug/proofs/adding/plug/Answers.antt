@@ -1,14 +1,10 @@
 -- The bridge is made, takes its place, starts and is let go; or an attempt was cut.
-use Rattle.std.proofs.Common.{◌≡◌, refl, ◌==◌, ◌+◌, ◌<◌, ◌≤◌, ap, sym, subst, ◌∙◌, false, ℕ, List, inl, arith}
+use Rattle.std.proofs.Common.{◌≡◌, refl, ◌+◌, ◌≤◌, ap, sym, subst, ◌∙◌, ℕ, List, arith}
 use Rattle.std.specs.List.{AllZip}
 use Rattle.std.proofs.lemmas.Bool.Decides.{nat_tests}
-use Rattle.qo_model.specs.Board.{Board}
 use Rattle.qo_model.specs.Objects.{Given}
-use Rattle.qo_model.specs.Release.{unpin}
-use Rattle.qo_heap.specs.Board.{Shows}
-use Rattle.qo_heap.specs.Objects.{pins_of}
 use Rattle.qo_object.specs.Slots.{Named}
-use Rattle.qo_properties.specs.Filling.{Fits, IsGiven}
+use Rattle.qo_properties.specs.Filling.{IsGiven}
 use Rattle.qo_properties.specs.Fresh.{new_slots}
 use Rattle.qo_plug.specs.Drafts.{held_draft, own_slots_of}
 use Rattle.qo_plug.specs.Standing.{IsSeat}

@@ -1,6 +1,5 @@
 -- A bus more acts where there is one at the place.
 use Rattle.std.proofs.Common.{subst, sym, ◌∙◌, ◌+◌}
-use Rattle.qo_heap.specs.Objects.{Objects}
 use Rattle.qo_plug.proofs.PassLemmas.{Reached, quiet-may, reached-bus, reached-none, reached-other, reached-quiet}
 use Rattle.qo_plug.proofs.attempting.act_buses.Goals.{in-Some, in_default}
 use Rattle.qo_plug.proofs.attempting.act_buses.Goals as goal

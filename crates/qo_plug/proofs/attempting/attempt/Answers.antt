@@ -1,5 +1,5 @@
 -- The device was not there before.
-use Rattle.std.proofs.Common.{◌≡◌, ◌+◌, ◌≤◌, ℕ, ap, sym, ◌∙◌, arith}
+use Rattle.std.proofs.Common.{◌≡◌, ◌+◌, ℕ, ap, sym, ◌∙◌, arith}
 use Rattle.qo_model.specs.Reset.{count}
 use Rattle.qo_plug.proofs.GrowsLemmas.{unborn-quiet}
 use Rattle.qo_plug.proofs.PassLemmas.{cut-none}

@@ -1,5 +1,5 @@
 -- The object at the place is of the type that is looked at.
-use Rattle.std.proofs.Common.{◌≡◌, ◌≤◌, ◌&&◌, ◌<◌, Bool, true, false, ap, ap₂, nat_le, sym, ◌∙◌, arith}
+use Rattle.std.proofs.Common.{◌≡◌, ◌≤◌, ◌&&◌, Bool, true, false, ap₂, nat_le, sym, ◌∙◌, arith}
 use Rattle.std.proofs.lemmas.Bool.Decides.{nat_tests}
 use Rattle.qo_heap.proofs.PlacesLemmas.{key-live}
 use Rattle.qo_plug.proofs.PassLemmas.{bus-at}

@@ -1,5 +1,5 @@
 -- The slot comes before the depth.
-use Rattle.std.proofs.Common.{◌≡◌, Ok, Some, None, ap, sym, ◌∙◌}
+use Rattle.std.proofs.Common.{Some, None, ap, sym, ◌∙◌}
 use Rattle.qo_model.specs.Plug.{slot_for}
 use Rattle.qo_plug.proofs.JudgeLemmas.{place-depth}
 use Rattle.qo_plug.proofs.judging.bridge_slot.Goals as goal
