@@ -1,13 +1,23 @@
 -- What the board's calls leave is what the commands define.
-use Rattle.std.proofs.Common.{◌≡◌, refl, ap, sym, subst, ◌∙◌, ℕ, List, true, Some, None, Result, Ok, Err, OnErr, inl}
+use Rattle.std.proofs.Common.{◌≡◌, refl, ap, sym, subst, ◌∙◌, ℕ, List, true, false, Some, None, Option, Result, Ok, Err, OnErr, inl, inr}
 use Rattle.qo_values.specs.declared.codes.Code.{Code}
 use Rattle.qo_values.specs.declared.properties.Val.{Val}
 use Rattle.qo_model.specs.Board.{Board}
 use Rattle.qo_model.specs.Objects.{Changed, Given, object_add, object_del, sever}
 use Rattle.qo_model.specs.Access.{write_at}
+use Rattle.qo_lane.specs.Hearing.{heard, outcome_of}
+use Rattle.qo_lane.specs.Hearing as hearing
+use Rattle.qo_lane.specs.declared.hearing.Heard.{Heard}
+use Rattle.qo_model.specs.Hotplug.{asked}
+use Rattle.qo_model.specs.Plug.{Plugged, Wanted}
+use Rattle.qo_plug.specs.Added.{added, wanted}
+use Rattle.qo_plug.specs.declared.adding.Added as device
+use Rattle.qo_plug.specs.declared.refusals.AddRefusal.{AddRefusal}
+use Rattle.qo_plug.specs.declared.refusals.AddRefusal.TheVariants.{Refused as Barred}
 use Rattle.qo_properties.specs.declared.refusals.Refusal.{Refusal}
 use Rattle.qo_properties.specs.declared.refusals.Refusal.TheVariants.{Refused, Memory}
-use Rattle.qo_realize.specs.Answers.{Adds, IsAnswered, Writes}
+use Rattle.qo_realize.specs.Answers.{Adds, IsAnswered, Plugs, Writes}
+use Rattle.qo_realize.specs.Answers as board
 use Rattle.qo_realize.specs.Parts.{Parts}
 use Rattle.qo_realize.specs.Stands.{Stands}
 use Rattle.qo_requests.specs.declared.requests.Request.{Request}
@@ -15,7 +25,7 @@ use Rattle.qo_requests.specs.declared.requests.Request.TheVariants.{QmpCapabilit
 use Rattle.qo_commands.specs.Changes.{Came, Changes, ComesTo, is_change}
 use Rattle.qo_commands.specs.Views.{done_of}
 use Rattle.qo_commands.specs.declared.commands.Done as outcome
-use Rattle.qo_commands.specs.Commands.{Done, changed, empty, performed, refused_with, returned, wrote}
+use Rattle.qo_commands.specs.Commands.{Done, changed, empty, performed, plugged, refused_with, returned, told, wrote}
 
 -- a command that came to something, by what it came to
 came-ok : (b c : Board) (r : Request) (d : outcome.Done) (p : Parts) → performed b r ≡ returned c empty → Stands c p → ((x : Board) → done_of x d ≡ returned x empty) → Came b r d p
@@ -75,35 +85,82 @@ add-changes b p driver id props (Err (Refused code)) (Ok d) (some, now) so =
     changed-err b (ObjectAdd driver id props) (object_add b driver id props) code d p refl some now so
 add-changes b p driver id props (Err (Refused code)) (Err e) h so = absurd so
 add-changes b p driver id props (Err Memory) (Ok d) h so = absurd so
-add-changes b p driver id props (Err Memory) (Err e) stands so = stands
+add-changes b p driver id props (Err Memory) (Err e) (inl now) so = inl now
+add-changes b p driver id props (Err Memory) (Err e) (inr now) so = inr (1, false, now)
+
+-- a device was added, or not; for want of memory the board is as it was, or an attempt was cut
+plugged-ok : (b : Board) (r : Request) (add : Plugged) (d : outcome.Done) (p : Parts) → performed b r ≡ plugged add → add.refusal ≡ None → Stands add.board p → ((x : Board) → done_of x d ≡ returned x empty) → Came b r d p
+plugged-ok b r add d p is none now so = came-ok b add.board r d p (is ∙ rw (plugged, none) refl) now so
+
+plugged-err : (b : Board) (r : Request) (add : Plugged) (refusal : ℕ × Code) (d : outcome.Done) (p : Parts)
+    → performed b r ≡ plugged add → add.refusal ≡ Some refusal → Stands add.board p → ((x : Board) → done_of x d ≡ refused_with x refusal.1) → Came b r d p
+plugged-err b r add refusal d p is some now so = came-err b add.board r refusal.1 d p (is ∙ rw (plugged, some) refl) now so
+
+pub plug-ok : (b : Board) (p : Parts) (driver : List ℕ) (id bus : Option (List ℕ)) (props : List Given) (device : device.Added) (d : outcome.Done)
+    → Plugs b (wanted driver id bus props) (Ok device) p → ((x : Board) → done_of x d ≡ returned x empty) → Came b (DeviceAdd driver id bus props) d p
+unfolding performed
+plug-ok b p driver id bus props device d (none, now) so = plugged-ok b (DeviceAdd driver id bus props) (added b (wanted driver id bus props)) d p refl none now so
+
+pub plug-err : (b : Board) (p : Parts) (driver : List ℕ) (id bus : Option (List ℕ)) (props : List Given) (stage : ℕ) (code : Code) (d : outcome.Done)
+    → Plugs b (wanted driver id bus props) (Err (Barred stage code)) p → ((x : Board) → done_of x d ≡ refused_with x code) → Came b (DeviceAdd driver id bus props) d p
+unfolding performed
+plug-err b p driver id bus props stage code d (some, now) so = plugged-err b (DeviceAdd driver id bus props) (added b (wanted driver id bus props)) (stage, code) d p refl some now so
+
+-- as the words are given
+pub plugs-as : (b : Board) (driver : List ℕ) (id bus as_id as_bus : Option (List ℕ)) (props : List Given) (r : Result device.Added AddRefusal) (p : Parts)
+    → as_id ≡ id → as_bus ≡ bus → Plugs b (wanted driver as_id as_bus props) r p → Plugs b (wanted driver id bus props) r p
+plugs-as b driver id bus as_id as_bus props r p same_id same_bus h =
+    subst (λ (x : Option (List ℕ)). Plugs b (wanted driver x bus props) r p) same_id (subst (λ (x : Option (List ℕ)). Plugs b (wanted driver as_id x props) r p) same_bus h)
+
+-- refused, as the refusal is
+pub refused-as : (b : Board) (w : Wanted) (refusal : AddRefusal) (stage : ℕ) (code : Code) (p : Parts) → refusal ≡ Barred stage code → Plugs b w (Err refusal) p → Plugs b w (Err (Barred stage code)) p
+refused-as b w refusal stage code p is h = subst (λ (x : AddRefusal). Plugs b w (Err x) p) is h
+
+-- a removal is asked for, or not
+pub ask-changes : {E : Type 0} (b : Board) (p : Parts) (id : List ℕ) (answer : Result Unit Refusal) (result : Result outcome.Done E)
+    → board.Changes (asked b id) b answer p → ComesTo answer result → Changes b (DeviceDel id) result p
+unfolding performed
+ask-changes b p id (Ok u) (Ok d) (none, now) so = changed-ok b (DeviceDel id) (asked b id) d p refl none now so
+ask-changes b p id (Ok u) (Err e) h so = absurd so
+ask-changes b p id (Err (Refused code)) (Ok d) (is, now) so =
+    changed-err b (DeviceDel id) (asked b id) code d p refl (ap (λ (c : Changed). c.refusal) is) (subst (λ (c : Changed). Stands c.board p) (sym is) now) so
+ask-changes b p id (Err (Refused code)) (Err e) h so = absurd so
+ask-changes b p id (Err Memory) (Ok d) h so = absurd so
+ask-changes b p id (Err Memory) (Err e) now so = inl now
+
+-- a line of the guest
+pub told-came : (b : Board) (line : List ℕ) (h : Heard) (d : outcome.Done) (p : Parts) → hearing.Came (heard b line) h p → ((x : Board) → done_of x d ≡ told (outcome_of x h)) → Came b (XGuest line) d p
+unfolding performed
+told-came b line h d p (now, is) so = (now, so (heard b line).board ∙ ap told is)
 
 -- there is no other change
-pub no-other : (r : Request) → is_change r ≡ true → ((path name : List ℕ) (val : Val) → r ≡ QomSet path name val → ⊥) → ((driver id : List ℕ) (props : List Given) → r ≡ ObjectAdd driver id props → ⊥) → ((id : List ℕ) → r ≡ ObjectDel id → ⊥) → ((birth : ℕ) → r ≡ XSever birth → ⊥) → ⊥
-no-other (QmpCapabilities enable) is set add del sever = cc
-no-other QueryVersion is set add del sever = cc
-no-other QueryCommands is set add del sever = cc
-no-other QueryStatus is set add del sever = cc
-no-other Stop is set add del sever = cc
-no-other Cont is set add del sever = cc
-no-other SystemReset is set add del sever = cc
-no-other Quit is set add del sever = cc
-no-other (QomList path) is set add del sever = cc
-no-other (QomGet path property) is set add del sever = cc
-no-other (QomSet path property value) is set add del sever = absurd (set path property value refl)
-no-other (QomListTypes implements with_abstract) is set add del sever = cc
-no-other (DeviceListProperties typename) is set add del sever = cc
-no-other (ObjectAdd driver id props) is set add del sever = absurd (add driver id props refl)
-no-other (ObjectDel id) is set add del sever = absurd (del id refl)
-no-other (DeviceAdd driver id bus props) is set add del sever = cc
-no-other (DeviceDel id) is set add del sever = cc
-no-other (ChardevAdd id kind size) is set add del sever = cc
-no-other (ChardevRemove id) is set add del sever = cc
-no-other (RingbufRead device size format) is set add del sever = cc
-no-other (RingbufWrite device payload format) is set add del sever = cc
-no-other (XResetHold path) is set add del sever = cc
-no-other (XResetRelease path) is set add del sever = cc
-no-other (XSever birth) is set add del sever = absurd (sever birth refl)
-no-other (XQueryNotes start) is set add del sever = cc
-no-other XQueryDetached is set add del sever = cc
-no-other (XGuest line) is set add del sever = cc
-no-other (XStep ns) is set add del sever = cc
+pub no-other : (r : Request) → is_change r ≡ true → ((path name : List ℕ) (val : Val) → r ≡ QomSet path name val → ⊥) → ((driver id : List ℕ) (props : List Given) → r ≡ ObjectAdd driver id props → ⊥) → ((id : List ℕ) → r ≡ ObjectDel id → ⊥) → ((birth : ℕ) → r ≡ XSever birth → ⊥)
+    → ((driver : List ℕ) (id bus : Option (List ℕ)) (props : List Given) → r ≡ DeviceAdd driver id bus props → ⊥) → ((id : List ℕ) → r ≡ DeviceDel id → ⊥) → ((line : List ℕ) → r ≡ XGuest line → ⊥) → ⊥
+no-other (QmpCapabilities enable) is set add del sever plug ask guest = cc
+no-other QueryVersion is set add del sever plug ask guest = cc
+no-other QueryCommands is set add del sever plug ask guest = cc
+no-other QueryStatus is set add del sever plug ask guest = cc
+no-other Stop is set add del sever plug ask guest = cc
+no-other Cont is set add del sever plug ask guest = cc
+no-other SystemReset is set add del sever plug ask guest = cc
+no-other Quit is set add del sever plug ask guest = cc
+no-other (QomList path) is set add del sever plug ask guest = cc
+no-other (QomGet path property) is set add del sever plug ask guest = cc
+no-other (QomSet path property value) is set add del sever plug ask guest = absurd (set path property value refl)
+no-other (QomListTypes implements with_abstract) is set add del sever plug ask guest = cc
+no-other (DeviceListProperties typename) is set add del sever plug ask guest = cc
+no-other (ObjectAdd driver id props) is set add del sever plug ask guest = absurd (add driver id props refl)
+no-other (ObjectDel id) is set add del sever plug ask guest = absurd (del id refl)
+no-other (DeviceAdd driver id bus props) is set add del sever plug ask guest = absurd (plug driver id bus props refl)
+no-other (DeviceDel id) is set add del sever plug ask guest = absurd (ask id refl)
+no-other (ChardevAdd id kind size) is set add del sever plug ask guest = cc
+no-other (ChardevRemove id) is set add del sever plug ask guest = cc
+no-other (RingbufRead device size format) is set add del sever plug ask guest = cc
+no-other (RingbufWrite device payload format) is set add del sever plug ask guest = cc
+no-other (XResetHold path) is set add del sever plug ask guest = cc
+no-other (XResetRelease path) is set add del sever plug ask guest = cc
+no-other (XSever birth) is set add del sever plug ask guest = absurd (sever birth refl)
+no-other (XQueryNotes start) is set add del sever plug ask guest = cc
+no-other XQueryDetached is set add del sever plug ask guest = cc
+no-other (XGuest line) is set add del sever plug ask guest = absurd (guest line refl)
+no-other (XStep ns) is set add del sever plug ask guest = cc

@@ -11,7 +11,14 @@ use Rattle.qo_values.specs.Plain.{data_of}
 use Rattle.qo_values.specs.declared.properties.Val.{Val}
 use Rattle.qo_values.specs.declared.properties.Val.TheVariants as val
 use Rattle.qo_values.specs.declared.codes.Code.TheVariants.{E10, E22}
+use Rattle.qo_guest.specs.declared.answers.GuestAnswer.{GuestAnswer}
+use Rattle.qo_guest.specs.declared.answers.GuestAnswer.TheVariants.{Fine, Plug, Unplug, NoNotice, NoLine, NoStopped, NoDevice, NoPending, NoRegister, NoMemory}
+use Rattle.qo_guest.specs.declared.answers.GuestAnswer.TheVariants.{Value as Answered}
+use Rattle.qo_lane.specs.Hearing.{heard}
+use Rattle.qo_model.specs.Hotplug.{asked}
 use Rattle.qo_model.specs.Objects.{Changed, object_add, object_del, sever}
+use Rattle.qo_model.specs.Plug.{Plugged}
+use Rattle.qo_plug.specs.Added.{added, wanted}
 use Rattle.qo_values.specs.declared.kinds.TypeId.{TypeId}
 use Rattle.qo_model.specs.Types.{TypeRow, is_a, row_named}
 use Rattle.qo_model.specs.NoteReplies.{given_from}
@@ -23,7 +30,7 @@ use Rattle.qo_requests.specs.declared.requests.Request.TheVariants.{QmpCapabilit
 use Rattle.std.specs.Str.{chars}
 use Rattle.serde_json.proofs.OnLiterals.{serde_json_on_literals}
 use Rattle.qo_replies.specs.Json.{ascii, json}
-use Rattle.qo_commands.specs.Commands.{adding_properties, answered, changed, detached_data, device_properties, empty, note_data, performed, properties_data, property_data, refused_with, returned, status_data, type_data, types_of, wrote}
+use Rattle.qo_commands.specs.Commands.{adding_properties, answer_told, answered, changed, detached_data, device_properties, empty, note_data, performed, plugged, properties_data, property_data, refused_with, returned, status_data, type_data, types_of, wrote}
 use Rattle.qo_commands.specs.Changes.{is_change}
 use Rattle.qo_commands.specs.Views.{has_float_in}
 
@@ -53,6 +60,26 @@ changed_no_float c = by c.refusal
     by : (r : Option Code) → has_float_in (changed (record { refusal = r; board = c.board })).result ≡ false
     by None = refl
     by (Some code) = refl
+
+plugged_no_float : (add : Plugged) → has_float_in (plugged add).result ≡ false
+plugged_no_float add = by add.refusal
+  where
+    by : (r : Option (ℕ × Code)) → has_float_in (plugged (record { refusal = r; board = add.board })).result ≡ false
+    by None = refl
+    by (Some refusal) = refl
+
+told_no_float : (answer : GuestAnswer) → has_float_in (answer_told answer) ≡ false
+told_no_float Fine = refl
+told_no_float (Plug at) = refl
+told_no_float (Unplug at) = refl
+told_no_float NoNotice = refl
+told_no_float (Answered value) = refl
+told_no_float NoLine = refl
+told_no_float NoStopped = refl
+told_no_float NoDevice = refl
+told_no_float NoPending = refl
+told_no_float NoRegister = refl
+told_no_float NoMemory = refl
 
 notes_no_float : (notes : List Note) → items_have_float (items_of (map note_data notes)) ≡ false
 notes_no_float [] = refl
@@ -98,8 +125,8 @@ no_float b (QomListTypes implements with_abstract) = types_no_float (types_of (u
 no_float b (DeviceListProperties typename) = device_no_float b (row_named typename)
 no_float b (ObjectAdd driver id props) = changed_no_float (object_add b driver id props)
 no_float b (ObjectDel id) = changed_no_float (object_del b id)
-no_float b (DeviceAdd driver id bus props) = refl
-no_float b (DeviceDel id) = refl
+no_float b (DeviceAdd driver id bus props) = plugged_no_float (added b (wanted driver id bus props))
+no_float b (DeviceDel id) = changed_no_float (asked b id)
 no_float b (ChardevAdd id kind size) = refl
 no_float b (ChardevRemove id) = refl
 no_float b (RingbufRead device size format) = refl
@@ -109,7 +136,7 @@ no_float b (XResetRelease path) = refl
 no_float b (XSever birth) = changed_no_float (sever b birth)
 no_float b (XQueryNotes start) = rw (notes_no_float (given_from start b.notes)) refl
 no_float b XQueryDetached = detached_no_float (detached_told b)
-no_float b (XGuest line) = refl
+no_float b (XGuest line) = told_no_float (heard b line).answer
 no_float b (XStep ns) = refl
 
 -- The texts that are written already.
@@ -144,8 +171,8 @@ unbuilt b (QomListTypes implements with_abstract) stays list get types declared 
 unbuilt b (DeviceListProperties typename) stays list get types declared told detached version commands status quit = absurd (declared typename refl)
 unbuilt b (ObjectAdd driver id props) stays list get types declared told detached version commands status quit = cc
 unbuilt b (ObjectDel id) stays list get types declared told detached version commands status quit = cc
-unbuilt b (DeviceAdd driver id bus props) stays list get types declared told detached version commands status quit = refl
-unbuilt b (DeviceDel id) stays list get types declared told detached version commands status quit = refl
+unbuilt b (DeviceAdd driver id bus props) stays list get types declared told detached version commands status quit = cc
+unbuilt b (DeviceDel id) stays list get types declared told detached version commands status quit = cc
 unbuilt b (ChardevAdd id kind size) stays list get types declared told detached version commands status quit = refl
 unbuilt b (ChardevRemove id) stays list get types declared told detached version commands status quit = refl
 unbuilt b (RingbufRead device size format) stays list get types declared told detached version commands status quit = refl
@@ -155,5 +182,5 @@ unbuilt b (XResetRelease path) stays list get types declared told detached versi
 unbuilt b (XSever birth) stays list get types declared told detached version commands status quit = cc
 unbuilt b (XQueryNotes start) stays list get types declared told detached version commands status quit = absurd (told start refl)
 unbuilt b XQueryDetached stays list get types declared told detached version commands status quit = absurd (detached refl)
-unbuilt b (XGuest line) stays list get types declared told detached version commands status quit = refl
+unbuilt b (XGuest line) stays list get types declared told detached version commands status quit = cc
 unbuilt b (XStep ns) stays list get types declared told detached version commands status quit = refl

@@ -1,3 +1,4 @@
+pub mod AttemptLemmas
 mod ChangeLemmas
 pub mod CommandLemmas
 mod ListingLemmas

@@ -3,10 +3,17 @@ use Rattle.std.specs.Prelude.{ℕ, Bool, true, false, if◌then◌else◌, List,
 use Rattle.serde_json.specs.Data.{Data, Members, array, boolean, member, no_members, number, object, string, unsigned}
 use Rattle.serde_json.specs.View.{items_of}
 use Rattle.qo_values.specs.declared.codes.Code.{Code}
-use Rattle.qo_values.specs.declared.codes.Code.TheVariants.{E10, E20, E22}
+use Rattle.qo_values.specs.declared.codes.Code.TheVariants.{E10, E20, E22, E54}
 use Rattle.qo_values.specs.Kinds.{type_name}
 use Rattle.qo_values.specs.declared.kinds.TypeId.{TypeId}
+use Rattle.qo_guest.specs.Answers.{text_of}
+use Rattle.qo_guest.specs.declared.answers.GuestAnswer.{GuestAnswer}
+use Rattle.qo_guest.specs.declared.answers.GuestAnswer.TheVariants.{NoLine}
+use Rattle.qo_lane.specs.Hearing.{Outcome, heard}
 use Rattle.qo_model.specs.Board.{Board, DeviceEvent}
+use Rattle.qo_model.specs.Hotplug.{asked}
+use Rattle.qo_model.specs.Plug.{Plugged}
+use Rattle.qo_plug.specs.Added.{added, wanted}
 use Rattle.qo_values.specs.Plain.{data_of}
 use Rattle.qo_model.specs.Listing.{around, value_word}
 use Rattle.qo_model.specs.NoteReplies.{first_from, given_from}
@@ -27,7 +34,7 @@ use Rattle.qo_replies.specs.Replies.{version_data}
 use Rattle.qo_replies.specs.declared.events.Event.{Event}
 use Rattle.qo_replies.specs.declared.events.Event.TheVariants.{DeviceDeleted, DeviceUnplugGuestError, Shutdown}
 use Rattle.qo_requests.specs.declared.requests.Request.{Request}
-use Rattle.qo_requests.specs.declared.requests.Request.TheVariants.{DeviceListProperties, ObjectAdd, ObjectDel, QomGet, QomList, QomListTypes, QomSet, QueryCommands, QueryStatus, QueryVersion, Quit, XQueryDetached, XQueryNotes, XSever}
+use Rattle.qo_requests.specs.declared.requests.Request.TheVariants.{DeviceAdd, DeviceDel, DeviceListProperties, ObjectAdd, ObjectDel, QomGet, QomList, QomListTypes, QomSet, QueryCommands, QueryStatus, QueryVersion, Quit, XGuest, XQueryDetached, XQueryNotes, XSever}
 
 -- what a command comes to: what it returns or the code that refuses it, the board behind it, its events, and whether it ends the run
 pub record Done : Type 0 where
@@ -61,6 +68,21 @@ wrote b (Err code) = refused_with b code
 abbrev pub changed : Changed → Done
 changed change = elim change.refusal [ None ↦ returned change.board empty | Some code ↦ refused_with change.board code ]
 
+-- a device is added, or the code that refuses it, behind an attempt if there was one
+abbrev pub plugged : Plugged → Done
+plugged add = elim add.refusal [ None ↦ returned add.board empty | Some refusal ↦ refused_with add.board refusal.1 ]
+
+-- what a line of the guest is answered; one that is none is refused
+abbrev pub answer_data : GuestAnswer → Data
+answer_data answer = object (member (codes "answer") (string (text_of answer)) no_members)
+
+abbrev pub answer_told : GuestAnswer → Result Data Code
+answer_told NoLine = Err E54
+answer_told answer = Ok (answer_data answer)
+
+abbrev pub told : Outcome → Done
+told line = record { result = answer_told line.answer; board = line.board; events = line.events; ends = line.ends }
+
 -- notes from a number on, as they are told: the number of the first, the texts of at most 256, and how many there were
 abbrev pub note_data : Note → Data
 note_data note = string (note_text note)
@@ -91,6 +113,8 @@ command_data name = object (member (codes "name") (string name) no_members)
 abbrev pub built : List (List ℕ)
 built =
     codes "device-list-properties"
+    ∷ codes "device_add"
+    ∷ codes "device_del"
     ∷ codes "object-add"
     ∷ codes "object-del"
     ∷ codes "qmp_capabilities"
@@ -102,6 +126,7 @@ built =
     ∷ codes "query-status"
     ∷ codes "query-version"
     ∷ codes "quit"
+    ∷ codes "x-guest"
     ∷ codes "x-query-detached"
     ∷ codes "x-query-notes"
     ∷ codes "x-sever"
@@ -173,6 +198,9 @@ performed b (DeviceListProperties typename) = device_properties b (row_named typ
 performed b (ObjectAdd driver id props) = changed (object_add b driver id props)
 performed b (ObjectDel id) = changed (object_del b id)
 performed b (XSever birth) = changed (sever b birth)
+performed b (DeviceAdd driver id bus props) = plugged (added b (wanted driver id bus props))
+performed b (DeviceDel id) = changed (asked b id)
+performed b (XGuest line) = told (heard b line)
 performed b (XQueryNotes from) = returned b (notes_data from b.notes)
 performed b XQueryDetached = returned b (array (items_of (map detached_data (detached_told b))))
 performed b QueryVersion = returned b version_data

@@ -14,6 +14,8 @@ fn built() -> &'static [&'static str]
 {
     &[
         "device-list-properties",
+        "device_add",
+        "device_del",
         "object-add",
         "object-del",
         "qmp_capabilities",
@@ -25,6 +27,7 @@ fn built() -> &'static [&'static str]
         "query-status",
         "query-version",
         "quit",
+        "x-guest",
         "x-query-detached",
         "x-query-notes",
         "x-sever",

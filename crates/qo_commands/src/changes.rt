@@ -1,17 +1,23 @@
 //! Commands that change the board, or are refused.
 
-ghost use Rattle.std.specs.Prelude.{◌≡◌, true};
+ghost use Rattle.std.specs.Prelude.{◌≡◌, true, option_map};
 ghost use Rattle.qo_model.specs.Board.{Board as Tree};
 ghost use Rattle.qo_requests.specs.declared.requests.Request.TheVariants as request;
 ghost use Rattle.qo_commands.specs.Changes.{Came, Changes, ComesTo, is_change};
+ghost use Rattle.qo_commands.specs.Commands.{told};
+ghost use Rattle.qo_commands.specs.Views.{done_of};
+ghost use Rattle.qo_lane.specs.Hearing.{outcome_of};
 ghost use Rattle.qo_realize.specs.Stands.{Stands};
 
 use crate::commands::{Body, Done, refused, returned};
+use qo_guest::GuestAnswer;
 use qo_heap::Steps;
+use qo_lane::{Heard, hear};
+use qo_plug::AddRefusal;
 use qo_properties::Refusal;
 use qo_realize::Board;
 use qo_requests::Request;
-use qo_values::{PropList, Val};
+use qo_values::{Code, PropList, Text, Val};
 use std::alloc::{AllocError, Global};
 use std::sync::ledger::Ledger;
 
@@ -24,6 +30,9 @@ pub fn is_change(request: &Request) -> bool
         Request::ObjectAdd { .. } => true,
         Request::ObjectDel { .. } => true,
         Request::XSever { .. } => true,
+        Request::DeviceAdd { .. } => true,
+        Request::DeviceDel { .. } => true,
+        Request::XGuest { .. } => true,
         _ => false,
     }
 }
@@ -87,9 +96,81 @@ fn sever<L: Ledger>(board: &mut Board, birth: u64, steps: &mut Steps<L>) -> Done
     }
 }
 
+/// The words of a text, if there is one.
+fn words_of(text: Option<&Text>) -> Option<&str>
+    ensures { option_map (λ t. t.now) result ≡ option_map (λ t. t.now) text.entry }
+{
+    match text {
+        Some(text) => Some(text.as_str()),
+        None => None,
+    }
+}
+
+/// Adds a device of a type's name, under an id if one is given, on a bus if one is given, with
+/// properties.
+fn plug<L: Ledger>(
+    alloc: Global,
+    board: &mut Board,
+    driver: &str,
+    id: Option<&Text>,
+    bus: Option<&Text>,
+    props: &PropList,
+    steps: &mut Steps<L>,
+) -> Result<Done, AllocError>
+    ensures { (b : Tree) → Stands b board.old → Changes b (request.DeviceAdd driver.now (option_map (λ t. t.now) id.entry) (option_map (λ t. t.now) bus.entry) props.now) result board.new }
+{
+    let id = words_of(id);
+    let bus = words_of(bus);
+    match board.add(driver, id, bus, props, alloc, steps) {
+        Ok(_) => Ok(returned(Body::Empty)),
+        Err(AddRefusal::Refused { code, .. }) => Ok(refused(code)),
+        Err(AddRefusal::Memory) => Err(AllocError),
+    }
+}
+
+/// Asks for the removal of the device that a text is of.
+fn unplug<L: Ledger>(
+    board: &mut Board,
+    id: &str,
+    steps: &mut Steps<L>,
+) -> Result<Done, AllocError>
+    ensures { (b : Tree) → Stands b board.old → Changes b (request.DeviceDel id.now) result board.new }
+{
+    outcome_of(board.ask_removal(id, steps))
+}
+
+/// What a line of the guest comes to as a command: one that is none is refused.
+fn told(heard: Heard) -> Done
+    ensures { (b : Tree) → done_of b result ≡ told (outcome_of b heard) }
+{
+    let result = match heard.answer {
+        GuestAnswer::NoLine => Err(Code::E54),
+        answer => Ok(Body::Answer(answer)),
+    };
+    Done {
+        result,
+        event: heard.event,
+        ends: heard.ends,
+    }
+}
+
+/// Does what a line of the guest does.
+fn guest<L: Ledger>(
+    alloc: Global,
+    board: &mut Board,
+    line: &str,
+    steps: &mut Steps<L>,
+) -> Result<Done, AllocError>
+    ensures { (b : Tree) → Stands b board.old → Changes b (request.XGuest line.now) result board.new }
+{
+    let heard = hear(board, line.as_bytes(), alloc, steps)?;
+    Ok(told(heard))
+}
+
 /// A command that changes the board, or is refused. Events on devices wait on the board behind it.
-/// Where it is refused the board is as it was, but for an attempt of `object-add` that was given
-/// up. The error is want of memory; the board is then as it was, or behind such an attempt.
+/// Where it is refused the board is as it was, but for an attempt of `object-add` or `device_add` that
+/// was given up. The error is want of memory; the board is then as it was, or behind an attempt that
+/// was cut.
 pub fn change<L: Ledger>(
     alloc: Global,
     board: &mut Board,
@@ -110,6 +191,22 @@ pub fn change<L: Ledger>(
         }
         Request::ObjectDel { id } => Ok(remove(board, id.as_str(), steps)),
         Request::XSever { birth } => Ok(sever(board, *birth, steps)),
+        Request::DeviceAdd {
+            driver,
+            id,
+            bus,
+            props,
+        } => plug(
+            alloc,
+            board,
+            driver.as_str(),
+            id.as_ref(),
+            bus.as_ref(),
+            props,
+            steps,
+        ),
+        Request::DeviceDel { id } => unplug(board, id.as_str(), steps),
+        Request::XGuest { line } => guest(alloc, board, line.as_str(), steps),
         _ => unreachable!(),
     }
 }

@@ -14,6 +14,7 @@ use crate::listings::list;
 use crate::notes::query_notes;
 use crate::types::{list_properties, list_types};
 use crate::values::get;
+use qo_guest::GuestAnswer;
 use qo_heap::Steps;
 use qo_realize::Board;
 use qo_replies::{Event, version};
@@ -32,6 +33,8 @@ pub enum Body {
     Status(bool),
     /// The properties of the object of a birth, as they stand on the board.
     Listing(u64),
+    /// What a line of the guest is answered.
+    Answer(GuestAnswer),
     /// A value of its own.
     Value(Value),
 }

@@ -1,6 +1,7 @@
 //! Commands over the board: what each returns, what it changes, and the code that refuses it.
 #![tactic(auto)]
 
+mod answers;
 mod built;
 mod changes;
 mod commands;
@@ -13,6 +14,7 @@ mod tests;
 mod types;
 mod values;
 
+pub use answers::answer_value;
 pub use changes::{change, is_change};
 pub use commands::{Body, Done, ask};
 pub use events::drain;
