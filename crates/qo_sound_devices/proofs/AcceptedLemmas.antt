@@ -1,5 +1,5 @@
 -- A device that nothing refuses goes where places allow it.
-use Rattle.std.proofs.Common.{◌≡◌, refl, ap, sym, subst, ◌∙◌, ℕ, suc, ◌+◌, ◌<◌, ◌≤◌, Bool, true, false, not, ◌||◌, List, [], ◌∷◌, Option, Some, None, codes, arith}
+use Rattle.std.proofs.Common.{◌≡◌, refl, ap, sym, ◌∙◌, ℕ, suc, ◌+◌, ◌<◌, ◌≤◌, Bool, true, false, not, ◌||◌, List, [], ◌∷◌, Option, Some, None, codes, arith}
 use Rattle.std.specs.Prelude.{if◌then◌else◌, nat_le}
 use Rattle.std.specs.Option.{option_or}
 use Rattle.std.proofs.lemmas.Option.{same_Some}
@@ -13,7 +13,7 @@ use Rattle.qo_model.specs.Board.{Board}
 use Rattle.qo_model.specs.Devices.{depth_of, device_named, is_going}
 use Rattle.qo_model.specs.Objects.{Given, refusal_of}
 use Rattle.qo_model.specs.Paths.{attached, is_of}
-use Rattle.qo_model.specs.Plug.{Wanted, at_stage, barred_early, barred_late, bus_barred, bus_for, bus_type, code_in, container_barred, drafted, first_of, id_barred, id_refused, kind_barred, name_for, notice_barred, number_for, ok_or_zero, parent_for, place_barred, realize_barred, room_barred, slot_for, spot_of}
+use Rattle.qo_model.specs.Plug.{Wanted, at_stage, bus_barred, bus_for, bus_type, code_in, container_barred, drafted, first_of, id_barred, id_refused, kind_barred, name_for, notice_barred, number_for, parent_for, place_barred, realize_barred, room_barred, slot_for, spot_of}
 use Rattle.qo_sound.proofs.AddLemmas.{unbarred}
 use Rattle.qo_sound.proofs.PlugLemmas.{or-none, shut-above}
 use Rattle.qo_sound.proofs.ViewLemmas.{AtRest, sound-from_rest}
@@ -43,25 +43,35 @@ pub record Passes (b : Board) (t : TypeId) (bus : ℕ) (a : Wanted) : Type 0 whe
   pub properties : refusal_of b t a.props ≡ None
   pub slot : code_in (slot_for b bus (number_for a.props (codes "slot"))) ≡ None
   pub kind : kind_barred b t bus a.props ≡ None
+  pub notice : notice_barred b ≡ None
 
 pub passes : (b : Board) (t : TypeId) (bus : ℕ) (a : Wanted) → Accepted b t bus a → Passes b t bus a
 passes b t bus a k =
     let bus_stage : Option (ℕ × Code) = at_stage 3 (bus_barred b t (bus_for b t a.bus)) in
     let room_stages : Option (ℕ × Code) = first_of (at_stage 4 (room_barred b t) ∷ []) in
-    let first : (at_stage 2 (id_barred b a.id) ≡ None) × (option_or bus_stage room_stages ≡ None) = or-none (at_stage 2 (id_barred b a.id)) (option_or bus_stage room_stages) k.early in
+    let first : (at_stage 2 (id_barred b a.id) ≡ None) × (option_or bus_stage room_stages ≡ None) =
+    or-none (at_stage 2 (id_barred b a.id)) (option_or bus_stage room_stages) k.early in
     let second : (bus_stage ≡ None) × (room_stages ≡ None) = or-none bus_stage room_stages first.1 in
     let place_stage : Option (ℕ × Code) = at_stage 5 (place_barred b t bus a.props) in
     let later : Option (ℕ × Code) = first_of (at_stage 6 (realize_barred b t a.props) ∷ at_stage 8 (notice_barred b) ∷ []) in
-    let third : (at_stage 4 (refusal_of b t a.props) ≡ None) × (option_or place_stage later ≡ None) = or-none (at_stage 4 (refusal_of b t a.props)) (option_or place_stage later) k.late in
+    let third : (at_stage 4 (refusal_of b t a.props) ≡ None) × (option_or place_stage later ≡ None) =
+    or-none (at_stage 4 (refusal_of b t a.props)) (option_or place_stage later) k.late in
     let fourth : (place_stage ≡ None) × (later ≡ None) = or-none place_stage later third.1 in
-    let ids : (id_refused b a.id ≡ None) × (container_barred b (parent_for a.id) (name_for b a.id) ≡ None) = or-none (id_refused b a.id) (container_barred b (parent_for a.id) (name_for b a.id)) (stage-none 2 (id_barred b a.id) first.0) in
-    let places : (code_in (slot_for b bus (number_for a.props (codes "slot"))) ≡ None) × (kind_barred b t bus a.props ≡ None) = or-none (code_in (slot_for b bus (number_for a.props (codes "slot")))) (kind_barred b t bus a.props) (stage-none 5 (place_barred b t bus a.props) fourth.0) in
+    let last : (at_stage 6 (realize_barred b t a.props) ≡ None) × (first_of (at_stage 8 (notice_barred b) ∷ []) ≡ None) =
+    or-none (at_stage 6 (realize_barred b t a.props)) (first_of (at_stage 8 (notice_barred b) ∷ [])) fourth.1 in
+    let eighth : (at_stage 8 (notice_barred b) ≡ None) × (first_of [] ≡ None) = or-none (at_stage 8 (notice_barred b)) (first_of []) last.1 in
+    let ids : (id_refused b a.id ≡ None) × (container_barred b (parent_for a.id) (name_for b a.id) ≡ None) =
+    or-none (id_refused b a.id) (container_barred b (parent_for a.id) (name_for b a.id)) (stage-none 2 (id_barred b a.id) first.0) in
+    let places : (code_in (slot_for b bus (number_for a.props (codes "slot"))) ≡ None) × (kind_barred b t bus a.props ≡ None) =
+    or-none (code_in (slot_for b bus (number_for a.props (codes "slot")))) (kind_barred b t bus a.props)
+    (stage-none 5 (place_barred b t bus a.props) fourth.0) in
     record {
       id = ids.0;
       at_bus = sym (ap (bus_barred b t) k.chosen) ∙ stage-none 3 (bus_barred b t (bus_for b t a.bus)) second.0;
       properties = stage-none 4 (refusal_of b t a.props) third.0;
       slot = places.0;
       kind = places.1;
+      notice = stage-none 8 (notice_barred b) eighth.0;
     }
 
 -- the bus is attached
@@ -80,7 +90,8 @@ id-free b i e =
     (unbarred (device_named b i) E24 None first.1).0
 
 -- a bridge goes on a bus that is not too deep
-bridge-room : (b : Board) (t : TypeId) (bus : ℕ) (props : List Given) → is_bridge t ≡ true → kind_barred b t bus props ≡ None → nat_le BUS_DEPTH_MAX (depth_of b bus) ≡ false
+bridge-room : (b : Board) (t : TypeId) (bus : ℕ) (props : List Given) → is_bridge t ≡ true → kind_barred b t bus props ≡ None
+    → nat_le BUS_DEPTH_MAX (depth_of b bus) ≡ false
 bridge-room b SlotBridge bus props is e = (unbarred (nat_le BUS_DEPTH_MAX (depth_of b bus)) E42 None e).0
 bridge-room b Object bus props is e = absurd (let clash : false ≡ true = is in cc)
 bridge-room b Container bus props is e = absurd (let clash : false ≡ true = is in cc)
@@ -124,7 +135,8 @@ goal-of depth b t bus a rest h k =
     shallow q e =
         let bridge : is_bridge t ≡ true = drafted-bridge b t (shut-above b.born rest.used.firm.begun) rest.used q e in
         let few : nat_le BUS_DEPTH_MAX (depth_of b bus) ≡ false = bridge-room b t bus a.props bridge p.kind in
-        let is : depth bus ≡ depth_of b bus = depth-is depth (λ x. false) b rest.used.firm h (machine-no_device b (sound-from_rest b rest).0 rest.used.firm depth None (λ x. false) h) bus owner in
+        let is : depth bus ≡ depth_of b bus =
+        depth-is depth (λ x. false) b rest.used.firm h (machine-no_device b (sound-from_rest b rest).0 rest.used.firm depth None (λ x. false) h) bus owner in
         let low : depth_of b bus < 8 = grind (arith, few) in
         omega (arith, is, low)
 

@@ -30,7 +30,7 @@ use Rattle.qo_sound.proofs.RecordLemmas.{all-imply, found-birth}
 use Rattle.qo_sound.proofs.ViewLemmas.{AtRest}
 use Rattle.qo_sound_devices.specs.SoundPlaces.{child_entries, child_entry, HasOwner, machines, bridges, id_of, IsAnonymous, IsAtHome, IsHome, IsKid, IsPeripheral, kid_entries, kid_entry, listed, owns_it, PlacesBut, stands}
 use Rattle.qo_sound_devices.proofs.AlikeLemmas.{alike-record, bodiless}
-use Rattle.qo_sound_devices.proofs.PlacesLemmas.{child-live, children-grown, high-absent, MoreChildren, rooted-same, no-more, id-alike, kept-alike, of-alike, of-live, owner-live, path-alike, places-kept, SameBody, stands-live, suits-alike}
+use Rattle.qo_sound_devices.proofs.PlacesLemmas.{child-live, Keeps, keeps-none, children-grown, high-absent, MoreChildren, rooted-same, no-more, id-alike, kept-alike, of-alike, of-live, owner-live, path-alike, places-kept, SameBody, stands-live, suits-alike}
 
 -- a board with more objects, of which places do not speak; `/objects` has a child more
 pub record Grown (b c : Board) : Type 0 where
@@ -67,14 +67,17 @@ module _ (depth : ℕ → ℕ) (b c : Board) (g : Grown b c) (firm : Firm b) (h 
   fourth : child_entries c ANONYMOUS_BIRTH ≡ child_entries b ANONYMOUS_BIRTH
   fourth = g.children ANONYMOUS_BIRTH (child-live b firm MACHINE_BIRTH ANONYMOUS_BIRTH h.parts.1.0) refl
 
-  all-stands : (d : ℕ) → stands c d ≡ stands b d
+  pub all-stands : (d : ℕ) → stands c d ≡ stands b d
   all-stands d = ap₂ (λ (xs ys : List (List ℕ × ℕ)). listed d xs || listed d ys) third fourth
 
   there : (d : ℕ) → stands c d ≡ true → is_live b d ≡ true
   there d e = stands-live b firm d (sym (all-stands d) ∙ e)
 
   own-children : (p : ℕ) → stands b p ≡ true → child_entries c p ≡ child_entries b p
-  own-children p e = g.children p (stands-live b firm p e) (decide (p == OBJECTS_BIRTH) {A = (p == OBJECTS_BIRTH) ≡ false} (λ k. absurd (let clash : true ≡ false = sym e ∙ ap (stands b) (eqb-true p OBJECTS_BIRTH k) ∙ h.aside.1.1.1.1.1.1.0 in cc)) (λ k. k))
+  own-children p e =
+      g.children p (stands-live b firm p e)
+      (decide (p == OBJECTS_BIRTH) {A = (p == OBJECTS_BIRTH) ≡ false}
+      (λ k. absurd (let clash : true ≡ false = sym e ∙ ap (stands b) (eqb-true p OBJECTS_BIRTH k) ∙ h.aside.1.1.1.1.1.1.0 in cc)) (λ k. k))
 
   owner-on : (q : ℕ) → HasOwner b q → HasOwner c q
   owner-on q (machines k) = machines k
@@ -110,12 +113,19 @@ module _ (depth : ℕ → ℕ) (b c : Board) (g : Grown b c) (firm : Firm b) (h 
       record {
         machine = ap (listed MACHINE_BIRTH) first ∙ h.machine;
         objects = ap (listed OBJECTS_BIRTH) first ∙ h.objects;
-        parts = (ap (listed PERIPHERAL_BIRTH) second ∙ h.parts.0, (ap (listed ANONYMOUS_BIRTH) second ∙ h.parts.1.0, (ap (listed ROOT_BUS_BIRTH) second ∙ h.parts.1.1.0, (ap (listed MEMORY_BUS_BIRTH) second ∙ h.parts.1.1.1.0, (ap (listed SYSTEM_CLOCK_BIRTH) second ∙ h.parts.1.1.1.1.0, tt)))));
+        parts =
+            (ap (listed PERIPHERAL_BIRTH) second ∙ h.parts.0, (ap (listed ANONYMOUS_BIRTH) second ∙ h.parts.1.0, (ap (listed ROOT_BUS_BIRTH) second ∙ h.parts.1.1.0, (ap (listed MEMORY_BUS_BIRTH) second ∙ h.parts.1.1.1.0, (ap (listed SYSTEM_CLOCK_BIRTH) second ∙ h.parts.1.1.1.1.0, tt)))));
         rooted = rooted-same b c (g.body 1 (owner-live b 1 MACHINE_BIRTH h.machine)) first second h.rooted;
         children = children;
-        aside = all-imply (λ n. stands b n ≡ false) (λ n. stands c n ≡ false) (λ n k. all-stands n ∙ k) (1 ∷ MACHINE_BIRTH ∷ PERIPHERAL_BIRTH ∷ ANONYMOUS_BIRTH ∷ ROOT_BUS_BIRTH ∷ MEMORY_BUS_BIRTH ∷ OBJECTS_BIRTH ∷ []) h.aside;
-        peripheral = subst (AllByRecursion (IsPeripheral c)) (sym third) (all-imply (IsPeripheral b) (IsPeripheral c) one (child_entries b PERIPHERAL_BIRTH) h.peripheral);
-        anonymous = subst (AllByRecursion (IsAnonymous c)) (sym fourth) (all-imply (IsAnonymous b) (IsAnonymous c) two (child_entries b ANONYMOUS_BIRTH) h.anonymous);
+        aside =
+            all-imply (λ n. stands b n ≡ false) (λ n. stands c n ≡ false) (λ n k. all-stands n ∙ k)
+            (1 ∷ MACHINE_BIRTH ∷ PERIPHERAL_BIRTH ∷ ANONYMOUS_BIRTH ∷ ROOT_BUS_BIRTH ∷ MEMORY_BUS_BIRTH ∷ OBJECTS_BIRTH ∷ []) h.aside;
+        peripheral =
+            subst (AllByRecursion (IsPeripheral c)) (sym third)
+            (all-imply (IsPeripheral b) (IsPeripheral c) one (child_entries b PERIPHERAL_BIRTH) h.peripheral);
+        anonymous =
+            subst (AllByRecursion (IsAnonymous c)) (sym fourth)
+            (all-imply (IsAnonymous b) (IsAnonymous c) two (child_entries b ANONYMOUS_BIRTH) h.anonymous);
         kids = λ q e. kids q e;
         home = λ d e k. home d e;
         owner = λ d q e on. owner-on q (h.owner d q (sym (all-stands d) ∙ e) (sym (g.bus d (there d e)) ∙ on));
@@ -143,24 +153,40 @@ module _ (depth : ℕ → ℕ) (b c : Board) (g : Grown b c) (firm : Firm b) (h 
       two e k =
           let a : SameBody b c e.1 = g.body e.1 (of-live b (codes "device") e.1 k.device) in
           let (n, (low, name)) = k.numbered in
-          record { device = of-alike b c e.1 (codes "device") a ∙ k.device; id = id-alike b c e.1 a ∙ k.id; path = path-alike b c e.1 a ∙ k.path; numbered = (n, (subst (λ (x : ℕ). n < x) (sym g.anonymous) low, name)) }
+          record {
+            device = of-alike b c e.1 (codes "device") a ∙ k.device;
+            id = id-alike b c e.1 a ∙ k.id;
+            path = path-alike b c e.1 a ∙ k.path;
+            numbered = (n, (subst (λ (x : ℕ). n < x) (sym g.anonymous) low, name));
+          }
 
       kids : (q : ℕ) → is_of c (codes "bus") q ≡ true → AllByRecursion (IsKid c q) (kid_entries c q)
       kids q e =
           let live : is_live b q ≡ true = decide (is_live b q) (λ k. k) (λ k. absurd (let clash : true ≡ false = sym e ∙ g.no_bus q k in cc)) in
-          subst (AllByRecursion (IsKid c q)) (sym (g.kids q live)) (all-imply (IsKid b q) (IsKid c q) (kid live) (kid_entries b q) (h.kids q (sym (of-alike b c q (codes "bus") (g.body q live)) ∙ e)))
+          subst (AllByRecursion (IsKid c q)) (sym (g.kids q live))
+          (all-imply (IsKid b q) (IsKid c q) (kid live) (kid_entries b q) (h.kids q (sym (of-alike b c q (codes "bus") (g.body q live)) ∙ e)))
         where
           kid : is_live b q ≡ true → (x : List ℕ × ℕ) → IsKid b q x → IsKid c q x
           kid bus x k =
               let live : is_live b x.1 ≡ true = stands-live b firm x.1 k.there in
               let (n, (low, (place, name))) = k.slot in
-              record { there = all-stands x.1 ∙ k.there; on = g.bus x.1 live ∙ k.on; fits = suits-alike b c q x.1 (g.body q bus) (g.body x.1 live) ∙ k.fits; slot = (n, (low, (g.place x.1 live ∙ place, name))) }
+              record {
+                there = all-stands x.1 ∙ k.there;
+                on = g.bus x.1 live ∙ k.on;
+                fits = suits-alike b c q x.1 (g.body q bus) (g.body x.1 live) ∙ k.fits;
+                slot = (n, (low, (g.place x.1 live ∙ place, name)));
+              }
 
       home : (d : ℕ) → stands c d ≡ true → IsHome c d
       home d e =
           let old : IsHome b d = h.home d (sym (all-stands d) ∙ e) (λ z. cc) in
           let live : is_live b old.bus ≡ true = of-live b (codes "bus") old.bus old.is_bus in
-          record { bus = old.bus; on = g.bus d (there d e) ∙ old.on; is_bus = of-alike b c old.bus (codes "bus") (g.body old.bus live) ∙ old.is_bus; kid = ap (listed d) (g.kids old.bus live) ∙ old.kid }
+          record {
+            bus = old.bus;
+            on = g.bus d (there d e) ∙ old.on;
+            is_bus = of-alike b c old.bus (codes "bus") (g.body old.bus live) ∙ old.is_bus;
+            kid = ap (listed d) (g.kids old.bus live) ∙ old.kid;
+          }
 
 -- the values given leave children
 child-given : (b : Board) (props : List Given) (s : List ℕ × Slot) → child_entry (slot_given b props s) ≡ child_entry s
@@ -192,7 +218,8 @@ child-given b props s = go (find (λ (p : Given). bytes_eq p.0 s.0) props) refl
     go None p = rw (slot_given, p) (own s)
     go (Some g) p = rw (slot_given, p) (given s g.1)
 
-pub children-given : (b : Board) (props : List Given) (slots : List (List ℕ × Slot)) → filter_map child_entry (map (slot_given b props) slots) ≡ filter_map child_entry slots
+pub children-given : (b : Board) (props : List Given) (slots : List (List ℕ × Slot))
+    → filter_map child_entry (map (slot_given b props) slots) ≡ filter_map child_entry slots
 children-given b props [] = refl
 children-given b props (s ∷ slots) = ap₂ cons_option (child-given b props s) (children-given b props slots)
 
@@ -201,7 +228,8 @@ never : {A : Type 0} → false ≡ true → A
 never e = absurd cc
 
 abbrev realized_in : List (List ℕ × Slot) → Bool
-realized_in slots = option_map_or is_true (option_and_then plain_in (option_map (λ (s : List ℕ × Slot). s.1) (find (λ s. bytes_eq s.0 (codes "realized")) slots))) false
+realized_in slots =
+    option_map_or is_true (option_and_then plain_in (option_map (λ (s : List ℕ × Slot). s.1) (find (λ s. bytes_eq s.0 (codes "realized")) slots))) false
 
 record IsUsers (b : Board) (t : TypeId) (props : List Given) : Type 0 where
   no_bus : is_a t (codes "bus") ≡ false
@@ -224,12 +252,15 @@ users b Bus props = never
 users b SlotBus props = never
 users b MemBus props = never
 users b Clock props = never
-users b MemoryBackend props = λ e. record { no_bus = refl; no_device = refl; no_children = children-given b props (fresh_slots MemoryBackend); unrealized = refl }
-users b MemoryBackendRam props = λ e. record { no_bus = refl; no_device = refl; no_children = children-given b props (fresh_slots MemoryBackendRam); unrealized = refl }
+users b MemoryBackend props =
+    λ e. record { no_bus = refl; no_device = refl; no_children = children-given b props (fresh_slots MemoryBackend); unrealized = refl }
+users b MemoryBackendRam props =
+    λ e. record { no_bus = refl; no_device = refl; no_children = children-given b props (fresh_slots MemoryBackendRam); unrealized = refl }
 users b Tag props = λ e. record { no_bus = refl; no_device = refl; no_children = children-given b props (fresh_slots Tag); unrealized = refl }
 
 -- a slot more behind the others
-pub entry-added : (f : List ℕ × Slot → Option (List ℕ × ℕ)) (s : List ℕ × Slot) (e : List ℕ × ℕ) → f s ≡ Some e → (slots : List (List ℕ × Slot)) → filter_map f (slots ++ s ∷ []) ≡ filter_map f slots ++ e ∷ []
+pub entry-added : (f : List ℕ × Slot → Option (List ℕ × ℕ)) (s : List ℕ × Slot) (e : List ℕ × ℕ) → f s ≡ Some e → (slots : List (List ℕ × Slot))
+    → filter_map f (slots ++ s ∷ []) ≡ filter_map f slots ++ e ∷ []
 entry-added f s e is [] = ap (λ (o : Option (List ℕ × ℕ)). cons_option o []) is
 entry-added f s e is (x ∷ slots) = ap (cons_option (f x)) (entry-added f s e is slots) ∙ go (f x)
   where
@@ -238,11 +269,13 @@ entry-added f s e is (x ∷ slots) = ap (cons_option (f x)) (entry-added f s e i
     go (Some y) = refl
 
 -- slots with a child more
-pub entries-added : (f : List ℕ × Slot → Option (List ℕ × ℕ)) (s : List ℕ × Slot) → f s ≡ None → (slots : List (List ℕ × Slot)) → filter_map f (slots ++ s ∷ []) ≡ filter_map f slots
+pub entries-added : (f : List ℕ × Slot → Option (List ℕ × ℕ)) (s : List ℕ × Slot) → f s ≡ None → (slots : List (List ℕ × Slot))
+    → filter_map f (slots ++ s ∷ []) ≡ filter_map f slots
 entries-added f s none [] = ap (λ (o : Option (List ℕ × ℕ)). cons_option o []) none
 entries-added f s none (x ∷ slots) = ap (cons_option (f x)) (entries-added f s none slots)
 
-pub named-added : {A : Type 0} (f : Slot → Option A) (s : List ℕ × Slot) → f s.1 ≡ None → (name : List ℕ) (slots : List (List ℕ × Slot)) → option_and_then f (option_map (λ (x : List ℕ × Slot). x.1) (find (λ x. bytes_eq x.0 name) (slots ++ s ∷ []))) ≡ option_and_then f (option_map (λ (x : List ℕ × Slot). x.1) (find (λ x. bytes_eq x.0 name) slots))
+pub named-added : {A : Type 0} (f : Slot → Option A) (s : List ℕ × Slot) → f s.1 ≡ None → (name : List ℕ) (slots : List (List ℕ × Slot))
+    → option_and_then f (option_map (λ (x : List ℕ × Slot). x.1) (find (λ x. bytes_eq x.0 name) (slots ++ s ∷ []))) ≡ option_and_then f (option_map (λ (x : List ℕ × Slot). x.1) (find (λ x. bytes_eq x.0 name) slots))
 named-added f s none name [] = go (bytes_eq s.0 name) refl
   where
     go : (t : Bool) → bytes_eq s.0 name ≡ t → option_and_then f (option_map (λ (x : List ℕ × Slot). x.1) (find (λ x. bytes_eq x.0 name) (s ∷ []))) ≡ None
@@ -250,7 +283,9 @@ named-added f s none name [] = go (bytes_eq s.0 name) refl
     go false p = rw p refl
 named-added f s none name (x ∷ slots) = go (bytes_eq x.0 name) refl (named-added f s none name slots)
   where
-    go : (t : Bool) → bytes_eq x.0 name ≡ t → option_and_then f (option_map (λ (x : List ℕ × Slot). x.1) (find (λ x. bytes_eq x.0 name) (slots ++ s ∷ []))) ≡ option_and_then f (option_map (λ (x : List ℕ × Slot). x.1) (find (λ x. bytes_eq x.0 name) slots)) → option_and_then f (option_map (λ (x : List ℕ × Slot). x.1) (find (λ x. bytes_eq x.0 name) (x ∷ slots ++ s ∷ []))) ≡ option_and_then f (option_map (λ (x : List ℕ × Slot). x.1) (find (λ x. bytes_eq x.0 name) (x ∷ slots)))
+    go : (t : Bool) → bytes_eq x.0 name ≡ t
+        → option_and_then f (option_map (λ (x : List ℕ × Slot). x.1) (find (λ x. bytes_eq x.0 name) (slots ++ s ∷ []))) ≡ option_and_then f (option_map (λ (x : List ℕ × Slot). x.1) (find (λ x. bytes_eq x.0 name) slots))
+        → option_and_then f (option_map (λ (x : List ℕ × Slot). x.1) (find (λ x. bytes_eq x.0 name) (x ∷ slots ++ s ∷ []))) ≡ option_and_then f (option_map (λ (x : List ℕ × Slot). x.1) (find (λ x. bytes_eq x.0 name) (x ∷ slots)))
     go true p rest = rw p refl
     go false p rest = rw p rest
 
@@ -265,24 +300,32 @@ module _ (b : Board) (t : TypeId) (id : List ℕ) (props : List Given) (its : Is
   r = record { birth = b.born + 1; kind = t; slots = given_slots b t props; registers = fresh_registers t; device_id = None; kept_path = None }
 
   found : (x : ℕ) → record_of c x ≡ option_or (option_map (edited OBJECTS_BIRTH change) (record_of b x)) (found_at x (r ∷ []))
-  found x = find-append (λ (y : Record). y.birth == x) (map (edited OBJECTS_BIRTH change) b.records) (r ∷ []) ∙ ap (λ (o : Option Record). option_or o (found_at x (r ∷ []))) (found-edited OBJECTS_BIRTH change (λ y. refl) x b.records)
+  found x =
+      find-append (λ (y : Record). y.birth == x) (map (edited OBJECTS_BIRTH change) b.records) (r ∷ [])
+      ∙ ap (λ (o : Option Record). option_or o (found_at x (r ∷ []))) (found-edited OBJECTS_BIRTH change (λ y. refl) x b.records)
 
   -- what is read of an old object
-  read-old : {A : Type 0} (f : Option Record → A) → ((y : Record) → f (Some (edited OBJECTS_BIRTH change y)) ≡ f (Some y)) → (x : ℕ) → is_live b x ≡ true → f (record_of c x) ≡ f (record_of b x)
+  read-old : {A : Type 0} (f : Option Record → A) → ((y : Record) → f (Some (edited OBJECTS_BIRTH change y)) ≡ f (Some y)) → (x : ℕ)
+      → is_live b x ≡ true → f (record_of c x) ≡ f (record_of b x)
   read-old f same x e = go (record_of b x) refl
     where
       go : (o : Option Record) → record_of b x ≡ o → f (record_of c x) ≡ f (record_of b x)
       go None q = absurd (let clash : false ≡ true = sym (ap is_some q) ∙ e in cc)
-      go (Some y) q = ap f (found x ∙ ap (λ (o : Option Record). option_or (option_map (edited OBJECTS_BIRTH change) o) (found_at x (r ∷ []))) q) ∙ same y ∙ sym (ap f q)
+      go (Some y) q =
+          ap f (found x ∙ ap (λ (o : Option Record). option_or (option_map (edited OBJECTS_BIRTH change) o) (found_at x (r ∷ []))) q)
+          ∙ same y
+          ∙ sym (ap f q)
 
-  old-slots : {A : Type 0} (f : List (List ℕ × Slot) → A) → ((slots : List (List ℕ × Slot)) → f (slots ++ (id, child (b.born + 1)) ∷ []) ≡ f slots) → (y : Record) → f (edited OBJECTS_BIRTH change y).slots ≡ f y.slots
+  old-slots : {A : Type 0} (f : List (List ℕ × Slot) → A) → ((slots : List (List ℕ × Slot)) → f (slots ++ (id, child (b.born + 1)) ∷ []) ≡ f slots)
+      → (y : Record) → f (edited OBJECTS_BIRTH change y).slots ≡ f y.slots
   old-slots f same y = go (y.birth == OBJECTS_BIRTH) refl
     where
       go : (u : Bool) → (y.birth == OBJECTS_BIRTH) ≡ u → f (edited OBJECTS_BIRTH change y).slots ≡ f y.slots
       go true p = rw (edited, p) (same y.slots)
       go false p = rw (edited, p) refl
 
-  read-slots : {A : Type 0} (f : List (List ℕ × Slot) → A) → ((slots : List (List ℕ × Slot)) → f (slots ++ (id, child (b.born + 1)) ∷ []) ≡ f slots) → (x : ℕ) → is_live b x ≡ true → f (slots_at c x) ≡ f (slots_at b x)
+  read-slots : {A : Type 0} (f : List (List ℕ × Slot) → A) → ((slots : List (List ℕ × Slot)) → f (slots ++ (id, child (b.born + 1)) ∷ []) ≡ f slots)
+      → (x : ℕ) → is_live b x ≡ true → f (slots_at c x) ≡ f (slots_at b x)
   read-slots f same = read-old (λ (o : Option Record). f (option_map_or (λ (y : Record). y.slots) o [])) (old-slots f same)
 
   -- and of no old object
@@ -295,42 +338,62 @@ module _ (b : Board) (t : TypeId) (id : List ℕ) (props : List Given) (its : Is
 
       go : (o : Option Record) → record_of b x ≡ o → f (record_of c x) ≡ a
       go (Some y) q = absurd (let clash : true ≡ false = sym (ap is_some q) ∙ e in cc)
-      go None q = ap f (found x ∙ ap (λ (o : Option Record). option_or (option_map (edited OBJECTS_BIRTH change) o) (found_at x (r ∷ []))) q) ∙ choose (r.birth == x) refl
+      go None q =
+          ap f (found x ∙ ap (λ (o : Option Record). option_or (option_map (edited OBJECTS_BIRTH change) o) (found_at x (r ∷ []))) q)
+          ∙ choose (r.birth == x) refl
 
   grown-object : Grown b (with_object b t id props)
   grown-object =
       record {
         body = read-old (option_map bodiless) (λ y. ap Some (bodies y));
-        realized = read-slots realized_in (λ slots. ap (λ (o : Option Val). option_map_or is_true o false) (named-added plain_in (id, child (b.born + 1)) refl (codes "realized") slots));
-        bus = read-slots (λ slots. option_and_then strong_in (option_map (λ (x : List ℕ × Slot). x.1) (find (λ x. bytes_eq x.0 (codes "parent_bus")) slots))) (named-added strong_in (id, child (b.born + 1)) refl (codes "parent_bus"));
-        place = read-slots (λ slots. option_and_then number_in (option_and_then plain_in (option_map (λ (x : List ℕ × Slot). x.1) (find (λ x. bytes_eq x.0 (codes "slot")) slots)))) (λ slots. ap (option_and_then number_in) (named-added plain_in (id, child (b.born + 1)) refl (codes "slot") slots));
+        realized =
+            read-slots realized_in
+            (λ slots. ap (λ (o : Option Val). option_map_or is_true o false) (named-added plain_in (id, child (b.born + 1)) refl (codes "realized") slots));
+        bus =
+            read-slots
+            (λ slots. option_and_then strong_in (option_map (λ (x : List ℕ × Slot). x.1) (find (λ x. bytes_eq x.0 (codes "parent_bus")) slots)))
+            (named-added strong_in (id, child (b.born + 1)) refl (codes "parent_bus"));
+        place =
+            read-slots
+            (λ slots.
+            option_and_then number_in
+            (option_and_then plain_in (option_map (λ (x : List ℕ × Slot). x.1) (find (λ x. bytes_eq x.0 (codes "slot")) slots))))
+            (λ slots. ap (option_and_then number_in) (named-added plain_in (id, child (b.born + 1)) refl (codes "slot") slots));
         kids = read-slots (filter_map kid_entry) (entries-added kid_entry (id, child (b.born + 1)) refl);
         children = children;
         unrealized = read-new (λ (o : Option Record). realized_in (option_map_or (λ (y : Record). y.slots) o [])) false refl its.unrealized;
         nameless = read-new (option_and_then (λ (y : Record). y.device_id)) None refl refl;
-        no_bus = read-new (λ (o : Option Record). option_map_or (λ (k : TypeId). is_a k (codes "bus")) (option_map (λ (y : Record). y.kind) o) false) false refl its.no_bus;
+        no_bus =
+            read-new (λ (o : Option Record). option_map_or (λ (k : TypeId). is_a k (codes "bus")) (option_map (λ (y : Record). y.kind) o) false) false refl its.no_bus;
         anonymous = refl;
         added = (id, b.born + 1);
         added_new = high-absent b firm (b.born + 1) (omega arith);
         objects = objects;
-        no_device = read-new (λ (o : Option Record). option_map_or (λ (k : TypeId). is_a k (codes "device")) (option_map (λ (y : Record). y.kind) o) false) false refl its.no_device;
+        no_device =
+            read-new (λ (o : Option Record). option_map_or (λ (k : TypeId). is_a k (codes "device")) (option_map (λ (y : Record). y.kind) o) false) false refl its.no_device;
         no_children = read-new (λ (o : Option Record). filter_map child_entry (option_map_or (λ (y : Record). y.slots) o [])) [] refl its.no_children;
       }
     where
       objects : is_live b OBJECTS_BIRTH ≡ true → child_entries (with_object b t id props) OBJECTS_BIRTH ≡ child_entries b OBJECTS_BIRTH ++ (id, b.born + 1) ∷ []
       objects e = go (record_of b OBJECTS_BIRTH) refl
         where
-          go : (o : Option Record) → record_of b OBJECTS_BIRTH ≡ o → child_entries (with_object b t id props) OBJECTS_BIRTH ≡ child_entries b OBJECTS_BIRTH ++ (id, b.born + 1) ∷ []
+          go : (o : Option Record) → record_of b OBJECTS_BIRTH ≡ o
+              → child_entries (with_object b t id props) OBJECTS_BIRTH ≡ child_entries b OBJECTS_BIRTH ++ (id, b.born + 1) ∷ []
           go None q = absurd (let clash : false ≡ true = sym (ap is_some q) ∙ e in cc)
           go (Some y) q =
               let own : (y.birth == OBJECTS_BIRTH) ≡ true = eq-eqb y.birth OBJECTS_BIRTH (found-birth OBJECTS_BIRTH b.records y q) in
-              let is : record_of (with_object b t id props) OBJECTS_BIRTH ≡ Some (change y) = found OBJECTS_BIRTH ∙ ap (λ (o : Option Record). option_or (option_map (edited OBJECTS_BIRTH change) o) (found_at OBJECTS_BIRTH (r ∷ []))) q ∙ rw (edited, own) refl in
+              let is : record_of (with_object b t id props) OBJECTS_BIRTH ≡ Some (change y) =
+              found OBJECTS_BIRTH
+              ∙ ap (λ (o : Option Record). option_or (option_map (edited OBJECTS_BIRTH change) o) (found_at OBJECTS_BIRTH (r ∷ []))) q
+              ∙ rw (edited, own) refl in
               ap (λ (o : Option Record). filter_map child_entry (option_map_or (λ (z : Record). z.slots) o [])) is
               ∙ entry-added child_entry (id, child (b.born + 1)) (id, b.born + 1) refl y.slots
               ∙ sym (ap (λ (o : Option Record). filter_map child_entry (option_map_or (λ (z : Record). z.slots) o []) ++ (id, b.born + 1) ∷ []) q)
 
       bodies : (y : Record) → bodiless (edited OBJECTS_BIRTH change y) ≡ bodiless y
-      bodies y = decide (y.birth == OBJECTS_BIRTH) {A = bodiless (edited OBJECTS_BIRTH change y) ≡ bodiless y} (λ p. rw (edited, p) refl) (λ p. rw (edited, p) refl)
+      bodies y =
+          decide (y.birth == OBJECTS_BIRTH) {A = bodiless (edited OBJECTS_BIRTH change y) ≡ bodiless y} (λ p. rw (edited, p) refl)
+          (λ p. rw (edited, p) refl)
 
       children : (x : ℕ) → is_live b x ≡ true → (x == OBJECTS_BIRTH) ≡ false → child_entries (with_object b t id props) x ≡ child_entries b x
       children x e apart = go (record_of b x) refl
@@ -339,11 +402,18 @@ module _ (b : Board) (t : TypeId) (id : List ℕ) (props : List Given) (its : Is
           go None q = absurd (let clash : false ≡ true = sym (ap is_some q) ∙ e in cc)
           go (Some y) q =
               let other : (y.birth == OBJECTS_BIRTH) ≡ false = ap (λ (k : ℕ). k == OBJECTS_BIRTH) (found-birth x b.records y q) ∙ apart in
-              let is : record_of (with_object b t id props) x ≡ Some y = found x ∙ ap (λ (o : Option Record). option_or (option_map (edited OBJECTS_BIRTH change) o) (found_at x (r ∷ []))) q ∙ rw (edited, other) refl in
+              let is : record_of (with_object b t id props) x ≡ Some y =
+              found x
+              ∙ ap (λ (o : Option Record). option_or (option_map (edited OBJECTS_BIRTH change) o) (found_at x (r ∷ []))) q
+              ∙ rw (edited, other) refl in
               ap (λ (o : Option Record). filter_map child_entry (option_map_or (λ (z : Record). z.slots) o [])) (is ∙ sym q)
 
-pub attempt-places : (depth : ℕ → ℕ) (b : Board) (t : TypeId) → AtRest b → PlacesBut depth None (λ x. false) b → PlacesBut depth None (λ x. false) (with_attempt b t)
-attempt-places depth b t rest h = places-kept b (with_attempt b t) (kept-alike b (with_attempt b t) (attempt-rest b t rest).used.firm (owner-live b 1 MACHINE_BIRTH h.machine) refl (λ x e. alike-record b (with_attempt b t) x refl)) depth None (λ x. false) h
+pub attempt-places : (depth : ℕ → ℕ) (b : Board) (t : TypeId) → AtRest b → PlacesBut depth None (λ x. false) b
+    → PlacesBut depth None (λ x. false) (with_attempt b t)
+attempt-places depth b t rest h =
+    places-kept b (with_attempt b t)
+    (kept-alike b (with_attempt b t) (attempt-rest b t rest).used.firm (owner-live b 1 MACHINE_BIRTH h.machine) refl (λ x e. alike-record b (with_attempt b t) x refl)) depth None
+    (λ x. false) h
 
 creatable : (b : Board) (row : TypeRow) (id : List ℕ) → barred b row id ≡ None → is_a row.id (codes "user-creatable") ≡ true
 creatable b row id e =
@@ -359,17 +429,25 @@ creatable b row id e =
     turn true k = refl
     turn false k = absurd (let clash : true ≡ false = k in cc)
 
-added_as-places : (depth : ℕ → ℕ) (b : Board) (t : TypeId) (id : List ℕ) (props : List Given) (refusal : Option Code) → is_a t (codes "user-creatable") ≡ true → AtRest b → PlacesBut depth None (λ x. false) b → PlacesBut depth None (λ x. false) (added_as b t id props refusal).board
-added_as-places depth b t id props None may rest h = places-grown depth b (with_object b t id props) (grown-object b t id props (users b t props may) rest.used.firm) rest.used.firm h
-added_as-places depth b t id props (Some code) may rest h = attempt-places depth b t rest h
+added_as-places : (depth : ℕ → ℕ) (b : Board) (t : TypeId) (id : List ℕ) (props : List Given) (refusal : Option Code)
+    → is_a t (codes "user-creatable") ≡ true → AtRest b → PlacesBut depth None (λ x. false) b → Keeps depth b (added_as b t id props refusal).board
+added_as-places depth b t id props None may rest h =
+    let g : Grown b (with_object b t id props) = grown-object b t id props (users b t props may) rest.used.firm in
+    record {
+      places = places-grown depth b (with_object b t id props) g rest.used.firm h;
+      stood = all-stands depth b (with_object b t id props) g rest.used.firm h;
+    }
+added_as-places depth b t id props (Some code) may rest h = record { places = attempt-places depth b t rest h; stood = λ d. refl }
 
-added_by-places : (depth : ℕ → ℕ) (b : Board) (row : TypeRow) (id : List ℕ) (props : List Given) (refusal : Option Code) → barred b row id ≡ refusal → AtRest b → PlacesBut depth None (λ x. false) b → PlacesBut depth None (λ x. false) (added_by b row id props refusal).board
+added_by-places : (depth : ℕ → ℕ) (b : Board) (row : TypeRow) (id : List ℕ) (props : List Given) (refusal : Option Code) → barred b row id ≡ refusal
+    → AtRest b → PlacesBut depth None (λ x. false) b → Keeps depth b (added_by b row id props refusal).board
 added_by-places depth b row id props None e rest h = added_as-places depth b row.id id props (refusal_of b row.id props) (creatable b row id e) rest h
-added_by-places depth b row id props (Some code) e rest h = h
+added_by-places depth b row id props (Some code) e rest h = keeps-none depth b h
 
-pub object_add-places : (depth : ℕ → ℕ) (b : Board) (driver id : List ℕ) (props : List Given) → AtRest b → PlacesBut depth None (λ x. false) b → PlacesBut depth None (λ x. false) (object_add b driver id props).board
+pub object_add-places : (depth : ℕ → ℕ) (b : Board) (driver id : List ℕ) (props : List Given) → AtRest b → PlacesBut depth None (λ x. false) b
+    → Keeps depth b (object_add b driver id props).board
 object_add-places depth b driver id props rest h = go (row_named driver) refl
   where
-    go : (row : Option TypeRow) → row_named driver ≡ row → PlacesBut depth None (λ x. false) (object_add b driver id props).board
-    go None p = rw (object_add, p) h
+    go : (row : Option TypeRow) → row_named driver ≡ row → Keeps depth b (object_add b driver id props).board
+    go None p = rw (object_add, p) (keeps-none depth b h)
     go (Some row) p = rw (object_add, p) (added_by-places depth b row id props (barred b row id) refl rest h)

@@ -67,7 +67,8 @@ pub record AlikeSlots (xs ys : List (List ℕ × Slot)) : Type 0 where
   pub place : place_in ys ≡ place_in xs
   pub realized : realized_in ys ≡ realized_in xs
 
-pub alike-slots : (b c : Board) (x : ℕ) → AlikeSlots (slots_at b x) (slots_at c x) → option_map bodiless (record_of c x) ≡ option_map bodiless (record_of b x) → Alike b c x
+pub alike-slots : (b c : Board) (x : ℕ) → AlikeSlots (slots_at b x) (slots_at c x)
+    → option_map bodiless (record_of c x) ≡ option_map bodiless (record_of b x) → Alike b c x
 alike-slots b c x h same = record { children = h.children; kids = h.kids; bus = h.bus; place = h.place; realized = h.realized; body = same }
 
 pub alike-record : (b c : Board) (x : ℕ) → record_of c x ≡ record_of b x → Alike b c x
@@ -82,15 +83,18 @@ alike-record b c x e =
     }
 
 -- a change of each slot that leaves entries, plain values and strong links
-pub entries-each : (f : List ℕ × Slot → Option (List ℕ × ℕ)) (g : Slot → Slot) → ((s : List ℕ × Slot) → f (s.0, g s.1) ≡ f s) → (slots : List (List ℕ × Slot)) → filter_map f (each_slot g slots) ≡ filter_map f slots
+pub entries-each : (f : List ℕ × Slot → Option (List ℕ × ℕ)) (g : Slot → Slot) → ((s : List ℕ × Slot) → f (s.0, g s.1) ≡ f s)
+    → (slots : List (List ℕ × Slot)) → filter_map f (each_slot g slots) ≡ filter_map f slots
 entries-each f g same [] = refl
 entries-each f g same (s ∷ slots) = ap₂ cons_option (same s) (entries-each f g same slots)
 
-pub named-each : {A : Type 0} (f : Slot → Option A) (g : Slot → Slot) → ((s : Slot) → f (g s) ≡ f s) → (name : List ℕ) (slots : List (List ℕ × Slot)) → option_and_then f (named_in name (each_slot g slots)) ≡ option_and_then f (named_in name slots)
+pub named-each : {A : Type 0} (f : Slot → Option A) (g : Slot → Slot) → ((s : Slot) → f (g s) ≡ f s) → (name : List ℕ) (slots : List (List ℕ × Slot))
+    → option_and_then f (named_in name (each_slot g slots)) ≡ option_and_then f (named_in name slots)
 named-each f g same name [] = refl
 named-each f g same name (s ∷ slots) = go (bytes_eq s.0 name) refl (named-each f g same name slots)
   where
-    go : (t : Bool) → bytes_eq s.0 name ≡ t → option_and_then f (named_in name (each_slot g slots)) ≡ option_and_then f (named_in name slots) → option_and_then f (named_in name (each_slot g (s ∷ slots))) ≡ option_and_then f (named_in name (s ∷ slots))
+    go : (t : Bool) → bytes_eq s.0 name ≡ t → option_and_then f (named_in name (each_slot g slots)) ≡ option_and_then f (named_in name slots)
+        → option_and_then f (named_in name (each_slot g (s ∷ slots))) ≡ option_and_then f (named_in name (s ∷ slots))
     go true p rest = rw p (same s.1)
     go false p rest = rw p rest
 
@@ -138,7 +142,9 @@ forgotten-slots n slots =
     }
 
 alike-forgotten : (b c : Board) (n x : ℕ) → record_of c x ≡ option_map (forgotten n) (record_of b x) → Alike b c x
-alike-forgotten b c n x e = alike-slots b c x (subst (λ (o : Option Record). AlikeSlots (slots_at b x) (slots_in o)) (sym e) (slots (record_of b x))) (ap (option_map bodiless) e ∙ body (record_of b x))
+alike-forgotten b c n x e =
+    alike-slots b c x (subst (λ (o : Option Record). AlikeSlots (slots_at b x) (slots_in o)) (sym e) (slots (record_of b x)))
+    (ap (option_map bodiless) e ∙ body (record_of b x))
   where
     slots : (o : Option Record) → AlikeSlots (slots_in o) (slots_in (option_map (forgotten n) o))
     slots None = record { children = refl; kids = refl; bus = refl; place = refl; realized = refl }
@@ -149,7 +155,8 @@ alike-forgotten b c n x e = alike-slots b c x (subst (λ (o : Option Record). Al
     body (Some r) = refl
 
 -- an edit of another object
-pub other-record : (n x : ℕ) (change : Record → Record) (b : Board) → record_of b x ≡ record_of b x → (x == n) ≡ false → (o : Option Record) → record_of b x ≡ o → option_map (edited n change) o ≡ o
+pub other-record : (n x : ℕ) (change : Record → Record) (b : Board) → record_of b x ≡ record_of b x → (x == n) ≡ false → (o : Option Record)
+    → record_of b x ≡ o → option_map (edited n change) o ≡ o
 other-record n x change b e apart None q = refl
 other-record n x change b e apart (Some r) q = let is : (r.birth == n) ≡ false = ap (λ (k : ℕ). k == n) (born b.records q) ∙ apart in rw (edited, is) refl
   where
@@ -172,7 +179,8 @@ apart-first n x ns e = go (eqb x n) refl
     go true p = absurd (let clash : true ≡ false = rw p at e in cc)
     go false p = (p, rw p at e)
 
-dropped-alike : (b c : Board) (n i j : ℕ) (work : List (ℕ × ℕ)) → AlikeBut b ((n, i) ∷ work) c → (x : ℕ) → is_live (drop_slot c n i) x ≡ true → among (n ∷ births_of work) x ≡ false → Alike b (drop_slot c n i) x
+dropped-alike : (b c : Board) (n i j : ℕ) (work : List (ℕ × ℕ)) → AlikeBut b ((n, i) ∷ work) c → (x : ℕ) → is_live (drop_slot c n i) x ≡ true
+    → among (n ∷ births_of work) x ≡ false → Alike b (drop_slot c n i) x
 dropped-alike b c n i j work h x there apart =
     let differs : (x == n) ≡ false = (apart-first n x (births_of work) apart).0 in
     let same : record_of (drop_slot c n i) x ≡ record_of c x = drop-record c n i x ∙ other-record n x (with_dropped i) c refl differs (record_of c x) refl in
@@ -186,8 +194,10 @@ alike-keeps b =
       kept = λ c n i work s h e held_on x there apart. dropped-alike b c n i i work h x there apart;
     }
   where
-    ended : (c : Board) (n i : ℕ) (work : List (ℕ × ℕ)) → AlikeBut b ((n, i) ∷ work) c → (x : ℕ) (t : Bool) → (x == n) ≡ t → is_live (finish c n) x ≡ true → among (births_of work) x ≡ false → Alike b (finish c n) x
-    ended c n i work h x true p there apart = absurd (let gone : is_live (finish c n) x ≡ false = finish-live c n x ∙ rw p refl in let clash : true ≡ false = sym there ∙ gone in cc)
+    ended : (c : Board) (n i : ℕ) (work : List (ℕ × ℕ)) → AlikeBut b ((n, i) ∷ work) c → (x : ℕ) (t : Bool) → (x == n) ≡ t
+        → is_live (finish c n) x ≡ true → among (births_of work) x ≡ false → Alike b (finish c n) x
+    ended c n i work h x true p there apart =
+        absurd (let gone : is_live (finish c n) x ≡ false = finish-live c n x ∙ rw p refl in let clash : true ≡ false = sym there ∙ gone in cc)
     ended c n i work h x false p there apart =
         let before : is_live c x ≡ true = sym (finish-live c n x ∙ rw p refl) ∙ there in
         let differs : eqb x n ≡ false = p in
@@ -195,4 +205,5 @@ alike-keeps b =
 
 -- who is there behind a release is as before
 pub after-alike : (b : Board) (o : Option ℕ) (x : ℕ) → is_live (after finalise b o) x ≡ true → Alike b (after finalise b o) x
-after-alike b o x there = after_keeps (AlikeBut b) (alike-keeps b) b o [] (λ m e free y here apart. alike-none b y) (λ some y here apart. alike-none b y) x there refl
+after-alike b o x there =
+    after_keeps (AlikeBut b) (alike-keeps b) b o [] (λ m e free y here apart. alike-none b y) (λ some y here apart. alike-none b y) x there refl

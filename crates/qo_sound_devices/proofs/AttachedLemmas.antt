@@ -17,23 +17,27 @@ use Rattle.qo_sound_devices.specs.SoundPlaces.{child_entries, child_entry, HasOw
 use Rattle.qo_sound_devices.proofs.PlacesLemmas.{or-cases}
 
 -- a child is found, and counted
-pub listed-found : (x : ℕ) (slots : List (List ℕ × Slot)) → listed x (filter_map child_entry slots) ≡ is_some (find (λ (s : List ℕ × Slot). is_child x s.1) slots)
+pub listed-found : (x : ℕ) (slots : List (List ℕ × Slot))
+    → listed x (filter_map child_entry slots) ≡ is_some (find (λ (s : List ℕ × Slot). is_child x s.1) slots)
 listed-found x [] = refl
 listed-found x ((name, plain v) ∷ slots) = listed-found x slots
 listed-found x ((name, child m) ∷ slots) = go (m == x) refl (listed-found x slots)
   where
-    go : (t : Bool) → (m == x) ≡ t → listed x (filter_map child_entry slots) ≡ is_some (find (λ (s : List ℕ × Slot). is_child x s.1) slots) → listed x (filter_map child_entry ((name, child m) ∷ slots)) ≡ is_some (find (λ (s : List ℕ × Slot). is_child x s.1) ((name, child m) ∷ slots))
+    go : (t : Bool) → (m == x) ≡ t → listed x (filter_map child_entry slots) ≡ is_some (find (λ (s : List ℕ × Slot). is_child x s.1) slots)
+        → listed x (filter_map child_entry ((name, child m) ∷ slots)) ≡ is_some (find (λ (s : List ℕ × Slot). is_child x s.1) ((name, child m) ∷ slots))
     go true p rest = rw p refl
     go false p rest = rw p rest
 listed-found x ((name, strong t target) ∷ slots) = listed-found x slots
 listed-found x ((name, weak t target) ∷ slots) = listed-found x slots
 listed-found x ((name, alias m property) ∷ slots) = listed-found x slots
 
-pub found-counted : (x : ℕ) (slots : List (List ℕ × Slot)) → is_some (find (λ (s : List ℕ × Slot). is_child x s.1) slots) ≡ true → 1 ≤ sum_by (one_child x) slots
+pub found-counted : (x : ℕ) (slots : List (List ℕ × Slot)) → is_some (find (λ (s : List ℕ × Slot). is_child x s.1) slots) ≡ true
+    → 1 ≤ sum_by (one_child x) slots
 found-counted x [] e = cc
 found-counted x (s ∷ slots) e = go (is_child x s.1) refl (found-counted x slots)
   where
-    go : (t : Bool) → is_child x s.1 ≡ t → (is_some (find (λ (y : List ℕ × Slot). is_child x y.1) slots) ≡ true → 1 ≤ sum_by (one_child x) slots) → 1 ≤ sum_by (one_child x) (s ∷ slots)
+    go : (t : Bool) → is_child x s.1 ≡ t → (is_some (find (λ (y : List ℕ × Slot). is_child x y.1) slots) ≡ true → 1 ≤ sum_by (one_child x) slots)
+        → 1 ≤ sum_by (one_child x) (s ∷ slots)
     go true p rest = let one : one_child x s ≡ 1 = rw p refl in omega (arith, one, sum_by-cons (one_child x) s slots)
     go false p rest = omega (arith, rest (rw p at e), sum_by-cons (one_child x) s slots)
 
@@ -47,28 +51,37 @@ place-some x r = go (find (λ (s : List ℕ × Slot). is_child x s.1) r.slots)
 pub place-birth : (x : ℕ) (r : Record) → is_some (place_in x r) ≡ true → option_map (λ (p : ℕ × List ℕ). p.0) (place_in x r) ≡ Some r.birth
 place-birth x r e = go (find (λ (s : List ℕ × Slot). is_child x s.1) r.slots) e
   where
-    go : (o : Option (List ℕ × Slot)) → is_some {T = ℕ × List ℕ} (option_map (λ (s : List ℕ × Slot). (r.birth, s.0)) o) ≡ true → option_map {T = ℕ × List ℕ} (λ (p : ℕ × List ℕ). p.0) (option_map (λ (s : List ℕ × Slot). (r.birth, s.0)) o) ≡ Some r.birth
+    go : (o : Option (List ℕ × Slot)) → is_some {T = ℕ × List ℕ} (option_map (λ (s : List ℕ × Slot). (r.birth, s.0)) o) ≡ true
+        → option_map {T = ℕ × List ℕ} (λ (p : ℕ × List ℕ). p.0) (option_map (λ (s : List ℕ × Slot). (r.birth, s.0)) o) ≡ Some r.birth
     go None q = cc
     go (Some s) q = refl
 
 -- where an object is a child at most once, its parent is the one that is known
-place-is : (x p : ℕ) (r : Record) → listed x (filter_map child_entry r.slots) ≡ true → (rs : List Record) → found_at p rs ≡ Some r → sum_by (parents_in x) rs ≤ 1 → option_map (λ (q : ℕ × List ℕ). q.0) (place_at rs x) ≡ Some p
+place-is : (x p : ℕ) (r : Record) → listed x (filter_map child_entry r.slots) ≡ true → (rs : List Record) → found_at p rs ≡ Some r
+    → sum_by (parents_in x) rs ≤ 1 → option_map (λ (q : ℕ × List ℕ). q.0) (place_at rs x) ≡ Some p
 place-is x p r child_there [] e few = cc
 place-is x p r child_there (y ∷ rs) e few = go (y.birth == p) refl (is_some (place_in x y)) refl (place-is x p r child_there rs)
   where
     found_in : is_some (find (λ (s : List ℕ × Slot). is_child x s.1) r.slots) ≡ true
     found_in = sym (listed-found x r.slots) ∙ child_there
 
-    go : (t : Bool) → (y.birth == p) ≡ t → (u : Bool) → is_some (place_in x y) ≡ u → (found_at p rs ≡ Some r → sum_by (parents_in x) rs ≤ 1 → option_map (λ (q : ℕ × List ℕ). q.0) (place_at rs x) ≡ Some p) → option_map (λ (q : ℕ × List ℕ). q.0) (place_at (y ∷ rs) x) ≡ Some p
+    go : (t : Bool) → (y.birth == p) ≡ t → (u : Bool) → is_some (place_in x y) ≡ u
+        → (found_at p rs ≡ Some r → sum_by (parents_in x) rs ≤ 1 → option_map (λ (q : ℕ × List ℕ). q.0) (place_at rs x) ≡ Some p)
+        → option_map (λ (q : ℕ × List ℕ). q.0) (place_at (y ∷ rs) x) ≡ Some p
     go true q true u rest = rw u (place-birth x y u ∙ ap Some (eqb-true y.birth p q))
     go true q false u rest =
         let is : y ≡ r = same_Some y r (rw q at e) in
-        absurd (let clash : false ≡ true = sym u ∙ place-some x y ∙ ap (λ (z : Record). is_some (find (λ (s : List ℕ × Slot). is_child x s.1) z.slots)) is ∙ found_in in cc)
+        absurd
+        (let clash : false ≡ true =
+        sym u ∙ place-some x y ∙ ap (λ (z : Record). is_some (find (λ (s : List ℕ × Slot). is_child x s.1) z.slots)) is ∙ found_in in
+        cc)
     go false q false u rest = rw u (rest (rw q at e) (omega (arith, few, sum_by-cons (parents_in x) y rs)))
     go false q true u rest =
         let one : 1 ≤ parents_in x r = found-counted x r.slots found_in in
         let other : 1 ≤ parents_in x y = found-counted x y.slots (sym (place-some x y) ∙ u) in
-        absurd (let clash : 2 ≤ 1 = omega (arith, one, other, few, found-within (parents_in x) p rs r (rw q at e), sum_by-cons (parents_in x) y rs) in omega (arith, clash))
+        absurd
+        (let clash : 2 ≤ 1 = omega (arith, one, other, few, found-within (parents_in x) p rs r (rw q at e), sum_by-cons (parents_in x) y rs) in
+        omega (arith, clash))
 
 -- the parent of a child is the object that has it
 pub parent-is : (b : Board) → Firm b → (p x : ℕ) → listed x (child_entries b p) ≡ true → option_map (λ (q : ℕ × List ℕ). q.0) (place_of b x) ≡ Some p
@@ -121,6 +134,10 @@ module _ (b : Board) (sound : SoundGraph b) (firm : Firm b) (depth : ℕ → ℕ
   owner-attached q (machines k) = go (eqb q ROOT_BUS_BIRTH) refl (eqb q MEMORY_BUS_BIRTH) refl
     where
       go : (t : Bool) → eqb q ROOT_BUS_BIRTH ≡ t → (u : Bool) → eqb q MEMORY_BUS_BIRTH ≡ u → attached b q ≡ true
-      go true p u r = subst (λ (m : ℕ). attached b m ≡ true) (sym (eqb-true q ROOT_BUS_BIRTH p)) (child-attached b sound firm MACHINE_BIRTH ROOT_BUS_BIRTH h.parts.1.1.0 machine-attached)
-      go false p true r = subst (λ (m : ℕ). attached b m ≡ true) (sym (eqb-true q MEMORY_BUS_BIRTH r)) (child-attached b sound firm MACHINE_BIRTH MEMORY_BUS_BIRTH h.parts.1.1.1.0 machine-attached)
+      go true p u r =
+          subst (λ (m : ℕ). attached b m ≡ true) (sym (eqb-true q ROOT_BUS_BIRTH p))
+          (child-attached b sound firm MACHINE_BIRTH ROOT_BUS_BIRTH h.parts.1.1.0 machine-attached)
+      go false p true r =
+          subst (λ (m : ℕ). attached b m ≡ true) (sym (eqb-true q MEMORY_BUS_BIRTH r))
+          (child-attached b sound firm MACHINE_BIRTH MEMORY_BUS_BIRTH h.parts.1.1.1.0 machine-attached)
       go false p false r = absurd (let clash : false ≡ true = rw (p, r) at k in cc)

@@ -1,12 +1,10 @@
 -- Places speak of objects and of the number of accepted adds alone; so what changes other things keeps them.
-use Rattle.std.proofs.Common.{◌≡◌, refl, ap, sym, subst, ◌∙◌, ℕ, ◌≤◌, Bool, true, false, not, ◌==◌, List, [], find, map, sum_by, option_map, Option, Some, None, is_some, arith}
+use Rattle.std.proofs.Common.{◌≡◌, refl, ap, sym, subst, ◌∙◌, ℕ, ◌≤◌, Bool, true, false, ◌==◌, List, [], find, map, sum_by, option_map, Option, Some, None, is_some, arith}
 use Rattle.std.specs.List.{AllByRecursion}
 use Rattle.std.specs.Option.{option_map_or}
 use Rattle.qo_values.specs.declared.births.TheConstants.{MACHINE_BIRTH}
-use Rattle.qo_values.specs.declared.kinds.Act.{Act}
 use Rattle.qo_values.specs.declared.kinds.TypeId.{TypeId}
-use Rattle.qo_model.specs.Board.{Board, Record, kind_of}
-use Rattle.qo_model.specs.Clocks.{acted}
+use Rattle.qo_model.specs.Board.{Board, Record}
 use Rattle.qo_model.specs.Depth.{among, Leads}
 use Rattle.qo_model.specs.Hotplug.{asked, asked_of, device_at, refused, with_asked}
 use Rattle.qo_model.specs.Paths.{attached, births, children_in}
@@ -31,7 +29,9 @@ firm-same : (b c : Board) → c.records ≡ b.records → b.born ≤ c.born → 
 firm-same b c same grows f =
     record {
       rising = subst Rises (sym same_births) f.rising;
-      within = subst (AllByRecursion (λ n. n ≤ c.born)) (sym same_births) (all-imply (λ n. n ≤ b.born) (λ n. n ≤ c.born) (λ n k. omega (arith, k, grows)) (births b) f.within);
+      within =
+          subst (AllByRecursion (λ n. n ≤ c.born)) (sym same_births)
+          (all-imply (λ n. n ≤ b.born) (λ n. n ≤ c.born) (λ n k. omega (arith, k, grows)) (births b) f.within);
       begun = let low : 8 ≤ b.born = f.begun in omega (arith, low, grows);
       named = subst (AllByRecursion HasNames) (sym same) f.named;
       linked = subst (λ (rs : List Record). AllLinked (kind_in rs) rs) (sym same) f.linked;
@@ -46,7 +46,8 @@ pub beside-places : (depth : ℕ → ℕ) (left : Option ℕ) (out : ℕ → Boo
     → c.anonymous ≡ b.anonymous → PlacesBut depth left out b → PlacesBut depth left out c
 beside-places depth left out b c firm same grows anonymous h =
     places-kept b c
-    (kept-alike b c (firm-same b c same grows firm) (ap is_some (found 1) ∙ owner-live b 1 MACHINE_BIRTH h.machine) anonymous (λ x there. alike-record b c x (found x)))
+    (kept-alike b c (firm-same b c same grows firm) (ap is_some (found 1) ∙ owner-live b 1 MACHINE_BIRTH h.machine) anonymous
+    (λ x there. alike-record b c x (found x)))
     depth left out h
   where
     found : (x : ℕ) → find (λ (r : Record). r.birth == x) c.records ≡ find (λ (r : Record). r.birth == x) b.records

@@ -72,7 +72,8 @@ of-owned : (depth : ℕ → ℕ) (q m : ℕ) (es : List (List ℕ × ℕ)) → A
 of-owned depth q m [] h e = cc
 of-owned depth q m (x ∷ es) h e = go (x.1 == m) refl (bytes_eq x.0 clock_name) refl (of-owned depth q m es h.1)
   where
-    go : (t : Bool) → (x.1 == m) ≡ t → (u : Bool) → bytes_eq x.0 clock_name ≡ u → (list_any (owns_it m) es ≡ true → depth m ≡ suc (depth q)) → depth m ≡ suc (depth q)
+    go : (t : Bool) → (x.1 == m) ≡ t → (u : Bool) → bytes_eq x.0 clock_name ≡ u → (list_any (owns_it m) es ≡ true → depth m ≡ suc (depth q))
+        → depth m ≡ suc (depth q)
     go true p false k rest = subst (λ (y : ℕ). depth y ≡ suc (depth q)) (eqb-true x.1 m p) (h.0 k)
     go true p true k rest = rest (rw (p, k) at e)
     go false p u k rest = rest (rw p at e)
@@ -84,8 +85,10 @@ at-id b P d id h e = go (record_of b d) refl
     at_records [] r k q i = cc
     at_records (x ∷ rs) r k q i = choose (x.birth == d) refl x.device_id refl (at_records rs r)
       where
-        choose : (t : Bool) → (x.birth == d) ≡ t → (o : Option (List ℕ)) → x.device_id ≡ o → (AllByRecursion P (filter_map id_entry rs) → found_at d rs ≡ Some r → r.device_id ≡ Some id → P (id, d)) → P (id, d)
-        choose true p None u rest = absurd (let is : x ≡ r = same_Some x r (rw p at q) in let clash : None ≡ Some id = sym u ∙ ap (λ (y : Record). y.device_id) is ∙ i in cc)
+        choose : (t : Bool) → (x.birth == d) ≡ t → (o : Option (List ℕ)) → x.device_id ≡ o
+            → (AllByRecursion P (filter_map id_entry rs) → found_at d rs ≡ Some r → r.device_id ≡ Some id → P (id, d)) → P (id, d)
+        choose true p None u rest =
+            absurd (let is : x ≡ r = same_Some x r (rw p at q) in let clash : None ≡ Some id = sym u ∙ ap (λ (y : Record). y.device_id) is ∙ i in cc)
         choose true p (Some its) u rest =
             let is : x ≡ r = same_Some x r (rw p at q) in
             let same : its ≡ id = same_Some its id (sym u ∙ ap (λ (y : Record). y.device_id) is ∙ i) in
@@ -127,9 +130,13 @@ checked-sound b h = (
 )
   where
     standing : (d : ℕ) → stands b d ≡ true → IsStanding b h.depth d
-    standing d e = or-cases (listed d (child_entries b PERIPHERAL_BIRTH)) (listed d (child_entries b ANONYMOUS_BIRTH)) e (all-listed (IsStanding b h.depth) (child_entries b PERIPHERAL_BIRTH) h.named d) (all-listed (IsStanding b h.depth) (child_entries b ANONYMOUS_BIRTH) h.numbered d)
+    standing d e =
+        or-cases (listed d (child_entries b PERIPHERAL_BIRTH)) (listed d (child_entries b ANONYMOUS_BIRTH)) e
+        (all-listed (IsStanding b h.depth) (child_entries b PERIPHERAL_BIRTH) h.named d)
+        (all-listed (IsStanding b h.depth) (child_entries b ANONYMOUS_BIRTH) h.numbered d)
 
-    low-owned : (m : ℕ) (es : List (List ℕ × ℕ)) → AllByRecursion (λ (e : List ℕ × ℕ). bytes_eq e.0 clock_name ≡ false → h.depth e.1 ≤ 8) es → list_any (owns_it m) es ≡ true → h.depth m ≤ 8
+    low-owned : (m : ℕ) (es : List (List ℕ × ℕ)) → AllByRecursion (λ (e : List ℕ × ℕ). bytes_eq e.0 clock_name ≡ false → h.depth e.1 ≤ 8) es
+        → list_any (owns_it m) es ≡ true → h.depth m ≤ 8
     low-owned m [] k e = cc
     low-owned m (x ∷ es) k e = go (x.1 == m) refl (bytes_eq x.0 clock_name) refl (low-owned m es k.1)
       where

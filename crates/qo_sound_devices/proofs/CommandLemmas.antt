@@ -25,7 +25,7 @@ use Rattle.qo_sound_devices.specs.SoundPlaces.{HasOwner, kid_entry, PlacesBut, s
 use Rattle.qo_sound_devices.proofs.AlikeLemmas.{alike-record}
 use Rattle.qo_sound_devices.proofs.AttachedLemmas.{owner-attached, stands-attached}
 use Rattle.qo_sound_devices.proofs.DropLemmas.{kept-drop}
-use Rattle.qo_sound_devices.proofs.PlacesLemmas.{after-kept, Kept, kept-alike, keeper, owner-back, owner-live, places-kept, same-stands}
+use Rattle.qo_sound_devices.proofs.PlacesLemmas.{after-kept, Keeps, keeps-none, Kept, kept-alike, keeper, owner-back, owner-live, places-kept, same-stands}
 
 -- places are kept, and nobody more stands or has an owner
 pub record Goes (depth : ℕ → ℕ) (left : Option ℕ) (out : ℕ → Bool) (b c : Board) : Type 0 where
@@ -37,25 +37,52 @@ pub record Goes (depth : ℕ → ℕ) (left : Option ℕ) (out : ℕ → Bool) (
 pub goes-then : (depth : ℕ → ℕ) (left : Option ℕ) (out : ℕ → Bool) (b c d : Board) → Goes depth left out b c → Goes depth left out c d → Goes depth left out b d
 goes-then depth left out b c d h k = record { places = k.places; stood = λ x. k.stood x ∙ h.stood x; owned = λ q o. h.owned q (k.owned q o); pinned = k.pinned }
 
-pub goes-kept : (depth : ℕ → ℕ) (left : Option ℕ) (out : ℕ → Bool) (b c : Board) → Kept b c → among c.pins 1 ≡ true → PlacesBut depth left out b → Goes depth left out b c
-goes-kept depth left out b c kept pinned h = record { places = places-kept b c kept depth left out h; stood = same-stands b c kept depth left out h; owned = owner-back b c kept depth left out h; pinned = pinned }
+pub goes-kept : (depth : ℕ → ℕ) (left : Option ℕ) (out : ℕ → Bool) (b c : Board) → Kept b c → among c.pins 1 ≡ true → PlacesBut depth left out b
+    → Goes depth left out b c
+goes-kept depth left out b c kept pinned h =
+    record {
+      places = places-kept b c kept depth left out h;
+      stood = same-stands b c kept depth left out h;
+      owned = owner-back b c kept depth left out h;
+      pinned = pinned;
+    }
 
 pub goes-none : (depth : ℕ → ℕ) (left : Option ℕ) (out : ℕ → Bool) (b : Board) → among b.pins 1 ≡ true → PlacesBut depth left out b → Goes depth left out b b
 goes-none depth left out b pinned h = record { places = h; stood = λ d. refl; owned = λ q o. o; pinned = pinned }
 
-pub goes-after : (depth : ℕ → ℕ) (left : Option ℕ) (out : ℕ → Bool) (b : Board) (o : Option ℕ) → Firm (after finalise b o) → among b.pins 1 ≡ true → PlacesBut depth left out b → Goes depth left out b (after finalise b o)
-goes-after depth left out b o firm pinned h = goes-kept depth left out b (after finalise b o) (after-kept b o firm (owner-live b 1 MACHINE_BIRTH h.machine) pinned) (ap (λ (ps : List ℕ). among ps 1) (release-pins b o) ∙ pinned) h
+pub goes-after : (depth : ℕ → ℕ) (left : Option ℕ) (out : ℕ → Bool) (b : Board) (o : Option ℕ) → Firm (after finalise b o) → among b.pins 1 ≡ true
+    → PlacesBut depth left out b → Goes depth left out b (after finalise b o)
+goes-after depth left out b o firm pinned h =
+    goes-kept depth left out b (after finalise b o) (after-kept b o firm (owner-live b 1 MACHINE_BIRTH h.machine) pinned)
+    (ap (λ (ps : List ℕ). among ps 1) (release-pins b o) ∙ pinned) h
+
+pub keeps-goes : (depth : ℕ → ℕ) (b c : Board) → Goes depth None (λ d. false) b c → Keeps depth b c
+keeps-goes depth b c g = record { places = g.places; stood = g.stood }
 
 -- other pins
-pub goes-pins : (depth : ℕ → ℕ) (left : Option ℕ) (out : ℕ → Bool) (b : Board) (ps : List ℕ) → Firm b → among ps 1 ≡ true → PlacesBut depth left out b → Goes depth left out b (record b { pins = ps })
-goes-pins depth left out b ps f pinned h = goes-kept depth left out b (record b { pins = ps }) (kept-alike b (record b { pins = ps }) firm (owner-live b 1 MACHINE_BIRTH h.machine) refl (λ x there. alike-record b (record b { pins = ps }) x refl)) pinned h
+pub goes-pins : (depth : ℕ → ℕ) (left : Option ℕ) (out : ℕ → Bool) (b : Board) (ps : List ℕ) → Firm b → among ps 1 ≡ true → PlacesBut depth left out b
+    → Goes depth left out b (record b { pins = ps })
+goes-pins depth left out b ps f pinned h =
+    goes-kept depth left out b (record b { pins = ps })
+    (kept-alike b (record b { pins = ps }) firm (owner-live b 1 MACHINE_BIRTH h.machine) refl (λ x there. alike-record b (record b { pins = ps }) x refl)) pinned h
   where
     firm : Firm (record b { pins = ps })
-    firm = record { rising = f.rising; within = f.within; begun = f.begun; named = f.named; linked = f.linked; one_parent = f.one_parent; none_round = f.none_round }
+    firm =
+        record {
+          rising = f.rising;
+          within = f.within;
+          begun = f.begun;
+          named = f.named;
+          linked = f.linked;
+          one_parent = f.one_parent;
+          none_round = f.none_round;
+        }
 
 -- a slot is let go of which places do not speak
 pub goes-let_go : (depth : ℕ → ℕ) (left : Option ℕ) (out : ℕ → Bool) (b : Board) (n i : ℕ) → Firm b → Firm (let_go b n i) → among b.pins 1 ≡ true
-    → ((s : List ℕ × Slot) → slice_get (slots_at b n) i ≡ Some s → stands b n ≡ true → (is_some (child_of s.1) ≡ true) ⊎ (bytes_eq s.0 (codes "parent_bus") ≡ false))
+    →
+    ((s : List ℕ × Slot) → slice_get (slots_at b n) i ≡ Some s → stands b n ≡ true → (is_some (child_of s.1) ≡ true) ⊎
+    (bytes_eq s.0 (codes "parent_bus") ≡ false))
     → ((s : List ℕ × Slot) → slice_get (slots_at b n) i ≡ Some s → keeper b n ≡ true → child_of s.1 ≡ None)
     → ((s : List ℕ × Slot) → slice_get (slots_at b n) i ≡ Some s → is_of b (codes "bus") n ≡ true → HasOwner b n → kid_entry s ≡ None)
     → PlacesBut depth left out b → Goes depth left out b (let_go b n i)
@@ -66,11 +93,16 @@ goes-let_go depth left out b n i firm firm_behind pinned link children kids h = 
     go None e = rw (let_go, e) (goes-none depth left out b pinned h)
     go (Some s) e =
         let at : StandsAt b n i s = stands-at b n i s e in
-        let here : slice_get (slots_at b n) i ≡ Some at.entry = ap (λ (o : Option Record). slice_get (option_map_or (λ (r : Record). r.slots) o []) i) at.found ∙ at.at in
-        let kept : Kept b (drop_slot b n i) = kept-drop b firm (owner-live b 1 MACHINE_BIRTH h.machine) n i at.entry at.owner at.found at.at (link at.entry here) (children at.entry here) (kids at.entry here) in
+        let here : slice_get (slots_at b n) i ≡ Some at.entry =
+        ap (λ (o : Option Record). slice_get (option_map_or (λ (r : Record). r.slots) o []) i) at.found ∙ at.at in
+        let kept : Kept b (drop_slot b n i) =
+        kept-drop b firm (owner-live b 1 MACHINE_BIRTH h.machine) n i at.entry at.owner at.found at.at (link at.entry here) (children at.entry here)
+        (kids at.entry here) in
         let first : Goes depth left out b (drop_slot b n i) = goes-kept depth left out b (drop_slot b n i) kept pinned h in
         let ends : Firm (after finalise (drop_slot b n i) (held s)) = rw (let_go, e) at firm_behind in
-        rw (let_go, e) (goes-then depth left out b (drop_slot b n i) (after finalise (drop_slot b n i) (held s)) first (goes-after depth left out (drop_slot b n i) (held s) ends pinned first.places))
+        rw (let_go, e)
+        (goes-then depth left out b (drop_slot b n i) (after finalise (drop_slot b n i) (held s)) first
+        (goes-after depth left out (drop_slot b n i) (held s) ends pinned first.places))
 
 -- `object-del`
 all-aside : (b : Board) (depth : ℕ → ℕ) (left : Option ℕ) (out : ℕ → Bool) → PlacesBut depth left out b → stands b OBJECTS_BIRTH ≡ false
@@ -83,32 +115,34 @@ is-child id (name, strong t target) e = absurd (let clash : false ≡ true = e i
 is-child id (name, weak t target) e = refl
 is-child id (name, alias m property) e = refl
 
-pub object_del-places : (depth : ℕ → ℕ) (b : Board) (id : List ℕ) → AtRest b → PlacesBut depth None (λ d. false) b → PlacesBut depth None (λ d. false) (object_del b id).board
+pub object_del-places : (depth : ℕ → ℕ) (b : Board) (id : List ℕ) → AtRest b → PlacesBut depth None (λ d. false) b → Keeps depth b (object_del b id).board
 object_del-places depth b id rest h = go (place_from (is_object_named id) 0 (slots_at b OBJECTS_BIRTH)) refl
   where
     apart : stands b OBJECTS_BIRTH ≡ false
     apart = all-aside b depth None (λ d. false) h
 
-    go : (o : Option ℕ) → place_from (is_object_named id) 0 (slots_at b OBJECTS_BIRTH) ≡ o → PlacesBut depth None (λ d. false) (object_del b id).board
-    go None e = rw (object_del, e) h
+    go : (o : Option ℕ) → place_from (is_object_named id) 0 (slots_at b OBJECTS_BIRTH) ≡ o → Keeps depth b (object_del b id).board
+    go None e = rw (object_del, e) (keeps-none depth b h)
     go (Some i) e =
         let f : Found (is_object_named id) (slots_at b OBJECTS_BIRTH) i = found-at (is_object_named id) i (slots_at b OBJECTS_BIRTH) e in
-        rw (object_del, e) (goes-let_go depth None (λ d. false) b OBJECTS_BIRTH i rest.used.firm (near-deleted b i rest.used).firm (ap (λ (ps : List ℕ). among ps 1) rest.pinned)
+        rw (object_del, e) (keeps-goes depth b (let_go b OBJECTS_BIRTH i) (goes-let_go depth None (λ d. false) b OBJECTS_BIRTH i rest.used.firm (near-deleted b i rest.used).firm (ap (λ (ps : List ℕ). among ps 1) rest.pinned)
         (λ s k q. absurd (let clash : false ≡ true = sym apart ∙ q in cc))
         (λ s k q. absurd (let clash : false ≡ true = sym apart ∙ q in cc))
         (λ s k q o. subst (λ (x : List ℕ × Slot). kid_entry x ≡ None) (same_Some f.entry s (sym f.at ∙ k)) (is-child id f.entry f.passes))
-        h).places
+        h))
 
 -- `x-sever`
-record Severing (depth : ℕ → ℕ) (n : ℕ) (c : Board) : Type 0 where
+record Severing (depth : ℕ → ℕ) (n : ℕ) (b c : Board) : Type 0 where
   near : Nearly None c
   places : PlacesBut depth None (λ d. false) c
   pinned : among c.pins 1 ≡ true
   out : stands c n ≡ false
+  stood : (d : ℕ) → stands c d ≡ stands b d
   unowned : HasOwner c n → ⊥
 
-severed-let_go : (depth : ℕ → ℕ) (n i : ℕ) (t : TypeId) (target : Option ℕ) (c : Board) → slot_at c n i ≡ Some (strong t target) → Severing depth n c → Severing depth n (let_go c n i)
-severed-let_go depth n i t target c e h =
+severed-let_go : (depth : ℕ → ℕ) (n i : ℕ) (t : TypeId) (target : Option ℕ) (b c : Board) → slot_at c n i ≡ Some (strong t target) → Severing depth n b c
+    → Severing depth n b (let_go c n i)
+severed-let_go depth n i t target b c e h =
     let near : Nearly None (let_go c n i) = near-unlinked c n i t target e h.near in
     let goes : Goes depth None (λ d. false) c (let_go c n i) =
     goes-let_go depth None (λ d. false) c n i h.near.firm near.firm h.pinned
@@ -116,17 +150,25 @@ severed-let_go depth n i t target c e h =
     (λ s k q. ap child_of (same_Some s.1 (strong t target) (sym (ap (option_map (λ (x : List ℕ × Slot). x.1)) k) ∙ e)))
     (λ s k q o. absurd (h.unowned o))
     h.places in
-    record { near = near; places = goes.places; pinned = goes.pinned; out = goes.stood n ∙ h.out; unowned = λ o. h.unowned (goes.owned n o) }
+    record {
+      near = near;
+      places = goes.places;
+      pinned = goes.pinned;
+      out = goes.stood n ∙ h.out;
+      stood = λ d. goes.stood d ∙ h.stood d;
+      unowned = λ o. h.unowned (goes.owned n o);
+    }
 
-severed-all : (depth : ℕ → ℕ) (places i n : ℕ) (c : Board) → Severing depth n c → Severing depth n (severed_from places i n c)
-severed-all depth zero i n c h = h
-severed-all depth (suc places) i n c h = go (slot_at c n i) refl (severed-all depth places (suc i) n)
+severed-all : (depth : ℕ → ℕ) (places i n : ℕ) (b c : Board) → Severing depth n b c → Severing depth n b (severed_from places i n c)
+severed-all depth zero i n b c h = h
+severed-all depth (suc places) i n b c h = go (slot_at c n i) refl (severed-all depth places (suc i) n b)
   where
-    go : (s : Option Slot) → slot_at c n i ≡ s → ((d : Board) → Severing depth n d → Severing depth n (severed_from places (suc i) n d)) → Severing depth n (severed_from (suc places) i n c)
+    go : (s : Option Slot) → slot_at c n i ≡ s → ((d : Board) → Severing depth n b d → Severing depth n b (severed_from places (suc i) n d))
+        → Severing depth n b (severed_from (suc places) i n c)
     go None p rest = rw (severed_from, p) (rest c h)
     go (Some (plain v)) p rest = rw (severed_from, p) (rest c h)
     go (Some (child m)) p rest = rw (severed_from, p) (rest c h)
-    go (Some (strong t target)) p rest = rw (severed_from, p) (rest (let_go c n i) (severed-let_go depth n i t target c p h))
+    go (Some (strong t target)) p rest = rw (severed_from, p) (rest (let_go c n i) (severed-let_go depth n i t target b c p h))
     go (Some (weak t target)) p rest = rw (severed_from, p) (rest c h)
     go (Some (alias m property)) p rest = rw (severed_from, p) (rest c h)
 
@@ -137,7 +179,8 @@ put-one n = go (leb 1 n) refl
     go true p = rw (put_in_order, p) refl
     go false p = rw (put_in_order, p) (or-true (eqb 1 n))
 
-severed-places : (depth : ℕ → ℕ) (b : Board) (n places : ℕ) → AtRest b → PlacesBut depth None (λ d. false) b → attached b n ≡ false → PlacesBut depth None (λ d. false) (unpin (severed_from places 0 n (pin b n)) n)
+severed-places : (depth : ℕ → ℕ) (b : Board) (n places : ℕ) → AtRest b → PlacesBut depth None (λ d. false) b → attached b n ≡ false
+    → Keeps depth b (unpin (severed_from places 0 n (pin b n)) n)
 unfolding pin unpin
 severed-places depth b n places rest h apart = ends
   where
@@ -158,16 +201,26 @@ severed-places depth b n places rest h apart = ends
     pins_are = pin-pins b n ∙ ap (put_in_order n) rest.pinned
 
     pinned-first : Goes depth None (λ d. false) b (pin b n)
-    pinned-first = goes-pins depth None (λ d. false) b (put_in_order n b.pins) rest.used.firm (ap (λ (ps : List ℕ). among (put_in_order n ps) 1) rest.pinned ∙ put-one n) h
+    pinned-first =
+        goes-pins depth None (λ d. false) b (put_in_order n b.pins) rest.used.firm
+        (ap (λ (ps : List ℕ). among (put_in_order n ps) 1) rest.pinned ∙ put-one n) h
 
-    begins : Severing depth n (pin b n)
-    begins = record { near = near-pin b n rest.used; places = pinned-first.places; pinned = pinned-first.pinned; out = pinned-first.stood n ∙ aside; unowned = λ o. unowned (pinned-first.owned n o) }
+    begins : Severing depth n b (pin b n)
+    begins =
+        record {
+          near = near-pin b n rest.used;
+          places = pinned-first.places;
+          pinned = pinned-first.pinned;
+          out = pinned-first.stood n ∙ aside;
+          stood = pinned-first.stood;
+          unowned = λ o. unowned (pinned-first.owned n o);
+        }
 
     c : Board
     c = severed_from places 0 n (pin b n)
 
-    there : Severing depth n c
-    there = severed-all depth places 0 n (pin b n) begins
+    there : Severing depth n b c
+    there = severed-all depth places 0 n b (pin b n) begins
 
     pins_stay : c.pins ≡ put_in_order n (1 ∷ [])
     pins_stay = severed-pins places 0 n (pin b n) ∙ pins_are
@@ -181,16 +234,19 @@ severed-places depth b n places rest h apart = ends
     one_left : among (without_first n c.pins) 1 ≡ true
     one_left = ap (λ (ps : List ℕ). among (without_first n ps) 1) pins_stay ∙ ap (λ (ps : List ℕ). among ps 1) (put-back n (1 ∷ []) (tt, tt))
 
-    ends : PlacesBut depth None (λ d. false) (unpin c n)
+    ends : Keeps depth b (unpin c n)
     ends =
-        let less : Goes depth None (λ d. false) c (without_pin c n) = goes-pins depth None (λ d. false) c (without_first n c.pins) there.near.firm one_left there.places in
+        let less : Goes depth None (λ d. false) c (without_pin c n) =
+        goes-pins depth None (λ d. false) c (without_first n c.pins) there.near.firm one_left there.places in
         let firm_behind : Firm (after finalise (without_pin c n) (Some n)) = rw (unpin, has) at near_behind.firm in
-        rw (unpin, has) (goes-after depth None (λ d. false) (without_pin c n) (Some n) firm_behind one_left less.places).places
+        let last : Goes depth None (λ d. false) (without_pin c n) (after finalise (without_pin c n) (Some n)) =
+        goes-after depth None (λ d. false) (without_pin c n) (Some n) firm_behind one_left less.places in
+        rw (unpin, has) (record { places = last.places; stood = λ d. last.stood d ∙ less.stood d ∙ there.stood d })
 
-pub sever-places : (depth : ℕ → ℕ) (b : Board) (n : ℕ) → AtRest b → PlacesBut depth None (λ d. false) b → PlacesBut depth None (λ d. false) (sever b n).board
+pub sever-places : (depth : ℕ → ℕ) (b : Board) (n : ℕ) → AtRest b → PlacesBut depth None (λ d. false) b → Keeps depth b (sever b n).board
 sever-places depth b n rest h = go (is_live b n) refl (attached b n) refl
   where
-    go : (there : Bool) → is_live b n ≡ there → (at_home : Bool) → attached b n ≡ at_home → PlacesBut depth None (λ d. false) (sever b n).board
-    go false p at_home q = rw (sever, p) h
-    go true p true q = rw (sever, p, q) h
+    go : (there : Bool) → is_live b n ≡ there → (at_home : Bool) → attached b n ≡ at_home → Keeps depth b (sever b n).board
+    go false p at_home q = rw (sever, p) (keeps-none depth b h)
+    go true p true q = rw (sever, p, q) (keeps-none depth b h)
     go true p false q = rw (sever, p, q) (severed-places depth b n (length (slots_at b n)) rest h q)

@@ -36,7 +36,7 @@ use Rattle.qo_sound_devices.proofs.UnrealizeLemmas.{Dimmed, Under, here, down}
 
 -- lengths of what is left
 
-within-short : {A : Type 0} {xs ys : List A} → Within xs ys → length xs ≤ length ys
+pub within-short : {A : Type 0} {xs ys : List A} → Within xs ys → length xs ≤ length ys
 within-short (nothing ys) = omega arith
 within-short (same x w) = omega (arith, within-short w)
 within-short (more y w) = omega (arith, within-short w)
@@ -65,7 +65,8 @@ no-length (x ∷ xs) e = absurd (omega (arith, e))
 
 -- first kids, and first buses
 
-first-kid : (k : ℕ) (slots : List (List ℕ × Slot)) → first_of (filter_map (λ (s : List ℕ × Slot). strong_in s.1) slots) ≡ Some k → listed k (filter_map kid_entry slots) ≡ true
+first-kid : (k : ℕ) (slots : List (List ℕ × Slot)) → first_of (filter_map (λ (s : List ℕ × Slot). strong_in s.1) slots) ≡ Some k
+    → listed k (filter_map kid_entry slots) ≡ true
 first-kid k [] e = cc
 first-kid k ((name, plain v) ∷ slots) e = first-kid k slots e
 first-kid k ((name, child m) ∷ slots) e = first-kid k slots e
@@ -87,7 +88,8 @@ first-among : (ns : List ℕ) (m : ℕ) → first_of ns ≡ Some m → among ns 
 first-among [] m e = cc
 first-among (n ∷ ns) m e = let own : eqb m n ≡ true = eq-eqb m n (sym (same_Some n m e)) in rw own refl
 
-no-bus : (b : Board) (q : ℕ) → is_of b (codes "bus") q ≡ true → (slots : List (List ℕ × Slot)) → first_of (filter_map (bus_in b) slots) ≡ None → list_any (owns_it q) (filter_map child_entry slots) ≡ false
+no-bus : (b : Board) (q : ℕ) → is_of b (codes "bus") q ≡ true → (slots : List (List ℕ × Slot)) → first_of (filter_map (bus_in b) slots) ≡ None
+    → list_any (owns_it q) (filter_map child_entry slots) ≡ false
 no-bus b q is [] e = refl
 no-bus b q is ((name, plain v) ∷ slots) e = no-bus b q is slots e
 no-bus b q is ((name, strong t target) ∷ slots) e = no-bus b q is slots e
@@ -95,7 +97,9 @@ no-bus b q is ((name, weak t target) ∷ slots) e = no-bus b q is slots e
 no-bus b q is ((name, alias m property) ∷ slots) e = no-bus b q is slots e
 no-bus b q is ((name, child k) ∷ slots) e = go (k == q) refl (bytes_eq name clock_name) refl (is_of b (codes "bus") k) refl (no-bus b q is slots)
   where
-    go : (t : Bool) → (k == q) ≡ t → (u : Bool) → bytes_eq name clock_name ≡ u → (v : Bool) → is_of b (codes "bus") k ≡ v → (first_of (filter_map (bus_in b) slots) ≡ None → list_any (owns_it q) (filter_map child_entry slots) ≡ false) → list_any (owns_it q) ((name, k) ∷ filter_map child_entry slots) ≡ false
+    go : (t : Bool) → (k == q) ≡ t → (u : Bool) → bytes_eq name clock_name ≡ u → (v : Bool) → is_of b (codes "bus") k ≡ v
+        → (first_of (filter_map (bus_in b) slots) ≡ None → list_any (owns_it q) (filter_map child_entry slots) ≡ false)
+        → list_any (owns_it q) ((name, k) ∷ filter_map child_entry slots) ≡ false
     go true p true w v x rest = rw (p, w) (rest (skip v x))
       where
         skip : (v : Bool) → is_of b (codes "bus") k ≡ v → first_of (filter_map (bus_in b) slots) ≡ None
@@ -112,11 +116,13 @@ no-bus b q is ((name, child k) ∷ slots) e = go (k == q) refl (bytes_eq name cl
     go false p u w false x rest = rw p (rest (rw x at e))
 
 -- a bus slot that is let go is an entry less
-child-shorter : (m i : ℕ) (slots : List (List ℕ × Slot)) (s : List ℕ × Slot) → slice_get slots i ≡ Some s → IsChildSlot m s → suc (length (filter_map child_entry (without_hold i slots))) ≤ length (filter_map child_entry slots)
+child-shorter : (m i : ℕ) (slots : List (List ℕ × Slot)) (s : List ℕ × Slot) → slice_get slots i ≡ Some s → IsChildSlot m s
+    → suc (length (filter_map child_entry (without_hold i slots))) ≤ length (filter_map child_entry slots)
 child-shorter m i [] s e is = cc
 child-shorter m zero (x ∷ slots) s e is = go x (ap child_entry (same_Some x s e) ∙ is.entry)
   where
-    go : (y : List ℕ × Slot) → child_entry y ≡ Some (s.0, m) → suc (length (filter_map child_entry (without_hold zero (y ∷ slots)))) ≤ length (filter_map child_entry (y ∷ slots))
+    go : (y : List ℕ × Slot) → child_entry y ≡ Some (s.0, m)
+        → suc (length (filter_map child_entry (without_hold zero (y ∷ slots)))) ≤ length (filter_map child_entry (y ∷ slots))
     go (name, plain v) q = absurd (let clash : None ≡ Some (s.0, m) = q in cc)
     go (name, child k) q = omega arith
     go (name, strong t target) q = absurd (let clash : None ≡ Some (s.0, m) = q in cc)
@@ -124,7 +130,8 @@ child-shorter m zero (x ∷ slots) s e is = go x (ap child_entry (same_Some x s 
     go (name, alias k property) q = absurd (let clash : None ≡ Some (s.0, m) = q in cc)
 child-shorter m (suc i) (x ∷ slots) s e is = go (child_entry x) (child-shorter m i slots s e is)
   where
-    go : (o : Option (List ℕ × ℕ)) → suc (length (filter_map child_entry (without_hold i slots))) ≤ length (filter_map child_entry slots) → suc (length (cons_option o (filter_map child_entry (without_hold i slots)))) ≤ length (cons_option o (filter_map child_entry slots))
+    go : (o : Option (List ℕ × ℕ)) → suc (length (filter_map child_entry (without_hold i slots))) ≤ length (filter_map child_entry slots)
+        → suc (length (cons_option o (filter_map child_entry (without_hold i slots)))) ≤ length (cons_option o (filter_map child_entry slots))
     go None rest = rest
     go (Some y) rest = omega (arith, rest)
 
@@ -136,13 +143,16 @@ none-owned m k ((name, weak t target) ∷ slots) e = none-owned m (suc k) slots 
 none-owned m k ((name, alias n property) ∷ slots) e = none-owned m (suc k) slots e
 none-owned m k ((name, child n) ∷ slots) e = go (is_bus_slot m (name, child n)) refl (none-owned m (suc k) slots)
   where
-    go : (t : Bool) → is_bus_slot m (name, child n) ≡ t → (place_from (is_bus_slot m) (suc k) slots ≡ None → list_any (owns_it m) (filter_map child_entry slots) ≡ false) → owns_it m (name, n) || list_any (owns_it m) (filter_map child_entry slots) ≡ false
+    go : (t : Bool) → is_bus_slot m (name, child n) ≡ t
+        → (place_from (is_bus_slot m) (suc k) slots ≡ None → list_any (owns_it m) (filter_map child_entry slots) ≡ false)
+        → owns_it m (name, n) || list_any (owns_it m) (filter_map child_entry slots) ≡ false
     go true p rest = absurd (let clash : Some k ≡ None = rw p at e in cc)
     go false p rest = rw p (rest (rw p at e))
 
 -- the kids of an unrealized device are unrealized
 abbrev pub IsClosed : Board → Type 0
-IsClosed c = (p m k : ℕ) → stands c p ≡ true → owns c p m ≡ true → is_of c (codes "bus") m ≡ true → listed k (kid_entries c m) ≡ true → is_realized c p ≡ false → is_realized c k ≡ false
+IsClosed c =
+    (p m k : ℕ) → stands c p ≡ true → owns c p m ≡ true → is_of c (codes "bus") m ≡ true → listed k (kid_entries c m) ≡ true → is_realized c p ≡ false → is_realized c k ≡ false
 
 pub stood-steps : (b c : Board) → Steps b c → (x : ℕ) → stands c x ≡ true → stands b x ≡ true
 stood-steps b c s x e =
@@ -153,7 +163,9 @@ stood-steps b c s x e =
 pub closed-steps : (b c : Board) → Firm c → Steps b c → IsClosed b → IsClosed c
 closed-steps b c firm s h p m k e o is l dim =
     let was : is_of b (codes "bus") m ≡ true = sym (of-alike b c m (codes "bus") (s.body m (of-live c (codes "bus") m is))) ∙ is in
-    s.realized k (kid-live c firm m k l) ∙ h p m k (stood-steps b c s p e) (within-any (owns_it m) (s.children p) o) was (within-listed k (s.kids m) l) (sym (s.realized p (stands-live c firm p e)) ∙ dim)
+    s.realized k (kid-live c firm m k l)
+    ∙ h p m k (stood-steps b c s p e) (within-any (owns_it m) (s.children p) o) was (within-listed k (s.kids m) l)
+    (sym (s.realized p (stands-live c firm p e)) ∙ dim)
 
 -- devices on buses above a depth stay
 pub record Above (depth : ℕ → ℕ) (l : ℕ) (b c : Board) : Type 0 where
@@ -163,7 +175,8 @@ above-none : (depth : ℕ → ℕ) (l : ℕ) (b : Board) → Above depth l b b
 above-none depth l b = record { on = λ x q e o low. (e, o) }
 
 above-then : (depth : ℕ → ℕ) (l : ℕ) (b c d : Board) → Above depth l b c → Above depth l c d → Above depth l b d
-above-then depth l b c d h k = record { on = λ x q e o low. let first : (stands c x ≡ true) × (bus_of c x ≡ Some q) = h.on x q e o low in k.on x q first.0 first.1 low }
+above-then depth l b c d h k =
+    record { on = λ x q e o low. let first : (stands c x ≡ true) × (bus_of c x ≡ Some q) = h.on x q e o low in k.on x q first.0 first.1 low }
 
 above-lower : (depth : ℕ → ℕ) (l k : ℕ) (b c : Board) → k ≤ l → Above depth l b c → Above depth k b c
 above-lower depth l k b c less h = record { on = λ x q e o low. h.on x q e o (omega (arith, less, low)) }
@@ -172,7 +185,11 @@ above-stay : (depth : ℕ → ℕ) (d q : ℕ) (b c : Board) → bus_of b d ≡ 
 above-stay depth d q b c on h =
     record {
       on = λ x p e o low.
-          let differs : (d == x) ≡ false = false-of (d == x) (λ k. let its : q ≡ p = same_Some q p (sym on ∙ ap (bus_of b) (eqb-true d x k) ∙ o) in let same_depth : depth q ≡ depth p = ap depth its in absurd (omega (arith, same_depth, low))) in
+          let differs : (d == x) ≡ false =
+          false-of (d == x)
+          (λ k.
+          let its : q ≡ p = same_Some q p (sym on ∙ ap (bus_of b) (eqb-true d x k) ∙ o) in
+          let same_depth : depth q ≡ depth p = ap depth its in absurd (omega (arith, same_depth, low))) in
           (h.stands_on x differs e, h.bus_on x p differs e o);
     }
 
@@ -180,7 +197,8 @@ above-all : (depth : ℕ → ℕ) (left : Option ℕ) (out : ℕ → Bool) (l : 
 above-all depth left out l b c h s =
     record {
       on = λ x q e o low.
-          let differs : (1 == x) ≡ false = false-of (1 == x) (λ k. let clash : true ≡ false = sym e ∙ ap (stands b) (sym (eqb-true 1 x k)) ∙ h.aside.0 in absurd cc) in
+          let differs : (1 == x) ≡ false =
+          false-of (1 == x) (λ k. let clash : true ≡ false = sym e ∙ ap (stands b) (sym (eqb-true 1 x k)) ∙ h.aside.0 in absurd cc) in
           (h_on x q e o differs);
     }
   where
@@ -195,16 +213,23 @@ lit-none : (b : Board) → Lit b b
 lit-none b = record { on = λ x e lit. e }
 
 lit-then : (b c d : Board) → Firm c → Steps b c → Lit b c → Lit c d → Lit b d
-lit-then b c d firm s h k = record { on = λ x e lit. let there : stands c x ≡ true = h.on x e lit in k.on x there (s.realized x (stands-live c firm x there) ∙ lit) }
+lit-then b c d firm s h k =
+    record { on = λ x e lit. let there : stands c x ≡ true = h.on x e lit in k.on x there (s.realized x (stands-live c firm x there) ∙ lit) }
 
 -- where only one that is not realized may stand no more
 lit-stay : (d : ℕ) (b c : Board) → is_realized b d ≡ false → Stay d b c → Lit b c
 lit-stay d b c dim s =
-    record { on = λ x e lit. s.stands_on x (false-of (d == x) (λ k. let clash : true ≡ false = sym lit ∙ ap (is_realized b) (sym (eqb-true d x k)) ∙ dim in absurd cc)) e }
+    record {
+      on =
+          λ x e lit. s.stands_on x (false-of (d == x) (λ k. let clash : true ≡ false = sym lit ∙ ap (is_realized b) (sym (eqb-true d x k)) ∙ dim in absurd cc)) e;
+    }
 
 lit-all : (depth : ℕ → ℕ) (left : Option ℕ) (out : ℕ → Bool) (b c : Board) → PlacesBut depth left out b → Stay 1 b c → Lit b c
 lit-all depth left out b c h s =
-    record { on = λ x e lit. s.stands_on x (false-of (1 == x) (λ k. let clash : true ≡ false = sym e ∙ ap (stands b) (sym (eqb-true 1 x k)) ∙ h.aside.0 in absurd cc)) e }
+    record {
+      on =
+          λ x e lit. s.stands_on x (false-of (1 == x) (λ k. let clash : true ≡ false = sym e ∙ ap (stands b) (sym (eqb-true 1 x k)) ∙ h.aside.0 in absurd cc)) e;
+    }
 
 pub record TakenOut (depth : ℕ → ℕ) (out : ℕ → Bool) (ps : List ℕ) (d q : ℕ) (b c : Board) : Type 0 where
   pub went : Went depth out None ps b c
@@ -215,7 +240,9 @@ pub record TakenOut (depth : ℕ → ℕ) (out : ℕ → Bool) (ps : List ℕ) (
 
 -- what takes out an unrealized device that is deep enough, or for which the recursion is
 abbrev pub Takes : (ℕ → ℕ) → (ℕ → Bool) → ℕ → (ℕ → Board → Board) → Type 0
-Takes depth out n f = (ps : List ℕ) → IsUp ps → (d q : ℕ) (b : Board) → Mid depth out None ps b → IsClosed b → stands b d ≡ true → bus_of b d ≡ Some q → is_realized b d ≡ false → 9 ≤ n + depth q → TakenOut depth out ps d q b (f d b)
+Takes depth out n f =
+    (ps : List ℕ) → IsUp ps → (d q : ℕ) (b : Board) → Mid depth out None ps b → IsClosed b → stands b d ≡ true → bus_of b d ≡ Some q → is_realized b d ≡ false → 9 ≤ n + depth q → TakenOut depth out ps d q b
+    (f d b)
 
 record Drained (depth : ℕ → ℕ) (out : ℕ → Bool) (ps : List ℕ) (m : ℕ) (b c : Board) : Type 0 where
   went : Went depth out None ps b c
@@ -247,12 +274,24 @@ and-left true u e = refl
 and-left false u e = e
 
 module _ (depth : ℕ → ℕ) (out : ℕ → Bool) (n : ℕ) (f : ℕ → Board → Board) (takes : Takes depth out n f) (ps : List ℕ) (up : IsUp ps) where
-  drain : (m : ℕ) → 9 ≤ n + depth m → (times : ℕ) (b : Board) → Mid depth out None ps b → IsClosed b → (is_live b m ≡ true → is_of b (codes "bus") m ≡ true) → ((k : ℕ) → listed k (kid_entries b m) ≡ true → is_realized b k ≡ false) → length (kid_entries b m) ≤ times → Drained depth out ps m b (drained f times m b)
-  drain m deep zero b h closed bus dim few = record { went = went-none depth out None ps b h; above = above-none depth (depth m) b; empty = no-length (kid_entries b m) few; lit = lit-none b }
+  drain : (m : ℕ) → 9 ≤ n + depth m → (times : ℕ) (b : Board) → Mid depth out None ps b → IsClosed b
+      → (is_live b m ≡ true → is_of b (codes "bus") m ≡ true) → ((k : ℕ) → listed k (kid_entries b m) ≡ true → is_realized b k ≡ false)
+      → length (kid_entries b m) ≤ times → Drained depth out ps m b (drained f times m b)
+  drain m deep zero b h closed bus dim few =
+      record {
+        went = went-none depth out None ps b h;
+        above = above-none depth (depth m) b;
+        empty = no-length (kid_entries b m) few;
+        lit = lit-none b;
+      }
   drain m deep (suc times) b h closed bus dim few = go (first_of (kids_of b m)) refl (drain m deep times)
     where
-      go : (o : Option ℕ) → first_of (kids_of b m) ≡ o → ((c : Board) → Mid depth out None ps c → IsClosed c → (is_live c m ≡ true → is_of c (codes "bus") m ≡ true) → ((k : ℕ) → listed k (kid_entries c m) ≡ true → is_realized c k ≡ false) → length (kid_entries c m) ≤ times → Drained depth out ps m c (drained f times m c)) → Drained depth out ps m b (drained f (suc times) m b)
-      go None e rest = rw (drained, e) (record { went = went-none depth out None ps b h; above = above-none depth (depth m) b; empty = no-kid (slots_at b m) e; lit = lit-none b })
+      go : (o : Option ℕ) → first_of (kids_of b m) ≡ o
+          → ((c : Board) → Mid depth out None ps c → IsClosed c → (is_live c m ≡ true → is_of c (codes "bus") m ≡ true) → ((k : ℕ) → listed k (kid_entries c m) ≡ true → is_realized c k ≡ false) → length (kid_entries c m) ≤ times → Drained depth out ps m c (drained f times m c))
+          → Drained depth out ps m b (drained f (suc times) m b)
+      go None e rest =
+          rw (drained, e)
+          (record { went = went-none depth out None ps b h; above = above-none depth (depth m) b; empty = no-kid (slots_at b m) e; lit = lit-none b })
       go (Some k) e rest =
           let has : listed k (kid_entries b m) ≡ true = first-kid k (slots_at b m) e in
           let is : is_of b (codes "bus") m ≡ true = bus (listed-owner b k m has) in
@@ -260,7 +299,9 @@ module _ (depth : ℕ → ℕ) (out : ℕ → Bool) (n : ℕ) (f : ℕ → Board
           let one : TakenOut depth out ps k m b (f k b) = takes ps up k m b h closed kid.0 kid.1 (dim k has) deep in
           let s : Steps b (f k b) = one.went.steps in
           let isc : is_live (f k b) m ≡ true → is_of (f k b) (codes "bus") m ≡ true = λ live. of-alike b (f k b) m (codes "bus") (s.body m live) ∙ is in
-          let away : listed k (kid_entries (f k b) m) ≡ false = false-of (listed k (kid_entries (f k b) m)) (λ l. let clash : true ≡ false = sym l ∙ one.unlisted m (isc (listed-owner (f k b) k m l)) in absurd cc) in
+          let away : listed k (kid_entries (f k b) m) ≡ false =
+          false-of (listed k (kid_entries (f k b) m))
+          (λ l. let clash : true ≡ false = sym l ∙ one.unlisted m (isc (listed-owner (f k b) k m l)) in absurd cc) in
           let fewer : suc (length (kid_entries (f k b) m)) ≤ length (kid_entries b m) = within-shorter (λ (x : List ℕ × ℕ). x.1 == k) (s.kids m) away has in
           let last : Drained depth out ps m (f k b) (drained f times m (f k b)) =
           rest (f k b) one.went.mid (closed-steps b (f k b) one.went.mid.sits.near.firm s closed) isc
@@ -273,7 +314,8 @@ module _ (depth : ℕ → ℕ) (out : ℕ → Bool) (n : ℕ) (f : ℕ → Board
             lit = lit-then b (f k b) (drained f times m (f k b)) one.went.mid.sits.near.firm s one.lit last.lit;
           })
 
-  lost : (d q m : ℕ) (b : Board) → Mid depth out None ps b → IsClosed b → stands b d ≡ true → bus_of b d ≡ Some q → is_realized b d ≡ false → 9 ≤ n + suc (depth q) → among (buses_of b d) m ≡ true → LostBus depth out ps d m b (lost_bus f d m b)
+  lost : (d q m : ℕ) (b : Board) → Mid depth out None ps b → IsClosed b → stands b d ≡ true → bus_of b d ≡ Some q → is_realized b d ≡ false
+      → 9 ≤ n + suc (depth q) → among (buses_of b d) m ≡ true → LostBus depth out ps d m b (lost_bus f d m b)
   unfolding drop_slot
   lost d q m b h closed e on dim deep mine = go (place_from (is_bus_slot m) 0 (slots_at c d)) refl
     where
@@ -287,7 +329,9 @@ module _ (depth : ℕ → ℕ) (out : ℕ → Bool) (n : ℕ) (f : ℕ → Board
       c = drained f (length (slots_at b m)) m b
 
       dr : Drained depth out ps m b c
-      dr = drain m (omega (arith, deep, lower)) (length (slots_at b m)) b h closed (λ live. bus.bus) (λ k l. closed d m k e bus.owned bus.bus l dim) (entries-short kid_entry (slots_at b m))
+      dr =
+          drain m (omega (arith, deep, lower)) (length (slots_at b m)) b h closed (λ live. bus.bus) (λ k l. closed d m k e bus.owned bus.bus l dim)
+          (entries-short kid_entry (slots_at b m))
 
       on_here : (stands c d ≡ true) × (bus_of c d ≡ Some q)
       on_here = dr.above.on d q e on (omega (arith, lower))
@@ -302,7 +346,14 @@ module _ (depth : ℕ → ℕ) (out : ℕ → Bool) (n : ℕ) (f : ℕ → Board
       sits = held-where_other ps (is_bus_slot m) (bus-apart m) d c k.sits
 
       go : (o : Option ℕ) → place_from (is_bus_slot m) 0 (slots_at c d) ≡ o → LostBus depth out ps d m b (let_go_where (is_bus_slot m) d c)
-      go None p = rw (let_go_where, p) (record { went = dr.went; above = dr.above; fewer = within-shorter (owns_it m) (dr.went.steps.children d) (none-owned m 0 (slots_at c d) p) bus.owned; lit = dr.lit })
+      go None p =
+          rw (let_go_where, p)
+          (record {
+            went = dr.went;
+            above = dr.above;
+            fewer = within-shorter (owns_it m) (dr.went.steps.children d) (none-owned m 0 (slots_at c d) p) bus.owned;
+            lit = dr.lit;
+          })
       go (Some i) p = result
         where
           g : Found (is_bus_slot m) (slots_at c d) i
@@ -339,13 +390,24 @@ module _ (depth : ℕ → ℕ) (out : ℕ → Bool) (n : ℕ) (f : ℕ → Board
           behind = went-let_go depth out None ps c k d i r owner.1 s at None sits_here places
 
           aside : among (1 ∷ MACHINE_BIRTH ∷ PERIPHERAL_BIRTH ∷ ANONYMOUS_BIRTH ∷ ROOT_BUS_BIRTH ∷ MEMORY_BUS_BIRTH ∷ OBJECTS_BIRTH ∷ []) d ≡ false
-          aside = aside-apart c (1 ∷ MACHINE_BIRTH ∷ PERIPHERAL_BIRTH ∷ ANONYMOUS_BIRTH ∷ ROOT_BUS_BIRTH ∷ MEMORY_BUS_BIRTH ∷ OBJECTS_BIRTH ∷ []) k.places.aside d on_here.0
+          aside =
+              aside-apart c (1 ∷ MACHINE_BIRTH ∷ PERIPHERAL_BIRTH ∷ ANONYMOUS_BIRTH ∷ ROOT_BUS_BIRTH ∷ MEMORY_BUS_BIRTH ∷ OBJECTS_BIRTH ∷ []) k.places.aside d on_here.0
 
-          shelf : (y : ℕ) → among (1 ∷ MACHINE_BIRTH ∷ PERIPHERAL_BIRTH ∷ ANONYMOUS_BIRTH ∷ ROOT_BUS_BIRTH ∷ MEMORY_BUS_BIRTH ∷ OBJECTS_BIRTH ∷ []) y ≡ true → child_entries x y ≡ child_entries c y
-          shelf = for-each depth out None ps c k d i r owner.1 s at (λ y. among (1 ∷ MACHINE_BIRTH ∷ PERIPHERAL_BIRTH ∷ ANONYMOUS_BIRTH ∷ ROOT_BUS_BIRTH ∷ MEMORY_BUS_BIRTH ∷ OBJECTS_BIRTH ∷ []) y ≡ true → child_entries x y ≡ child_entries c y) (λ y u a z. a.children) (λ z. absurd (let clash : true ≡ false = sym z ∙ aside in cc))
+          shelf : (y : ℕ)
+              → among (1 ∷ MACHINE_BIRTH ∷ PERIPHERAL_BIRTH ∷ ANONYMOUS_BIRTH ∷ ROOT_BUS_BIRTH ∷ MEMORY_BUS_BIRTH ∷ OBJECTS_BIRTH ∷ []) y ≡ true
+              → child_entries x y ≡ child_entries c y
+          shelf =
+              for-each depth out None ps c k d i r owner.1 s at
+              (λ y.
+              among (1 ∷ MACHINE_BIRTH ∷ PERIPHERAL_BIRTH ∷ ANONYMOUS_BIRTH ∷ ROOT_BUS_BIRTH ∷ MEMORY_BUS_BIRTH ∷ OBJECTS_BIRTH ∷ []) y ≡ true → child_entries x y ≡ child_entries c y)
+              (λ y u a z. a.children) (λ z. absurd (let clash : true ≡ false = sym z ∙ aside in cc))
 
           same-bus : (y : ℕ) → bus_of x y ≡ bus_of c y
-          same-bus = for-each depth out None ps c k d i r owner.1 s at (λ y. bus_of x y ≡ bus_of c y) (λ y u a. a.bus) (dropped-read depth out None ps c k d i r owner.1 s at (λ ss. option_and_then strong_in (option_map (λ (y : List ℕ × Slot). y.1) (find (λ y. bytes_eq y.0 (codes "parent_bus")) ss))) (strong-dropped (codes "parent_bus") i r.slots (names-at c firm d r owner.1) s at (inl is.some)))
+          same-bus =
+              for-each depth out None ps c k d i r owner.1 s at (λ y. bus_of x y ≡ bus_of c y) (λ y u a. a.bus)
+              (dropped-read depth out None ps c k d i r owner.1 s at
+              (λ ss. option_and_then strong_in (option_map (λ (y : List ℕ × Slot). y.1) (find (λ y. bytes_eq y.0 (codes "parent_bus")) ss)))
+              (strong-dropped (codes "parent_bus") i r.slots (names-at c firm d r owner.1) s at (inl is.some)))
 
           stay_first : Stay 1 c x
           stay_first =
@@ -365,7 +427,8 @@ module _ (depth : ℕ → ℕ) (out : ℕ → Bool) (n : ℕ) (f : ℕ → Board
 
           less : suc (length (child_entries x d)) ≤ length (child_entries c d)
           less =
-              let now : length (child_entries x d) ≡ length (filter_map child_entry (without_hold i r.slots)) = ap (λ (es : List (List ℕ × ℕ)). length es) entries in
+              let now : length (child_entries x d) ≡ length (filter_map child_entry (without_hold i r.slots)) =
+              ap (λ (es : List (List ℕ × ℕ)). length es) entries in
               let was : length (child_entries c d) ≡ length (filter_map child_entry r.slots) = ap (λ (es : List (List ℕ × ℕ)). length es) were in
               omega (arith, now, was, child-shorter m i r.slots s at is)
 
@@ -378,12 +441,28 @@ module _ (depth : ℕ → ℕ) (out : ℕ → Bool) (n : ℕ) (f : ℕ → Board
                 lit = lit-then b c (let_go c d i) firm dr.went.steps dr.lit (lit-all depth None out c (let_go c d i) k.places stay);
               })
 
-  buses : (d q : ℕ) → 9 ≤ n + suc (depth q) → (times : ℕ) (b : Board) → Mid depth out None ps b → IsClosed b → stands b d ≡ true → bus_of b d ≡ Some q → is_realized b d ≡ false → length (child_entries b d) ≤ times → LostAll depth out ps d q b (lost_buses f times d b)
-  buses d q deep zero b h closed e on dim few = record { went = went-none depth out None ps b h; above = above-none depth (suc (depth q)) b; ownless = λ m is. ap (list_any (owns_it m)) (no-length (child_entries b d) few); lit = lit-none b }
+  buses : (d q : ℕ) → 9 ≤ n + suc (depth q) → (times : ℕ) (b : Board) → Mid depth out None ps b → IsClosed b → stands b d ≡ true → bus_of b d ≡ Some q
+      → is_realized b d ≡ false → length (child_entries b d) ≤ times → LostAll depth out ps d q b (lost_buses f times d b)
+  buses d q deep zero b h closed e on dim few =
+      record {
+        went = went-none depth out None ps b h;
+        above = above-none depth (suc (depth q)) b;
+        ownless = λ m is. ap (list_any (owns_it m)) (no-length (child_entries b d) few);
+        lit = lit-none b;
+      }
   buses d q deep (suc times) b h closed e on dim few = go (first_of (buses_of b d)) refl (buses d q deep times)
     where
-      go : (o : Option ℕ) → first_of (buses_of b d) ≡ o → ((c : Board) → Mid depth out None ps c → IsClosed c → stands c d ≡ true → bus_of c d ≡ Some q → is_realized c d ≡ false → length (child_entries c d) ≤ times → LostAll depth out ps d q c (lost_buses f times d c)) → LostAll depth out ps d q b (lost_buses f (suc times) d b)
-      go None p rest = rw (lost_buses, p) (record { went = went-none depth out None ps b h; above = above-none depth (suc (depth q)) b; ownless = λ m is. no-bus b m is (slots_at b d) p; lit = lit-none b })
+      go : (o : Option ℕ) → first_of (buses_of b d) ≡ o
+          → ((c : Board) → Mid depth out None ps c → IsClosed c → stands c d ≡ true → bus_of c d ≡ Some q → is_realized c d ≡ false → length (child_entries c d) ≤ times → LostAll depth out ps d q c (lost_buses f times d c))
+          → LostAll depth out ps d q b (lost_buses f (suc times) d b)
+      go None p rest =
+          rw (lost_buses, p)
+          (record {
+            went = went-none depth out None ps b h;
+            above = above-none depth (suc (depth q)) b;
+            ownless = λ m is. no-bus b m is (slots_at b d) p;
+            lit = lit-none b;
+          })
       go (Some m) p rest =
           let mine : among (buses_of b d) m ≡ true = first-among (buses_of b d) m p in
           let lower : depth m ≡ suc (depth q) = h.places.shallow.below d q m e on (is-bus_of b d m mine).owned in
@@ -392,7 +471,8 @@ module _ (depth : ℕ → ℕ) (out : ℕ → Bool) (n : ℕ) (f : ℕ → Board
           let first : Above depth (suc (depth q)) b c = above-lower depth (depth m) (suc (depth q)) b c (omega (arith, lower)) one.above in
           let still : (stands c d ≡ true) × (bus_of c d ≡ Some q) = first.on d q e on (omega arith) in
           let last : LostAll depth out ps d q c (lost_buses f times d c) =
-          rest c one.went.mid (closed-steps b c one.went.mid.sits.near.firm one.went.steps closed) still.0 still.1 (unrealized-steps b c d one.went.steps dim) (omega (arith, one.fewer, few)) in
+          rest c one.went.mid (closed-steps b c one.went.mid.sits.near.firm one.went.steps closed) still.0 still.1
+          (unrealized-steps b c d one.went.steps dim) (omega (arith, one.fewer, few)) in
           rw (lost_buses, p) (record {
             went = record { mid = last.went.mid; steps = steps-then b c (lost_buses f times d c) one.went.steps last.went.steps };
             above = above-then depth (suc (depth q)) b c (lost_buses f times d c) first last.above;
@@ -400,7 +480,8 @@ module _ (depth : ℕ → ℕ) (out : ℕ → Bool) (n : ℕ) (f : ℕ → Board
             lit = lit-then b c (lost_buses f times d c) one.went.mid.sits.near.firm one.went.steps one.lit last.lit;
           })
 
-  pub taken : (d q : ℕ) (b : Board) → Mid depth out None ps b → IsClosed b → stands b d ≡ true → bus_of b d ≡ Some q → is_realized b d ≡ false → 9 ≤ n + suc (depth q) → TakenOut depth out ps d q b (taken_by f d b)
+  pub taken : (d q : ℕ) (b : Board) → Mid depth out None ps b → IsClosed b → stands b d ≡ true → bus_of b d ≡ Some q → is_realized b d ≡ false
+      → 9 ≤ n + suc (depth q) → TakenOut depth out ps d q b (taken_by f d b)
   taken d q b h closed e on dim deep = result
     where
       c : Board
@@ -419,7 +500,13 @@ module _ (depth : ℕ → ℕ) (out : ℕ → Bool) (n : ℕ) (f : ℕ → Board
       gone_bus = bus-left depth out ps c all.went.mid d q still.0 still.1
 
       loose : Loose d x
-      loose = record { off = gone_bus.off; unrealized = unrealized-steps c x d gone_bus.went.steps (unrealized-steps b c d all.went.steps dim); ownless = ownless-steps c x d gone_bus.went.steps all.ownless; unlisted = gone_bus.unlisted }
+      loose =
+          record {
+            off = gone_bus.off;
+            unrealized = unrealized-steps c x d gone_bus.went.steps (unrealized-steps b c d all.went.steps dim);
+            ownless = ownless-steps c x d gone_bus.went.steps all.ownless;
+            unlisted = gone_bus.unlisted;
+          }
 
       y : Board
       y = left_parent d x
@@ -431,10 +518,14 @@ module _ (depth : ℕ → ℕ) (out : ℕ → Bool) (n : ℕ) (f : ℕ → Board
       result =
           record {
             went = record { mid = parted.went.mid; steps = steps-then b c y all.went.steps (steps-then c x y gone_bus.went.steps parted.went.steps) };
-            above = above-then depth (depth q) b c y (above-lower depth (suc (depth q)) (depth q) b c (omega arith) all.above) (above-stay depth d q c y still.1 (stay-then d c x y gone_bus.stay parted.stay));
+            above =
+                above-then depth (depth q) b c y (above-lower depth (suc (depth q)) (depth q) b c (omega arith) all.above)
+                (above-stay depth d q c y still.1 (stay-then d c x y gone_bus.stay parted.stay));
             gone = parted.gone;
             unlisted = parted.unlisted;
-            lit = lit-then b c y all.went.mid.sits.near.firm all.went.steps all.lit (lit-stay d c y (unrealized-steps b c d all.went.steps dim) (stay-then d c x y gone_bus.stay parted.stay));
+            lit =
+                lit-then b c y all.went.mid.sits.near.firm all.went.steps all.lit
+                (lit-stay d c y (unrealized-steps b c d all.went.steps dim) (stay-then d c x y gone_bus.stay parted.stay));
           }
 
 -- a device is held meanwhile
@@ -443,7 +534,8 @@ put-keeps : (n x : ℕ) (ms : List ℕ) → among ms x ≡ true → among (put_i
 put-keeps n x [] e = cc
 put-keeps n x (m ∷ ms) e = go (leb m n) refl (eqb x m) refl (put-keeps n x ms)
   where
-    go : (t : Bool) → leb m n ≡ t → (u : Bool) → eqb x m ≡ u → (among ms x ≡ true → among (put_in_order n ms) x ≡ true) → among (put_in_order n (m ∷ ms)) x ≡ true
+    go : (t : Bool) → leb m n ≡ t → (u : Bool) → eqb x m ≡ u → (among ms x ≡ true → among (put_in_order n ms) x ≡ true)
+        → among (put_in_order n (m ∷ ms)) x ≡ true
     go true p true q rest = rw (put_in_order, p, q) refl
     go true p false q rest = rw (put_in_order, p, q) (rest (rw q at e))
     go false p u q rest = rw (put_in_order, p) (rw e (or-true (eqb x n)))
@@ -454,7 +546,8 @@ steps-pin b d = steps-alike b (pin b d) refl (λ x e. alike-record b (pin b d) x
 
 places-pin : (depth : ℕ → ℕ) (out : ℕ → Bool) (ps : List ℕ) (b : Board) (d : ℕ) → Mid depth out None ps b → PlacesBut depth None out (pin b d)
 unfolding pin
-places-pin depth out ps b d h = (goes-pins depth None out b (put_in_order d b.pins) h.sits.near.firm (put-keeps d 1 b.pins (ap (λ (qs : List ℕ). among qs 1) h.sits.pins ∙ h.one)) h.places).places
+places-pin depth out ps b d h =
+    (goes-pins depth None out b (put_in_order d b.pins) h.sits.near.firm (put-keeps d 1 b.pins (ap (λ (qs : List ℕ). among qs 1) h.sits.pins ∙ h.one)) h.places).places
 
 above-pin : (depth : ℕ → ℕ) (l : ℕ) (b : Board) (d : ℕ) → Above depth l b (pin b d)
 unfolding pin
@@ -482,7 +575,8 @@ record Unpinned (depth : ℕ → ℕ) (out : ℕ → Bool) (ps : List ℕ) (b c 
   steps : Steps b c
   stay : Stay 1 b c
 
-unpinned : (depth : ℕ → ℕ) (out : ℕ → Bool) (ps : List ℕ) → IsUp ps → among ps 1 ≡ true → (b : Board) (d : ℕ) → Mid depth out None (put_in_order d ps) b → Unpinned depth out ps b (unpin b d)
+unpinned : (depth : ℕ → ℕ) (out : ℕ → Bool) (ps : List ℕ) → IsUp ps → among ps 1 ≡ true → (b : Board) (d : ℕ)
+    → Mid depth out None (put_in_order d ps) b → Unpinned depth out ps b (unpin b d)
 unfolding unpin
 unpinned depth out ps up one b d h = result
   where
@@ -514,7 +608,9 @@ unpinned depth out ps up one b d h = result
     second = goes-after depth None out c (Some d) ends one_left first.places
 
     stay : Stay 1 b (after finalise c (Some d))
-    stay = stay-then 1 b c (after finalise c (Some d)) (record { stands_on = λ x p e. e; bus_on = λ x q p e o. o }) (stay-kept depth None out 1 c (after finalise c (Some d)) kept first.places)
+    stay =
+        stay-then 1 b c (after finalise c (Some d)) (record { stands_on = λ x p e. e; bus_on = λ x q p e o. o })
+        (stay-kept depth None out 1 c (after finalise c (Some d)) kept first.places)
 
     steps : Steps b (after finalise c (Some d))
     steps = steps-then b c (after finalise c (Some d)) (steps-alike b c refl (λ x e. alike-record b c x refl)) (steps-after c (Some d))
@@ -528,7 +624,9 @@ unpinned depth out ps up one b d h = result
         }
 
 -- a device that is pinned, taken out and unpinned
-pinned-out : (depth : ℕ → ℕ) (out : ℕ → Bool) (n : ℕ) (f : ℕ → Board → Board) → Takes depth out n f → (ps : List ℕ) → IsUp ps → (d q : ℕ) (b : Board) → Mid depth out None ps b → IsClosed b → stands b d ≡ true → bus_of b d ≡ Some q → is_realized b d ≡ false → 9 ≤ n + suc (depth q) → TakenOut depth out ps d q b (unpin (taken_by f d (pin b d)) d)
+pinned-out : (depth : ℕ → ℕ) (out : ℕ → Bool) (n : ℕ) (f : ℕ → Board → Board) → Takes depth out n f → (ps : List ℕ) → IsUp ps → (d q : ℕ) (b : Board)
+    → Mid depth out None ps b → IsClosed b → stands b d ≡ true → bus_of b d ≡ Some q → is_realized b d ≡ false → 9 ≤ n + suc (depth q)
+    → TakenOut depth out ps d q b (unpin (taken_by f d (pin b d)) d)
 pinned-out depth out n f takes ps up d q b h closed e on dim deep = result
   where
     p : Board
@@ -544,7 +642,9 @@ pinned-out depth out n f takes ps up d q b h closed e on dim deep = result
     c = taken_by f d p
 
     inner : TakenOut depth out (put_in_order d ps) d q p c
-    inner = taken depth out n f takes (put_in_order d ps) (put-up d ps up) d q p mid (closed-steps b p mid.sits.near.firm (steps-pin b d) closed) here_on.0 here_on.1 (unrealized-steps b p d (steps-pin b d) dim) deep
+    inner =
+        taken depth out n f takes (put_in_order d ps) (put-up d ps up) d q p mid (closed-steps b p mid.sits.near.firm (steps-pin b d) closed) here_on.0 here_on.1
+        (unrealized-steps b p d (steps-pin b d) dim) deep
 
     last : Unpinned depth out ps c (unpin c d)
     last = unpinned depth out ps up h.one c d inner.went.mid
@@ -553,18 +653,23 @@ pinned-out depth out n f takes ps up d q b h closed e on dim deep = result
     result =
         record {
           went = record { mid = last.mid; steps = steps-then b p (unpin c d) (steps-pin b d) (steps-then p c (unpin c d) inner.went.steps last.steps) };
-          above = above-then depth (depth q) b p (unpin c d) (above-pin depth (depth q) b d) (above-then depth (depth q) p c (unpin c d) inner.above (above-all depth None out (depth q) c (unpin c d) inner.went.mid.places last.stay));
+          above =
+              above-then depth (depth q) b p (unpin c d) (above-pin depth (depth q) b d)
+              (above-then depth (depth q) p c (unpin c d) inner.above (above-all depth None out (depth q) c (unpin c d) inner.went.mid.places last.stay));
           gone = false-of (stands (unpin c d) d) (λ k. let clash : true ≡ false = sym (stood-steps c (unpin c d) last.steps d k) ∙ inner.gone in absurd cc);
           unlisted = unlisted-steps c (unpin c d) d last.steps inner.unlisted;
           lit =
               lit-then b p (unpin c d) mid.sits.near.firm (steps-pin b d) (lit-pin b d)
-              (lit-then p c (unpin c d) inner.went.mid.sits.near.firm inner.went.steps inner.lit (lit-all depth None out c (unpin c d) inner.went.mid.places last.stay));
+              (lit-then p c (unpin c d) inner.went.mid.sits.near.firm inner.went.steps inner.lit
+              (lit-all depth None out c (unpin c d) inner.went.mid.places last.stay));
         }
 
 pub takes-apart : (depth : ℕ → ℕ) (out : ℕ → Bool) (n : ℕ) → Takes depth out n (apart_within n)
 unfolding apart_within
-takes-apart depth out zero = λ ps up d q b h closed e on dim deep. absurd (let most : depth q ≤ 8 = h.places.shallow.most q (h.places.owner d q e on) in omega (arith, most, deep))
-takes-apart depth out (suc n) = λ ps up d q b h closed e on dim deep. pinned-out depth out n (apart_within n) (takes-apart depth out n) ps up d q b h closed e on dim (omega (arith, deep))
+takes-apart depth out zero =
+    λ ps up d q b h closed e on dim deep. absurd (let most : depth q ≤ 8 = h.places.shallow.most q (h.places.owner d q e on) in omega (arith, most, deep))
+takes-apart depth out (suc n) =
+    λ ps up d q b h closed e on dim deep. pinned-out depth out n (apart_within n) (takes-apart depth out n) ps up d q b h closed e on dim (omega (arith, deep))
 
 -- what is below a device, from below
 data Above_it (b : Board) (d : ℕ) : ℕ → Type 0 where
@@ -581,7 +686,8 @@ under-more b d x m k here im ik = down m k im ik here
 under-more b d x m k (down n j jn jk u) im ik = down n j jn jk (under-more b j x m k u im ik)
 
 -- what is owned is gone over
-owned-bus : (b : Board) (q : ℕ) → is_of b (codes "bus") q ≡ true → (slots : List (List ℕ × Slot)) → list_any (owns_it q) (filter_map child_entry slots) ≡ true → among (filter_map (bus_in b) slots) q ≡ true
+owned-bus : (b : Board) (q : ℕ) → is_of b (codes "bus") q ≡ true → (slots : List (List ℕ × Slot))
+    → list_any (owns_it q) (filter_map child_entry slots) ≡ true → among (filter_map (bus_in b) slots) q ≡ true
 owned-bus b q is [] e = cc
 owned-bus b q is ((name, plain v) ∷ slots) e = owned-bus b q is slots e
 owned-bus b q is ((name, strong t target) ∷ slots) e = owned-bus b q is slots e
@@ -589,7 +695,9 @@ owned-bus b q is ((name, weak t target) ∷ slots) e = owned-bus b q is slots e
 owned-bus b q is ((name, alias m property) ∷ slots) e = owned-bus b q is slots e
 owned-bus b q is ((name, child k) ∷ slots) e = go (is_of b (codes "bus") k) refl (bytes_eq name clock_name) refl (k == q) refl (owned-bus b q is slots)
   where
-    go : (t : Bool) → is_of b (codes "bus") k ≡ t → (u : Bool) → bytes_eq name clock_name ≡ u → (v : Bool) → (k == q) ≡ v → (list_any (owns_it q) (filter_map child_entry slots) ≡ true → among (filter_map (bus_in b) slots) q ≡ true) → among (filter_map (bus_in b) ((name, child k) ∷ slots)) q ≡ true
+    go : (t : Bool) → is_of b (codes "bus") k ≡ t → (u : Bool) → bytes_eq name clock_name ≡ u → (v : Bool) → (k == q) ≡ v
+        → (list_any (owns_it q) (filter_map child_entry slots) ≡ true → among (filter_map (bus_in b) slots) q ≡ true)
+        → among (filter_map (bus_in b) ((name, child k) ∷ slots)) q ≡ true
     go true x false w true v rest = let own : eqb q k ≡ true = grind (arith, v) in rw (x, w, own) refl
     go true x false w false v rest = rw (x, w) (rw (rest (rw v at e)) (or-true (eqb q k)))
     go true x true w v y rest = rw (x, w) (rest (skip v y))
@@ -600,14 +708,17 @@ owned-bus b q is ((name, child k) ∷ slots) e = go (is_of b (codes "bus") k) re
     go false x u w true v rest = absurd (let clash : false ≡ true = sym x ∙ ap (is_of b (codes "bus")) (eqb-true k q v) ∙ is in cc)
     go false x u w false v rest = rw x (rest (rw v at e))
 
-listed-kid : (k : ℕ) (slots : List (List ℕ × Slot)) → listed k (filter_map kid_entry slots) ≡ true → among (filter_map (λ (s : List ℕ × Slot). strong_in s.1) slots) k ≡ true
+listed-kid : (k : ℕ) (slots : List (List ℕ × Slot)) → listed k (filter_map kid_entry slots) ≡ true
+    → among (filter_map (λ (s : List ℕ × Slot). strong_in s.1) slots) k ≡ true
 listed-kid k [] e = cc
 listed-kid k ((name, plain v) ∷ slots) e = listed-kid k slots e
 listed-kid k ((name, child m) ∷ slots) e = listed-kid k slots e
 listed-kid k ((name, strong t None) ∷ slots) e = listed-kid k slots e
 listed-kid k ((name, strong t (Some m)) ∷ slots) e = go (m == k) refl (listed-kid k slots)
   where
-    go : (u : Bool) → (m == k) ≡ u → (listed k (filter_map kid_entry slots) ≡ true → among (filter_map (λ (s : List ℕ × Slot). strong_in s.1) slots) k ≡ true) → among (filter_map (λ (s : List ℕ × Slot). strong_in s.1) ((name, strong t (Some m)) ∷ slots)) k ≡ true
+    go : (u : Bool) → (m == k) ≡ u
+        → (listed k (filter_map kid_entry slots) ≡ true → among (filter_map (λ (s : List ℕ × Slot). strong_in s.1) slots) k ≡ true)
+        → among (filter_map (λ (s : List ℕ × Slot). strong_in s.1) ((name, strong t (Some m)) ∷ slots)) k ≡ true
     go true p rest = let own : eqb k m ≡ true = grind (arith, p) in rw own refl
     go false p rest = rw (rest (rw p at e)) (or-true (eqb k m))
 listed-kid k ((name, weak t target) ∷ slots) e = listed-kid k slots e
@@ -663,14 +774,19 @@ module _ (depth : ℕ → ℕ) (b : Board) (d : ℕ) (rest : AtRest b) (h : Plac
 
   taken_out : TakenOut depth (faded_by (pin b d) (unrealize (pin b d) d)) (put_in_order d (1 ∷ [])) d home.bus (unrealize (pin b d) d) (taken_by (apart_within (length (births b))) d (unrealize (pin b d) d))
   taken_out =
-      taken depth (faded_by (pin b d) (unrealize (pin b d) d)) (length (births b)) (apart_within (length (births b))) (takes-apart depth (faded_by (pin b d) (unrealize (pin b d) d)) (length (births b))) (put_in_order d (1 ∷ [])) (put-up d (1 ∷ []) (tt, tt)) d home.bus (unrealize (pin b d) d) middle closed
-      (stands-dimmed (pin b d) (unrealize (pin b d) d) dims d ∙ at_home.0) (dims.bus d ∙ at_home.1) (dark d here) (omega (arith, room depth None (λ x. false) b rest.used.firm h))
+      taken depth (faded_by (pin b d) (unrealize (pin b d) d)) (length (births b)) (apart_within (length (births b)))
+      (takes-apart depth (faded_by (pin b d) (unrealize (pin b d) d)) (length (births b))) (put_in_order d (1 ∷ [])) (put-up d (1 ∷ []) (tt, tt)) d home.bus
+      (unrealize (pin b d) d) middle closed
+      (stands-dimmed (pin b d) (unrealize (pin b d) d) dims d ∙ at_home.0) (dims.bus d ∙ at_home.1) (dark d here)
+      (omega (arith, room depth None (λ x. false) b rest.used.firm h))
 
   abbrev x : Board
   x = taken_by (apart_within (length (births b))) d (unrealize (pin b d) d)
 
   last : Unpinned depth (faded_by (pin b d) (unrealize (pin b d) d)) (1 ∷ []) (taken_by (apart_within (length (births b))) d (unrealize (pin b d) d)) (unpin (taken_by (apart_within (length (births b))) d (unrealize (pin b d) d)) d)
-  last = unpinned depth (faded_by (pin b d) (unrealize (pin b d) d)) (1 ∷ []) (tt, tt) refl (taken_by (apart_within (length (births b))) d (unrealize (pin b d) d)) d taken_out.went.mid
+  last =
+      unpinned depth (faded_by (pin b d) (unrealize (pin b d) d)) (1 ∷ []) (tt, tt) refl
+      (taken_by (apart_within (length (births b))) d (unrealize (pin b d) d)) d taken_out.went.mid
 
   abbrev z : Board
   z = unpin (taken_by (apart_within (length (births b))) d (unrealize (pin b d) d)) d
@@ -710,7 +826,8 @@ module _ (depth : ℕ → ℕ) (b : Board) (d : ℕ) (rest : AtRest b) (h : Plac
 
       of-machine : (n : ℕ) → m ≡ n → listed n (child_entries (pin b d) MACHINE_BIRTH) ≡ true → ⊥
       of-machine n q has =
-          let is_machine : w ≡ MACHINE_BIRTH = one-owner m w MACHINE_BIRTH mine (subst (λ (j : ℕ). listed j (child_entries (pin b d) MACHINE_BIRTH) ≡ true) (sym q) has) in
+          let is_machine : w ≡ MACHINE_BIRTH =
+          one-owner m w MACHINE_BIRTH mine (subst (λ (j : ℕ). listed j (child_entries (pin b d) MACHINE_BIRTH) ≡ true) (sym q) has) in
           let clash : true ≡ false = sym (below-stood w a) ∙ ap (stands (pin b d)) is_machine ∙ pinned.places.aside.1.0 in
           absurd cc
 
@@ -750,7 +867,8 @@ module _ (depth : ℕ → ℕ) (b : Board) (d : ℕ) (rest : AtRest b) (h : Plac
       q : PlacesBut depth None (faded_by (pin b d) (unrealize (pin b d) d)) z
       q = last.mid.places
 
-      each : (y : ℕ) → stands z y ≡ true → (t : Bool) → is_realized (pin b d) y ≡ t → (u : Bool) → is_realized (unrealize (pin b d) d) y ≡ u → is_realized z y ≡ true
+      each : (y : ℕ) → stands z y ≡ true → (t : Bool) → is_realized (pin b d) y ≡ t → (u : Bool) → is_realized (unrealize (pin b d) d) y ≡ u
+          → is_realized z y ≡ true
       each y k true r false s = absurd (none-stands y (turned (pin b d) d d y itself (unrealize-only (pin b d) d y r s)) k)
       each y k true r true s = q.each y k (rw (r, s) refl)
       each y k false r u s = q.each y k (rw r refl)
@@ -763,7 +881,8 @@ module _ (depth : ℕ → ℕ) (b : Board) (d : ℕ) (rest : AtRest b) (h : Plac
       (stands-dimmed (pin b d) (unrealize (pin b d) d) dims y ∙ stood-pin b d y s) lit
 
 -- a device that stands is detached: places are sound, and it stands no more
-pub detach-places : (depth : ℕ → ℕ) (b : Board) (d : ℕ) → AtRest b → PlacesBut depth None (λ x. false) b → stands b d ≡ true → PlacesBut depth None (λ x. false) (detach b d)
+pub detach-places : (depth : ℕ → ℕ) (b : Board) (d : ℕ) → AtRest b → PlacesBut depth None (λ x. false) b → stands b d ≡ true
+    → PlacesBut depth None (λ x. false) (detach b d)
 unfolding detach
 detach-places depth b d rest h e = subst (PlacesBut depth None (λ x. false)) refl (detached depth b d rest h e)
 

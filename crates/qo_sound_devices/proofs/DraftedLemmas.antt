@@ -55,11 +55,14 @@ blank-plain b (name, strong t target) h = refl
 blank-plain b (name, weak t target) h = refl
 blank-plain b (name, alias m property) h = refl
 
-blank-realized : (b : Board) (slots : List (List ℕ × Slot)) → IsBlank b slots → option_map_or is_true (option_and_then plain_in (named_in (codes "realized") slots)) false ≡ false
+blank-realized : (b : Board) (slots : List (List ℕ × Slot)) → IsBlank b slots
+    → option_map_or is_true (option_and_then plain_in (named_in (codes "realized") slots)) false ≡ false
 blank-realized b [] h = refl
 blank-realized b (s ∷ slots) h = go (bytes_eq s.0 (codes "realized")) refl (blank-realized b slots h.1)
   where
-    go : (t : Bool) → bytes_eq s.0 (codes "realized") ≡ t → option_map_or is_true (option_and_then plain_in (named_in (codes "realized") slots)) false ≡ false → option_map_or is_true (option_and_then plain_in (named_in (codes "realized") (s ∷ slots))) false ≡ false
+    go : (t : Bool) → bytes_eq s.0 (codes "realized") ≡ t
+        → option_map_or is_true (option_and_then plain_in (named_in (codes "realized") slots)) false ≡ false
+        → option_map_or is_true (option_and_then plain_in (named_in (codes "realized") (s ∷ slots))) false ≡ false
     go true p rest = rw p (blank-plain b s h.0)
     go false p rest = rw p rest
 
@@ -100,7 +103,8 @@ blank-source b (s ∷ slots) h = go (bytes_eq s.0 (codes "source")) refl (blank-
     own (name, weak t target) k e = refl
     own (name, alias m property) k e = refl
 
-    go : (t : Bool) → bytes_eq s.0 (codes "source") ≡ t → may_see (named_in (codes "source") slots) ≡ true → may_see (named_in (codes "source") (s ∷ slots)) ≡ true
+    go : (t : Bool) → bytes_eq s.0 (codes "source") ≡ t → may_see (named_in (codes "source") slots) ≡ true
+        → may_see (named_in (codes "source") (s ∷ slots)) ≡ true
     go true p rest = rw p (own s h.0 p)
     go false p rest = rw p rest
 
@@ -163,7 +167,8 @@ rows-blank MemoryBackendRam = search rules
 rows-blank Tag = search rules
 
 abbrev slots_for : TypeId → List Property → List (List ℕ × Slot)
-slots_for t props = filter_map (λ (p : Property). option_map (λ (s : Slot). (property_name p.name, s)) (first_slot (λ _. None) t (property_name p.name) p.kind)) props
+slots_for t props =
+    filter_map (λ (p : Property). option_map (λ (s : Slot). (property_name p.name, s)) (first_slot (λ _. None) t (property_name p.name) p.kind)) props
 
 first-blank : (b : Board) (t : TypeId) (ps : List Property) → RowsBlank t ps → IsBlank b (slots_for t ps)
 first-blank b t [] h = tt
@@ -278,7 +283,8 @@ draft-new b n t c r blank bare none birth h =
         last true p = rw p blank
         last false p = rw p tt
 
-        go : (o : Option Record) → IsBlank b (option_map_or (λ (y : Record). y.slots) o []) → IsBlank b (option_map_or (λ (y : Record). y.slots) (option_or o (found_at x (r ∷ []))) [])
+        go : (o : Option Record) → IsBlank b (option_map_or (λ (y : Record). y.slots) o [])
+            → IsBlank b (option_map_or (λ (y : Record). y.slots) (option_or o (found_at x (r ∷ []))) [])
         go (Some y) k = k
         go None k = last (r.birth == x) refl
 
@@ -289,7 +295,8 @@ draft-new b n t c r blank bare none birth h =
         last true p = rw p none
         last false p = rw p refl
 
-        go : (o : Option Record) → option_and_then (λ (y : Record). y.device_id) o ≡ None → option_and_then (λ (y : Record). y.device_id) (option_or o (found_at x (r ∷ []))) ≡ None
+        go : (o : Option Record) → option_and_then (λ (y : Record). y.device_id) o ≡ None
+            → option_and_then (λ (y : Record). y.device_id) (option_or o (found_at x (r ∷ []))) ≡ None
         go (Some y) k = k
         go None k = last (r.birth == x) refl
 
@@ -301,21 +308,24 @@ draft-new b n t c r blank bare none birth h =
         last true p = rw p bare
         last false p = rw p refl
 
-        go : (o : Option Record) → filter_map child_entry (option_map_or (λ (y : Record). y.slots) o []) ≡ es → filter_map child_entry (option_map_or (λ (y : Record). y.slots) (option_or o (found_at x (r ∷ []))) []) ≡ es
+        go : (o : Option Record) → filter_map child_entry (option_map_or (λ (y : Record). y.slots) o []) ≡ es
+            → filter_map child_entry (option_map_or (λ (y : Record). y.slots) (option_or o (found_at x (r ∷ []))) []) ≡ es
         go (Some y) k = k
         go None k = last (r.birth == x) refl ∙ k
 
     kinds : (x : ℕ) (k : TypeId) → kind_of c x ≡ Some k → kind_of (with_new r c) x ≡ Some k
     kinds x k e = ap (option_map (λ (y : Record). y.kind)) (found x) ∙ go (record_of c x) e
       where
-        go : (o : Option Record) → option_map (λ (y : Record). y.kind) o ≡ Some k → option_map (λ (y : Record). y.kind) (option_or o (found_at x (r ∷ []))) ≡ Some k
+        go : (o : Option Record) → option_map (λ (y : Record). y.kind) o ≡ Some k
+            → option_map (λ (y : Record). y.kind) (option_or o (found_at x (r ∷ []))) ≡ Some k
         go (Some y) q = q
         go None q = absurd (let clash : None ≡ Some k = q in cc)
 
     heirs : AllByRecursion (IsHeir t (with_new r c)) (child_entries (with_new r c) n)
     heirs =
         subst (AllByRecursion (IsHeir t (with_new r c))) (sym (entries n (child_entries c n) refl))
-        (all-imply (IsHeir t c) (IsHeir t (with_new r c)) (λ e k. record { kind = k.kind; of = kinds e.1 k.kind k.of; fits = k.fits }) (child_entries c n) h.heirs)
+        (all-imply (IsHeir t c) (IsHeir t (with_new r c)) (λ e k. record { kind = k.kind; of = kinds e.1 k.kind k.of; fits = k.fits })
+        (child_entries c n) h.heirs)
 
     above : (x : ℕ) → c.born + 1 < x → record_of (with_new r c) x ≡ None
     above x high = found x ∙ ap (λ (o : Option Record). option_or o (found_at x (r ∷ []))) (h.above x (omega (arith, high))) ∙ last (r.birth == x) refl
@@ -345,7 +355,9 @@ module _ (b : Board) (firm : Firm b) (n : ℕ) (absent : is_live b n ≡ false) 
 
       old : (x : ℕ) → is_live b x ≡ true → record_of (add n name s c) x ≡ record_of b x
       old x e =
-          let apart : (x == n) ≡ false = choose (x == n) {A = (x == n) ≡ false} (λ p. absurd (let clash : true ≡ false = sym e ∙ ap (is_live b) (eqb-true x n p) ∙ absent in cc)) (λ p. p) in
+          let apart : (x == n) ≡ false =
+          choose (x == n) {A = (x == n) ≡ false} (λ p. absurd (let clash : true ≡ false = sym e ∙ ap (is_live b) (eqb-true x n p) ∙ absent in cc))
+          (λ p. p) in
           found x ∙ other-record n x (with_added name s) c refl apart (record_of c x) refl ∙ h.old x e
 
       new : (x : ℕ) → is_live b x ≡ false → IsBlank b (slots_at (add n name s c) x)
@@ -355,12 +367,15 @@ module _ (b : Board) (firm : Firm b) (n : ℕ) (absent : is_live b n ≡ false) 
           one r k true p = rw (edited, p) (all-append (BlankSlot b) r.slots ((name, s) ∷ []) k (blank, tt))
           one r k false p = rw (edited, p) k
 
-          go : (o : Option Record) → IsBlank b (option_map_or (λ (y : Record). y.slots) o []) → IsBlank b (option_map_or (λ (y : Record). y.slots) (option_map (edited n (with_added name s)) o) [])
+          go : (o : Option Record) → IsBlank b (option_map_or (λ (y : Record). y.slots) o [])
+              → IsBlank b (option_map_or (λ (y : Record). y.slots) (option_map (edited n (with_added name s)) o) [])
           go None k = tt
           go (Some r) k = one r k (r.birth == n) refl
 
       heirs : AllByRecursion (IsHeir t (add n name s c)) (child_entries (add n name s c) n)
-      heirs = subst (λ (o : Option Record). AllByRecursion (IsHeir t d) (filter_map child_entry (option_map_or (λ (y : Record). y.slots) o []))) (sym (found n)) (go (record_of c n) h.heirs)
+      heirs =
+          subst (λ (o : Option Record). AllByRecursion (IsHeir t d) (filter_map child_entry (option_map_or (λ (y : Record). y.slots) o [])))
+          (sym (found n)) (go (record_of c n) h.heirs)
         where
           d : Board
           d = add n name s c
@@ -371,7 +386,8 @@ module _ (b : Board) (firm : Firm b) (n : ℕ) (absent : is_live b n ≡ false) 
           same : (r : Record) → AllByRecursion (IsHeir t c) (filter_map child_entry r.slots) → AllByRecursion (IsHeir t d) (filter_map child_entry r.slots)
           same r k = all-imply (IsHeir t c) (IsHeir t d) still (filter_map child_entry r.slots) k
 
-          one : (r : Record) → AllByRecursion (IsHeir t c) (filter_map child_entry r.slots) → (u : Bool) → (r.birth == n) ≡ u → AllByRecursion (IsHeir t d) (filter_map child_entry (edited n (with_added name s) r).slots)
+          one : (r : Record) → AllByRecursion (IsHeir t c) (filter_map child_entry r.slots) → (u : Bool) → (r.birth == n) ≡ u
+              → AllByRecursion (IsHeir t d) (filter_map child_entry (edited n (with_added name s) r).slots)
           one r k true p = rw (edited, p) (more-entries (IsHeir t d) name s (λ m is. still (name, m) (heir m is)) r.slots (same r k))
           one r k false p = rw (edited, p) (same r k)
 
@@ -390,7 +406,8 @@ module _ (b : Board) (firm : Firm b) (n : ℕ) (absent : is_live b n ≡ false) 
   new-kind : (c : Board) (k : TypeId) → Draft b n t c → kind_of (with_new (fresh_record (c.born + 1) k) c) (c.born + 1) ≡ Some k
   new-kind c k h =
       ap (option_map (λ (y : Record). y.kind)) (find-append (λ (y : Record). y.birth == c.born + 1) c.records (fresh_record (c.born + 1) k ∷ []))
-      ∙ ap (λ (o : Option Record). option_map (λ (y : Record). y.kind) (option_or o (found_at (c.born + 1) (fresh_record (c.born + 1) k ∷ [])))) (h.above (c.born + 1) (omega arith))
+      ∙ ap (λ (o : Option Record). option_map (λ (y : Record). y.kind) (option_or o (found_at (c.born + 1) (fresh_record (c.born + 1) k ∷ []))))
+      (h.above (c.born + 1) (omega arith))
       ∙ (let own : (c.born + 1 == c.born + 1) ≡ true = eq-eqb (c.born + 1) (c.born + 1) refl in rw own refl)
 
   draft-row : (name : List ℕ) (kind : RowKind) (c : Board) → RowBlank t name kind → Draft b n t c → Draft b n t (row_made n t name kind c)
@@ -401,7 +418,9 @@ module _ (b : Board) (firm : Firm b) (n : ℕ) (absent : is_live b n ≡ false) 
       let low : b.born ≤ c.born = h.high in
       let made : Board = with_new (fresh_record (c.born + 1) type) c in
       draft-add made name (child (c.born + 1)) (high-absent b firm (c.born + 1) (omega (arith, low)))
-      (λ m is. let own : c.born + 1 ≡ m = same_Some (c.born + 1) m (ap child_of is) in record { kind = type; of = ap (kind_of made) (sym own) ∙ new-kind c type h; fits = fits-heir t name type k })
+      (λ m is.
+      let own : c.born + 1 ≡ m = same_Some (c.born + 1) m (ap child_of is) in
+      record { kind = type; of = ap (kind_of made) (sym own) ∙ new-kind c type h; fits = fits-heir t name type k })
       (draft-new b n t c (fresh_record (c.born + 1) type) (first-blank b type (slots_of type) (rows-blank type)) (first-childless type (slots_of type)) refl refl h)
   draft-row name (row.Alias owner property) c k h = draft-aliased c name (property_name property) (owned c n (property_name owner)) h
 
@@ -439,8 +458,12 @@ module _ (b : Board) (t : TypeId) (shut : is_open (b.born + 1) ≡ false) (near 
         λ is. (
           is_device,
           choose (bytes_eq y.0 clock_name) {A = bytes_eq y.0 clock_name ≡ false}
-          (λ p. absurd (let clash : true ≡ false = sym is ∙ ap (λ (o : Option TypeId). option_map_or (λ (u : TypeId). is_a u (codes "bus")) o false) k.of ∙ k.fits.clock p in cc))
-          (λ p. p),
+              (λ p.
+              absurd
+              (let clash : true ≡ false =
+              sym is ∙ ap (λ (o : Option TypeId). option_map_or (λ (u : TypeId). is_a u (codes "bus")) o false) k.of ∙ k.fits.clock p in
+              cc))
+              (λ p. p),
         ),
       )
 

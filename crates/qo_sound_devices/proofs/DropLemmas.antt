@@ -45,7 +45,8 @@ module _ (n : ℕ) (change : Record → Record) (same_birth : (r : Record) → (
   edit-live x = ap is_some (found-edited n change same_birth x b.records) ∙ is_some-map (edited n change) (record_of b x)
 
   edit-alike : (x : ℕ) → (x == n) ≡ false → Alike b (edit n change b) x
-  edit-alike x apart = alike-record b (edit n change b) x (found-edited n change same_birth x b.records ∙ other-record n x change b refl apart (record_of b x) refl)
+  edit-alike x apart =
+      alike-record b (edit n change b) x (found-edited n change same_birth x b.records ∙ other-record n x change b refl apart (record_of b x) refl)
 
   pub kept-edit : Firm (edit n change b) → is_live b 1 ≡ true → KeptAt b (edit n change b) n → Kept b (edit n change b)
   kept-edit firm root h =
@@ -75,7 +76,8 @@ module _ (n : ℕ) (change : Record → Record) (same_birth : (r : Record) → (
 abbrev named_in : List ℕ → List (List ℕ × Slot) → Option Slot
 named_in name slots = option_map (λ (s : List ℕ × Slot). s.1) (find (λ s. bytes_eq s.0 name) slots)
 
-pub none-named : (name own : List ℕ) → own ≡ name → (slots : List (List ℕ × Slot)) → AllByRecursion (λ m. bytes_eq own m ≡ false) (names_in slots) → named_in name slots ≡ None
+pub none-named : (name own : List ℕ) → own ≡ name → (slots : List (List ℕ × Slot)) → AllByRecursion (λ m. bytes_eq own m ≡ false) (names_in slots)
+    → named_in name slots ≡ None
 none-named name own is [] h = refl
 none-named name own is (s ∷ slots) h = go (bytes_eq s.0 name) refl (none-named name own is slots h.1)
   where
@@ -87,12 +89,15 @@ none-named name own is (s ∷ slots) h = go (bytes_eq s.0 name) refl (none-named
     go false p rest = rw p rest
 
 -- no plain value is lost
-pub plain-dropped : (name : List ℕ) (i : ℕ) (slots : List (List ℕ × Slot)) → IsDistinct bytes_eq (names_in slots) → option_and_then plain_in (named_in name (without_hold i slots)) ≡ option_and_then plain_in (named_in name slots)
+pub plain-dropped : (name : List ℕ) (i : ℕ) (slots : List (List ℕ × Slot)) → IsDistinct bytes_eq (names_in slots)
+    → option_and_then plain_in (named_in name (without_hold i slots)) ≡ option_and_then plain_in (named_in name slots)
 unfolding IsDistinct
 plain-dropped name i [] h = refl
 plain-dropped name (suc i) (s ∷ slots) h = go (bytes_eq s.0 name) refl (plain-dropped name i slots h.1)
   where
-    go : (t : Bool) → bytes_eq s.0 name ≡ t → option_and_then plain_in (named_in name (without_hold i slots)) ≡ option_and_then plain_in (named_in name slots) → option_and_then plain_in (named_in name (s ∷ without_hold i slots)) ≡ option_and_then plain_in (named_in name (s ∷ slots))
+    go : (t : Bool) → bytes_eq s.0 name ≡ t
+        → option_and_then plain_in (named_in name (without_hold i slots)) ≡ option_and_then plain_in (named_in name slots)
+        → option_and_then plain_in (named_in name (s ∷ without_hold i slots)) ≡ option_and_then plain_in (named_in name (s ∷ slots))
     go true p rest = rw p refl
     go false p rest = rw p rest
 plain-dropped name zero ((own, plain v) ∷ slots) h = refl
@@ -103,35 +108,49 @@ plain-dropped name zero ((own, child m) ∷ slots) h = go (bytes_eq own name) re
     go false p = rw p refl
 plain-dropped name zero ((own, strong t target) ∷ slots) h = go (bytes_eq own name) refl
   where
-    go : (u : Bool) → bytes_eq own name ≡ u → option_and_then plain_in (named_in name ((own, strong t None) ∷ slots)) ≡ option_and_then plain_in (named_in name ((own, strong t target) ∷ slots))
+    go : (u : Bool) → bytes_eq own name ≡ u
+        → option_and_then plain_in (named_in name ((own, strong t None) ∷ slots)) ≡ option_and_then plain_in (named_in name ((own, strong t target) ∷ slots))
     go true p = rw p refl
     go false p = rw p refl
 plain-dropped name zero ((own, weak t target) ∷ slots) h = go (bytes_eq own name) refl
   where
-    go : (u : Bool) → bytes_eq own name ≡ u → option_and_then plain_in (named_in name ((own, weak t None) ∷ slots)) ≡ option_and_then plain_in (named_in name ((own, weak t target) ∷ slots))
+    go : (u : Bool) → bytes_eq own name ≡ u
+        → option_and_then plain_in (named_in name ((own, weak t None) ∷ slots)) ≡ option_and_then plain_in (named_in name ((own, weak t target) ∷ slots))
     go true p = rw p refl
     go false p = rw p refl
 plain-dropped name zero ((own, alias m property) ∷ slots) h = refl
 
 -- no link of another name, and no link at all where a child was let go
-pub strong-dropped : (name : List ℕ) (i : ℕ) (slots : List (List ℕ × Slot)) → IsDistinct bytes_eq (names_in slots) → (s : List ℕ × Slot) → slice_get slots i ≡ Some s → (is_some (child_of s.1) ≡ true) ⊎ (bytes_eq s.0 name ≡ false) → option_and_then strong_in (named_in name (without_hold i slots)) ≡ option_and_then strong_in (named_in name slots)
+pub strong-dropped : (name : List ℕ) (i : ℕ) (slots : List (List ℕ × Slot)) → IsDistinct bytes_eq (names_in slots) → (s : List ℕ × Slot)
+    → slice_get slots i ≡ Some s → (is_some (child_of s.1) ≡ true) ⊎ (bytes_eq s.0 name ≡ false)
+    → option_and_then strong_in (named_in name (without_hold i slots)) ≡ option_and_then strong_in (named_in name slots)
 unfolding IsDistinct
 strong-dropped name i [] h s e other = refl
 strong-dropped name (suc i) (x ∷ slots) h s e other = go (bytes_eq x.0 name) refl (strong-dropped name i slots h.1 s e other)
   where
-    go : (t : Bool) → bytes_eq x.0 name ≡ t → option_and_then strong_in (named_in name (without_hold i slots)) ≡ option_and_then strong_in (named_in name slots) → option_and_then strong_in (named_in name (x ∷ without_hold i slots)) ≡ option_and_then strong_in (named_in name (x ∷ slots))
+    go : (t : Bool) → bytes_eq x.0 name ≡ t
+        → option_and_then strong_in (named_in name (without_hold i slots)) ≡ option_and_then strong_in (named_in name slots)
+        → option_and_then strong_in (named_in name (x ∷ without_hold i slots)) ≡ option_and_then strong_in (named_in name (x ∷ slots))
     go true p rest = rw p refl
     go false p rest = rw p rest
-strong-dropped name zero (x ∷ slots) h s e other = subst (λ (y : List ℕ × Slot). IsDistinct bytes_eq (names_in (y ∷ slots)) → option_and_then strong_in (named_in name (without_hold zero (y ∷ slots))) ≡ option_and_then strong_in (named_in name (y ∷ slots))) (sym (same_Some x s e)) (here s other) h
+strong-dropped name zero (x ∷ slots) h s e other =
+    subst
+    (λ (y : List ℕ × Slot).
+    IsDistinct bytes_eq (names_in (y ∷ slots)) → option_and_then strong_in (named_in name (without_hold zero (y ∷ slots))) ≡ option_and_then strong_in
+    (named_in name (y ∷ slots)))
+    (sym (same_Some x s e)) (here s other) h
   where
-    skip : (own : List ℕ) (u v : Slot) → bytes_eq own name ≡ false → option_and_then strong_in (named_in name ((own, u) ∷ slots)) ≡ option_and_then strong_in (named_in name ((own, v) ∷ slots))
+    skip : (own : List ℕ) (u v : Slot) → bytes_eq own name ≡ false
+        → option_and_then strong_in (named_in name ((own, u) ∷ slots)) ≡ option_and_then strong_in (named_in name ((own, v) ∷ slots))
     skip own u v p = rw p refl
 
-    gone : (own : List ℕ) (m : ℕ) → IsDistinct bytes_eq (names_in ((own, child m) ∷ slots)) → (t : Bool) → bytes_eq own name ≡ t → option_and_then strong_in (named_in name slots) ≡ option_and_then strong_in (named_in name ((own, child m) ∷ slots))
+    gone : (own : List ℕ) (m : ℕ) → IsDistinct bytes_eq (names_in ((own, child m) ∷ slots)) → (t : Bool) → bytes_eq own name ≡ t
+        → option_and_then strong_in (named_in name slots) ≡ option_and_then strong_in (named_in name ((own, child m) ∷ slots))
     gone own m k true p = rw p (ap (option_and_then strong_in) (none-named name own ((bytes_eq-Decides own name).0 p) slots k.0))
     gone own m k false p = rw p refl
 
-    here : (y : List ℕ × Slot) → (is_some (child_of y.1) ≡ true) ⊎ (bytes_eq y.0 name ≡ false) → IsDistinct bytes_eq (names_in (y ∷ slots)) → option_and_then strong_in (named_in name (without_hold zero (y ∷ slots))) ≡ option_and_then strong_in (named_in name (y ∷ slots))
+    here : (y : List ℕ × Slot) → (is_some (child_of y.1) ≡ true) ⊎ (bytes_eq y.0 name ≡ false) → IsDistinct bytes_eq (names_in (y ∷ slots))
+        → option_and_then strong_in (named_in name (without_hold zero (y ∷ slots))) ≡ option_and_then strong_in (named_in name (y ∷ slots))
     here (own, plain v) o k = refl
     here (own, child m) o k = gone own m k (bytes_eq own name) refl
     here (own, strong t target) (inr p) k = skip own (strong t None) (strong t target) p
@@ -141,22 +160,26 @@ strong-dropped name zero (x ∷ slots) h s e other = subst (λ (y : List ℕ × 
     here (own, alias m property) o k = refl
 
 -- entries
-pub children-kept : (i : ℕ) (slots : List (List ℕ × Slot)) (s : List ℕ × Slot) → slice_get slots i ≡ Some s → child_of s.1 ≡ None → filter_map child_entry (without_hold i slots) ≡ filter_map child_entry slots
+pub children-kept : (i : ℕ) (slots : List (List ℕ × Slot)) (s : List ℕ × Slot) → slice_get slots i ≡ Some s → child_of s.1 ≡ None
+    → filter_map child_entry (without_hold i slots) ≡ filter_map child_entry slots
 children-kept i [] s e none = refl
 children-kept (suc i) (x ∷ slots) s e none = ap (cons_option (child_entry x)) (children-kept i slots s e none)
 children-kept zero ((name, plain v) ∷ slots) s e none = refl
-children-kept zero ((name, child m) ∷ slots) s e none = absurd (let clash : Some m ≡ None = ap (λ (x : List ℕ × Slot). child_of x.1) (same_Some (name, child m) s e) ∙ none in cc)
+children-kept zero ((name, child m) ∷ slots) s e none =
+    absurd (let clash : Some m ≡ None = ap (λ (x : List ℕ × Slot). child_of x.1) (same_Some (name, child m) s e) ∙ none in cc)
 children-kept zero ((name, strong t target) ∷ slots) s e none = refl
 children-kept zero ((name, weak t target) ∷ slots) s e none = refl
 children-kept zero ((name, alias m property) ∷ slots) s e none = refl
 
-pub kids-kept : (i : ℕ) (slots : List (List ℕ × Slot)) (s : List ℕ × Slot) → slice_get slots i ≡ Some s → kid_entry s ≡ None → filter_map kid_entry (without_hold i slots) ≡ filter_map kid_entry slots
+pub kids-kept : (i : ℕ) (slots : List (List ℕ × Slot)) (s : List ℕ × Slot) → slice_get slots i ≡ Some s → kid_entry s ≡ None
+    → filter_map kid_entry (without_hold i slots) ≡ filter_map kid_entry slots
 kids-kept i [] s e none = refl
 kids-kept (suc i) (x ∷ slots) s e none = ap (cons_option (kid_entry x)) (kids-kept i slots s e none)
 kids-kept zero ((name, plain v) ∷ slots) s e none = refl
 kids-kept zero ((name, child m) ∷ slots) s e none = refl
 kids-kept zero ((name, strong t None) ∷ slots) s e none = refl
-kids-kept zero ((name, strong t (Some m)) ∷ slots) s e none = absurd (let clash : Some (name, m) ≡ None = ap kid_entry (same_Some (name, strong t (Some m)) s e) ∙ none in cc)
+kids-kept zero ((name, strong t (Some m)) ∷ slots) s e none =
+    absurd (let clash : Some (name, m) ≡ None = ap kid_entry (same_Some (name, strong t (Some m)) s e) ∙ none in cc)
 kids-kept zero ((name, weak t target) ∷ slots) s e none = refl
 kids-kept zero ((name, alias m property) ∷ slots) s e none = refl
 
@@ -175,10 +198,13 @@ kids-fewer zero ((name, weak t target) ∷ slots) = within-all (filter_map kid_e
 kids-fewer zero ((name, alias m property) ∷ slots) = within-all (filter_map kid_entry slots)
 
 -- the slots of the object that is edited
-pub edited-slots : (b : Board) (n : ℕ) (change : Record → Record) → ((r : Record) → (change r).birth ≡ r.birth) → (r : Record) → record_of b n ≡ Some r → slots_at (edit n change b) n ≡ (change r).slots
+pub edited-slots : (b : Board) (n : ℕ) (change : Record → Record) → ((r : Record) → (change r).birth ≡ r.birth) → (r : Record)
+    → record_of b n ≡ Some r → slots_at (edit n change b) n ≡ (change r).slots
 edited-slots b n change same_birth r e =
     let own : (r.birth == n) ≡ true = eq-eqb r.birth n (found-birth n b.records r e) in
-    ap (λ (o : Option Record). option_map_or (λ (x : Record). x.slots) o []) (found-edited n change same_birth n b.records ∙ ap (option_map (edited n change)) e) ∙ rw (edited, own) refl
+    ap (λ (o : Option Record). option_map_or (λ (x : Record). x.slots) o [])
+    (found-edited n change same_birth n b.records ∙ ap (option_map (edited n change)) e)
+    ∙ rw (edited, own) refl
 
 slots-are : (b : Board) (n : ℕ) (r : Record) → record_of b n ≡ Some r → slots_at b n ≡ r.slots
 slots-are b n r e = ap (λ (o : Option Record). option_map_or (λ (x : Record). x.slots) o []) e
@@ -213,8 +239,12 @@ kept-drop b firm root n i s r e at link kind_of_slot none = kept-edit n (with_dr
     names : IsDistinct bytes_eq (names_in r.slots)
     names = names-at b firm n r e
 
-    same_plain : (name : List ℕ) → option_and_then plain_in (named_in name (slots_at (edit n (with_dropped i) b) n)) ≡ option_and_then plain_in (named_in name (slots_at b n))
-    same_plain name = ap (λ (x : List (List ℕ × Slot)). option_and_then plain_in (named_in name x)) now ∙ plain-dropped name i r.slots names ∙ sym (ap (λ (x : List (List ℕ × Slot)). option_and_then plain_in (named_in name x)) was)
+    same_plain : (name : List ℕ)
+        → option_and_then plain_in (named_in name (slots_at (edit n (with_dropped i) b) n)) ≡ option_and_then plain_in (named_in name (slots_at b n))
+    same_plain name =
+        ap (λ (x : List (List ℕ × Slot)). option_and_then plain_in (named_in name x)) now
+        ∙ plain-dropped name i r.slots names
+        ∙ sym (ap (λ (x : List (List ℕ × Slot)). option_and_then plain_in (named_in name x)) was)
 
     here : KeptAt b (edit n (with_dropped i) b) n
     here =
@@ -225,5 +255,8 @@ kept-drop b firm root n i s r e at link kind_of_slot none = kept-edit n (with_dr
           children = λ k. ap (filter_map child_entry) now ∙ children-kept i r.slots s at (kind_of_slot k) ∙ sym (ap (filter_map child_entry) was);
           kids = λ k o. ap (filter_map kid_entry) now ∙ kids-kept i r.slots s at (none k o) ∙ sym (ap (filter_map kid_entry) was);
           fewer = λ k. subst (λ (xs : List (List ℕ × ℕ)). Within xs (kid_entries b n)) (sym (ap (filter_map kid_entry) now)) (subst (λ (ys : List (List ℕ × ℕ)). Within (filter_map kid_entry (without_hold i r.slots)) ys) (sym (ap (filter_map kid_entry) was)) (kids-fewer i r.slots));
-          within = subst (λ (xs : List (List ℕ × ℕ)). Within xs (child_entries b n)) (sym (ap (filter_map child_entry) now)) (subst (λ (ys : List (List ℕ × ℕ)). Within (filter_map child_entry (without_hold i r.slots)) ys) (sym (ap (filter_map child_entry) was)) (children-fewer i r.slots));
+          within =
+              subst (λ (xs : List (List ℕ × ℕ)). Within xs (child_entries b n)) (sym (ap (filter_map child_entry) now))
+              (subst (λ (ys : List (List ℕ × ℕ)). Within (filter_map child_entry (without_hold i r.slots)) ys) (sym (ap (filter_map child_entry) was))
+              (children-fewer i r.slots));
         }

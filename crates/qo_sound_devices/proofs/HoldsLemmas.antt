@@ -1,34 +1,29 @@
 -- The link of a device that is added holds its bus.
-use Rattle.std.proofs.Common.{◌≡◌, refl, ap, sym, subst, ◌∙◌, ℕ, zero, suc, ◌+◌, Bool, true, false, ◌==◌, List, [], ◌∷◌, ◌++◌, find, map, slice_get, Option, Some, None, option_map, option_and_then, codes, arith}
+use Rattle.std.proofs.Common.{◌≡◌, refl, ap, sym, ◌∙◌, ℕ, ◌+◌, Bool, true, false, List, [], ◌∷◌, ◌++◌, find, map, slice_get, Option, Some, None, option_map, option_and_then, codes, arith}
 use Rattle.std.specs.Option.{option_map_or}
 use Rattle.std.specs.Str.{bytes_eq}
-use Rattle.std.proofs.lemmas.Option.{same_Some}
 use Rattle.std.proofs.lemmas.Slice.Eq.{bytes_eq-Decides}
-use Rattle.qo_values.specs.Kinds.{type_name}
 use Rattle.qo_values.specs.declared.codes.Code.{Code}
-use Rattle.qo_values.specs.declared.codes.Code.TheVariants.{E17, E18}
+use Rattle.qo_values.specs.declared.codes.Code.TheVariants.{E18}
 use Rattle.qo_values.specs.declared.kinds.TypeId.{TypeId}
 use Rattle.qo_values.specs.declared.kinds.TypeId.TheVariants.{Object, Container, Machine, Device, SlotDevice, SlotUart, SlotTimer, SlotBridge, MemDimm, Bus, SlotBus, MemBus, Clock, MemoryBackend, MemoryBackendRam, Tag}
 use Rattle.qo_values.specs.declared.properties.Val.{Val}
 use Rattle.qo_values.specs.declared.properties.Val.TheVariants as val
-use Rattle.qo_model.specs.Board.{Board, Record, Slot, plain, child, strong, weak, alias, record_of, slots_at}
-use Rattle.qo_model.specs.Changes.{changed_at, set, with_changed, with_val}
+use Rattle.qo_model.specs.Board.{Board, Record, Slot, child, strong, record_of, slots_at}
+use Rattle.qo_model.specs.Changes.{set, with_changed, with_val}
 use Rattle.qo_model.specs.Devices.{bus_of, kid_name, strong_in}
 use Rattle.qo_model.specs.Objects.{Given, place_from, refusal_by, refusal_of, slot_given}
-use Rattle.qo_model.specs.Paths.{is_of, only_of}
+use Rattle.qo_model.specs.Paths.{is_of}
 use Rattle.qo_model.specs.Plug.{Spot, Wanted, drafted, fitted, joined, link_named, name_for, parent_for, valued, with_given}
 use Rattle.qo_model.specs.Properties.{row_of_property}
-use Rattle.qo_model.specs.Release.{edit, edited}
+use Rattle.qo_model.specs.Release.{edit}
 use Rattle.qo_model.specs.Types.{is_a, types}
 use Rattle.qo_model.specs.Unplug.{is_named, set_named}
-use Rattle.qo_model.specs.declared.properties.Property.{Property}
-use Rattle.qo_model.proofs.StepLemmas.{found-edited}
 use Rattle.qo_sound.proofs.FirmLemmas.{Firm}
 use Rattle.qo_sound.proofs.UnplugLemmas.{Found, found-at}
 use Rattle.qo_sound_devices.proofs.DropLemmas.{edited-slots}
 use Rattle.qo_sound_devices.proofs.PlainLemmas.{named_in, stay-add, stay-given}
 use Rattle.qo_sound_devices.proofs.RealizedLemmas.{rows-stay}
-use Rattle.qo_sound_devices.proofs.JoinedLemmas.{choose}
 use Rattle.qo_sound_devices.proofs.UnrealizeLemmas.{first-changed, mild-val, named-other, none-found, other-name, reads}
 
 -- a slot under a name
@@ -53,9 +48,13 @@ slot-given b props name s none [] e = e
 slot-given b props name s none (x ∷ slots) e = go (bytes_eq x.0 name) refl (slot-given b props name s none slots)
   where
     same : bytes_eq x.0 name ≡ true → (slot_given b props x).1 ≡ x.1
-    same p = let gone : find (λ (q : Given). bytes_eq q.0 x.0) props ≡ None = ap (λ (own : List ℕ). find (λ (q : Given). bytes_eq q.0 own) props) ((bytes_eq-Decides x.0 name).0 p) ∙ none in rw (slot_given, gone) refl
+    same p =
+        let gone : find (λ (q : Given). bytes_eq q.0 x.0) props ≡ None =
+        ap (λ (own : List ℕ). find (λ (q : Given). bytes_eq q.0 own) props) ((bytes_eq-Decides x.0 name).0 p) ∙ none in
+        rw (slot_given, gone) refl
 
-    go : (t : Bool) → bytes_eq x.0 name ≡ t → (SlotIs name s slots → SlotIs name s (map (slot_given b props) slots)) → SlotIs name s (map (slot_given b props) (x ∷ slots))
+    go : (t : Bool) → bytes_eq x.0 name ≡ t → (SlotIs name s slots → SlotIs name s (map (slot_given b props) slots))
+        → SlotIs name s (map (slot_given b props) (x ∷ slots))
     go true p rest = rw p (ap Some (same p) ∙ rw p at e)
     go false p rest = rw p (rest (rw p at e))
 
@@ -79,12 +78,14 @@ parent-row MemoryBackend v b e = absurd (let clash : false ≡ true = e in cc)
 parent-row MemoryBackendRam v b e = absurd (let clash : false ≡ true = e in cc)
 parent-row Tag v b e = absurd (let clash : false ≡ true = e in cc)
 
-none-given : (b : Board) (t : TypeId) → is_a t (codes "device") ≡ true → (props : List Given) → refusal_of b t props ≡ None → find (λ (p : Given). bytes_eq p.0 (codes "parent_bus")) props ≡ None
+none-given : (b : Board) (t : TypeId) → is_a t (codes "device") ≡ true → (props : List Given) → refusal_of b t props ≡ None
+    → find (λ (p : Given). bytes_eq p.0 (codes "parent_bus")) props ≡ None
 none-given b t device [] e = refl
 none-given b t device (p ∷ props) e = go (bytes_eq p.0 (codes "parent_bus")) refl (refusal_by b (row_of_property t p.0) p.1) refl (none-given b t device props)
   where
     go : (u : Bool) → bytes_eq p.0 (codes "parent_bus") ≡ u → (o : Option Code) → refusal_by b (row_of_property t p.0) p.1 ≡ o
-        → (refusal_of b t props ≡ None → find (λ (q : Given). bytes_eq q.0 (codes "parent_bus")) props ≡ None) → find (λ (q : Given). bytes_eq q.0 (codes "parent_bus")) (p ∷ props) ≡ None
+        → (refusal_of b t props ≡ None → find (λ (q : Given). bytes_eq q.0 (codes "parent_bus")) props ≡ None) → find
+        (λ (q : Given). bytes_eq q.0 (codes "parent_bus")) (p ∷ props) ≡ None
     go u q (Some code) r rest = absurd (let clash : Some code ≡ None = rw (refusal_of, r) at e in cc)
     go false q None r rest = rw q (rest (rw (refusal_of, r) at e))
     go true q None r rest =
@@ -92,7 +93,8 @@ none-given b t device (p ∷ props) e = go (bytes_eq p.0 (codes "parent_bus")) r
         absurd (let clash : None ≡ Some E18 = sym r ∙ ap (λ (name : List ℕ). refusal_by b (row_of_property t name) p.1) own ∙ parent-row t p.1 b device in cc)
 
 -- another name is set
-slot-set : (n : ℕ) (name own : List ℕ) (v : Val) → bytes_eq own name ≡ false → (c : Board) → named_in name (slots_at (set_named n own v c) n) ≡ named_in name (slots_at c n)
+slot-set : (n : ℕ) (name own : List ℕ) (v : Val) → bytes_eq own name ≡ false → (c : Board)
+    → named_in name (slots_at (set_named n own v c) n) ≡ named_in name (slots_at c n)
 unfolding set
 slot-set n name own v apart c = go (place_from (is_named own) 0 (slots_at c n)) refl
   where
@@ -100,14 +102,20 @@ slot-set n name own v apart c = go (place_from (is_named own) 0 (slots_at c n)) 
     go None e = rw (set_named, e) refl
     go (Some i) e =
         let f : Found (is_named own) (slots_at c n) i = found-at (is_named own) i (slots_at c n) e in
-        rw (set_named, e) (reads (with_val v) (mild-val v) n i c (named_in name) (λ slots q. named-other (with_val v) name i slots f.entry (ap (λ (x : List (List ℕ × Slot)). slice_get x i) (sym q) ∙ f.at) (other-name own name apart f.entry f.passes)) n)
+        rw (set_named, e)
+        (reads (with_val v) (mild-val v) n i c (named_in name)
+        (λ slots q. named-other (with_val v) name i slots f.entry (ap (λ (x : List (List ℕ × Slot)). slice_get x i) (sym q) ∙ f.at) (other-name own name apart f.entry f.passes)) n)
 
 -- its own link is filled
-slot-linked : (n : ℕ) (name : List ℕ) (m : ℕ) (s : Slot) (c : Board) → SlotIs name s (slots_at c n) → named_in name (slots_at (link_named n name m c) n) ≡ Some (fitted c m s)
+slot-linked : (n : ℕ) (name : List ℕ) (m : ℕ) (s : Slot) (c : Board) → SlotIs name s (slots_at c n)
+    → named_in name (slots_at (link_named n name m c) n) ≡ Some (fitted c m s)
 slot-linked n name m s c h = go (place_from (is_named name) 0 (slots_at c n)) refl
   where
-    there : (i : ℕ) → place_from (is_named name) 0 (slots_at c n) ≡ Some i → (o : Option Record) → record_of c n ≡ o → named_in name (slots_at (edit n (with_changed (fitted c m) i) c) n) ≡ Some (fitted c m s)
-    there i e None q = absurd (let clash : None ≡ Some s = sym (ap (λ (o : Option Record). named_in name (option_map_or (λ (r : Record). r.slots) o [])) q) ∙ h in cc)
+    there : (i : ℕ) → place_from (is_named name) 0 (slots_at c n) ≡ Some i → (o : Option Record) → record_of c n ≡ o
+        → named_in name (slots_at (edit n (with_changed (fitted c m) i) c) n) ≡ Some (fitted c m s)
+    there i e None q =
+        absurd
+        (let clash : None ≡ Some s = sym (ap (λ (o : Option Record). named_in name (option_map_or (λ (r : Record). r.slots) o [])) q) ∙ h in cc)
     there i e (Some r) q =
         let was : slots_at c n ≡ r.slots = ap (λ (o : Option Record). option_map_or (λ (y : Record). y.slots) o []) q in
         ap (named_in name) (edited-slots c n (with_changed (fitted c m) i) (λ y. refl) r q)
@@ -134,7 +142,8 @@ module _ (b : Board) (t : TypeId) (firm : Firm b) (device : is_a t (codes "devic
   empty-link : SlotIs (codes "parent_bus") (strong Bus None) (slots_at slotted n)
   empty-link =
       slot-set n (codes "parent_bus") (codes "slot") (val.Uint spot.slot) refl given_to_it
-      ∙ stay-given (SlotIs (codes "parent_bus") (strong Bus None)) none more n b a.props (slot-given b a.props (codes "parent_bus") (strong Bus None) (none-given b t device a.props given)) begun
+      ∙ stay-given (SlotIs (codes "parent_bus") (strong Bus None)) none more n b a.props
+      (slot-given b a.props (codes "parent_bus") (strong Bus None) (none-given b t device a.props given)) begun
       (stay-add (SlotIs (codes "parent_bus") (strong Bus None)) none more n spot.bus (kid_name spot.slot) (strong Device (Some n)) _
       (stay-add (SlotIs (codes "parent_bus") (strong Bus None)) none more n (parent_for a.id) (name_for b a.id) (child n) (drafted b t)
       (rows-stay b t firm device (SlotIs (codes "parent_bus") (strong Bus None)) none more refl)))
@@ -142,12 +151,14 @@ module _ (b : Board) (t : TypeId) (firm : Firm b) (device : is_a t (codes "devic
       none : SlotIs (codes "parent_bus") (strong Bus None) [] → ⊥
       none = slot-none (codes "parent_bus") (strong Bus None)
 
-      more : (y : List ℕ × Slot) (slots : List (List ℕ × Slot)) → SlotIs (codes "parent_bus") (strong Bus None) slots → SlotIs (codes "parent_bus") (strong Bus None) (slots ++ y ∷ [])
+      more : (y : List ℕ × Slot) (slots : List (List ℕ × Slot)) → SlotIs (codes "parent_bus") (strong Bus None) slots
+          → SlotIs (codes "parent_bus") (strong Bus None) (slots ++ y ∷ [])
       more = slot-more (codes "parent_bus") (strong Bus None)
 
   pub holds-bus : is_of (set_named (b.born + 1) (codes "slot") (val.Uint spot.slot) (edit (b.born + 1) (with_given b a.props) (joined b (b.born + 1) a spot (drafted b t)))) (codes "bus") spot.bus ≡ true
       → bus_of (valued b (b.born + 1) a.props spot (joined b (b.born + 1) a spot (drafted b t))) (b.born + 1) ≡ Some spot.bus
   holds-bus is =
-      ap (option_and_then strong_in) (slot-set n (codes "parent_bus") (codes "realized") (val.Bool true) refl (link_named n (codes "parent_bus") spot.bus slotted))
+      ap (option_and_then strong_in)
+      (slot-set n (codes "parent_bus") (codes "realized") (val.Bool true) refl (link_named n (codes "parent_bus") spot.bus slotted))
       ∙ ap (option_and_then strong_in) (slot-linked n (codes "parent_bus") spot.bus (strong Bus None) slotted empty-link)
       ∙ rw is refl

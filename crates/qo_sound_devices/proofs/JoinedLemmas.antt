@@ -10,6 +10,7 @@ use Rattle.std.proofs.Math.Bool.{or-true, or-false}
 use Rattle.qo_values.specs.declared.births.TheConstants.{ANONYMOUS_BIRTH, MACHINE_BIRTH, MEMORY_BUS_BIRTH, OBJECTS_BIRTH, PERIPHERAL_BIRTH, ROOT_BUS_BIRTH, SYSTEM_CLOCK_BIRTH}
 use Rattle.qo_values.specs.declared.kinds.TypeId.{TypeId}
 use Rattle.qo_values.specs.declared.kinds.TypeId.TheVariants.{Object, Container, Machine, Device, SlotDevice, SlotUart, SlotTimer, SlotBridge, MemDimm, Bus, SlotBus, MemBus, Clock, MemoryBackend, MemoryBackendRam, Tag}
+use Rattle.qo_values.specs.declared.limits.TheConstants.{BUS_SLOTS}
 use Rattle.qo_model.specs.Board.{Board, is_live, kind_of}
 use Rattle.qo_model.specs.Depth.{among}
 use Rattle.qo_model.specs.Devices.{anonymous_name, bus_of, clock_name, is_realized, kid_name, place_on}
@@ -54,7 +55,9 @@ done b bus slot id = record { its = id; path = Some (path_behind b id); count = 
 
 -- a further object of a device: it is no device, and a bus only under another name than a clock's
 abbrev pub IsFurther : Board → ℕ → List ℕ × ℕ → Type 0
-IsFurther c x e = (is_of c (codes "device") e.1 ≡ false) × (is_of c (codes "bus") e.1 ≡ true → (is_of c (codes "device") x ≡ true) × (bytes_eq e.0 clock_name ≡ false))
+IsFurther c x e =
+    (is_of c (codes "device") e.1 ≡ false) ×
+    (is_of c (codes "bus") e.1 ≡ true → (is_of c (codes "device") x ≡ true) × (bytes_eq e.0 clock_name ≡ false))
 
 -- a device n of type t is added on a bus: what places speak of
 pub record Joined (depth : ℕ → ℕ) (b : Board) (n bus slot : ℕ) (id : Option (List ℕ)) (t : TypeId) (now : Now) (c : Board) : Type 0 where
@@ -89,7 +92,7 @@ pub record Joined (depth : ℕ → ℕ) (b : Board) (n bus slot : ℕ) (id : Opt
   pub is_bus : is_of b (codes "bus") bus ≡ true
   pub fits : is_of b (bus_type t) bus ≡ true
   pub owner : HasOwner b bus
-  pub low : slot ≤ 7
+  pub low : slot < BUS_SLOTS
   pub shallow : (q : ℕ) → owns c n q ≡ true → suc (depth bus) ≤ 8
   pub new_id : (x : ℕ) (i : List ℕ) → id ≡ Some i → id_of b x ≡ Some i → ⊥
 
@@ -126,7 +129,8 @@ further-same c d same x children h =
     one : (e : List ℕ × ℕ) → IsFurther c x e → IsFurther d x e
     one e k = (
       same (codes "device") e.1 ∙ k.0,
-      λ is. let its : (is_of c (codes "device") x ≡ true) × (bytes_eq e.0 clock_name ≡ false) = k.1 (sym (same (codes "bus") e.1) ∙ is) in (same (codes "device") x ∙ its.0, its.1),
+      λ is. let its : (is_of c (codes "device") x ≡ true) × (bytes_eq e.0 clock_name ≡ false) =
+          k.1 (sym (same (codes "bus") e.1) ∙ is) in (same (codes "device") x ∙ its.0, its.1),
     )
 
 pub choose : (t : Bool) → {A : Type 0} → (t ≡ true → A) → (t ≡ false → A) → A
@@ -166,11 +170,18 @@ module _ (depth : ℕ → ℕ) (b : Board) (n bus slot : ℕ) (id : Option (List
   second = j.children MACHINE_BIRTH live-machine refl
 
   -- who stands
-  stands-is : (d : ℕ) → stands c d ≡ (listed d (child_entries b PERIPHERAL_BIRTH) || listed d (named_entry id n)) || (listed d (child_entries b ANONYMOUS_BIRTH) || listed d (numbered_entry b id n))
-  stands-is d = ap₂ (λ (xs ys : List (List ℕ × ℕ)). listed d xs || listed d ys) j.third j.fourth ∙ ap₂ (λ (x y : Bool). x || y) (any-append d (child_entries b PERIPHERAL_BIRTH) (named_entry id n)) (any-append d (child_entries b ANONYMOUS_BIRTH) (numbered_entry b id n))
+  stands-is : (d : ℕ)
+      → stands c d ≡ (listed d (child_entries b PERIPHERAL_BIRTH) || listed d (named_entry id n)) || (listed d (child_entries b ANONYMOUS_BIRTH) || listed d (numbered_entry b id n))
+  stands-is d =
+      ap₂ (λ (xs ys : List (List ℕ × ℕ)). listed d xs || listed d ys) j.third j.fourth
+      ∙ ap₂ (λ (x y : Bool). x || y) (any-append d (child_entries b PERIPHERAL_BIRTH) (named_entry id n))
+      (any-append d (child_entries b ANONYMOUS_BIRTH) (numbered_entry b id n))
 
-  old-stands : (d : ℕ) → stands b d ≡ true → stands c d ≡ true
-  old-stands d e = stands-is d ∙ more (listed d (child_entries b PERIPHERAL_BIRTH)) (listed d (named_entry id n)) (listed d (child_entries b ANONYMOUS_BIRTH)) (listed d (numbered_entry b id n)) e
+  pub old-stands : (d : ℕ) → stands b d ≡ true → stands c d ≡ true
+  old-stands d e =
+      stands-is d
+      ∙ more (listed d (child_entries b PERIPHERAL_BIRTH)) (listed d (named_entry id n)) (listed d (child_entries b ANONYMOUS_BIRTH))
+      (listed d (numbered_entry b id n)) e
     where
       more : (x y z w : Bool) → x || z ≡ true → (x || y) || (z || w) ≡ true
       more true y z w k = refl
@@ -186,8 +197,11 @@ module _ (depth : ℕ → ℕ) (b : Board) (n bus slot : ℕ) (id : Option (List
   entry-only None d e = only-listed (anonymous_name b.anonymous) n d e
   entry-only (Some i) d e = only-listed i n d (sym (or-false (listed d ((i, n) ∷ []))) ∙ e)
 
-  new-stands : stands c n ≡ true
-  new-stands = stands-is n ∙ more (listed n (child_entries b PERIPHERAL_BIRTH)) (listed n (named_entry id n)) (listed n (child_entries b ANONYMOUS_BIRTH)) (listed n (numbered_entry b id n)) (entry-listed id)
+  pub new-stands : stands c n ≡ true
+  new-stands =
+      stands-is n
+      ∙ more (listed n (child_entries b PERIPHERAL_BIRTH)) (listed n (named_entry id n)) (listed n (child_entries b ANONYMOUS_BIRTH))
+      (listed n (numbered_entry b id n)) (entry-listed id)
     where
       more : (x y z w : Bool) → y || w ≡ true → (x || y) || (z || w) ≡ true
       more true y z w k = refl
@@ -196,7 +210,13 @@ module _ (depth : ℕ → ℕ) (b : Board) (n bus slot : ℕ) (id : Option (List
       more false false false w k = k
 
   by-stand : (d : ℕ) → stands c d ≡ true → {A : Type 0} → (stands b d ≡ true → A) → (d ≡ n → A) → A
-  by-stand d e f g = choose (stands b d) f (λ k. g (entry-only id d (other (listed d (child_entries b PERIPHERAL_BIRTH)) (listed d (named_entry id n)) (listed d (child_entries b ANONYMOUS_BIRTH)) (listed d (numbered_entry b id n)) k (sym (stands-is d) ∙ e))))
+  by-stand d e f g =
+      choose (stands b d) f
+      (λ k.
+      g
+      (entry-only id d
+      (other (listed d (child_entries b PERIPHERAL_BIRTH)) (listed d (named_entry id n)) (listed d (child_entries b ANONYMOUS_BIRTH))
+      (listed d (numbered_entry b id n)) k (sym (stands-is d) ∙ e))))
     where
       other : (x y z w : Bool) → x || z ≡ false → (x || y) || (z || w) ≡ true → y || w ≡ true
       other true y z w k l = absurd (let clash : true ≡ false = k in cc)
@@ -231,14 +251,19 @@ module _ (depth : ℕ → ℕ) (b : Board) (n bus slot : ℕ) (id : Option (List
     where
       go : (t : Bool) → eqb q ROOT_BUS_BIRTH ≡ t → (u : Bool) → eqb q MEMORY_BUS_BIRTH ≡ u → is_live b q ≡ true
       go true p u r = subst (λ (m : ℕ). is_live b m ≡ true) (sym (eqb-true q ROOT_BUS_BIRTH p)) (child-live b firm MACHINE_BIRTH ROOT_BUS_BIRTH h.parts.1.1.0)
-      go false p true r = subst (λ (m : ℕ). is_live b m ≡ true) (sym (eqb-true q MEMORY_BUS_BIRTH r)) (child-live b firm MACHINE_BIRTH MEMORY_BUS_BIRTH h.parts.1.1.1.0)
+      go false p true r =
+          subst (λ (m : ℕ). is_live b m ≡ true) (sym (eqb-true q MEMORY_BUS_BIRTH r))
+          (child-live b firm MACHINE_BIRTH MEMORY_BUS_BIRTH h.parts.1.1.1.0)
       go false p false r = absurd (let clash : false ≡ true = rw (p, r) at k in cc)
 
   abbrev deeper : ℕ → ℕ
   deeper = deepened depth n bus c
 
   deeper-old : (q : ℕ) → is_live b q ≡ true → deeper q ≡ depth q
-  deeper-old q e = ap (λ (u : Bool). if u then suc (depth bus) else depth q) (choose (owns c n q) {A = owns c n q ≡ false} (λ k. absurd (let clash : true ≡ false = sym e ∙ j.heirs q (owns-listed q (child_entries c n) k) in cc)) (λ k. k))
+  deeper-old q e =
+      ap (λ (u : Bool). if u then suc (depth bus) else depth q)
+      (choose (owns c n q) {A = owns c n q ≡ false}
+      (λ k. absurd (let clash : true ≡ false = sym e ∙ j.heirs q (owns-listed q (child_entries c n) k) in cc)) (λ k. k))
 
   deeper-new : (q : ℕ) → owns c n q ≡ true → deeper q ≡ suc (depth bus)
   deeper-new q e = ap (λ (u : Bool). if u then suc (depth bus) else depth q) e
@@ -246,10 +271,13 @@ module _ (depth : ℕ → ℕ) (b : Board) (n bus slot : ℕ) (id : Option (List
   shallow : IsShallow deeper c
   shallow =
       record {
-        top = (deeper-old ROOT_BUS_BIRTH (child-live b firm MACHINE_BIRTH ROOT_BUS_BIRTH h.parts.1.1.0) ∙ h.shallow.top.0, (deeper-old MEMORY_BUS_BIRTH (child-live b firm MACHINE_BIRTH MEMORY_BUS_BIRTH h.parts.1.1.1.0) ∙ h.shallow.top.1.0, tt));
+        top =
+            (deeper-old ROOT_BUS_BIRTH (child-live b firm MACHINE_BIRTH ROOT_BUS_BIRTH h.parts.1.1.0) ∙ h.shallow.top.0, (deeper-old MEMORY_BUS_BIRTH (child-live b firm MACHINE_BIRTH MEMORY_BUS_BIRTH h.parts.1.1.1.0) ∙ h.shallow.top.1.0, tt));
         below = below;
         most = λ q o. by-owner q o
-            (λ k. let is : deeper q ≡ depth q = deeper-old q (owner-there q k) in let le : depth q ≤ 8 = h.shallow.most q k in subst (λ (m : ℕ). m ≤ 8) (sym is) le)
+            (λ k.
+            let is : deeper q ≡ depth q = deeper-old q (owner-there q k) in
+            let le : depth q ≤ 8 = h.shallow.most q k in subst (λ (m : ℕ). m ≤ 8) (sym is) le)
             (λ k. subst (λ (m : ℕ). m ≤ 8) (sym (deeper-new q k)) (j.shallow q k));
       }
     where
@@ -260,7 +288,9 @@ module _ (depth : ℕ → ℕ) (b : Board) (n bus slot : ℕ) (id : Option (List
           old k =
               let was : bus_of b p ≡ Some q = sym (j.bus_same p (there p k)) ∙ on in
               let owned : owns b p m ≡ true = sym (ap (list_any (owns_it m)) (own-children p k)) ∙ o in
-              deeper-old m (owner-there m (bridges p k owned)) ∙ h.shallow.below p q m k was owned ∙ ap (λ (x : ℕ). suc x) (sym (deeper-old q (owner-there q (h.owner p q k was))))
+              deeper-old m (owner-there m (bridges p k owned))
+              ∙ h.shallow.below p q m k was owned
+              ∙ ap (λ (x : ℕ). suc x) (sym (deeper-old q (owner-there q (h.owner p q k was))))
 
           new : p ≡ n → deeper m ≡ suc (deeper q)
           new is =
@@ -269,7 +299,10 @@ module _ (depth : ℕ → ℕ) (b : Board) (n bus slot : ℕ) (id : Option (List
 
   -- what stands in the containers
   peripheral : AllByRecursion (IsPeripheral c) (child_entries c PERIPHERAL_BIRTH)
-  peripheral = subst (AllByRecursion (IsPeripheral c)) (sym j.third) (all-append (IsPeripheral c) (child_entries b PERIPHERAL_BIRTH) (named_entry id n) (all-imply (IsPeripheral b) (IsPeripheral c) one (child_entries b PERIPHERAL_BIRTH) h.peripheral) (own id j.its_id j.its_path))
+  peripheral =
+      subst (AllByRecursion (IsPeripheral c)) (sym j.third)
+      (all-append (IsPeripheral c) (child_entries b PERIPHERAL_BIRTH) (named_entry id n)
+      (all-imply (IsPeripheral b) (IsPeripheral c) one (child_entries b PERIPHERAL_BIRTH) h.peripheral) (own id j.its_id j.its_path))
     where
       one : (e : List ℕ × ℕ) → IsPeripheral b e → IsPeripheral c e
       one e k =
@@ -278,10 +311,14 @@ module _ (depth : ℕ → ℕ) (b : Board) (n bus slot : ℕ) (id : Option (List
 
       own : (o : Option (List ℕ)) → id_of c n ≡ o → path_of c n ≡ Some (path_behind b o) → AllByRecursion (IsPeripheral c) (named_entry o n)
       own None e p = tt
-      own (Some i) e p = (record { device = ap (λ (k : Option TypeId). option_map_or (λ (x : TypeId). is_a x (codes "device")) k false) j.kind ∙ j.device; id = e; path = p }, tt)
+      own (Some i) e p =
+          (record { device = ap (λ (k : Option TypeId). option_map_or (λ (x : TypeId). is_a x (codes "device")) k false) j.kind ∙ j.device; id = e; path = p }, tt)
 
   anonymous : AllByRecursion (IsAnonymous c) (child_entries c ANONYMOUS_BIRTH)
-  anonymous = subst (AllByRecursion (IsAnonymous c)) (sym j.fourth) (all-append (IsAnonymous c) (child_entries b ANONYMOUS_BIRTH) (numbered_entry b id n) (all-imply (IsAnonymous b) (IsAnonymous c) one (child_entries b ANONYMOUS_BIRTH) h.anonymous) (own id j.its_id j.its_path j.anonymous))
+  anonymous =
+      subst (AllByRecursion (IsAnonymous c)) (sym j.fourth)
+      (all-append (IsAnonymous c) (child_entries b ANONYMOUS_BIRTH) (numbered_entry b id n)
+      (all-imply (IsAnonymous b) (IsAnonymous c) one (child_entries b ANONYMOUS_BIRTH) h.anonymous) (own id j.its_id j.its_path j.anonymous))
     where
       grows : (o : Option (List ℕ)) (k m : ℕ) → k < m → k < count_behind o m
       grows None k m l = omega (arith, l)
@@ -291,25 +328,40 @@ module _ (depth : ℕ → ℕ) (b : Board) (n bus slot : ℕ) (id : Option (List
       one e k =
           let a : SameBody b c e.1 = j.body e.1 (of-live b (codes "device") e.1 k.device) in
           let (m, (less, name)) = k.numbered in
-          record { device = of-alike b c e.1 (codes "device") a ∙ k.device; id = id-alike b c e.1 a ∙ k.id; path = path-alike b c e.1 a ∙ k.path; numbered = (m, (subst (λ (x : ℕ). m < x) (sym j.anonymous) (grows id m b.anonymous less), name)) }
+          record {
+            device = of-alike b c e.1 (codes "device") a ∙ k.device;
+            id = id-alike b c e.1 a ∙ k.id;
+            path = path-alike b c e.1 a ∙ k.path;
+            numbered = (m, (subst (λ (x : ℕ). m < x) (sym j.anonymous) (grows id m b.anonymous less), name));
+          }
 
-      own : (o : Option (List ℕ)) → id_of c n ≡ o → path_of c n ≡ Some (path_behind b o) → c.anonymous ≡ count_behind o b.anonymous → AllByRecursion (IsAnonymous c) (numbered_entry b o n)
+      own : (o : Option (List ℕ)) → id_of c n ≡ o → path_of c n ≡ Some (path_behind b o) → c.anonymous ≡ count_behind o b.anonymous
+          → AllByRecursion (IsAnonymous c) (numbered_entry b o n)
       own (Some i) e p k = tt
-      own None e p k = (record { device = ap (λ (x : Option TypeId). option_map_or (λ (y : TypeId). is_a y (codes "device")) x false) j.kind ∙ j.device; id = e; path = p; numbered = (b.anonymous, (omega (arith, k), refl)) }, tt)
+      own None e p k =
+          (record { device = ap (λ (x : Option TypeId). option_map_or (λ (y : TypeId). is_a y (codes "device")) x false) j.kind ∙ j.device; id = e; path = p; numbered = (b.anonymous, (omega (arith, k), refl)) }, tt)
 
   -- kids
   old-kid : (q : ℕ) → is_live b q ≡ true → (x : List ℕ × ℕ) → IsKid b q x → IsKid c q x
   old-kid q bus_there x k =
       let live : is_live b x.1 ≡ true = there x.1 k.there in
       let (m, (less, (place, name))) = k.slot in
-      record { there = old-stands x.1 k.there; on = j.bus_same x.1 live ∙ k.on; fits = suits-alike b c q x.1 (j.body q bus_there) (j.body x.1 live) ∙ k.fits; slot = (m, (less, (j.place_same x.1 live ∙ place, name))) }
+      record {
+        there = old-stands x.1 k.there;
+        on = j.bus_same x.1 live ∙ k.on;
+        fits = suits-alike b c q x.1 (j.body q bus_there) (j.body x.1 live) ∙ k.fits;
+        slot = (m, (less, (j.place_same x.1 live ∙ place, name)));
+      }
 
   new-kid : IsKid c bus (kid_name slot, n)
   new-kid =
       record {
         there = new-stands;
         on = j.on;
-        fits = ap (λ (o : Option TypeId). option_map_or (λ x. is_of c (bus_type x) bus) o false) j.kind ∙ of-alike b c bus (bus_type t) (j.body bus bus-live) ∙ j.fits;
+        fits =
+            ap (λ (o : Option TypeId). option_map_or (λ x. is_of c (bus_type x) bus) o false) j.kind
+            ∙ of-alike b c bus (bus_type t) (j.body bus bus-live)
+            ∙ j.fits;
         slot = (slot, (j.low, (j.at, refl)));
       }
 
@@ -318,18 +370,26 @@ module _ (depth : ℕ → ℕ) (b : Board) (n bus slot : ℕ) (id : Option (List
     where
       old : is_live b q ≡ true → AllByRecursion (IsKid c q) (kid_entries c q)
       old k =
-          let before : AllByRecursion (IsKid c q) (kid_entries b q) = all-imply (IsKid b q) (IsKid c q) (old-kid q k) (kid_entries b q) (h.kids q (sym (of-alike b c q (codes "bus") (j.body q k)) ∙ e)) in
+          let before : AllByRecursion (IsKid c q) (kid_entries b q) =
+          all-imply (IsKid b q) (IsKid c q) (old-kid q k) (kid_entries b q) (h.kids q (sym (of-alike b c q (codes "bus") (j.body q k)) ∙ e)) in
           choose (q == bus) (λ is. own (eqb-true q bus is) before) (λ apart. subst (AllByRecursion (IsKid c q)) (sym (j.kids_same q k apart)) before)
         where
           own : q ≡ bus → AllByRecursion (IsKid c q) (kid_entries b q) → AllByRecursion (IsKid c q) (kid_entries c q)
           own is before =
               subst (λ (m : ℕ). AllByRecursion (IsKid c m) (kid_entries c m)) (sym is)
-              (subst (AllByRecursion (IsKid c bus)) (sym j.kids_more) (all-append (IsKid c bus) (kid_entries b bus) ((kid_name slot, n) ∷ []) (subst (λ (m : ℕ). AllByRecursion (IsKid c m) (kid_entries b m)) is before) (new-kid, tt)))
+              (subst (AllByRecursion (IsKid c bus)) (sym j.kids_more)
+              (all-append (IsKid c bus) (kid_entries b bus) ((kid_name slot, n) ∷ [])
+              (subst (λ (m : ℕ). AllByRecursion (IsKid c m) (kid_entries b m)) is before) (new-kid, tt)))
 
   kid-on : (q d : ℕ) → is_live b q ≡ true → listed d (kid_entries b q) ≡ true → listed d (kid_entries c q) ≡ true
   kid-on q d e k =
       choose (q == bus) {A = listed d (kid_entries c q) ≡ true}
-      (λ p. let is : q ≡ bus = eqb-true q bus p in subst (λ (m : ℕ). listed d (kid_entries c m) ≡ true) (sym is) (ap (listed d) j.kids_more ∙ any-append d (kid_entries b bus) ((kid_name slot, n) ∷ []) ∙ ap (λ (u : Bool). u || listed d ((kid_name slot, n) ∷ [])) (subst (λ (m : ℕ). listed d (kid_entries b m) ≡ true) is k)))
+      (λ p.
+      let is : q ≡ bus = eqb-true q bus p in
+      subst (λ (m : ℕ). listed d (kid_entries c m) ≡ true) (sym is)
+      (ap (listed d) j.kids_more
+      ∙ any-append d (kid_entries b bus) ((kid_name slot, n) ∷ [])
+      ∙ ap (λ (u : Bool). u || listed d ((kid_name slot, n) ∷ [])) (subst (λ (m : ℕ). listed d (kid_entries b m) ≡ true) is k)))
       (λ p. ap (listed d) (j.kids_same q e p) ∙ k)
 
   home : (d : ℕ) → stands c d ≡ true → IsHome c d
@@ -339,10 +399,25 @@ module _ (depth : ℕ → ℕ) (b : Board) (n bus slot : ℕ) (id : Option (List
       old k =
           let was : IsHome b d = h.home d k (λ z. cc) in
           let live : is_live b was.bus ≡ true = of-live b (codes "bus") was.bus was.is_bus in
-          record { bus = was.bus; on = j.bus_same d (there d k) ∙ was.on; is_bus = of-alike b c was.bus (codes "bus") (j.body was.bus live) ∙ was.is_bus; kid = kid-on was.bus d live was.kid }
+          record {
+            bus = was.bus;
+            on = j.bus_same d (there d k) ∙ was.on;
+            is_bus = of-alike b c was.bus (codes "bus") (j.body was.bus live) ∙ was.is_bus;
+            kid = kid-on was.bus d live was.kid;
+          }
 
       new : IsHome c n
-      new = record { bus = bus; on = j.on; is_bus = of-alike b c bus (codes "bus") (j.body bus bus-live) ∙ j.is_bus; kid = ap (listed n) j.kids_more ∙ any-append n (kid_entries b bus) ((kid_name slot, n) ∷ []) ∙ ap (λ (u : Bool). listed n (kid_entries b bus) || u) (own-listed (kid_name slot) n) ∙ or-true (listed n (kid_entries b bus)) }
+      new =
+          record {
+            bus = bus;
+            on = j.on;
+            is_bus = of-alike b c bus (codes "bus") (j.body bus bus-live) ∙ j.is_bus;
+            kid =
+                ap (listed n) j.kids_more
+                ∙ any-append n (kid_entries b bus) ((kid_name slot, n) ∷ [])
+                ∙ ap (λ (u : Bool). listed n (kid_entries b bus) || u) (own-listed (kid_name slot) n)
+                ∙ or-true (listed n (kid_entries b bus));
+          }
 
   owner : (d q : ℕ) → stands c d ≡ true → bus_of c d ≡ Some q → HasOwner c q
   owner d q e on =
@@ -354,14 +429,18 @@ module _ (depth : ℕ → ℕ) (b : Board) (n bus slot : ℕ) (id : Option (List
   only d e =
       choose (is_live b d) {A = stands c d ≡ true}
       (λ k. old-stands d (h.only d (sym (j.realized d k) ∙ e)))
-      (λ k. choose (d == n) {A = stands c d ≡ true} (λ is. subst (λ (x : ℕ). stands c x ≡ true) (sym (eqb-true d n is)) new-stands) (λ apart. absurd (let clash : true ≡ false = sym e ∙ j.unrealized d k apart in cc)))
+      (λ k.
+      choose (d == n) {A = stands c d ≡ true} (λ is. subst (λ (x : ℕ). stands c x ≡ true) (sym (eqb-true d n is)) new-stands)
+      (λ apart. absurd (let clash : true ≡ false = sym e ∙ j.unrealized d k apart in cc)))
 
   -- ids
   by-id : (d : ℕ) (i : List ℕ) → id_of c d ≡ Some i → {A : Type 0} → (is_live b d ≡ true → id_of b d ≡ Some i → A) → (d ≡ n → id ≡ Some i → A) → A
   by-id d i e {A} f g =
       choose (is_live b d)
       (λ k. f k (sym (id-alike b c d (j.body d k)) ∙ e))
-      (λ k. choose (d == n) (λ is. g (eqb-true d n is) (sym j.its_id ∙ sym (ap (id_of c) (eqb-true d n is)) ∙ e)) (λ apart. absurd (let clash : None ≡ Some i = sym (j.nameless d k apart) ∙ e in cc)))
+      (λ k.
+      choose (d == n) (λ is. g (eqb-true d n is) (sym j.its_id ∙ sym (ap (id_of c) (eqb-true d n is)) ∙ e))
+      (λ apart. absurd (let clash : None ≡ Some i = sym (j.nameless d k apart) ∙ e in cc)))
 
   new-device : is_of c (codes "device") n ≡ true
   new-device = ap (λ (k : Option TypeId). option_map_or (λ (x : TypeId). is_a x (codes "device")) k false) j.kind ∙ j.device
@@ -411,7 +490,9 @@ module _ (depth : ℕ → ℕ) (b : Board) (n bus slot : ℕ) (id : Option (List
   none-stands : (m : ℕ) → is_live b m ≡ true → stands b m ≡ false → stands c m ≡ false
   none-stands m live e =
       choose (stands c m) {A = stands c m ≡ false}
-      (λ k. by-stand m k (λ s. absurd (let clash : true ≡ false = sym s ∙ e in cc)) (λ is. absurd (let clash : true ≡ false = sym live ∙ ap (is_live b) is ∙ j.absent in cc)))
+      (λ k.
+      by-stand m k (λ s. absurd (let clash : true ≡ false = sym s ∙ e in cc))
+      (λ is. absurd (let clash : true ≡ false = sym live ∙ ap (is_live b) is ∙ j.absent in cc)))
       (λ k. k)
 
   pub places-joined : PlacesBut (deepened depth n bus c) None (λ x. false) c
@@ -419,7 +500,8 @@ module _ (depth : ℕ → ℕ) (b : Board) (n bus slot : ℕ) (id : Option (List
       record {
         machine = ap (listed MACHINE_BIRTH) first ∙ h.machine;
         objects = ap (listed OBJECTS_BIRTH) first ∙ h.objects;
-        parts = (ap (listed PERIPHERAL_BIRTH) second ∙ h.parts.0, (ap (listed ANONYMOUS_BIRTH) second ∙ h.parts.1.0, (ap (listed ROOT_BUS_BIRTH) second ∙ h.parts.1.1.0, (ap (listed MEMORY_BUS_BIRTH) second ∙ h.parts.1.1.1.0, (ap (listed SYSTEM_CLOCK_BIRTH) second ∙ h.parts.1.1.1.1.0, tt)))));
+        parts =
+            (ap (listed PERIPHERAL_BIRTH) second ∙ h.parts.0, (ap (listed ANONYMOUS_BIRTH) second ∙ h.parts.1.0, (ap (listed ROOT_BUS_BIRTH) second ∙ h.parts.1.1.0, (ap (listed MEMORY_BUS_BIRTH) second ∙ h.parts.1.1.1.0, (ap (listed SYSTEM_CLOCK_BIRTH) second ∙ h.parts.1.1.1.1.0, tt)))));
         rooted = rooted-same b c (j.body 1 (owner-live b 1 MACHINE_BIRTH h.machine)) first second h.rooted;
         children = at_home;
         aside = (

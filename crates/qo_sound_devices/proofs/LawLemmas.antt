@@ -13,17 +13,22 @@ use Rattle.qo_sound_devices.proofs.AddLemmas.{attempt-places, object_add-places}
 use Rattle.qo_sound_devices.proofs.BesideLemmas.{asked-places, beside-places, refused-places}
 use Rattle.qo_sound_devices.proofs.CommandLemmas.{object_del-places, sever-places}
 use Rattle.qo_sound_devices.proofs.DetachLemmas.{detach-places}
+use Rattle.qo_sound_devices.proofs.PlacesLemmas.{Keeps}
 use Rattle.qo_sound_devices.proofs.PlaceRows.{opening-places}
 use Rattle.qo_sound_devices.proofs.PlugLemmas.{cut_attempt-places, plug_attempt-places}
 use Rattle.qo_sound_devices.proofs.PluggedLemmas.{plugged-places}
 use Rattle.qo_sound_devices.proofs.WriteLemmas.{write-places}
 
-changed-places : (depth : ℕ → ℕ) (b : Board) (change : Change) → AtRest b → PlacesBut depth None (λ x. false) b
+-- each change keeps places, and the same devices stand
+pub changed-keeps : (depth : ℕ → ℕ) (b : Board) (change : Change) → AtRest b → PlacesBut depth None (λ x. false) b → Keeps depth b (changed b change)
+changed-keeps depth b (added driver id props) rest h = object_add-places depth b driver id props rest h
+changed-keeps depth b (deleted id) rest h = object_del-places depth b id rest h
+changed-keeps depth b (wrote n name v) rest h = write-places depth b n name v rest h
+changed-keeps depth b (severed n) rest h = sever-places depth b n rest h
+
+pub changed-places : (depth : ℕ → ℕ) (b : Board) (change : Change) → AtRest b → PlacesBut depth None (λ x. false) b
     → PlacesBut depth None (λ x. false) (changed b change)
-changed-places depth b (added driver id props) rest h = object_add-places depth b driver id props rest h
-changed-places depth b (deleted id) rest h = object_del-places depth b id rest h
-changed-places depth b (wrote n name v) rest h = write-places depth b n name v rest h
-changed-places depth b (severed n) rest h = sever-places depth b n rest h
+changed-places depth b change rest h = (changed-keeps depth b change rest h).places
 
 behind-places : (b : Board) (changes : List Change) → SoundTree b → SoundPlaces b → SoundPlaces (behind b changes)
 behind-places b [] tree h = h

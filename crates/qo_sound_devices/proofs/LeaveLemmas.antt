@@ -33,9 +33,11 @@ use Rattle.qo_sound_devices.proofs.StepsLemmas.{Steps, steps-after, steps-then}
 use Rattle.qo_sound_devices.proofs.TakeLemmas.{any-kid_dropped, cut-kept, dropped, dropped-read, for-each, kid-gone, link-dropped, link-stands, Mid, record-at, Went}
 
 -- a fact of the entry of a slot
-pub all-at : (P : List ℕ × ℕ → Type 0) (i : ℕ) (slots : List (List ℕ × Slot)) (s : List ℕ × Slot) (e : List ℕ × ℕ) → slice_get slots i ≡ Some s → kid_entry s ≡ Some e → AllByRecursion P (filter_map kid_entry slots) → P e
+pub all-at : (P : List ℕ × ℕ → Type 0) (i : ℕ) (slots : List (List ℕ × Slot)) (s : List ℕ × Slot) (e : List ℕ × ℕ) → slice_get slots i ≡ Some s
+    → kid_entry s ≡ Some e → AllByRecursion P (filter_map kid_entry slots) → P e
 all-at P i [] s e at is h = cc
-all-at P zero (x ∷ slots) s e at is h = (subst (λ (o : Option (List ℕ × ℕ)). AllByRecursion P (cons_option o (filter_map kid_entry slots))) (ap kid_entry (same_Some x s at) ∙ is) h).0
+all-at P zero (x ∷ slots) s e at is h =
+    (subst (λ (o : Option (List ℕ × ℕ)). AllByRecursion P (cons_option o (filter_map kid_entry slots))) (ap kid_entry (same_Some x s at) ∙ is) h).0
 all-at P (suc i) (x ∷ slots) s e at is h = go (kid_entry x) h (all-at P i slots s e at is)
   where
     go : (o : Option (List ℕ × ℕ)) → AllByRecursion P (cons_option o (filter_map kid_entry slots)) → (AllByRecursion P (filter_map kid_entry slots) → P e) → P e
@@ -43,11 +45,14 @@ all-at P (suc i) (x ∷ slots) s e at is h = go (kid_entry x) h (all-at P i slot
     go (Some y) k rest = rest k.1
 
 -- the first slot of a name
-pub first-found : (name : List ℕ) (slots : List (List ℕ × Slot)) (k j i : ℕ) → place_from (is_named name) k slots ≡ Some j → j ≡ i + k → slice_get slots i ≡ find (λ s. bytes_eq s.0 name) slots
+pub first-found : (name : List ℕ) (slots : List (List ℕ × Slot)) (k j i : ℕ) → place_from (is_named name) k slots ≡ Some j → j ≡ i + k
+    → slice_get slots i ≡ find (λ s. bytes_eq s.0 name) slots
 first-found name [] k j i e is = cc
 first-found name (s ∷ slots) k j i e is = go (is_named name s) refl i is (first-found name slots (suc k) j)
   where
-    go : (t : Bool) → is_named name s ≡ t → (m : ℕ) → j ≡ m + k → ((n : ℕ) → place_from (is_named name) (suc k) slots ≡ Some j → j ≡ n + suc k → slice_get slots n ≡ find (λ s. bytes_eq s.0 name) slots) → slice_get (s ∷ slots) m ≡ find (λ s. bytes_eq s.0 name) (s ∷ slots)
+    go : (t : Bool) → is_named name s ≡ t → (m : ℕ) → j ≡ m + k
+        → ((n : ℕ) → place_from (is_named name) (suc k) slots ≡ Some j → j ≡ n + suc k → slice_get slots n ≡ find (λ s. bytes_eq s.0 name) slots)
+        → slice_get (s ∷ slots) m ≡ find (λ s. bytes_eq s.0 name) (s ∷ slots)
     go true p zero q rest = rw p refl
     go true p (suc m) q rest = absurd (let same : k ≡ j = same_Some k j (rw p at e) in omega (arith, same, q))
     go false p zero q rest =
@@ -55,21 +60,27 @@ first-found name (s ∷ slots) k j i e is = go (is_named name s) refl i is (firs
         absurd (omega (arith, far, q))
     go false p (suc m) q rest = rw p (rest m (rw p at e) (omega (arith, q)))
 
-pub unnamed : (name : List ℕ) (slots : List (List ℕ × Slot)) (k : ℕ) → place_from (is_named name) k slots ≡ None → option_and_then strong_in (option_map (λ (s : List ℕ × Slot). s.1) (find (λ s. bytes_eq s.0 name) slots)) ≡ None
+pub unnamed : (name : List ℕ) (slots : List (List ℕ × Slot)) (k : ℕ) → place_from (is_named name) k slots ≡ None
+    → option_and_then strong_in (option_map (λ (s : List ℕ × Slot). s.1) (find (λ s. bytes_eq s.0 name) slots)) ≡ None
 unnamed name [] k e = refl
 unnamed name (s ∷ slots) k e = go (is_named name s) refl (unnamed name slots (suc k))
   where
-    go : (t : Bool) → is_named name s ≡ t → (place_from (is_named name) (suc k) slots ≡ None → option_and_then strong_in (option_map (λ (s : List ℕ × Slot). s.1) (find (λ s. bytes_eq s.0 name) slots)) ≡ None) → option_and_then strong_in (option_map (λ (s : List ℕ × Slot). s.1) (find (λ s. bytes_eq s.0 name) (s ∷ slots))) ≡ None
+    go : (t : Bool) → is_named name s ≡ t
+        → (place_from (is_named name) (suc k) slots ≡ None → option_and_then strong_in (option_map (λ (s : List ℕ × Slot). s.1) (find (λ s. bytes_eq s.0 name) slots)) ≡ None)
+        → option_and_then strong_in (option_map (λ (s : List ℕ × Slot). s.1) (find (λ s. bytes_eq s.0 name) (s ∷ slots))) ≡ None
     go true p rest = absurd (let clash : Some k ≡ None = rw p at e in cc)
     go false p rest = rw p (rest (rw p at e))
 
 -- a link of a name that was let go is empty, where names differ
-pub strong-gone : (name : List ℕ) (i : ℕ) (slots : List (List ℕ × Slot)) → IsDistinct bytes_eq (names_in slots) → (s : List ℕ × Slot) → slice_get slots i ≡ Some s → bytes_eq s.0 name ≡ true → option_and_then strong_in (option_map (λ (x : List ℕ × Slot). x.1) (find (λ x. bytes_eq x.0 name) (without_hold i slots))) ≡ None
+pub strong-gone : (name : List ℕ) (i : ℕ) (slots : List (List ℕ × Slot)) → IsDistinct bytes_eq (names_in slots) → (s : List ℕ × Slot)
+    → slice_get slots i ≡ Some s → bytes_eq s.0 name ≡ true
+    → option_and_then strong_in (option_map (λ (x : List ℕ × Slot). x.1) (find (λ x. bytes_eq x.0 name) (without_hold i slots))) ≡ None
 unfolding IsDistinct
 strong-gone name i [] h s e is = cc
 strong-gone name zero (x ∷ slots) h s e is = go x (ap (λ (y : List ℕ × Slot). bytes_eq y.0 name) (same_Some x s e) ∙ is) h
   where
-    go : (y : List ℕ × Slot) → bytes_eq y.0 name ≡ true → IsDistinct bytes_eq (names_in (y ∷ slots)) → option_and_then strong_in (option_map (λ (x : List ℕ × Slot). x.1) (find (λ x. bytes_eq x.0 name) (without_hold zero (y ∷ slots)))) ≡ None
+    go : (y : List ℕ × Slot) → bytes_eq y.0 name ≡ true → IsDistinct bytes_eq (names_in (y ∷ slots))
+        → option_and_then strong_in (option_map (λ (x : List ℕ × Slot). x.1) (find (λ x. bytes_eq x.0 name) (without_hold zero (y ∷ slots)))) ≡ None
     go (own, plain v) p k = rw p refl
     go (own, child m) p k = ap (option_and_then strong_in) (none-named name own ((bytes_eq-Decides own name).0 p) slots k.0)
     go (own, strong t target) p k = rw p refl
@@ -77,12 +88,15 @@ strong-gone name zero (x ∷ slots) h s e is = go x (ap (λ (y : List ℕ × Slo
     go (own, alias m property) p k = rw p refl
 strong-gone name (suc i) (x ∷ slots) h s e is = go (bytes_eq x.0 name) refl (strong-gone name i slots h.1 s e is)
   where
-    later : (j : ℕ) (ys : List (List ℕ × Slot)) → slice_get ys j ≡ Some s → AllByRecursion (λ m. bytes_eq x.0 m ≡ false) (names_in ys) → bytes_eq x.0 s.0 ≡ false
+    later : (j : ℕ) (ys : List (List ℕ × Slot)) → slice_get ys j ≡ Some s → AllByRecursion (λ m. bytes_eq x.0 m ≡ false) (names_in ys)
+        → bytes_eq x.0 s.0 ≡ false
     later j [] q a = cc
     later zero (y ∷ ys) q a = subst (λ (z : List ℕ × Slot). bytes_eq x.0 z.0 ≡ false) (same_Some y s q) a.0
     later (suc j) (y ∷ ys) q a = later j ys q a.1
 
-    go : (t : Bool) → bytes_eq x.0 name ≡ t → option_and_then strong_in (option_map (λ (x : List ℕ × Slot). x.1) (find (λ x. bytes_eq x.0 name) (without_hold i slots))) ≡ None → option_and_then strong_in (option_map (λ (x : List ℕ × Slot). x.1) (find (λ x. bytes_eq x.0 name) (x ∷ without_hold i slots))) ≡ None
+    go : (t : Bool) → bytes_eq x.0 name ≡ t
+        → option_and_then strong_in (option_map (λ (x : List ℕ × Slot). x.1) (find (λ x. bytes_eq x.0 name) (without_hold i slots))) ≡ None
+        → option_and_then strong_in (option_map (λ (x : List ℕ × Slot). x.1) (find (λ x. bytes_eq x.0 name) (x ∷ without_hold i slots))) ≡ None
     go false p rest = rw p rest
     go true p rest =
         let same_name : x.0 ≡ s.0 = (bytes_eq-Decides x.0 name).0 p ∙ sym ((bytes_eq-Decides s.0 name).0 is) in
@@ -98,7 +112,8 @@ none-kid d k ((name, weak t target) ∷ slots) e = none-kid d (suc k) slots e
 none-kid d k ((name, alias m property) ∷ slots) e = none-kid d (suc k) slots e
 none-kid d k ((name, strong t (Some m)) ∷ slots) e = go (m == d) refl (none-kid d (suc k) slots)
   where
-    go : (t : Bool) → (m == d) ≡ t → (place_from (names_kid d) (suc k) slots ≡ None → listed d (filter_map kid_entry slots) ≡ false) → (m == d) || listed d (filter_map kid_entry slots) ≡ false
+    go : (t : Bool) → (m == d) ≡ t → (place_from (names_kid d) (suc k) slots ≡ None → listed d (filter_map kid_entry slots) ≡ false)
+        → (m == d) || listed d (filter_map kid_entry slots) ≡ false
     go true p rest = absurd (let clash : Some k ≡ None = rw p at e in cc)
     go false p rest = rw p (rest (rw p at e))
 
@@ -122,7 +137,8 @@ pub record Stay (d : ℕ) (b c : Board) : Type 0 where
   pub bus_on : (x q : ℕ) → (d == x) ≡ false → stands b x ≡ true → bus_of b x ≡ Some q → bus_of c x ≡ Some q
 
 pub stay-then : (d : ℕ) (b c e : Board) → Stay d b c → Stay d c e → Stay d b e
-stay-then d b c e h k = record { stands_on = λ x p t. k.stands_on x p (h.stands_on x p t); bus_on = λ x q p t o. k.bus_on x q p (h.stands_on x p t) (h.bus_on x q p t o) }
+stay-then d b c e h k =
+    record { stands_on = λ x p t. k.stands_on x p (h.stands_on x p t); bus_on = λ x q p t o. k.bus_on x q p (h.stands_on x p t) (h.bus_on x q p t o) }
 
 pub stay-none : (d : ℕ) (b : Board) → Stay d b b
 stay-none d b = record { stands_on = λ x p t. t; bus_on = λ x q p t o. o }
@@ -149,7 +165,8 @@ pub record Taken (depth : ℕ → ℕ) (out : ℕ → Bool) (ps : List ℕ) (d m
   pub on : bus_of c d ≡ Some m
   pub unlisted : IsUnlisted c d
 
-pub taken-kid : (depth : ℕ → ℕ) (out : ℕ → Bool) (ps : List ℕ) (b : Board) → Mid depth out None ps b → (d m : ℕ) → stands b d ≡ true → bus_of b d ≡ Some m → Taken depth out ps d m b (take_where (names_kid d) m b)
+pub taken-kid : (depth : ℕ → ℕ) (out : ℕ → Bool) (ps : List ℕ) (b : Board) → Mid depth out None ps b → (d m : ℕ) → stands b d ≡ true
+    → bus_of b d ≡ Some m → Taken depth out ps d m b (take_where (names_kid d) m b)
 unfolding drop_slot cut
 taken-kid depth out ps b h d m e on = go (place_from (names_kid d) 0 (slots_at b m)) refl
   where
@@ -218,10 +235,17 @@ taken-kid depth out ps b h d m e on = go (place_from (names_kid d) 0 (slots_at b
         c = drop_slot b m i
 
         same-bus : (x : ℕ) → bus_of c x ≡ bus_of b x
-        same-bus = for-each depth out None ps b h m i r owner.1 f.entry at (λ y. bus_of c y ≡ bus_of b y) (λ y p a. a.bus) (dropped-read depth out None ps b h m i r owner.1 f.entry at (λ ss. option_and_then strong_in (option_map (λ (y : List ℕ × Slot). y.1) (find (λ y. bytes_eq y.0 (codes "parent_bus")) ss))) (strong-dropped (codes "parent_bus") i r.slots (names-at b firm m r owner.1) f.entry at (inr other_name)))
+        same-bus =
+            for-each depth out None ps b h m i r owner.1 f.entry at (λ y. bus_of c y ≡ bus_of b y) (λ y p a. a.bus)
+            (dropped-read depth out None ps b h m i r owner.1 f.entry at
+            (λ ss. option_and_then strong_in (option_map (λ (y : List ℕ × Slot). y.1) (find (λ y. bytes_eq y.0 (codes "parent_bus")) ss)))
+            (strong-dropped (codes "parent_bus") i r.slots (names-at b firm m r owner.1) f.entry at (inr other_name)))
 
         hold : (p x : ℕ) → is_of b (codes "bus") p ≡ true → d ≢ x → listed x (kid_entries b p) ≡ true → listed x (kid_entries c p) ≡ true
-        hold p x isb differs = for-each depth out None ps b h m i r owner.1 f.entry at (λ y. listed x (kid_entries b y) ≡ true → listed x (kid_entries c y) ≡ true) (λ y k a l. ap (listed x) a.kids ∙ l) (λ l. dropped-read depth out None ps b h m i r owner.1 f.entry at (λ ss. listed x (filter_map kid_entry ss)) (any-kid_dropped (λ (z : List ℕ × ℕ). z.1 == x) i r.slots f.entry (f.entry.0, d) at entry (false-of (d == x) (λ k. differs (eqb-true d x k)))) ∙ l) p
+        hold p x isb differs =
+            for-each depth out None ps b h m i r owner.1 f.entry at (λ y. listed x (kid_entries b y) ≡ true → listed x (kid_entries c y) ≡ true)
+            (λ y k a l. ap (listed x) a.kids ∙ l)
+            (λ l. dropped-read depth out None ps b h m i r owner.1 f.entry at (λ ss. listed x (filter_map kid_entry ss)) (any-kid_dropped (λ (z : List ℕ × ℕ). z.1 == x) i r.slots f.entry (f.entry.0, d) at entry (false-of (d == x) (λ k. differs (eqb-true d x k)))) ∙ l) p
 
         first : PlacesBut depth (Some d) out c
         first = link-dropped depth out None ps b h m i r owner.1 f.entry at d none (λ x. inl (λ z. cc)) (λ x k. same-bus x) (λ p x isb l. same-bus x) hold
@@ -233,13 +257,22 @@ taken-kid depth out ps b h d m e on = go (place_from (names_kid d) 0 (slots_at b
         first-unlisted p is =
             let live : is_live c p ≡ true = of-live c (codes "bus") p is in
             let isb : is_of b (codes "bus") p ≡ true = sym (of-alike b c p (codes "bus") (step.body p live)) ∙ is in
-            for-each depth out None ps b h m i r owner.1 f.entry at (λ y. is_of b (codes "bus") y ≡ true → (y == m) ≡ (p == m) → listed d (kid_entries c y) ≡ false)
-            (λ y k a ib same_y. ap (listed d) a.kids ∙ false-of (listed d (kid_entries b y)) (λ l. let clash : y ≡ m = same_Some y m (sym (kid-of depth None out b h.places y d ib l).1 ∙ on) in absurd (let both : true ≡ false = sym (eq-eqb y m clash) ∙ k in cc)))
+            for-each depth out None ps b h m i r owner.1 f.entry at
+            (λ y. is_of b (codes "bus") y ≡ true → (y == m) ≡ (p == m) → listed d (kid_entries c y) ≡ false)
+            (λ y k a ib same_y.
+            ap (listed d) a.kids
+            ∙ false-of (listed d (kid_entries b y))
+            (λ l.
+            let clash : y ≡ m = same_Some y m (sym (kid-of depth None out b h.places y d ib l).1 ∙ on) in
+            absurd (let both : true ≡ false = sym (eq-eqb y m clash) ∙ k in cc)))
             (λ ib same_y. gone)
             p isb refl
           where
             gone : listed d (kid_entries c m) ≡ false
-            gone = now (filter_map kid_entry (without_hold i r.slots)) (kid-gone d i (kid_name place) r.slots f.entry (names-at b firm m r owner.1) (all-imply (IsKid b m) (λ (z : List ℕ × ℕ). z.1 ≡ d → z.0 ≡ kid_name place) same_place (filter_map kid_entry r.slots) all) at entry)
+            gone =
+                now (filter_map kid_entry (without_hold i r.slots))
+                (kid-gone d i (kid_name place) r.slots f.entry (names-at b firm m r owner.1)
+                (all-imply (IsKid b m) (λ (z : List ℕ × ℕ). z.1 ≡ d → z.0 ≡ kid_name place) same_place (filter_map kid_entry r.slots) all) at entry)
               where
                 same_place : (z : List ℕ × ℕ) → IsKid b m z → z.1 ≡ d → z.0 ≡ kid_name place
                 same_place z k is_d =
@@ -265,7 +298,8 @@ taken-kid depth out ps b h d m e on = go (place_from (names_kid d) 0 (slots_at b
         here = stands-at c m i (strong typed.0 None) empty
 
         second : Kept c (cut m i c) × Steps c (cut m i c)
-        second = cut-kept c (owner-live c 1 MACHINE_BIRTH first.machine) m i near_first.firm near_second.firm here.owner here.found here.entry here.at typed.0 here.is
+        second =
+            cut-kept c (owner-live c 1 MACHINE_BIRTH first.machine) m i near_first.firm near_second.firm here.owner here.found here.entry here.at typed.0 here.is
 
         places_second : PlacesBut depth (Some d) out (cut m i c)
         places_second = places-kept c (cut m i c) second.0 depth (Some d) out first
@@ -286,7 +320,10 @@ taken-kid depth out ps b h d m e on = go (place_from (names_kid d) 0 (slots_at b
         last = after finalise (cut m i c) (Some d)
 
         stands_first : (x : ℕ) → stands c x ≡ stands b x
-        stands_first x = ap₂ (λ (xs ys : List (List ℕ × ℕ)). listed x xs || listed x ys) (link-stands depth out None ps b h m i r owner.1 f.entry at none PERIPHERAL_BIRTH) (link-stands depth out None ps b h m i r owner.1 f.entry at none ANONYMOUS_BIRTH)
+        stands_first x =
+            ap₂ (λ (xs ys : List (List ℕ × ℕ)). listed x xs || listed x ys)
+            (link-stands depth out None ps b h m i r owner.1 f.entry at none PERIPHERAL_BIRTH)
+            (link-stands depth out None ps b h m i r owner.1 f.entry at none ANONYMOUS_BIRTH)
 
         stay_first : Stay d b c
         stay_first = record { stands_on = λ x p t. stands_first x ∙ t; bus_on = λ x k p t o. same-bus x ∙ o }
@@ -313,8 +350,20 @@ taken-kid depth out ps b h d m e on = go (place_from (names_kid d) 0 (slots_at b
         result =
             subst (Taken depth out ps d m b) (sym (shape q slot))
             (record {
-              went = record { mid = record { sits = subst (Sits ps) (shape q slot) sits; one = h.one; places = after-places depth (Some d) out (cut m i c) (Some d) ends pinned places_second }; steps = steps };
-              stay = stay-then d b c last stay_first (stay-then d c (cut m i c) last (stay-kept depth (Some d) out d c (cut m i c) second.0 first) (stay-kept depth (Some d) out d (cut m i c) last third places_second));
+              went =
+                  record {
+                    mid =
+                        record {
+                          sits = subst (Sits ps) (shape q slot) sits;
+                          one = h.one;
+                          places = after-places depth (Some d) out (cut m i c) (Some d) ends pinned places_second;
+                        };
+                    steps = steps;
+                  };
+              stay =
+                  stay-then d b c last stay_first
+                  (stay-then d c (cut m i c) last (stay-kept depth (Some d) out d c (cut m i c) second.0 first)
+                  (stay-kept depth (Some d) out d (cut m i c) last third places_second));
               there = there;
               on = on_last;
               unlisted = unlisted-steps c last d (steps-then c (cut m i c) last second.1 (steps-after (cut m i c) (Some d))) first-unlisted;

@@ -6,6 +6,7 @@ pub mod BesideLemmas
 pub mod CheckLemmas
 pub mod CommandLemmas
 pub mod DetachLemmas
+pub mod DevicesLawLemmas
 pub mod DraftedLemmas
 pub mod DropLemmas
 pub mod GoalLemmas
@@ -13,6 +14,9 @@ pub mod HoldsLemmas
 pub mod JoinedLemmas
 pub mod LawLemmas
 pub mod LeaveLemmas
+pub mod ListsKeptLemmas
+pub mod ListsLawLemmas
+pub mod ListsLemmas
 pub mod LowLemmas
 pub mod MadeLemmas
 pub mod MovedLemmas
@@ -24,11 +28,15 @@ pub mod PlainLemmas
 pub mod PlugLemmas
 pub mod PluggedLemmas
 pub mod RealizedLemmas
+pub mod ResetLemmas
+pub mod SameLemmas
+pub mod SayLemmas
 pub mod SourceLemmas
 pub mod StartedLemmas
 pub mod StepsLemmas
 pub mod StoodLemmas
 pub mod TakeLemmas
+pub mod UnlistLemmas
 pub mod UnrealizeLemmas
 pub mod WhereLemmas
 pub mod WriteLemmas

@@ -20,14 +20,17 @@ use Rattle.qo_sound_devices.proofs.PlacesLemmas.{all-listed, child-live, owner-l
 use Rattle.qo_sound_devices.proofs.UnrealizeLemmas.{Dimmed, dimmed-live, IsLow, turns-all, turns-dimmed, turns-only, Under, here, down}
 
 -- the kids and buses that recursions go over
-pub kids-listed : (k : ℕ) (slots : List (List ℕ × Slot)) → among (filter_map (λ (s : List ℕ × Slot). strong_in s.1) slots) k ≡ true → listed k (filter_map kid_entry slots) ≡ true
+pub kids-listed : (k : ℕ) (slots : List (List ℕ × Slot)) → among (filter_map (λ (s : List ℕ × Slot). strong_in s.1) slots) k ≡ true
+    → listed k (filter_map kid_entry slots) ≡ true
 kids-listed k [] e = cc
 kids-listed k ((name, plain v) ∷ slots) e = kids-listed k slots e
 kids-listed k ((name, child m) ∷ slots) e = kids-listed k slots e
 kids-listed k ((name, strong t None) ∷ slots) e = kids-listed k slots e
 kids-listed k ((name, strong t (Some m)) ∷ slots) e = go (eqb k m) refl (kids-listed k slots)
   where
-    go : (t : Bool) → eqb k m ≡ t → (among (filter_map (λ (s : List ℕ × Slot). strong_in s.1) slots) k ≡ true → listed k (filter_map kid_entry slots) ≡ true) → (m == k) || listed k (filter_map kid_entry slots) ≡ true
+    go : (t : Bool) → eqb k m ≡ t
+        → (among (filter_map (λ (s : List ℕ × Slot). strong_in s.1) slots) k ≡ true → listed k (filter_map kid_entry slots) ≡ true)
+        → (m == k) || listed k (filter_map kid_entry slots) ≡ true
     go true p rest = let own : (m == k) ≡ true = grind (arith, p) in rw own refl
     go false p rest = rw (rest (rw p at e)) (or-true (m == k))
 kids-listed k ((name, weak t target) ∷ slots) e = kids-listed k slots e
@@ -37,7 +40,8 @@ pub record IsBusOf (b : Board) (d m : ℕ) : Type 0 where
   pub bus : is_of b (codes "bus") m ≡ true
   pub owned : owns b d m ≡ true
 
-bus-owned : (b : Board) (m : ℕ) (slots : List (List ℕ × Slot)) → among (filter_map (bus_in b) slots) m ≡ true → (is_of b (codes "bus") m ≡ true) × (list_any (owns_it m) (filter_map child_entry slots) ≡ true)
+bus-owned : (b : Board) (m : ℕ) (slots : List (List ℕ × Slot)) → among (filter_map (bus_in b) slots) m ≡ true
+    → (is_of b (codes "bus") m ≡ true) × (list_any (owns_it m) (filter_map child_entry slots) ≡ true)
 bus-owned b m [] e = cc
 bus-owned b m ((name, plain v) ∷ slots) e = bus-owned b m slots e
 bus-owned b m ((name, strong t target) ∷ slots) e = bus-owned b m slots e
@@ -45,29 +49,39 @@ bus-owned b m ((name, weak t target) ∷ slots) e = bus-owned b m slots e
 bus-owned b m ((name, alias k property) ∷ slots) e = bus-owned b m slots e
 bus-owned b m ((name, child k) ∷ slots) e = go (is_of b (codes "bus") k) refl (bytes_eq name clock_name) refl (eqb m k) refl (bus-owned b m slots)
   where
-    go : (t : Bool) → is_of b (codes "bus") k ≡ t → (u : Bool) → bytes_eq name clock_name ≡ u → (v : Bool) → eqb m k ≡ v → (among (filter_map (bus_in b) slots) m ≡ true → (is_of b (codes "bus") m ≡ true) × (list_any (owns_it m) (filter_map child_entry slots) ≡ true)) → (is_of b (codes "bus") m ≡ true) × (list_any (owns_it m) (filter_map child_entry ((name, child k) ∷ slots)) ≡ true)
+    go : (t : Bool) → is_of b (codes "bus") k ≡ t → (u : Bool) → bytes_eq name clock_name ≡ u → (v : Bool) → eqb m k ≡ v
+        → (among (filter_map (bus_in b) slots) m ≡ true → (is_of b (codes "bus") m ≡ true) × (list_any (owns_it m) (filter_map child_entry slots) ≡ true))
+        → (is_of b (codes "bus") m ≡ true) × (list_any (owns_it m) (filter_map child_entry ((name, child k) ∷ slots)) ≡ true)
     go true p false q true r rest =
         let own : (k == m) ≡ true = grind (arith, r) in
         (subst (λ (x : ℕ). is_of b (codes "bus") x ≡ true) (eqb-true k m own) p, rw (own, q) refl)
     go true p false q false r rest = behind (rest (rw (p, q, r) at e))
       where
-        behind : (is_of b (codes "bus") m ≡ true) × (list_any (owns_it m) (filter_map child_entry slots) ≡ true) → (is_of b (codes "bus") m ≡ true) × (list_any (owns_it m) ((name, k) ∷ filter_map child_entry slots) ≡ true)
+        behind : (is_of b (codes "bus") m ≡ true) × (list_any (owns_it m) (filter_map child_entry slots) ≡ true)
+            → (is_of b (codes "bus") m ≡ true) × (list_any (owns_it m) ((name, k) ∷ filter_map child_entry slots) ≡ true)
         behind h = (h.0, rw h.1 (or-true (owns_it m (name, k))))
     go true p true q v r rest = behind (rest (rw (p, q) at e))
       where
-        behind : (is_of b (codes "bus") m ≡ true) × (list_any (owns_it m) (filter_map child_entry slots) ≡ true) → (is_of b (codes "bus") m ≡ true) × (list_any (owns_it m) ((name, k) ∷ filter_map child_entry slots) ≡ true)
+        behind : (is_of b (codes "bus") m ≡ true) × (list_any (owns_it m) (filter_map child_entry slots) ≡ true)
+            → (is_of b (codes "bus") m ≡ true) × (list_any (owns_it m) ((name, k) ∷ filter_map child_entry slots) ≡ true)
         behind h = (h.0, rw h.1 (or-true (owns_it m (name, k))))
     go false p u q v r rest = behind (rest (rw p at e))
       where
-        behind : (is_of b (codes "bus") m ≡ true) × (list_any (owns_it m) (filter_map child_entry slots) ≡ true) → (is_of b (codes "bus") m ≡ true) × (list_any (owns_it m) ((name, k) ∷ filter_map child_entry slots) ≡ true)
+        behind : (is_of b (codes "bus") m ≡ true) × (list_any (owns_it m) (filter_map child_entry slots) ≡ true)
+            → (is_of b (codes "bus") m ≡ true) × (list_any (owns_it m) ((name, k) ∷ filter_map child_entry slots) ≡ true)
         behind h = (h.0, rw h.1 (or-true (owns_it m (name, k))))
 
 pub is-bus_of : (b : Board) (d m : ℕ) → among (buses_of b d) m ≡ true → IsBusOf b d m
-is-bus_of b d m e = let h : (is_of b (codes "bus") m ≡ true) × (list_any (owns_it m) (child_entries b d) ≡ true) = bus-owned b m (slots_at b d) e in record { bus = h.0; owned = h.1 }
+is-bus_of b d m e =
+    let h : (is_of b (codes "bus") m ≡ true) × (list_any (owns_it m) (child_entries b d) ≡ true) = bus-owned b m (slots_at b d) e in
+    record { bus = h.0; owned = h.1 }
 
 -- a kid of a bus
-pub kid-of : (depth : ℕ → ℕ) (left : Option ℕ) (out : ℕ → Bool) (b : Board) → PlacesBut depth left out b → (q k : ℕ) → is_of b (codes "bus") q ≡ true → listed k (kid_entries b q) ≡ true → (stands b k ≡ true) × (bus_of b k ≡ Some q)
-kid-of depth left out b h q k is e = all-listed (λ x. (stands b x ≡ true) × (bus_of b x ≡ Some q)) (kid_entries b q) (all-imply (IsKid b q) (λ (x : List ℕ × ℕ). (stands b x.1 ≡ true) × (bus_of b x.1 ≡ Some q)) (λ x i. (i.there, i.on)) (kid_entries b q) (h.kids q is)) k e
+pub kid-of : (depth : ℕ → ℕ) (left : Option ℕ) (out : ℕ → Bool) (b : Board) → PlacesBut depth left out b → (q k : ℕ) → is_of b (codes "bus") q ≡ true
+    → listed k (kid_entries b q) ≡ true → (stands b k ≡ true) × (bus_of b k ≡ Some q)
+kid-of depth left out b h q k is e =
+    all-listed (λ x. (stands b x ≡ true) × (bus_of b x ≡ Some q)) (kid_entries b q)
+    (all-imply (IsKid b q) (λ (x : List ℕ × ℕ). (stands b x.1 ≡ true) × (bus_of b x.1 ≡ Some q)) (λ x i. (i.there, i.on)) (kid_entries b q) (h.kids q is)) k e
 
 module _ (depth : ℕ → ℕ) (left : Option ℕ) (out : ℕ → Bool) (b : Board) (h : PlacesBut depth left out b) where
   -- no device has more than so many below it
@@ -105,7 +119,8 @@ still-among : (x y : ℕ) → (y == x) ≡ false → (ns : List ℕ) → among n
 still-among x y apart [] e = cc
 still-among x y apart (n ∷ ns) e = go (n == x) refl (eqb y n) refl (still-among x y apart ns)
   where
-    go : (t : Bool) → (n == x) ≡ t → (u : Bool) → eqb y n ≡ u → (among ns y ≡ true → among (without_all x ns) y ≡ true) → among (without_all x (n ∷ ns)) y ≡ true
+    go : (t : Bool) → (n == x) ≡ t → (u : Bool) → eqb y n ≡ u → (among ns y ≡ true → among (without_all x ns) y ≡ true)
+        → among (without_all x (n ∷ ns)) y ≡ true
     go true p true q rest = absurd (let same : (y == x) ≡ true = grind (arith, p, q) in let clash : true ≡ false = sym same ∙ apart in cc)
     go true p false q rest = rw p (rest (rw q at e))
     go false p true q rest = rw (p, q) refl
@@ -120,7 +135,8 @@ unfolding IsApart
 room-of [] ns a h = omega arith
 room-of (x ∷ xs) ns a h = omega (arith, room-of xs (without_all x ns) a.1 (stay xs a.0 h.1), less-without x ns h.0)
   where
-    stay : (ys : List ℕ) → AllByRecursion (λ y. (y == x) ≡ false) ys → AllByRecursion (λ y. among ns y ≡ true) ys → AllByRecursion (λ y. among (without_all x ns) y ≡ true) ys
+    stay : (ys : List ℕ) → AllByRecursion (λ y. (y == x) ≡ false) ys → AllByRecursion (λ y. among ns y ≡ true) ys
+        → AllByRecursion (λ y. among (without_all x ns) y ≡ true) ys
     stay [] b k = tt
     stay (y ∷ ys) b k = (still-among x y b.0 ns k.0, stay ys b.1 k.1)
 
@@ -139,7 +155,7 @@ room depth left out b firm h =
 pub stands-dimmed : (b c : Board) → Dimmed b c → (x : ℕ) → stands c x ≡ stands b x
 stands-dimmed b c h x = ap₂ (λ (xs ys : List (List ℕ × ℕ)). listed x xs || listed x ys) (h.children PERIPHERAL_BIRTH) (h.children ANONYMOUS_BIRTH)
 
-moved-dimmed : (depth : ℕ → ℕ) (left : Option ℕ) (out : ℕ → Bool) (b c : Board) → Firm c → PlacesBut depth left out b → Dimmed b c → Moved left b c
+pub moved-dimmed : (depth : ℕ → ℕ) (left : Option ℕ) (out : ℕ → Bool) (b c : Board) → Firm c → PlacesBut depth left out b → Dimmed b c → Moved left b c
 moved-dimmed depth left out b c firm h d =
     record {
       firm = firm;
@@ -172,21 +188,26 @@ pub unrealize-only : (b : Board) (d y : ℕ) → is_realized b y ≡ true → is
 unfolding unrealize
 unrealize-only b d y was is = turns-only b (suc (length (births b))) d b y was is
 
-pub unrealize-all : (depth : ℕ → ℕ) (left : Option ℕ) (out : ℕ → Bool) (b : Board) → Firm b → PlacesBut depth left out b → (d q : ℕ) → stands b d ≡ true → bus_of b d ≡ Some q → (y : ℕ) → Under b d y → is_realized (unrealize b d) y ≡ false
+pub unrealize-all : (depth : ℕ → ℕ) (left : Option ℕ) (out : ℕ → Bool) (b : Board) → Firm b → PlacesBut depth left out b → (d q : ℕ)
+    → stands b d ≡ true → bus_of b d ≡ Some q → (y : ℕ) → Under b d y → is_realized (unrealize b d) y ≡ false
 unfolding unrealize
-unrealize-all depth left out b firm h d q e on y u = turns-all b (suc (length (births b))) d (low depth left out b h (suc (length (births b))) d q e on (omega (arith, room depth left out b firm h))) y u b
+unrealize-all depth left out b firm h d q e on y u =
+    turns-all b (suc (length (births b))) d (low depth left out b h (suc (length (births b))) d q e on (omega (arith, room depth left out b firm h))) y u b
 
 -- who was realized and is no more
 abbrev pub faded_by : Board → Board → ℕ → Bool
 faded_by b c x = is_realized b x && not (is_realized c x)
 
-pub unrealize-places : (depth : ℕ → ℕ) (b : Board) (d : ℕ) → Firm (unrealize b d) → PlacesBut depth None (λ x. false) b → PlacesBut depth None (faded_by b (unrealize b d)) (unrealize b d)
+pub unrealize-places : (depth : ℕ → ℕ) (b : Board) (d : ℕ) → Firm (unrealize b d) → PlacesBut depth None (λ x. false) b
+    → PlacesBut depth None (faded_by b (unrealize b d)) (unrealize b d)
 unrealize-places depth b d firm h =
-    places-moved b (unrealize b d) depth None None (faded_by b (unrealize b d)) (λ x. false) (moved-dimmed depth None (λ x. false) b (unrealize b d) firm h (unrealize-dimmed b d)) h (λ x e k. k)
+    places-moved b (unrealize b d) depth None None (faded_by b (unrealize b d)) (λ x. false)
+    (moved-dimmed depth None (λ x. false) b (unrealize b d) firm h (unrealize-dimmed b d)) h (λ x e k. k)
     (λ x e k s. stands-dimmed b (unrealize b d) (unrealize-dimmed b d) x ∙ s)
     (λ x e k. each x e (is_realized (unrealize b d) x) refl k)
   where
-    each : (x : ℕ) → stands (unrealize b d) x ≡ true → (t : Bool) → is_realized (unrealize b d) x ≡ t → faded_by b (unrealize b d) x ≡ false → is_realized (unrealize b d) x ≡ true
+    each : (x : ℕ) → stands (unrealize b d) x ≡ true → (t : Bool) → is_realized (unrealize b d) x ≡ t → faded_by b (unrealize b d) x ≡ false
+        → is_realized (unrealize b d) x ≡ true
     each x e true p k = p
     each x e false p k =
         let was : is_realized b x ≡ true = h.each x (sym (stands-dimmed b (unrealize b d) (unrealize-dimmed b d) x) ∙ e) refl in

@@ -1,6 +1,6 @@
 -- A device that was made is joined to its container and to its bus.
-use Rattle.std.proofs.Common.{◌≡◌, refl, ap, ap₂, sym, subst, ◌∙◌, ℕ, suc, ◌≤◌, Bool, true, false, ◌==◌, eqb, List, [], ◌∷◌, ◌++◌, filter_map, find, Option, Some, None, is_some, option_map, option_and_then, codes}
-use Rattle.std.specs.List.{AllByRecursion, cons_option, list_any}
+use Rattle.std.proofs.Common.{◌≡◌, refl, ap, ap₂, sym, subst, ◌∙◌, ℕ, suc, ◌<◌, ◌≤◌, Bool, true, false, ◌==◌, eqb, List, [], ◌∷◌, ◌++◌, filter_map, find, Option, Some, None, is_some, option_map, option_and_then, codes}
+use Rattle.std.specs.List.{AllByRecursion, list_any}
 use Rattle.std.specs.Option.{option_map_or}
 use Rattle.std.specs.Str.{bytes_eq}
 use Rattle.std.proofs.lemmas.Bool.{eqb-true}
@@ -8,6 +8,7 @@ use Rattle.qo_values.specs.declared.births.TheConstants.{ANONYMOUS_BIRTH, MACHIN
 use Rattle.qo_values.specs.declared.kinds.TypeId.{TypeId}
 use Rattle.qo_values.specs.declared.kinds.TypeId.TheVariants.{Device}
 use Rattle.qo_values.specs.declared.properties.Val.{Val}
+use Rattle.qo_values.specs.declared.limits.TheConstants.{BUS_SLOTS}
 use Rattle.qo_model.specs.Board.{Board, Record, Slot, child, strong, record_of, kind_of, is_live, slots_at}
 use Rattle.qo_model.specs.Changes.{add, with_added}
 use Rattle.qo_model.specs.Depth.{among}
@@ -30,16 +31,19 @@ named_in name slots = option_map (λ (s : List ℕ × Slot). s.1) (find (λ s. b
 abbrev slots_in : Option Record → List (List ℕ × Slot)
 slots_in o = option_map_or (λ (r : Record). r.slots) o []
 
-other-added : (s : List ℕ × Slot) (name : List ℕ) → bytes_eq s.0 name ≡ false → (slots : List (List ℕ × Slot)) → named_in name (slots ++ s ∷ []) ≡ named_in name slots
+other-added : (s : List ℕ × Slot) (name : List ℕ) → bytes_eq s.0 name ≡ false → (slots : List (List ℕ × Slot))
+    → named_in name (slots ++ s ∷ []) ≡ named_in name slots
 other-added s name apart [] = rw apart refl
 other-added s name apart (x ∷ slots) = go (bytes_eq x.0 name) refl (other-added s name apart slots)
   where
-    go : (t : Bool) → bytes_eq x.0 name ≡ t → named_in name (slots ++ s ∷ []) ≡ named_in name slots → named_in name ((x ∷ slots) ++ s ∷ []) ≡ named_in name (x ∷ slots)
+    go : (t : Bool) → bytes_eq x.0 name ≡ t → named_in name (slots ++ s ∷ []) ≡ named_in name slots
+        → named_in name ((x ∷ slots) ++ s ∷ []) ≡ named_in name (x ∷ slots)
     go true p rest = rw p refl
     go false p rest = rw p rest
 
 module _ (c : Board) (m : ℕ) (name : List ℕ) (s : Slot) where
-  pub added-read : {A : Type 0} (f : List (List ℕ × Slot) → A) → ((slots : List (List ℕ × Slot)) → f (slots ++ (name, s) ∷ []) ≡ f slots) → (x : ℕ) → f (slots_at (add m name s c) x) ≡ f (slots_at c x)
+  pub added-read : {A : Type 0} (f : List (List ℕ × Slot) → A) → ((slots : List (List ℕ × Slot)) → f (slots ++ (name, s) ∷ []) ≡ f slots) → (x : ℕ)
+      → f (slots_at (add m name s c) x) ≡ f (slots_at c x)
   unfolding add
   added-read {A} f same x = ap (λ (o : Option Record). f (slots_in o)) (found-edited m (with_added name s) (λ r. refl) x c.records) ∙ go (record_of c x)
     where
@@ -63,7 +67,9 @@ module _ (c : Board) (m : ℕ) (name : List ℕ) (s : Slot) where
 
   pub added-other : (x : ℕ) → (x == m) ≡ false → slots_at (add m name s c) x ≡ slots_at c x
   unfolding add
-  added-other x apart = ap slots_in (found-edited m (with_added name s) (λ r. refl) x c.records ∙ other-record m x (with_added name s) c refl apart (record_of c x) refl)
+  added-other x apart =
+      ap slots_in
+      (found-edited m (with_added name s) (λ r. refl) x c.records ∙ other-record m x (with_added name s) c refl apart (record_of c x) refl)
 
   pub added-own : is_live c m ≡ true → slots_at (add m name s c) m ≡ slots_at c m ++ (name, s) ∷ []
   unfolding add
@@ -99,7 +105,7 @@ pub record Goal (depth : ℕ → ℕ) (b : Board) (n bus slot : ℕ) (id : Optio
   pub is_bus : is_of b (codes "bus") bus ≡ true
   pub fits : is_of b (bus_type t) bus ≡ true
   pub owner : HasOwner b bus
-  pub low : slot ≤ 7
+  pub low : slot < BUS_SLOTS
   pub shallow : (q : ℕ) → owns c n q ≡ true → suc (depth bus) ≤ 8
   pub new_id : (x : ℕ) (i : List ℕ) → id ≡ Some i → id_of b x ≡ Some i → ⊥
 
@@ -124,10 +130,13 @@ module _ (depth : ℕ → ℕ) (b : Board) (n bus slot : ℕ) (id : Option (List
   same x e = alike-record b c x (m.old x e)
 
   differs : (x : ℕ) → is_live b x ≡ true → (x == n) ≡ false
-  differs x e = choose (x == n) {A = (x == n) ≡ false} (λ p. absurd (let clash : true ≡ false = sym e ∙ ap (is_live b) (eqb-true x n p) ∙ m.absent in cc)) (λ p. p)
+  differs x e =
+      choose (x == n) {A = (x == n) ≡ false} (λ p. absurd (let clash : true ≡ false = sym e ∙ ap (is_live b) (eqb-true x n p) ∙ m.absent in cc))
+      (λ p. p)
 
   apart-from : (x y : ℕ) → is_live b x ≡ false → is_live b y ≡ true → (x == y) ≡ false
-  apart-from x y e k = choose (x == y) {A = (x == y) ≡ false} (λ p. absurd (let clash : false ≡ true = sym e ∙ ap (is_live b) (eqb-true x y p) ∙ k in cc)) (λ p. p)
+  apart-from x y e k =
+      choose (x == y) {A = (x == y) ≡ false} (λ p. absurd (let clash : false ≡ true = sym e ∙ ap (is_live b) (eqb-true x y p) ∙ k in cc)) (λ p. p)
 
   bus-live : is_live b bus ≡ true
   bus-live = of-live b (codes "bus") bus g.is_bus
@@ -157,7 +166,9 @@ module _ (depth : ℕ → ℕ) (b : Board) (n bus slot : ℕ) (id : Option (List
   body2 x = added-body c1 bus (kid_name slot) (strong Device (Some n)) x ∙ added-body c parent name (child n) x
 
   realized2 : (x : ℕ) → is_realized c2 x ≡ is_realized c x
-  realized2 x = added-read c1 bus (kid_name slot) (strong Device (Some n)) f (one (strong Device (Some n)) refl (kid_name slot)) x ∙ added-read c parent name (child n) f (one (child n) refl name) x
+  realized2 x =
+      added-read c1 bus (kid_name slot) (strong Device (Some n)) f (one (strong Device (Some n)) refl (kid_name slot)) x
+      ∙ added-read c parent name (child n) f (one (child n) refl name) x
     where
       f : List (List ℕ × Slot) → Bool
       f ss = option_map_or is_true (option_and_then plain_in (named_in (codes "realized") ss)) false
@@ -166,7 +177,9 @@ module _ (depth : ℕ → ℕ) (b : Board) (n bus slot : ℕ) (id : Option (List
       one s none own slots = ap (λ (o : Option Val). option_map_or is_true o false) (named-added plain_in (own, s) none (codes "realized") slots)
 
   place2 : (x : ℕ) → place_on c2 x ≡ place_on c x
-  place2 x = added-read c1 bus (kid_name slot) (strong Device (Some n)) f (one (strong Device (Some n)) refl (kid_name slot)) x ∙ added-read c parent name (child n) f (one (child n) refl name) x
+  place2 x =
+      added-read c1 bus (kid_name slot) (strong Device (Some n)) f (one (strong Device (Some n)) refl (kid_name slot)) x
+      ∙ added-read c parent name (child n) f (one (child n) refl name) x
     where
       f : List (List ℕ × Slot) → Option ℕ
       f ss = option_and_then number_in (option_and_then plain_in (named_in (codes "slot") ss))
@@ -176,14 +189,18 @@ module _ (depth : ℕ → ℕ) (b : Board) (n bus slot : ℕ) (id : Option (List
 
   bus2 : (x : ℕ) → bus_of c2 x ≡ bus_of c x
   bus2 x =
-      added-read c1 bus (kid_name slot) (strong Device (Some n)) (λ ss. option_and_then strong_in (named_in (codes "parent_bus") ss)) (λ slots. ap (option_and_then strong_in) (other-added (kid_name slot, strong Device (Some n)) (codes "parent_bus") refl slots)) x
-      ∙ added-read c parent name (child n) (λ ss. option_and_then strong_in (named_in (codes "parent_bus") ss)) (named-added strong_in (name, child n) refl (codes "parent_bus")) x
+      added-read c1 bus (kid_name slot) (strong Device (Some n)) (λ ss. option_and_then strong_in (named_in (codes "parent_bus") ss))
+      (λ slots. ap (option_and_then strong_in) (other-added (kid_name slot, strong Device (Some n)) (codes "parent_bus") refl slots)) x
+      ∙ added-read c parent name (child n) (λ ss. option_and_then strong_in (named_in (codes "parent_bus") ss))
+      (named-added strong_in (name, child n) refl (codes "parent_bus")) x
 
   kids1 : (x : ℕ) → kid_entries c1 x ≡ kid_entries c x
   kids1 x = added-read c parent name (child n) (filter_map kid_entry) (entries-added kid_entry (name, child n) refl) x
 
   children2 : (x : ℕ) → child_entries c2 x ≡ child_entries c1 x
-  children2 x = added-read c1 bus (kid_name slot) (strong Device (Some n)) (filter_map child_entry) (entries-added child_entry (kid_name slot, strong Device (Some n)) refl) x
+  children2 x =
+      added-read c1 bus (kid_name slot) (strong Device (Some n)) (filter_map child_entry)
+      (entries-added child_entry (kid_name slot, strong Device (Some n)) refl) x
 
   kids-other : (x : ℕ) → (x == bus) ≡ false → kid_entries c2 x ≡ kid_entries c x
   kids-other x apart = ap (filter_map kid_entry) (added-other c1 bus (kid_name slot) (strong Device (Some n)) x apart) ∙ kids1 x
@@ -192,7 +209,10 @@ module _ (depth : ℕ → ℕ) (b : Board) (n bus slot : ℕ) (id : Option (List
   children-other x apart = children2 x ∙ ap (filter_map child_entry) (added-other c parent name (child n) x apart)
 
   children-own : child_entries c2 parent ≡ child_entries c parent ++ (name, n) ∷ []
-  children-own = children2 parent ∙ ap (filter_map child_entry) (added-own c parent name (child n) (still parent (parent-live id))) ∙ entry-added child_entry (name, child n) (name, n) refl (slots_at c parent)
+  children-own =
+      children2 parent
+      ∙ ap (filter_map child_entry) (added-own c parent name (child n) (still parent (parent-live id)))
+      ∙ entry-added child_entry (name, child n) (name, n) refl (slots_at c parent)
 
   own-children : child_entries c2 n ≡ child_entries c n
   own-children = children-other n (apart-from n parent m.absent (parent-live id))
@@ -215,14 +235,20 @@ module _ (depth : ℕ → ℕ) (b : Board) (n bus slot : ℕ) (id : Option (List
   append-none (x ∷ xs) = ap (λ (ys : List (List ℕ × ℕ)). x ∷ ys) (append-none xs)
 
   third : (o : Option (List ℕ)) → id ≡ o → child_entries c2 PERIPHERAL_BIRTH ≡ child_entries b PERIPHERAL_BIRTH ++ named_entry o n
-  third None e = children-other PERIPHERAL_BIRTH (ap (λ (o : Option (List ℕ)). PERIPHERAL_BIRTH == parent_for o) e) ∙ (same PERIPHERAL_BIRTH live3).children ∙ append-none (child_entries b PERIPHERAL_BIRTH)
+  third None e =
+      children-other PERIPHERAL_BIRTH (ap (λ (o : Option (List ℕ)). PERIPHERAL_BIRTH == parent_for o) e)
+      ∙ (same PERIPHERAL_BIRTH live3).children
+      ∙ append-none (child_entries b PERIPHERAL_BIRTH)
   third (Some i) e =
       ap (child_entries c2) (sym (ap parent_for e)) ∙ children-own
       ∙ ap₂ (λ (x : ℕ) (y : List ℕ). child_entries c x ++ (y, n) ∷ []) (ap parent_for e) (ap (name_for b) e)
       ∙ ap (λ (xs : List (List ℕ × ℕ)). xs ++ (i, n) ∷ []) (same PERIPHERAL_BIRTH live3).children
 
   fourth : (o : Option (List ℕ)) → id ≡ o → child_entries c2 ANONYMOUS_BIRTH ≡ child_entries b ANONYMOUS_BIRTH ++ numbered_entry b o n
-  fourth (Some i) e = children-other ANONYMOUS_BIRTH (ap (λ (o : Option (List ℕ)). ANONYMOUS_BIRTH == parent_for o) e) ∙ (same ANONYMOUS_BIRTH live4).children ∙ append-none (child_entries b ANONYMOUS_BIRTH)
+  fourth (Some i) e =
+      children-other ANONYMOUS_BIRTH (ap (λ (o : Option (List ℕ)). ANONYMOUS_BIRTH == parent_for o) e)
+      ∙ (same ANONYMOUS_BIRTH live4).children
+      ∙ append-none (child_entries b ANONYMOUS_BIRTH)
   fourth None e =
       ap (child_entries c2) (sym (ap parent_for e)) ∙ children-own
       ∙ ap₂ (λ (x : ℕ) (y : List ℕ). child_entries c x ++ (y, n) ∷ []) (ap parent_for e) (ap (name_for b) e)
@@ -237,7 +263,10 @@ module _ (depth : ℕ → ℕ) (b : Board) (n bus slot : ℕ) (id : Option (List
         place_same = λ x e. place2 x ∙ (same x e).place;
         kids_same = λ x e apart. kids-other x apart ∙ (same x e).kids;
         children = λ x e apart. children-other x (parent-apart x apart id) ∙ (same x e).children;
-        kids_more = ap (filter_map kid_entry) (added-own c1 bus (kid_name slot) (strong Device (Some n)) (live1 bus (still bus bus-live))) ∙ entry-added kid_entry (kid_name slot, strong Device (Some n)) (kid_name slot, n) refl (slots_at c1 bus) ∙ ap (λ (xs : List (List ℕ × ℕ)). xs ++ (kid_name slot, n) ∷ []) (kids1 bus ∙ (same bus bus-live).kids);
+        kids_more =
+            ap (filter_map kid_entry) (added-own c1 bus (kid_name slot) (strong Device (Some n)) (live1 bus (still bus bus-live)))
+            ∙ entry-added kid_entry (kid_name slot, strong Device (Some n)) (kid_name slot, n) refl (slots_at c1 bus)
+            ∙ ap (λ (xs : List (List ℕ × ℕ)). xs ++ (kid_name slot, n) ∷ []) (kids1 bus ∙ (same bus bus-live).kids);
         third = third id refl;
         fourth = fourth id refl;
         anonymous = refl;
@@ -263,5 +292,7 @@ module _ (depth : ℕ → ℕ) (b : Board) (n bus slot : ℕ) (id : Option (List
       }
 
 -- as it is written of what was asked for
-pub joined-wanted : (depth : ℕ → ℕ) (b : Board) (n : ℕ) (a : Wanted) (spot : Spot) (t : TypeId) (c : Board) → Made b n t c → Goal depth b n spot.bus spot.slot a.id t c → Firm b → PlacesBut depth None (λ x. false) b → Joined depth b n spot.bus spot.slot a.id t (now_at n (joined b n a spot c)) (joined b n a spot c)
+pub joined-wanted : (depth : ℕ → ℕ) (b : Board) (n : ℕ) (a : Wanted) (spot : Spot) (t : TypeId) (c : Board) → Made b n t c
+    → Goal depth b n spot.bus spot.slot a.id t c → Firm b → PlacesBut depth None (λ x. false) b
+    → Joined depth b n spot.bus spot.slot a.id t (now_at n (joined b n a spot c)) (joined b n a spot c)
 joined-wanted depth b n a spot t c m g firm h = joined-made depth b n spot.bus spot.slot a.id t c m g firm h

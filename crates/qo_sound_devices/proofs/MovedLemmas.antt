@@ -25,7 +25,8 @@ within-listed d (more {xs} {ys} y w) e = rw (within-listed d w e) (or-true (y.1 
 -- each entry is listed
 pub all-in : (es : List (List ℕ × ℕ)) → AllByRecursion (λ (e : List ℕ × ℕ). listed e.1 es ≡ true) es
 all-in [] = tt
-all-in (x ∷ es) = (rw (eq-eqb x.1 x.1 refl) refl, all-imply (λ (e : List ℕ × ℕ). listed e.1 es ≡ true) (λ (e : List ℕ × ℕ). listed e.1 (x ∷ es) ≡ true) (λ e k. rw k (or-true (x.1 == e.1))) es (all-in es))
+all-in (x ∷ es) =
+    (rw (eq-eqb x.1 x.1 refl) refl, all-imply (λ (e : List ℕ × ℕ). listed e.1 es ≡ true) (λ (e : List ℕ × ℕ). listed e.1 (x ∷ es) ≡ true) (λ e k. rw k (or-true (x.1 == e.1))) es (all-in es))
 
 -- a step: fewer devices stand, on fewer buses, and what stays is as before, but that `left` may have left its bus
 pub record Moved (left : Option ℕ) (b c : Board) : Type 0 where
@@ -42,7 +43,8 @@ pub record Moved (left : Option ℕ) (b c : Board) : Type 0 where
   pub kid : (q x : ℕ) → is_of b (codes "bus") q ≡ true → listed x (kid_entries c q) ≡ true → (stands c x ≡ true) × (bus_of c x ≡ bus_of b x)
   pub fewer : (q : ℕ) → is_live c q ≡ true → is_of b (codes "bus") q ≡ true → Within (kid_entries c q) (kid_entries b q)
   pub within : (x : ℕ) → is_live c x ≡ true → Within (child_entries c x) (child_entries b x)
-  pub hold : (q x : ℕ) → is_of b (codes "bus") q ≡ true → is_live c q ≡ true → stands c x ≡ true → left ≢ Some x → listed x (kid_entries b q) ≡ true → listed x (kid_entries c q) ≡ true
+  pub hold : (q x : ℕ) → is_of b (codes "bus") q ≡ true → is_live c q ≡ true → stands c x ≡ true → left ≢ Some x → listed x (kid_entries b q) ≡ true
+      → listed x (kid_entries c q) ≡ true
   pub owned : (x q : ℕ) → stands c x ≡ true → bus_of c x ≡ Some q → HasOwner b q → HasOwner c q
   pub owns_back : (p q : ℕ) → stands c p ≡ true → owns c p q ≡ true → owns b p q ≡ true
 
@@ -75,7 +77,10 @@ module _ (b c : Board) (depth : ℕ → ℕ) (left before : Option ℕ) (out out
   there d e = stands-live c m.firm d e
 
   peripheral : AllByRecursion (IsPeripheral c) (child_entries c PERIPHERAL_BIRTH)
-  peripheral = all-imply (λ (e : List ℕ × ℕ). IsThere c e × IsPeripheral b e) (IsPeripheral c) one (child_entries c PERIPHERAL_BIRTH) (all-both (IsThere c) (IsPeripheral b) (child_entries c PERIPHERAL_BIRTH) (children-there c (slots_at c PERIPHERAL_BIRTH) (linked-at c m.firm PERIPHERAL_BIRTH)) (all-within (IsPeripheral b) peripherals h.peripheral))
+  peripheral =
+      all-imply (λ (e : List ℕ × ℕ). IsThere c e × IsPeripheral b e) (IsPeripheral c) one (child_entries c PERIPHERAL_BIRTH)
+      (all-both (IsThere c) (IsPeripheral b) (child_entries c PERIPHERAL_BIRTH)
+      (children-there c (slots_at c PERIPHERAL_BIRTH) (linked-at c m.firm PERIPHERAL_BIRTH)) (all-within (IsPeripheral b) peripherals h.peripheral))
     where
       one : (e : List ℕ × ℕ) → IsThere c e × IsPeripheral b e → IsPeripheral c e
       one e k =
@@ -87,7 +92,10 @@ module _ (b c : Board) (depth : ℕ → ℕ) (left before : Option ℕ) (out out
           }
 
   anonymous : AllByRecursion (IsAnonymous c) (child_entries c ANONYMOUS_BIRTH)
-  anonymous = all-imply (λ (e : List ℕ × ℕ). IsThere c e × IsAnonymous b e) (IsAnonymous c) one (child_entries c ANONYMOUS_BIRTH) (all-both (IsThere c) (IsAnonymous b) (child_entries c ANONYMOUS_BIRTH) (children-there c (slots_at c ANONYMOUS_BIRTH) (linked-at c m.firm ANONYMOUS_BIRTH)) (all-within (IsAnonymous b) anonymouses h.anonymous))
+  anonymous =
+      all-imply (λ (e : List ℕ × ℕ). IsThere c e × IsAnonymous b e) (IsAnonymous c) one (child_entries c ANONYMOUS_BIRTH)
+      (all-both (IsThere c) (IsAnonymous b) (child_entries c ANONYMOUS_BIRTH)
+      (children-there c (slots_at c ANONYMOUS_BIRTH) (linked-at c m.firm ANONYMOUS_BIRTH)) (all-within (IsAnonymous b) anonymouses h.anonymous))
     where
       one : (e : List ℕ × ℕ) → IsThere c e × IsAnonymous b e → IsAnonymous c e
       one e k =
@@ -104,7 +112,9 @@ module _ (b c : Board) (depth : ℕ → ℕ) (left before : Option ℕ) (out out
   kids q e =
       let live : is_live c q ≡ true = of-live c (codes "bus") q e in
       let was : is_of b (codes "bus") q ≡ true = sym (of-alike b c q (codes "bus") (m.body q live)) ∙ e in
-      all-imply (λ (x : List ℕ × ℕ). (listed x.1 (kid_entries c q) ≡ true) × IsKid b q x) (IsKid c q) (one live was) (kid_entries c q) (all-both (λ (x : List ℕ × ℕ). listed x.1 (kid_entries c q) ≡ true) (IsKid b q) (kid_entries c q) (all-in (kid_entries c q)) (all-within (IsKid b q) (m.fewer q live was) (h.kids q was)))
+      all-imply (λ (x : List ℕ × ℕ). (listed x.1 (kid_entries c q) ≡ true) × IsKid b q x) (IsKid c q) (one live was) (kid_entries c q)
+      (all-both (λ (x : List ℕ × ℕ). listed x.1 (kid_entries c q) ≡ true) (IsKid b q) (kid_entries c q) (all-in (kid_entries c q))
+      (all-within (IsKid b q) (m.fewer q live was) (h.kids q was)))
     where
       one : is_live c q ≡ true → is_of b (codes "bus") q ≡ true → (x : List ℕ × ℕ) → (listed x.1 (kid_entries c q) ≡ true) × IsKid b q x → IsKid c q x
       one live was x k =
@@ -146,10 +156,13 @@ module _ (b c : Board) (depth : ℕ → ℕ) (left before : Option ℕ) (out out
       record {
         machine = machine;
         objects = ap (listed OBJECTS_BIRTH) (m.fixed 1 m.root refl) ∙ h.objects;
-        parts = (part PERIPHERAL_BIRTH h.parts.0, (part ANONYMOUS_BIRTH h.parts.1.0, (part ROOT_BUS_BIRTH h.parts.1.1.0, (part MEMORY_BUS_BIRTH h.parts.1.1.1.0, (part SYSTEM_CLOCK_BIRTH h.parts.1.1.1.1.0, tt)))));
+        parts =
+            (part PERIPHERAL_BIRTH h.parts.0, (part ANONYMOUS_BIRTH h.parts.1.0, (part ROOT_BUS_BIRTH h.parts.1.1.0, (part MEMORY_BUS_BIRTH h.parts.1.1.1.0, (part SYSTEM_CLOCK_BIRTH h.parts.1.1.1.1.0, tt)))));
         rooted = rooted-same b c (m.body 1 m.root) (m.fixed 1 m.root refl) (m.fixed MACHINE_BIRTH machine-live refl) h.rooted;
         children = children-within b c m.firm m.body m.within h.children;
-        aside = all-imply (λ n. stands b n ≡ false) (λ n. stands c n ≡ false) no_more (1 ∷ MACHINE_BIRTH ∷ PERIPHERAL_BIRTH ∷ ANONYMOUS_BIRTH ∷ ROOT_BUS_BIRTH ∷ MEMORY_BUS_BIRTH ∷ OBJECTS_BIRTH ∷ []) h.aside;
+        aside =
+            all-imply (λ n. stands b n ≡ false) (λ n. stands c n ≡ false) no_more
+            (1 ∷ MACHINE_BIRTH ∷ PERIPHERAL_BIRTH ∷ ANONYMOUS_BIRTH ∷ ROOT_BUS_BIRTH ∷ MEMORY_BUS_BIRTH ∷ OBJECTS_BIRTH ∷ []) h.aside;
         peripheral = peripheral;
         anonymous = anonymous;
         kids = kids;

@@ -44,7 +44,8 @@ is-strong m (name, weak t target) e = absurd (let clash : None ≡ Some m = e in
 is-strong m (name, alias k property) e = absurd (let clash : None ≡ Some m = e in cc)
 
 -- behind a slot that was let go, all but its object stand as before where the drop leaves them so
-pub stay-let_go : (depth : ℕ → ℕ) (out : ℕ → Bool) (left now : Option ℕ) (ps : List ℕ) (b : Board) → Mid depth out left ps b → (n i d : ℕ) (s : Slot) → slot_at b n i ≡ Some s → Firm (let_go b n i) → PlacesBut depth now out (drop_slot b n i) → Stay d b (drop_slot b n i) → Stay d b (let_go b n i)
+pub stay-let_go : (depth : ℕ → ℕ) (out : ℕ → Bool) (left now : Option ℕ) (ps : List ℕ) (b : Board) → Mid depth out left ps b → (n i d : ℕ) (s : Slot)
+    → slot_at b n i ≡ Some s → Firm (let_go b n i) → PlacesBut depth now out (drop_slot b n i) → Stay d b (drop_slot b n i) → Stay d b (let_go b n i)
 unfolding let_go drop_slot
 stay-let_go depth out left now ps b h n i d s slot firm places first =
     let c : Board = drop_slot b n i in
@@ -59,10 +60,13 @@ unfolding let_go
 steps-let_go b n i s slot = rw (let_go, slot) (steps-after (drop_slot b n i) (held s))
 
 pub slot-is : (b : Board) (n i : ℕ) (r : Record) (s : List ℕ × Slot) → record_of b n ≡ Some r → slice_get r.slots i ≡ Some s → slot_at b n i ≡ Some s.1
-slot-is b n i r s found at = ap (λ (o : Option Record). option_map (λ (x : List ℕ × Slot). x.1) (slice_get (option_map_or (λ (x : Record). x.slots) o []) i)) found ∙ ap (option_map (λ (x : List ℕ × Slot). x.1)) at
+slot-is b n i r s found at =
+    ap (λ (o : Option Record). option_map (λ (x : List ℕ × Slot). x.1) (slice_get (option_map_or (λ (x : Record). x.slots) o []) i)) found
+    ∙ ap (option_map (λ (x : List ℕ × Slot). x.1)) at
 
 -- the link to its bus is let go
-unlinked : (depth : ℕ → ℕ) (out : ℕ → Bool) (ps : List ℕ) (d m : ℕ) (b c : Board) → Taken depth out ps d m b c → Left depth out ps d b (let_go_where (is_named (codes "parent_bus")) d c)
+unlinked : (depth : ℕ → ℕ) (out : ℕ → Bool) (ps : List ℕ) (d m : ℕ) (b c : Board) → Taken depth out ps d m b c
+    → Left depth out ps d b (let_go_where (is_named (codes "parent_bus")) d c)
 unfolding drop_slot
 unlinked depth out ps d m b c t = go (place_from (is_named (codes "parent_bus")) 0 (slots_at c d)) refl
   where
@@ -75,7 +79,8 @@ unlinked depth out ps d m b c t = go (place_from (is_named (codes "parent_bus"))
     sits : Sits ps (let_go_where (is_named (codes "parent_bus")) d c)
     sits = held-where_other ps (is_named (codes "parent_bus")) (named-apart (codes "parent_bus") refl) d c h.sits
 
-    go : (o : Option ℕ) → place_from (is_named (codes "parent_bus")) 0 (slots_at c d) ≡ o → Left depth out ps d b (let_go_where (is_named (codes "parent_bus")) d c)
+    go : (o : Option ℕ) → place_from (is_named (codes "parent_bus")) 0 (slots_at c d) ≡ o
+        → Left depth out ps d b (let_go_where (is_named (codes "parent_bus")) d c)
     go None q = absurd (let clash : None ≡ Some m = sym (unnamed (codes "parent_bus") (slots_at c d) 0 q) ∙ t.on in cc)
     go (Some i) q = result
       where
@@ -117,18 +122,28 @@ unlinked depth out ps d m b c t = go (place_from (is_named (codes "parent_bus"))
             choose false p = inl (λ z. let clash : true ≡ false = sym (eq-eqb d x (same_Some d x z)) ∙ p in absurd cc)
 
         kid : (p x : ℕ) → is_of c (codes "bus") p ≡ true → listed x (kid_entries e p) ≡ true → bus_of e x ≡ bus_of c x
-        kid p x isb l = same-bus x (λ z. let clash : true ≡ false = sym (within-listed x (step.kids p) l) ∙ ap (λ (y : ℕ). listed y (kid_entries c p)) (sym z) ∙ t.unlisted p isb in absurd cc)
+        kid p x isb l =
+            same-bus x
+            (λ z.
+            let clash : true ≡ false =
+            sym (within-listed x (step.kids p) l) ∙ ap (λ (y : ℕ). listed y (kid_entries c p)) (sym z) ∙ t.unlisted p isb in
+            absurd cc)
 
         no_bus : is_of c (codes "bus") d ≡ true → ⊥
         no_bus isb =
-            let all : AllByRecursion (IsKid c d) (filter_map kid_entry r.slots) = subst (λ (ss : List (List ℕ × Slot)). AllByRecursion (IsKid c d) (filter_map kid_entry ss)) (ap (λ (o : Option Record). option_map_or (λ (x : Record). x.slots) o []) owner.1) (h.places.kids d isb) in
+            let all : AllByRecursion (IsKid c d) (filter_map kid_entry r.slots) =
+            subst (λ (ss : List (List ℕ × Slot)). AllByRecursion (IsKid c d) (filter_map kid_entry ss))
+            (ap (λ (o : Option Record). option_map_or (λ (x : Record). x.slots) o []) owner.1) (h.places.kids d isb) in
             let own : IsKid c d (s.0, m) = all-at (IsKid c d) i r.slots s (s.0, m) at is.entry all in
             let other : bytes_eq s.0 (codes "parent_bus") ≡ false = subst (λ (y : List ℕ). bytes_eq y (codes "parent_bus") ≡ false) (sym own.slot.1.1.1) refl in
             let clash : true ≡ false = sym f.passes ∙ other in
             absurd cc
 
         hold : (p x : ℕ) → is_of c (codes "bus") p ≡ true → d ≢ x → listed x (kid_entries c p) ≡ true → listed x (kid_entries e p) ≡ true
-        hold p x isb k = for-each depth out (Some d) ps c h d i r owner.1 s at (λ y. is_of c (codes "bus") y ≡ true → listed x (kid_entries c y) ≡ true → listed x (kid_entries e y) ≡ true) (λ y u a ib l. ap (listed x) a.kids ∙ l) (λ ib l. absurd (no_bus ib)) p isb
+        hold p x isb k =
+            for-each depth out (Some d) ps c h d i r owner.1 s at
+            (λ y. is_of c (codes "bus") y ≡ true → listed x (kid_entries c y) ≡ true → listed x (kid_entries e y) ≡ true)
+            (λ y u a ib l. ap (listed x) a.kids ∙ l) (λ ib l. absurd (no_bus ib)) p isb
 
         places : PlacesBut depth (Some d) out e
         places = link-dropped depth out (Some d) ps c h d i r owner.1 s at d is.no_child was same-bus kid hold
@@ -143,7 +158,12 @@ unlinked depth out ps d m b c t = go (place_from (is_named (codes "parent_bus"))
         behind = went-let_go depth out (Some d) ps c h d i r owner.1 s at (Some d) sits_here places
 
         off_first : bus_of e d ≡ None
-        off_first = ap (λ (ss : List (List ℕ × Slot)). option_and_then strong_in (option_map (λ (x : List ℕ × Slot). x.1) (find (λ x. bytes_eq x.0 (codes "parent_bus")) ss))) (edited-slots c d (with_dropped i) (λ x. refl) r owner.1) ∙ strong-gone (codes "parent_bus") i r.slots (names-at c firm d r owner.1) s at f.passes
+        off_first =
+            ap
+            (λ (ss : List (List ℕ × Slot)).
+            option_and_then strong_in (option_map (λ (x : List ℕ × Slot). x.1) (find (λ x. bytes_eq x.0 (codes "parent_bus")) ss)))
+            (edited-slots c d (with_dropped i) (λ x. refl) r owner.1)
+            ∙ strong-gone (codes "parent_bus") i r.slots (names-at c firm d r owner.1) s at f.passes
 
         stay_first : Stay d c e
         stay_first =
@@ -156,12 +176,15 @@ unlinked depth out ps d m b c t = go (place_from (is_named (codes "parent_bus"))
         result =
             rw (let_go_where, q) (record {
               went = record { mid = behind.mid; steps = steps-then b c (let_go c d i) t.went.steps behind.steps };
-              stay = stay-then d b c (let_go c d i) t.stay (stay-let_go depth out (Some d) (Some d) ps c h d i d s.1 slot sits_here.near.firm places stay_first);
+              stay =
+                  stay-then d b c (let_go c d i) t.stay
+                  (stay-let_go depth out (Some d) (Some d) ps c h d i d s.1 slot sits_here.near.firm places stay_first);
               off = none-of (bus_of (let_go c d i) d) (λ x k. let clash : None ≡ Some x = sym off_first ∙ (steps-let_go c d i s.1 slot).bus d x k in absurd cc);
               unlisted = unlisted-steps c (let_go c d i) d behind.steps t.unlisted;
             })
 
-pub bus-left : (depth : ℕ → ℕ) (out : ℕ → Bool) (ps : List ℕ) (b : Board) → Mid depth out None ps b → (d m : ℕ) → stands b d ≡ true → bus_of b d ≡ Some m → Left depth out ps d b (left_bus d b)
+pub bus-left : (depth : ℕ → ℕ) (out : ℕ → Bool) (ps : List ℕ) (b : Board) → Mid depth out None ps b → (d m : ℕ) → stands b d ≡ true
+    → bus_of b d ≡ Some m → Left depth out ps d b (left_bus d b)
 bus-left depth out ps b h d m e on = rw (left_bus, on) (unlinked depth out ps d m b (take_where (names_kid d) m b) (taken-kid depth out ps b h d m e on))
 
 -- a device without bus, unrealized, whose buses no bus has: what stays of it behind steps
@@ -171,7 +194,8 @@ pub record Loose (d : ℕ) (b : Board) : Type 0 where
   pub ownless : (q : ℕ) → is_of b (codes "bus") q ≡ true → owns b d q ≡ false
   pub unlisted : IsUnlisted b d
 
-pub ownless-steps : (b c : Board) (d : ℕ) → Steps b c → ((q : ℕ) → is_of b (codes "bus") q ≡ true → owns b d q ≡ false) → (q : ℕ) → is_of c (codes "bus") q ≡ true → owns c d q ≡ false
+pub ownless-steps : (b c : Board) (d : ℕ) → Steps b c → ((q : ℕ) → is_of b (codes "bus") q ≡ true → owns b d q ≡ false) → (q : ℕ)
+    → is_of c (codes "bus") q ≡ true → owns c d q ≡ false
 ownless-steps b c d s h q is =
     let live : is_live c q ≡ true = of-live c (codes "bus") q is in
     let was : is_of b (codes "bus") q ≡ true = sym (of-alike b c q (codes "bus") (s.body q live)) ∙ is in
@@ -196,7 +220,9 @@ record Shelved (depth : ℕ → ℕ) (out : ℕ → Bool) (ps : List ℕ) (d n :
   gone : listed d (child_entries c n) ≡ false
 
 -- it leaves a container
-shelved : (depth : ℕ → ℕ) (out : ℕ → Bool) (ps : List ℕ) (d : ℕ) (b : Board) → Mid depth out (Some d) ps b → (n : ℕ) → among (PERIPHERAL_BIRTH ∷ ANONYMOUS_BIRTH ∷ []) n ≡ true → is_open n ≡ true → is_live b n ≡ true → Loose d b → Shelved depth out ps d n b (let_go_where (is_child_slot d) n b)
+shelved : (depth : ℕ → ℕ) (out : ℕ → Bool) (ps : List ℕ) (d : ℕ) (b : Board) → Mid depth out (Some d) ps b → (n : ℕ)
+    → among (PERIPHERAL_BIRTH ∷ ANONYMOUS_BIRTH ∷ []) n ≡ true → is_open n ≡ true → is_live b n ≡ true → Loose d b
+    → Shelved depth out ps d n b (let_go_where (is_child_slot d) n b)
 unfolding drop_slot
 shelved depth out ps d b h n shelf wide live loose = go (place_from (is_child_slot d) 0 (slots_at b n)) refl
   where
@@ -207,7 +233,9 @@ shelved depth out ps d b h n shelf wide live loose = go (place_from (is_child_sl
     sits = held-where_open ps (is_child_slot d) n b wide h.sits
 
     go : (o : Option ℕ) → place_from (is_child_slot d) 0 (slots_at b n) ≡ o → Shelved depth out ps d n b (let_go_where (is_child_slot d) n b)
-    go None q = rw (let_go_where, q) (record { went = went-none depth out (Some d) ps b h; stay = stay-none d b; loose = loose; gone = none-listed d 0 (slots_at b n) q })
+    go None q =
+        rw (let_go_where, q)
+        (record { went = went-none depth out (Some d) ps b h; stay = stay-none d b; loose = loose; gone = none-listed d 0 (slots_at b n) q })
     go (Some i) q = result
       where
         f : Found (is_child_slot d) (slots_at b n) i
@@ -254,10 +282,18 @@ shelved depth out ps d b h n shelf wide live loose = go (place_from (is_child_sl
         behind = went-let_go depth out (Some d) ps b h n i r owner.1 s at (Some d) sits_here places
 
         listed_on : (x : ℕ) → (d == x) ≡ false → (y : ℕ) → listed x (child_entries c y) ≡ listed x (child_entries b y)
-        listed_on x differs = for-each depth out (Some d) ps b h n i r owner.1 s at (λ y. listed x (child_entries c y) ≡ listed x (child_entries b y)) (λ y p a. ap (listed x) a.children) (dropped-read depth out (Some d) ps b h n i r owner.1 s at (λ ss. listed x (filter_map child_entry ss)) (any-child_dropped (λ (e : List ℕ × ℕ). e.1 == x) i r.slots s (s.0, d) at is.entry differs))
+        listed_on x differs =
+            for-each depth out (Some d) ps b h n i r owner.1 s at (λ y. listed x (child_entries c y) ≡ listed x (child_entries b y))
+            (λ y p a. ap (listed x) a.children)
+            (dropped-read depth out (Some d) ps b h n i r owner.1 s at (λ ss. listed x (filter_map child_entry ss))
+            (any-child_dropped (λ (e : List ℕ × ℕ). e.1 == x) i r.slots s (s.0, d) at is.entry differs))
 
         same-bus : (x : ℕ) → bus_of c x ≡ bus_of b x
-        same-bus = for-each depth out (Some d) ps b h n i r owner.1 s at (λ y. bus_of c y ≡ bus_of b y) (λ y p a. a.bus) (dropped-read depth out (Some d) ps b h n i r owner.1 s at (λ ss. option_and_then strong_in (option_map (λ (y : List ℕ × Slot). y.1) (find (λ y. bytes_eq y.0 (codes "parent_bus")) ss))) (strong-dropped (codes "parent_bus") i r.slots (names-at b firm n r owner.1) s at (inl is.some)))
+        same-bus =
+            for-each depth out (Some d) ps b h n i r owner.1 s at (λ y. bus_of c y ≡ bus_of b y) (λ y p a. a.bus)
+            (dropped-read depth out (Some d) ps b h n i r owner.1 s at
+            (λ ss. option_and_then strong_in (option_map (λ (y : List ℕ × Slot). y.1) (find (λ y. bytes_eq y.0 (codes "parent_bus")) ss)))
+            (strong-dropped (codes "parent_bus") i r.slots (names-at b firm n r owner.1) s at (inl is.some)))
 
         stay_first : Stay d b c
         stay_first =
@@ -270,7 +306,9 @@ shelved depth out ps d b h n shelf wide live loose = go (place_from (is_child_sl
         few = omega (arith, found-within (parents_in d) n b.records r owner.1, firm.one_parent d)
 
         gone_first : listed d (child_entries c n) ≡ false
-        gone_first = ap (λ (ss : List (List ℕ × Slot)). listed d (filter_map child_entry ss)) (edited-slots b n (with_dropped i) (λ x. refl) r owner.1) ∙ child-gone d i r.slots s at f.passes few
+        gone_first =
+            ap (λ (ss : List (List ℕ × Slot)). listed d (filter_map child_entry ss)) (edited-slots b n (with_dropped i) (λ x. refl) r owner.1)
+            ∙ child-gone d i r.slots s at f.passes few
 
         result : Shelved depth out ps d n b (let_go_where (is_child_slot d) n b)
         result =
@@ -278,7 +316,9 @@ shelved depth out ps d b h n shelf wide live loose = go (place_from (is_child_sl
               went = behind;
               stay = stay-let_go depth out (Some d) (Some d) ps b h n i d s.1 slot sits_here.near.firm places stay_first;
               loose = loose-steps b (let_go b n i) d behind.steps loose;
-              gone = false-of (listed d (child_entries (let_go b n i) n)) (λ k. let clash : true ≡ false = sym (within-listed d ((steps-let_go b n i s.1 slot).children n) k) ∙ gone_first in absurd cc);
+              gone =
+                  false-of (listed d (child_entries (let_go b n i) n))
+                  (λ k. let clash : true ≡ false = sym (within-listed d ((steps-let_go b n i s.1 slot).children n) k) ∙ gone_first in absurd cc);
             })
 
 -- and both
@@ -288,10 +328,15 @@ pub record Parted (depth : ℕ → ℕ) (out : ℕ → Bool) (ps : List ℕ) (d 
   pub gone : stands c d ≡ false
   pub unlisted : IsUnlisted c d
 
-pub parent-left : (depth : ℕ → ℕ) (out : ℕ → Bool) (ps : List ℕ) (d : ℕ) (b : Board) → Mid depth out (Some d) ps b → Loose d b → Parted depth out ps d b (left_parent d b)
+pub parent-left : (depth : ℕ → ℕ) (out : ℕ → Bool) (ps : List ℕ) (d : ℕ) (b : Board) → Mid depth out (Some d) ps b → Loose d b
+    → Parted depth out ps d b (left_parent d b)
 parent-left depth out ps d b h loose =
     record {
-      went = record { mid = record { sits = two.went.mid.sits; one = two.went.mid.one; places = places }; steps = steps-then b c e one.went.steps two.went.steps };
+      went =
+          record {
+            mid = record { sits = two.went.mid.sits; one = two.went.mid.one; places = places };
+            steps = steps-then b c e one.went.steps two.went.steps;
+          };
       stay = stay-then d b c e one.stay two.stay;
       gone = gone;
       unlisted = two.loose.unlisted;
@@ -307,10 +352,14 @@ parent-left depth out ps d b h loose =
     one = shelved depth out ps d b h PERIPHERAL_BIRTH refl refl (child-live b h.sits.near.firm MACHINE_BIRTH PERIPHERAL_BIRTH h.places.parts.0) loose
 
     two : Shelved depth out ps d ANONYMOUS_BIRTH c e
-    two = shelved depth out ps d c one.went.mid ANONYMOUS_BIRTH refl refl (child-live c one.went.mid.sits.near.firm MACHINE_BIRTH ANONYMOUS_BIRTH one.went.mid.places.parts.1.0) one.loose
+    two =
+        shelved depth out ps d c one.went.mid ANONYMOUS_BIRTH refl refl
+        (child-live c one.went.mid.sits.near.firm MACHINE_BIRTH ANONYMOUS_BIRTH one.went.mid.places.parts.1.0) one.loose
 
     still : listed d (child_entries e PERIPHERAL_BIRTH) ≡ false
-    still = false-of (listed d (child_entries e PERIPHERAL_BIRTH)) (λ k. let clash : true ≡ false = sym (within-listed d (two.went.steps.children PERIPHERAL_BIRTH) k) ∙ one.gone in absurd cc)
+    still =
+        false-of (listed d (child_entries e PERIPHERAL_BIRTH))
+        (λ k. let clash : true ≡ false = sym (within-listed d (two.went.steps.children PERIPHERAL_BIRTH) k) ∙ one.gone in absurd cc)
 
     gone : stands e d ≡ false
     gone = rw (still, two.gone) refl

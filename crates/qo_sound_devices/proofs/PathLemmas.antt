@@ -1,8 +1,5 @@
 -- The path of a device that is added is the one below its container.
-use Rattle.std.proofs.Common.{◌≡◌, refl, ap, sym, subst, ◌∙◌, ℕ, suc, ◌+◌, Bool, true, false, ◌==◌, ◌&&◌, ◌||◌, List, [], ◌∷◌, ◌++◌, filter, Option, Some, None, option_map, codes}
-use Rattle.std.specs.Prelude.{if◌then◌else◌}
-use Rattle.std.specs.List.{list_any}
-use Rattle.std.specs.Option.{option_map_or}
+use Rattle.std.proofs.Common.{◌≡◌, refl, ap, sym, ◌∙◌, ℕ, ◌+◌, true, false, ◌==◌, ◌&&◌, List, [], ◌∷◌, ◌++◌, filter, Option, Some, None, option_map, codes}
 use Rattle.std.specs.Str.{bytes_eq}
 use Rattle.std.proofs.lemmas.Bool.{eqb-true, eq-eqb}
 use Rattle.std.proofs.lemmas.Slice.Eq.{bytes_eq-Decides}
@@ -13,21 +10,20 @@ use Rattle.qo_values.specs.declared.kinds.TypeId.{TypeId}
 use Rattle.qo_model.specs.Board.{Board, is_live}
 use Rattle.qo_model.specs.Devices.{anonymous_name}
 use Rattle.qo_model.specs.Paths.{canonical, place_of, steps_to, steps_turn}
-use Rattle.qo_model.specs.Plug.{Spot, Wanted, acted_all, bus_births, counted, clocked, drafted, source_for, stood, with_device}
-use Rattle.qo_model.specs.Reset.{is_out, phased, plugged, post}
+use Rattle.qo_model.specs.Plug.{Spot, Wanted, bus_births, clocked, drafted, source_for, stood, with_device}
+use Rattle.qo_model.specs.Reset.{is_out, plugged, post}
 use Rattle.qo_model.specs.SoundGraph.{SoundGraph}
 use Rattle.qo_model.proofs.TreeLemmas.{paths_lem}
 use Rattle.qo_sound.proofs.FirmLemmas.{Firm}
 use Rattle.qo_sound.proofs.PlugLemmas.{IsPlace, held-all, held-phased, shut-above, sits-device}
 use Rattle.qo_sound.proofs.UnplugLemmas.{Sits}
 use Rattle.qo_sound.proofs.ViewLemmas.{AtRest, sound-from_rest}
-use Rattle.qo_sound_devices.specs.SoundPlaces.{child_entries, has_entry, listed, PlacesBut}
+use Rattle.qo_sound_devices.specs.SoundPlaces.{child_entries, has_entry, IsRooted, PlacesBut}
 use Rattle.qo_sound_devices.proofs.JoinedLemmas.{choose, Joined, named_entry, numbered_entry, Now, path_behind}
 use Rattle.qo_sound_devices.proofs.MadeLemmas.{Goal}
-use Rattle.qo_sound_devices.proofs.PlacesLemmas.{child-live, owner-live}
+use Rattle.qo_sound_devices.proofs.PlacesLemmas.{child-live, owner-live, rooted-same}
 use Rattle.qo_sound_devices.proofs.StartedLemmas.{acting, dims-acting, joined-counted, joined-dims}
 use Rattle.qo_sound_devices.proofs.StoodLemmas.{joined-stood}
-use Rattle.qo_sound_devices.proofs.UnrealizeLemmas.{Dims}
 use Rattle.qo_sound_devices.proofs.SourceLemmas.{holds-source}
 use Rattle.qo_sound_devices.proofs.WhereLemmas.{place-named}
 
@@ -37,7 +33,8 @@ held-plugged ps m c h = held-phased ps Exit (filter (is_out c) (post c m)) _ (he
 
 -- the last entry is there
 has-last : (name : List ℕ) (x : ℕ) (es : List (List ℕ × ℕ)) → has_entry (name, x) (es ++ (name, x) ∷ []) ≡ true
-has-last name x [] = let own : (x == x) ≡ true = eq-eqb x x refl in let same : bytes_eq name name ≡ true = (bytes_eq-Decides name name).1 refl in rw (own, same) refl
+has-last name x [] =
+    let own : (x == x) ≡ true = eq-eqb x x refl in let same : bytes_eq name name ≡ true = (bytes_eq-Decides name name).1 refl in rw (own, same) refl
 has-last name x (e ∷ es) = rw (has-last name x es) (or-true (e.1 == x && bytes_eq e.0 name))
 
 -- steps from the root, where objects are children under these names
@@ -51,6 +48,22 @@ module _ (e : Board) (sound : SoundGraph e) (firm : Firm e) where
       let place : place_of e x ≡ Some (p, name) = place-named e firm p x name there in
       paths_lem.steps_by_parent e sound x ∙ rw (steps_turn, apart, place) (ap (option_map (λ (way : List ℕ). way ++ 47 ∷ name)) is)
 
+  module _ (rooted : IsRooted e) where
+    machine-steps : steps_to e MACHINE_BIRTH ≡ Some (codes "/machine")
+    machine-steps = steps-below 1 MACHINE_BIRTH (codes "machine") [] refl rooted.machine steps-root
+
+    pub peripheral-steps : (x : ℕ) (name : List ℕ) → (x == 1) ≡ false → has_entry (name, x) (child_entries e PERIPHERAL_BIRTH) ≡ true
+        → steps_to e x ≡ Some (codes "/machine/peripheral/" ++ name)
+    peripheral-steps x name apart there =
+        steps-below PERIPHERAL_BIRTH x name (codes "/machine/peripheral") apart there
+        (steps-below MACHINE_BIRTH PERIPHERAL_BIRTH (codes "peripheral") (codes "/machine") refl rooted.peripheral machine-steps)
+
+    pub anonymous-steps : (x : ℕ) (name : List ℕ) → (x == 1) ≡ false → has_entry (name, x) (child_entries e ANONYMOUS_BIRTH) ≡ true
+        → steps_to e x ≡ Some (codes "/machine/peripheral-anon/" ++ name)
+    anonymous-steps x name apart there =
+        steps-below ANONYMOUS_BIRTH x name (codes "/machine/peripheral-anon") apart there
+        (steps-below MACHINE_BIRTH ANONYMOUS_BIRTH (codes "peripheral-anon") (codes "/machine") refl rooted.anonymous machine-steps)
+
 module _ (depth : ℕ → ℕ) (b : Board) (t : TypeId) (a : Wanted) (spot : Spot) (rest : AtRest b) (h : PlacesBut depth None (λ x. false) b) (goal : Goal depth b (b.born + 1) spot.bus spot.slot a.id t (drafted b t)) (place : IsPlace b t a spot) where
   abbrev n : ℕ
   n = b.born + 1
@@ -62,7 +75,9 @@ module _ (depth : ℕ → ℕ) (b : Board) (t : TypeId) (a : Wanted) (spot : Spo
   e = acting (b.born + 1) t (with_device b t a spot)
 
   sits : Sits (1 ∷ []) e
-  sits = held-plugged (1 ∷ []) n _ (held-all (1 ∷ []) Realize (n ∷ bus_births n t) placed (sits-device b t a spot rest (shut-above b.born rest.used.firm.begun) place))
+  sits =
+      held-plugged (1 ∷ []) n _
+      (held-all (1 ∷ []) Realize (n ∷ bus_births n t) placed (sits-device b t a spot rest (shut-above b.born rest.used.firm.begun) place))
 
   at_rest : AtRest e
   at_rest = record { used = sits.near; pinned = sits.pins }
@@ -93,34 +108,26 @@ module _ (depth : ℕ → ℕ) (b : Board) (t : TypeId) (a : Wanted) (spot : Spo
   machine_live : is_live b MACHINE_BIRTH ≡ true
   machine_live = child-live b rest.used.firm 1 MACHINE_BIRTH h.machine
 
-  machine-steps : steps_to e MACHINE_BIRTH ≡ Some (codes "/machine")
-  machine-steps =
-      steps-below e sound sits.near.firm 1 MACHINE_BIRTH (codes "machine") [] refl
-      (ap (has_entry (codes "machine", MACHINE_BIRTH)) (standing.joined.children 1 root_live refl) ∙ h.rooted.machine) (steps-root e sound sits.near.firm)
-
-  second : child_entries e MACHINE_BIRTH ≡ child_entries b MACHINE_BIRTH
-  second = standing.joined.children MACHINE_BIRTH machine_live refl
-
-  peripheral-steps : steps_to e PERIPHERAL_BIRTH ≡ Some (codes "/machine/peripheral")
-  peripheral-steps =
-      steps-below e sound sits.near.firm MACHINE_BIRTH PERIPHERAL_BIRTH (codes "peripheral") (codes "/machine") refl
-      (ap (has_entry (codes "peripheral", PERIPHERAL_BIRTH)) second ∙ h.rooted.peripheral) machine-steps
-
-  anonymous-steps : steps_to e ANONYMOUS_BIRTH ≡ Some (codes "/machine/peripheral-anon")
-  anonymous-steps =
-      steps-below e sound sits.near.firm MACHINE_BIRTH ANONYMOUS_BIRTH (codes "peripheral-anon") (codes "/machine") refl
-      (ap (has_entry (codes "peripheral-anon", ANONYMOUS_BIRTH)) second ∙ h.rooted.anonymous) machine-steps
+  rooted : IsRooted e
+  rooted =
+      rooted-same b e (standing.joined.body 1 root_live) (standing.joined.children 1 root_live refl) (standing.joined.children MACHINE_BIRTH machine_live refl)
+      h.rooted
 
   not_root : (n == 1) ≡ false
-  not_root = choose (n == 1) {A = (n == 1) ≡ false} (λ p. absurd (let clash : false ≡ true = sym standing.joined.absent ∙ ap (is_live b) (eqb-true n 1 p) ∙ root_live in cc)) (λ p. p)
+  not_root =
+      choose (n == 1) {A = (n == 1) ≡ false}
+      (λ p. absurd (let clash : false ≡ true = sym standing.joined.absent ∙ ap (is_live b) (eqb-true n 1 p) ∙ root_live in cc)) (λ p. p)
 
   pub holds-path : canonical (acting (b.born + 1) t (with_device b t a spot)) (b.born + 1) ≡ Some (path_behind b a.id)
   holds-path = rw not_root (go a.id refl)
     where
       go : (o : Option (List ℕ)) → a.id ≡ o → steps_to e n ≡ Some (path_behind b o)
       go (Some i) is =
-          steps-below e sound sits.near.firm PERIPHERAL_BIRTH n i (codes "/machine/peripheral") not_root
-          (ap (has_entry (i, n)) (standing.joined.third ∙ ap (λ (o : Option (List ℕ)). child_entries b PERIPHERAL_BIRTH ++ named_entry o n) is) ∙ has-last i n (child_entries b PERIPHERAL_BIRTH)) peripheral-steps
+          peripheral-steps e sound sits.near.firm rooted n i not_root
+          (ap (has_entry (i, n)) (standing.joined.third ∙ ap (λ (o : Option (List ℕ)). child_entries b PERIPHERAL_BIRTH ++ named_entry o n) is)
+          ∙ has-last i n (child_entries b PERIPHERAL_BIRTH))
       go None is =
-          steps-below e sound sits.near.firm ANONYMOUS_BIRTH n (anonymous_name b.anonymous) (codes "/machine/peripheral-anon") not_root
-          (ap (has_entry (anonymous_name b.anonymous, n)) (standing.joined.fourth ∙ ap (λ (o : Option (List ℕ)). child_entries b ANONYMOUS_BIRTH ++ numbered_entry b o n) is) ∙ has-last (anonymous_name b.anonymous) n (child_entries b ANONYMOUS_BIRTH)) anonymous-steps
+          anonymous-steps e sound sits.near.firm rooted n (anonymous_name b.anonymous) not_root
+          (ap (has_entry (anonymous_name b.anonymous, n))
+          (standing.joined.fourth ∙ ap (λ (o : Option (List ℕ)). child_entries b ANONYMOUS_BIRTH ++ numbered_entry b o n) is)
+          ∙ has-last (anonymous_name b.anonymous) n (child_entries b ANONYMOUS_BIRTH))

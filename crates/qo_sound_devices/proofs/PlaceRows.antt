@@ -33,7 +33,8 @@ opening =
       objects = refl;
       parts = (refl, (refl, (refl, (refl, (refl, tt)))));
       located = record { root = refl; machine = refl; peripheral = refl; anonymous = refl };
-      children = ((record { bus = never; device = never }, (record { bus = never; device = never }, tt)), ((record { bus = never; device = never }, (record { bus = never; device = never }, (record { bus = never; device = never }, (record { bus = λ e. on_machine refl; device = never }, (record { bus = λ e. on_machine refl; device = never }, tt))))), (tt, (tt, (tt, (tt, (tt, (tt, tt))))))));
+      children =
+          ((record { bus = never; device = never }, (record { bus = never; device = never }, tt)), ((record { bus = never; device = never }, (record { bus = never; device = never }, (record { bus = never; device = never }, (record { bus = λ e. on_machine refl; device = never }, (record { bus = λ e. on_machine refl; device = never }, tt))))), (tt, (tt, (tt, (tt, (tt, (tt, tt))))))));
       aside = (refl, (refl, (refl, (refl, (refl, (refl, (refl, tt)))))));
       peripheral = tt;
       anonymous = tt;
@@ -71,7 +72,8 @@ places-two =
       objects = refl;
       parts = (refl, (refl, (refl, (refl, (refl, tt)))));
       located = record { root = refl; machine = refl; peripheral = refl; anonymous = refl };
-      children = ((record { bus = never; device = never }, (record { bus = never; device = never }, tt)), ((record { bus = never; device = never }, (record { bus = never; device = never }, (record { bus = never; device = never }, (record { bus = λ e. on_machine refl; device = never }, (record { bus = λ e. on_machine refl; device = never }, tt))))), ((record { bus = never; device = λ e. refl }, tt), ((record { bus = never; device = λ e. refl }, tt), (tt, (tt, (tt, (tt, ((record { bus = never; device = never }, (record { bus = λ e. on_device refl refl; device = never }, tt)), (tt, (tt, ((record { bus = never; device = never }, (record { bus = λ e. on_device refl refl; device = never }, tt)), (tt, (tt, tt))))))))))))));
+      children =
+          ((record { bus = never; device = never }, (record { bus = never; device = never }, tt)), ((record { bus = never; device = never }, (record { bus = never; device = never }, (record { bus = never; device = never }, (record { bus = λ e. on_machine refl; device = never }, (record { bus = λ e. on_machine refl; device = never }, tt))))), ((record { bus = never; device = λ e. refl }, tt), ((record { bus = never; device = λ e. refl }, tt), (tt, (tt, (tt, (tt, ((record { bus = never; device = never }, (record { bus = λ e. on_device refl refl; device = never }, tt)), (tt, (tt, ((record { bus = never; device = never }, (record { bus = λ e. on_device refl refl; device = never }, tt)), (tt, (tt, tt))))))))))))));
       aside = (refl, (refl, (refl, (refl, (refl, (refl, (refl, tt)))))));
       peripheral = (record { device = refl; id = refl; path = refl }, tt);
       anonymous = (record { device = refl; id = refl; path = refl; numbered = (0, (omega arith, refl)) }, tt);
@@ -102,10 +104,13 @@ places-two =
       );
       depth = depth_two;
       top = (refl, (refl, tt));
-      named = (record { home = record { bus = 6; on = refl; is_bus = refl; kid = refl }; owner = machines refl; below = (differs, (λ e. refl, tt)); most = (differs, (λ e. omega arith, tt)); each = refl }, tt);
-      numbered = (record { home = record { bus = 11; on = refl; is_bus = refl; kid = refl }; owner = bridges 9 refl refl; below = (differs, (λ e. refl, tt)); most = (differs, (λ e. omega arith, tt)); each = refl }, tt);
+      named =
+          (record { home = record { bus = 6; on = refl; is_bus = refl; kid = refl }; owner = machines refl; below = (differs, (λ e. refl, tt)); most = (differs, (λ e. omega arith, tt)); each = refl }, tt);
+      numbered =
+          (record { home = record { bus = 11; on = refl; is_bus = refl; kid = refl }; owner = bridges 9 refl refl; below = (differs, (λ e. refl, tt)); most = (differs, (λ e. omega arith, tt)); each = refl }, tt);
       only = (never, (never, (never, (never, (never, (never, (never, (never, (λ e. refl, (never, (never, (λ e. refl, (never, (never, tt))))))))))))));
-      ids = (λ id. unnamed, (λ id. unnamed, (λ id. unnamed, (λ id. unnamed, (λ id. unnamed, (λ id. unnamed, (λ id. unnamed, (λ id. unnamed, (λ id e. refl, (λ id. unnamed, (λ id. unnamed, (λ id. unnamed, (λ id. unnamed, (λ id. unnamed, tt))))))))))))));
+      ids =
+          (λ id. unnamed, (λ id. unnamed, (λ id. unnamed, (λ id. unnamed, (λ id. unnamed, (λ id. unnamed, (λ id. unnamed, (λ id. unnamed, (λ id e. refl, (λ id. unnamed, (λ id. unnamed, (λ id. unnamed, (λ id. unnamed, (λ id. unnamed, tt))))))))))))));
       once = ((λ e. refl, tt), tt);
     }
 
@@ -121,7 +126,8 @@ places-removed =
       objects = refl;
       parts = (refl, (refl, (refl, (refl, (refl, tt)))));
       located = record { root = refl; machine = refl; peripheral = refl; anonymous = refl };
-      children = ((record { bus = never; device = never }, (record { bus = never; device = never }, tt)), ((record { bus = never; device = never }, (record { bus = never; device = never }, (record { bus = never; device = never }, (record { bus = λ e. on_machine refl; device = never }, (record { bus = λ e. on_machine refl; device = never }, tt))))), (tt, (tt, (tt, (tt, (tt, (tt, tt))))))));
+      children =
+          ((record { bus = never; device = never }, (record { bus = never; device = never }, tt)), ((record { bus = never; device = never }, (record { bus = never; device = never }, (record { bus = never; device = never }, (record { bus = λ e. on_machine refl; device = never }, (record { bus = λ e. on_machine refl; device = never }, tt))))), (tt, (tt, (tt, (tt, (tt, (tt, tt))))))));
       aside = (refl, (refl, (refl, (refl, (refl, (refl, (refl, tt)))))));
       peripheral = tt;
       anonymous = tt;

@@ -33,7 +33,8 @@ use Rattle.qo_sound_devices.proofs.AlikeLemmas.{bodiless, after-alike, Alike, ap
 abbrev pub SameBody : Board → Board → ℕ → Type 0
 SameBody b c x = option_map bodiless (record_of c x) ≡ option_map bodiless (record_of b x)
 
-at-body : {A : Type 0} (f : Record → A) → ((r : Record) → f (bodiless r) ≡ f r) → (b c : Board) (x : ℕ) → SameBody b c x → option_map f (record_of c x) ≡ option_map f (record_of b x)
+at-body : {A : Type 0} (f : Record → A) → ((r : Record) → f (bodiless r) ≡ f r) → (b c : Board) (x : ℕ) → SameBody b c x
+    → option_map f (record_of c x) ≡ option_map f (record_of b x)
 at-body f same b c x h = sym (go (record_of c x)) ∙ ap (option_map f) h ∙ go (record_of b x)
   where
     go : (o : Option Record) → option_map f (option_map bodiless o) ≡ option_map f o
@@ -58,10 +59,16 @@ suits-alike b c q d bus own = ap (λ (o : Option TypeId). option_map_or (λ t. i
     go (Some t) = of-alike b c q (bus_type t) bus
 
 pub id-alike : (b c : Board) (x : ℕ) → SameBody b c x → id_of c x ≡ id_of b x
-id-alike b c x h = sym (join-map (λ (r : Record). r.device_id) (record_of c x)) ∙ ap (option_and_then (λ (o : Option (List ℕ)). o)) (at-body (λ (r : Record). r.device_id) (λ r. refl) b c x h) ∙ join-map (λ (r : Record). r.device_id) (record_of b x)
+id-alike b c x h =
+    sym (join-map (λ (r : Record). r.device_id) (record_of c x))
+    ∙ ap (option_and_then (λ (o : Option (List ℕ)). o)) (at-body (λ (r : Record). r.device_id) (λ r. refl) b c x h)
+    ∙ join-map (λ (r : Record). r.device_id) (record_of b x)
 
 pub path-alike : (b c : Board) (x : ℕ) → SameBody b c x → path_of c x ≡ path_of b x
-path-alike b c x h = sym (join-map (λ (r : Record). r.kept_path) (record_of c x)) ∙ ap (option_and_then (λ (o : Option (List ℕ)). o)) (at-body (λ (r : Record). r.kept_path) (λ r. refl) b c x h) ∙ join-map (λ (r : Record). r.kept_path) (record_of b x)
+path-alike b c x h =
+    sym (join-map (λ (r : Record). r.kept_path) (record_of c x))
+    ∙ ap (option_and_then (λ (o : Option (List ℕ)). o)) (at-body (λ (r : Record). r.kept_path) (λ r. refl) b c x h)
+    ∙ join-map (λ (r : Record). r.kept_path) (record_of b x)
 
 -- what is named is there
 
@@ -93,7 +100,8 @@ fits-some kinds t n h = go (kinds n) refl
     go None e = absurd (let clash : false ≡ true = rw (FitsKind, e) at h in cc)
     go (Some k) e = rw e refl
 
-pub children-there : (c : Board) (slots : List (List ℕ × Slot)) → AllByRecursion (λ (s : List ℕ × Slot). Linked (kind_of c) s.1) slots → AllByRecursion (IsThere c) (filter_map child_entry slots)
+pub children-there : (c : Board) (slots : List (List ℕ × Slot)) → AllByRecursion (λ (s : List ℕ × Slot). Linked (kind_of c) s.1) slots
+    → AllByRecursion (IsThere c) (filter_map child_entry slots)
 children-there c [] h = tt
 children-there c ((name, plain v) ∷ slots) h = children-there c slots h.1
 children-there c ((name, child m) ∷ slots) h = (some-live c m h.0, children-there c slots h.1)
@@ -101,7 +109,8 @@ children-there c ((name, strong t target) ∷ slots) h = children-there c slots 
 children-there c ((name, weak t target) ∷ slots) h = children-there c slots h.1
 children-there c ((name, alias m property) ∷ slots) h = children-there c slots h.1
 
-pub kids-there : (c : Board) (slots : List (List ℕ × Slot)) → AllByRecursion (λ (s : List ℕ × Slot). Linked (kind_of c) s.1) slots → AllByRecursion (IsThere c) (filter_map kid_entry slots)
+pub kids-there : (c : Board) (slots : List (List ℕ × Slot)) → AllByRecursion (λ (s : List ℕ × Slot). Linked (kind_of c) s.1) slots
+    → AllByRecursion (IsThere c) (filter_map kid_entry slots)
 kids-there c [] h = tt
 kids-there c ((name, plain v) ∷ slots) h = kids-there c slots h.1
 kids-there c ((name, child m) ∷ slots) h = kids-there c slots h.1
@@ -130,10 +139,14 @@ or-cases true u e f g = f refl
 or-cases false u e f g = g e
 
 pub stands-live : (c : Board) → Firm c → (d : ℕ) → stands c d ≡ true → is_live c d ≡ true
-stands-live c h d e = or-cases (listed d (child_entries c PERIPHERAL_BIRTH)) (listed d (child_entries c ANONYMOUS_BIRTH)) e (child-live c h PERIPHERAL_BIRTH d) (child-live c h ANONYMOUS_BIRTH d)
+stands-live c h d e =
+    or-cases (listed d (child_entries c PERIPHERAL_BIRTH)) (listed d (child_entries c ANONYMOUS_BIRTH)) e (child-live c h PERIPHERAL_BIRTH d)
+    (child-live c h ANONYMOUS_BIRTH d)
 
 -- the bus of a device is listed
-pub bus-listed : (q : ℕ) (slots : List (List ℕ × Slot)) → option_and_then strong_in (option_map (λ (s : List ℕ × Slot). s.1) (find (λ s. bytes_eq s.0 (codes "parent_bus")) slots)) ≡ Some q → listed q (filter_map kid_entry slots) ≡ true
+pub bus-listed : (q : ℕ) (slots : List (List ℕ × Slot))
+    → option_and_then strong_in (option_map (λ (s : List ℕ × Slot). s.1) (find (λ s. bytes_eq s.0 (codes "parent_bus")) slots)) ≡ Some q
+    → listed q (filter_map kid_entry slots) ≡ true
 bus-listed q [] e = cc
 bus-listed q (s ∷ slots) e = go (bytes_eq s.0 (codes "parent_bus")) refl (bus-listed q slots)
   where
@@ -157,7 +170,9 @@ bus-listed q (s ∷ slots) e = go (bytes_eq s.0 (codes "parent_bus")) refl (bus-
     there (name, weak t target) k = k
     there (name, alias m property) k = k
 
-    go : (t : Bool) → bytes_eq s.0 (codes "parent_bus") ≡ t → (option_and_then strong_in (option_map (λ (s : List ℕ × Slot). s.1) (find (λ s. bytes_eq s.0 (codes "parent_bus")) slots)) ≡ Some q → listed q (filter_map kid_entry slots) ≡ true) → listed q (filter_map kid_entry (s ∷ slots)) ≡ true
+    go : (t : Bool) → bytes_eq s.0 (codes "parent_bus") ≡ t
+        → (option_and_then strong_in (option_map (λ (s : List ℕ × Slot). s.1) (find (λ s. bytes_eq s.0 (codes "parent_bus")) slots)) ≡ Some q → listed q (filter_map kid_entry slots) ≡ true)
+        → listed q (filter_map kid_entry (s ∷ slots)) ≡ true
     go true p rest = here s (rw p at e)
     go false p rest = there s (rest (rw p at e))
 
@@ -173,7 +188,11 @@ pub of-live : (c : Board) (name : List ℕ) (x : ℕ) → is_of c name x ≡ tru
 of-live c name x e = go (record_of c x) refl
   where
     go : (o : Option Record) → record_of c x ≡ o → is_live c x ≡ true
-    go None q = absurd (let clash : false ≡ true = sym (ap (λ (u : Option Record). option_map_or (λ (t : TypeId). is_a t name) (option_map (λ (r : Record). r.kind) u) false) q) ∙ e in cc)
+    go None q =
+        absurd
+        (let clash : false ≡ true =
+        sym (ap (λ (u : Option Record). option_map_or (λ (t : TypeId). is_a t name) (option_map (λ (r : Record). r.kind) u) false) q) ∙ e in
+        cc)
     go (Some r) q = ap is_some q
 
 pub realized-live : (c : Board) (x : ℕ) → is_realized c x ≡ true → is_live c x ≡ true
@@ -209,7 +228,8 @@ abbrev pub keeper : Board → ℕ → Bool
 keeper b x = among (1 ∷ MACHINE_BIRTH ∷ PERIPHERAL_BIRTH ∷ ANONYMOUS_BIRTH ∷ []) x || stands b x
 
 -- the same entries of the root and of the machine
-pub rooted-same : (b c : Board) → SameBody b c 1 → child_entries c 1 ≡ child_entries b 1 → child_entries c MACHINE_BIRTH ≡ child_entries b MACHINE_BIRTH → IsRooted b → IsRooted c
+pub rooted-same : (b c : Board) → SameBody b c 1 → child_entries c 1 ≡ child_entries b 1
+    → child_entries c MACHINE_BIRTH ≡ child_entries b MACHINE_BIRTH → IsRooted b → IsRooted c
 rooted-same b c own root machine h =
     record {
       root = kind-alike b c 1 own ∙ h.root;
@@ -270,8 +290,10 @@ children-within b c firm body within h p = go (record_of c p) refl
     go None e = rw e tt
     go (Some r) e =
         let there : is_live c p ≡ true = ap is_some e in
-        all-imply (λ (x : List ℕ × ℕ). IsThere c x × IsAtHome b p x) (IsAtHome c p) (λ x k. at-home b c p x (body p there) (body x.1 k.0) k.1) (child_entries c p)
-        (all-both (IsThere c) (IsAtHome b p) (child_entries c p) (children-there c (slots_at c p) (linked-at c firm p)) (all-within (IsAtHome b p) (within p there) (h p)))
+        all-imply (λ (x : List ℕ × ℕ). IsThere c x × IsAtHome b p x) (IsAtHome c p) (λ x k. at-home b c p x (body p there) (body x.1 k.0) k.1)
+        (child_entries c p)
+        (all-both (IsThere c) (IsAtHome b p) (child_entries c p) (children-there c (slots_at c p) (linked-at c firm p))
+        (all-within (IsAtHome b p) (within p there) (h p)))
 
 -- with more children behind the others
 pub record MoreChildren (b c : Board) (p : ℕ) : Type 0 where
@@ -341,7 +363,11 @@ module _ (b c : Board) (kept : Kept b c) (depth : ℕ → ℕ) (left : Option �
   there d e = stands-live c kept.firm d e
 
   peripheral : AllByRecursion (IsPeripheral c) (child_entries c PERIPHERAL_BIRTH)
-  peripheral = all-imply (λ (e : List ℕ × ℕ). IsThere c e × IsPeripheral b e) (IsPeripheral c) one (child_entries c PERIPHERAL_BIRTH) (all-both (IsThere c) (IsPeripheral b) (child_entries c PERIPHERAL_BIRTH) (children-there c (slots_at c PERIPHERAL_BIRTH) (linked-at c kept.firm PERIPHERAL_BIRTH)) (subst (AllByRecursion (IsPeripheral b)) (sym peripherals) h.peripheral))
+  peripheral =
+      all-imply (λ (e : List ℕ × ℕ). IsThere c e × IsPeripheral b e) (IsPeripheral c) one (child_entries c PERIPHERAL_BIRTH)
+      (all-both (IsThere c) (IsPeripheral b) (child_entries c PERIPHERAL_BIRTH)
+      (children-there c (slots_at c PERIPHERAL_BIRTH) (linked-at c kept.firm PERIPHERAL_BIRTH))
+      (subst (AllByRecursion (IsPeripheral b)) (sym peripherals) h.peripheral))
     where
       one : (e : List ℕ × ℕ) → IsThere c e × IsPeripheral b e → IsPeripheral c e
       one e k =
@@ -353,7 +379,11 @@ module _ (b c : Board) (kept : Kept b c) (depth : ℕ → ℕ) (left : Option �
           }
 
   anonymous : AllByRecursion (IsAnonymous c) (child_entries c ANONYMOUS_BIRTH)
-  anonymous = all-imply (λ (e : List ℕ × ℕ). IsThere c e × IsAnonymous b e) (IsAnonymous c) one (child_entries c ANONYMOUS_BIRTH) (all-both (IsThere c) (IsAnonymous b) (child_entries c ANONYMOUS_BIRTH) (children-there c (slots_at c ANONYMOUS_BIRTH) (linked-at c kept.firm ANONYMOUS_BIRTH)) (subst (AllByRecursion (IsAnonymous b)) (sym anonymouses) h.anonymous))
+  anonymous =
+      all-imply (λ (e : List ℕ × ℕ). IsThere c e × IsAnonymous b e) (IsAnonymous c) one (child_entries c ANONYMOUS_BIRTH)
+      (all-both (IsThere c) (IsAnonymous b) (child_entries c ANONYMOUS_BIRTH)
+      (children-there c (slots_at c ANONYMOUS_BIRTH) (linked-at c kept.firm ANONYMOUS_BIRTH))
+      (subst (AllByRecursion (IsAnonymous b)) (sym anonymouses) h.anonymous))
     where
       one : (e : List ℕ × ℕ) → IsThere c e × IsAnonymous b e → IsAnonymous c e
       one e k =
@@ -370,7 +400,9 @@ module _ (b c : Board) (kept : Kept b c) (depth : ℕ → ℕ) (left : Option �
   kids q e =
       let live : is_live c q ≡ true = of-live c (codes "bus") q e in
       let was : is_of b (codes "bus") q ≡ true = sym (of-alike b c q (codes "bus") (kept.body q live)) ∙ e in
-      all-imply (λ (x : List ℕ × ℕ). IsThere c x × IsKid b q x) (IsKid c q) (one live) (kid_entries c q) (all-both (IsThere c) (IsKid b q) (kid_entries c q) (kids-there c (slots_at c q) (linked-at c kept.firm q)) (all-within (IsKid b q) (kept.fewer q live was) (h.kids q was)))
+      all-imply (λ (x : List ℕ × ℕ). IsThere c x × IsKid b q x) (IsKid c q) (one live) (kid_entries c q)
+      (all-both (IsThere c) (IsKid b q) (kid_entries c q) (kids-there c (slots_at c q) (linked-at c kept.firm q))
+      (all-within (IsKid b q) (kept.fewer q live was) (h.kids q was)))
     where
       one : is_live c q ≡ true → (x : List ℕ × ℕ) → IsThere c x × IsKid b q x → IsKid c q x
       one live x k =
@@ -417,10 +449,13 @@ module _ (b c : Board) (kept : Kept b c) (depth : ℕ → ℕ) (left : Option �
       record {
         machine = machine;
         objects = ap (listed OBJECTS_BIRTH) (kept.children 1 kept.root refl) ∙ h.objects;
-        parts = (part PERIPHERAL_BIRTH h.parts.0, (part ANONYMOUS_BIRTH h.parts.1.0, (part ROOT_BUS_BIRTH h.parts.1.1.0, (part MEMORY_BUS_BIRTH h.parts.1.1.1.0, (part SYSTEM_CLOCK_BIRTH h.parts.1.1.1.1.0, tt)))));
+        parts =
+            (part PERIPHERAL_BIRTH h.parts.0, (part ANONYMOUS_BIRTH h.parts.1.0, (part ROOT_BUS_BIRTH h.parts.1.1.0, (part MEMORY_BUS_BIRTH h.parts.1.1.1.0, (part SYSTEM_CLOCK_BIRTH h.parts.1.1.1.1.0, tt)))));
         rooted = rooted-same b c (kept.body 1 kept.root) (kept.children 1 kept.root refl) (kept.children MACHINE_BIRTH machine-live refl) h.rooted;
         children = children-within b c kept.firm kept.body kept.within h.children;
-        aside = all-imply (λ n. stands b n ≡ false) (λ n. stands c n ≡ false) (λ n k. same-stands n ∙ k) (1 ∷ MACHINE_BIRTH ∷ PERIPHERAL_BIRTH ∷ ANONYMOUS_BIRTH ∷ ROOT_BUS_BIRTH ∷ MEMORY_BUS_BIRTH ∷ OBJECTS_BIRTH ∷ []) h.aside;
+        aside =
+            all-imply (λ n. stands b n ≡ false) (λ n. stands c n ≡ false) (λ n k. same-stands n ∙ k)
+            (1 ∷ MACHINE_BIRTH ∷ PERIPHERAL_BIRTH ∷ ANONYMOUS_BIRTH ∷ ROOT_BUS_BIRTH ∷ MEMORY_BUS_BIRTH ∷ OBJECTS_BIRTH ∷ []) h.aside;
         peripheral = peripheral;
         anonymous = anonymous;
         kids = kids;
@@ -434,6 +469,14 @@ module _ (b c : Board) (kept : Kept b c) (depth : ℕ → ℕ) (left : Option �
             of-alike b c d (codes "device") a ∙ h.ids d id (sym (id-alike b c d a) ∙ e);
         once = λ d x id e q. h.once d x id (sym (id-alike b c d (kept.body d (id-live c d id e))) ∙ e) (sym (id-alike b c x (kept.body x (id-live c x id q))) ∙ q);
       }
+
+-- places are kept, and the same devices stand
+pub record Keeps (depth : ℕ → ℕ) (b c : Board) : Type 0 where
+  pub places : PlacesBut depth None (λ x. false) c
+  pub stood : (d : ℕ) → stands c d ≡ stands b d
+
+pub keeps-none : (depth : ℕ → ℕ) (b : Board) → PlacesBut depth None (λ x. false) b → Keeps depth b b
+keeps-none depth b h = record { places = h; stood = λ d. refl }
 
 -- a release
 
@@ -451,10 +494,6 @@ record Pinned (n : ℕ) (work : List (ℕ × ℕ)) (c : Board) : Type 0 where
   idle : among (births_of work) n ≡ false
   pins : 0 < times n c.pins
 
-pinned-drop : (n : ℕ) (c : Board) (m i : ℕ) → 0 < times n c.pins → (is_live (drop_slot c m i) n ≡ is_live c n) × (0 < times n (drop_slot c m i).pins)
-unfolding drop_slot
-pinned-drop n c m i some = (drop-live c m i n, some)
-
 pinned-keeps : (n : ℕ) → KeepsRelease (Pinned n)
 unfolding finish drop_slot
 pinned-keeps n =
@@ -470,7 +509,8 @@ pinned-keeps n =
         let differs : (n == m) ≡ false = split.0 in
         record { live = finish-live c m n ∙ rw differs h.live; idle = split.1; pins = h.pins }
 
-    apart : (c : Board) (m i : ℕ) (work : List (ℕ × ℕ)) (s : Slot) (k : ℕ) → Pinned n ((m, i) ∷ work) c → refs (drop_slot c m i) k ≡ 0 → among (k ∷ m ∷ births_of work) n ≡ false
+    apart : (c : Board) (m i : ℕ) (work : List (ℕ × ℕ)) (s : Slot) (k : ℕ) → Pinned n ((m, i) ∷ work) c → refs (drop_slot c m i) k ≡ 0
+        → among (k ∷ m ∷ births_of work) n ≡ false
     apart c m i work s k h free = go (eqb n k) refl
       where
         go : (t : Bool) → eqb n k ≡ t → among (k ∷ m ∷ births_of work) n ≡ false
@@ -481,7 +521,8 @@ pinned-keeps n =
             absurd (let some : 0 < times n c.pins = h.pins in omega (arith, none, some))
 
 after-root : (b : Board) (o : Option ℕ) (n : ℕ) → is_live b n ≡ true → among b.pins n ≡ true → is_live (after finalise b o) n ≡ true
-after-root b o n there pinned = (after_keeps (Pinned n) (pinned-keeps n) b o [] free (λ some. record { live = there; idle = refl; pins = pinned-times n b.pins pinned })).live
+after-root b o n there pinned =
+    (after_keeps (Pinned n) (pinned-keeps n) b o [] free (λ some. record { live = there; idle = refl; pins = pinned-times n b.pins pinned })).live
   where
     free : (m : ℕ) → o ≡ Some m → refs b m ≡ 0 → Pinned n ((m, 0) ∷ []) b
     free m e none = record { live = there; idle = go (eqb n m) refl; pins = pinned-times n b.pins pinned }
@@ -513,5 +554,7 @@ owner-live b n d e = go (record_of b n) refl
 pub after-kept : (b : Board) (o : Option ℕ) → Firm (after finalise b o) → is_live b 1 ≡ true → among b.pins 1 ≡ true → Kept b (after finalise b o)
 after-kept b o firm there pinned = kept-alike b (after finalise b o) firm (after-root b o 1 there pinned) (after-anonymous b o) (after-alike b o)
 
-pub after-places : (depth : ℕ → ℕ) (left : Option ℕ) (out : ℕ → Bool) (b : Board) (o : Option ℕ) → Firm (after finalise b o) → among b.pins 1 ≡ true → PlacesBut depth left out b → PlacesBut depth left out (after finalise b o)
-after-places depth left out b o firm pinned h = places-kept b (after finalise b o) (after-kept b o firm (owner-live b 1 MACHINE_BIRTH h.machine) pinned) depth left out h
+pub after-places : (depth : ℕ → ℕ) (left : Option ℕ) (out : ℕ → Bool) (b : Board) (o : Option ℕ) → Firm (after finalise b o) → among b.pins 1 ≡ true
+    → PlacesBut depth left out b → PlacesBut depth left out (after finalise b o)
+after-places depth left out b o firm pinned h =
+    places-kept b (after finalise b o) (after-kept b o firm (owner-live b 1 MACHINE_BIRTH h.machine) pinned) depth left out h

@@ -26,7 +26,7 @@ named_in name slots = option_map (λ (s : List ℕ × Slot). s.1) (find (λ s. b
 abbrev pub PlainIn : List ℕ → List (List ℕ × Slot) → Type 0
 PlainIn name slots = is_some (option_and_then plain_in (named_in name slots)) ≡ true
 
-kept-append : (name : List ℕ) (y : List ℕ × Slot) (slots : List (List ℕ × Slot)) → PlainIn name slots → PlainIn name (slots ++ y ∷ [])
+pub kept-append : (name : List ℕ) (y : List ℕ × Slot) (slots : List (List ℕ × Slot)) → PlainIn name slots → PlainIn name (slots ++ y ∷ [])
 kept-append name y [] e = absurd (let clash : false ≡ true = e in cc)
 kept-append name y (s ∷ slots) e = go (bytes_eq s.0 name) refl (kept-append name y slots)
   where
@@ -38,7 +38,8 @@ kept-append name y (s ∷ slots) e = go (bytes_eq s.0 name) refl (kept-append na
 abbrev pub LeavesPlain : (Slot → Slot) → Type 0
 LeavesPlain g = (s : Slot) → is_some (plain_in s) ≡ true → is_some (plain_in (g s)) ≡ true
 
-kept-changed : (name : List ℕ) (g : Slot → Slot) → LeavesPlain g → (i : ℕ) (slots : List (List ℕ × Slot)) → PlainIn name slots → PlainIn name (changed_at g i slots)
+kept-changed : (name : List ℕ) (g : Slot → Slot) → LeavesPlain g → (i : ℕ) (slots : List (List ℕ × Slot)) → PlainIn name slots
+    → PlainIn name (changed_at g i slots)
 kept-changed name g leaves i [] e = e
 kept-changed name g leaves zero (s ∷ slots) e = go (bytes_eq s.0 name) refl
   where
@@ -65,49 +66,31 @@ given-plain b props s e = go (find (λ (p : Given). bytes_eq p.0 s.0) props) ref
     go None p = rw (slot_given, p) e
     go (Some g) p = rw (slot_given, p) (given s.1 g.1 e)
 
-kept-given : (name : List ℕ) (b : Board) (props : List Given) (slots : List (List ℕ × Slot)) → PlainIn name slots → PlainIn name (map (slot_given b props) slots)
+kept-given : (name : List ℕ) (b : Board) (props : List Given) (slots : List (List ℕ × Slot)) → PlainIn name slots
+    → PlainIn name (map (slot_given b props) slots)
 kept-given name b props [] e = e
 kept-given name b props (s ∷ slots) e = go (bytes_eq s.0 name) refl (kept-given name b props slots)
   where
-    go : (t : Bool) → bytes_eq s.0 name ≡ t → (PlainIn name slots → PlainIn name (map (slot_given b props) slots)) → PlainIn name (map (slot_given b props) (s ∷ slots))
+    go : (t : Bool) → bytes_eq s.0 name ≡ t → (PlainIn name slots → PlainIn name (map (slot_given b props) slots))
+        → PlainIn name (map (slot_given b props) (s ∷ slots))
     go true p rest = rw p (given-plain b props s (rw p at e))
     go false p rest = rw p (rest (rw p at e))
 
 -- an edit
-kept-edit : (name : List ℕ) (n m : ℕ) (change : Record → Record) → ((r : Record) → (change r).birth ≡ r.birth) → ((r : Record) → PlainIn name r.slots → PlainIn name (change r).slots) → (c : Board) → PlainIn name (slots_at c n) → PlainIn name (slots_at (edit m change c) n)
-kept-edit name n m change same_birth keeps c e = subst (λ (o : Option Record). PlainIn name (option_map_or (λ (r : Record). r.slots) o [])) (sym (found-edited m change same_birth n c.records)) (go (record_of c n) e)
+kept-edit : (name : List ℕ) (n m : ℕ) (change : Record → Record) → ((r : Record) → (change r).birth ≡ r.birth)
+    → ((r : Record) → PlainIn name r.slots → PlainIn name (change r).slots) → (c : Board) → PlainIn name (slots_at c n)
+    → PlainIn name (slots_at (edit m change c) n)
+kept-edit name n m change same_birth keeps c e =
+    subst (λ (o : Option Record). PlainIn name (option_map_or (λ (r : Record). r.slots) o [])) (sym (found-edited m change same_birth n c.records))
+    (go (record_of c n) e)
   where
-    go : (o : Option Record) → PlainIn name (option_map_or (λ (r : Record). r.slots) o []) → PlainIn name (option_map_or (λ (r : Record). r.slots) (option_map (edited m change) o) [])
+    go : (o : Option Record) → PlainIn name (option_map_or (λ (r : Record). r.slots) o [])
+        → PlainIn name (option_map_or (λ (r : Record). r.slots) (option_map (edited m change) o) [])
     go None k = k
     go (Some r) k = choose (r.birth == m) {A = PlainIn name (edited m change r).slots} (λ p. rw (edited, p) (keeps r k)) (λ p. rw (edited, p) k)
 
-pub kept-add : (name : List ℕ) (n m : ℕ) (own : List ℕ) (s : Slot) (c : Board) → PlainIn name (slots_at c n) → PlainIn name (slots_at (add m own s c) n)
-unfolding add
-kept-add name n m own s c e = kept-edit name n m (with_added own s) (λ r. refl) (λ r k. kept-append name (own, s) r.slots k) c e
-
-kept-new : (name : List ℕ) (n : ℕ) (r : Record) (c : Board) → PlainIn name (slots_at c n) → PlainIn name (slots_at (with_new r c) n)
-kept-new name n r c e = subst (λ (o : Option Record). PlainIn name (option_map_or (λ (y : Record). y.slots) o [])) (sym (find-append (λ (y : Record). y.birth == n) c.records (r ∷ []))) (go (record_of c n) e)
-  where
-    go : (o : Option Record) → PlainIn name (option_map_or (λ (y : Record). y.slots) o []) → PlainIn name (option_map_or (λ (y : Record). y.slots) (option_or o (found_at n (r ∷ []))) [])
-    go None k = absurd (let clash : false ≡ true = k in cc)
-    go (Some y) k = k
-
-kept-row : (name : List ℕ) (n : ℕ) (t : TypeId) (own : List ℕ) (kind : RowKind) (c : Board) → PlainIn name (slots_at c n) → PlainIn name (slots_at (row_made n t own kind c) n)
-kept-row name n t own (row.Plain type first) c e = kept-add name n n own (plain (first_value t first)) c e
-kept-row name n t own (row.Link target true) c e = kept-add name n n own (strong target None) c e
-kept-row name n t own (row.Link target false) c e = kept-add name n n own (weak target None) c e
-kept-row name n t own (row.Child type) c e = kept-add name n n own (child (c.born + 1)) (with_new (fresh_record (c.born + 1) type) c) (kept-new name n (fresh_record (c.born + 1) type) c e)
-kept-row name n t own (row.Alias owner property) c e = go (owned c n (property_name owner))
-  where
-    go : (o : Option ℕ) → PlainIn name (slots_at (aliased n own (property_name property) o c) n)
-    go None = e
-    go (Some m) = kept-add name n n own (alias m (property_name property)) c e
-
-pub kept-rows : (name : List ℕ) (n : ℕ) (t : TypeId) (ps : List Property) (c : Board) → PlainIn name (slots_at c n) → PlainIn name (slots_at (rows_made n t ps c) n)
-kept-rows name n t [] c e = e
-kept-rows name n t (p ∷ ps) c e = kept-rows name n t ps (row_made n t (property_name p.name) p.kind c) (kept-row name n t (property_name p.name) p.kind c e)
-
-pub kept-given_at : (name : List ℕ) (n : ℕ) (b : Board) (props : List Given) (c : Board) → PlainIn name (slots_at c n) → PlainIn name (slots_at (edit n (with_given b props) c) n)
+pub kept-given_at : (name : List ℕ) (n : ℕ) (b : Board) (props : List Given) (c : Board) → PlainIn name (slots_at c n)
+    → PlainIn name (slots_at (edit n (with_given b props) c) n)
 kept-given_at name n b props c e = kept-edit name n n (with_given b props) (λ r. refl) (λ r k. kept-given name b props r.slots k) c e
 
 val-plain : (v : Val) → LeavesPlain (with_val v)
@@ -123,7 +106,9 @@ kept-set name n own v c e = go (place_from (is_named own) 0 (slots_at c n)) refl
   where
     go : (o : Option ℕ) → place_from (is_named own) 0 (slots_at c n) ≡ o → PlainIn name (slots_at (set_named n own v c) n)
     go None k = rw (set_named, k) e
-    go (Some i) k = rw (set_named, k) (kept-edit name n n (with_changed (with_val v) i) (λ r. refl) (λ r h. kept-changed name (with_val v) (val-plain v) i r.slots h) c e)
+    go (Some i) k =
+        rw (set_named, k)
+        (kept-edit name n n (with_changed (with_val v) i) (λ r. refl) (λ r h. kept-changed name (with_val v) (val-plain v) i r.slots h) c e)
 
 fitted-plain : (b : Board) (m : ℕ) → LeavesPlain (fitted b m)
 fitted-plain b m (plain w) e = e
@@ -137,16 +122,20 @@ kept-link name n own m c e = go (place_from (is_named own) 0 (slots_at c n)) ref
   where
     go : (o : Option ℕ) → place_from (is_named own) 0 (slots_at c n) ≡ o → PlainIn name (slots_at (link_named n own m c) n)
     go None k = rw (link_named, k) e
-    go (Some i) k = rw (link_named, k) (kept-edit name n n (with_changed (fitted c m) i) (λ r. refl) (λ r h. kept-changed name (fitted c m) (fitted-plain c m) i r.slots h) c e)
+    go (Some i) k =
+        rw (link_named, k)
+        (kept-edit name n n (with_changed (fitted c m) i) (λ r. refl) (λ r h. kept-changed name (fitted c m) (fitted-plain c m) i r.slots h) c e)
 
 -- a fact of the slots of an object that stays with a slot more behind them
 module _ (P : List (List ℕ × Slot) → Type 0) (never : P [] → ⊥) (more : (y : List ℕ × Slot) (slots : List (List ℕ × Slot)) → P slots → P (slots ++ y ∷ [])) where
   stay-edit : (n m : ℕ) (change : Record → Record) → ((r : Record) → (change r).birth ≡ r.birth) → ((r : Record) → P r.slots → P (change r).slots) → (c : Board)
       → P (slots_at c n) → P (slots_at (edit m change c) n)
   stay-edit n m change same_birth keeps c e =
-      subst (λ (o : Option Record). P (option_map_or (λ (r : Record). r.slots) o [])) (sym (found-edited m change same_birth n c.records)) (go (record_of c n) e)
+      subst (λ (o : Option Record). P (option_map_or (λ (r : Record). r.slots) o [])) (sym (found-edited m change same_birth n c.records))
+      (go (record_of c n) e)
     where
-      go : (o : Option Record) → P (option_map_or (λ (r : Record). r.slots) o []) → P (option_map_or (λ (r : Record). r.slots) (option_map (edited m change) o) [])
+      go : (o : Option Record) → P (option_map_or (λ (r : Record). r.slots) o [])
+          → P (option_map_or (λ (r : Record). r.slots) (option_map (edited m change) o) [])
       go None k = k
       go (Some r) k = choose (r.birth == m) {A = P (edited m change r).slots} (λ p. rw (edited, p) (keeps r k)) (λ p. rw (edited, p) k)
 
@@ -155,9 +144,12 @@ module _ (P : List (List ℕ × Slot) → Type 0) (never : P [] → ⊥) (more :
   stay-add n m own s c e = stay-edit n m (with_added own s) (λ r. refl) (λ r k. more (own, s) r.slots k) c e
 
   stay-new : (n : ℕ) (r : Record) (c : Board) → P (slots_at c n) → P (slots_at (with_new r c) n)
-  stay-new n r c e = subst (λ (o : Option Record). P (option_map_or (λ (y : Record). y.slots) o [])) (sym (find-append (λ (y : Record). y.birth == n) c.records (r ∷ []))) (go (record_of c n) e)
+  stay-new n r c e =
+      subst (λ (o : Option Record). P (option_map_or (λ (y : Record). y.slots) o []))
+      (sym (find-append (λ (y : Record). y.birth == n) c.records (r ∷ []))) (go (record_of c n) e)
     where
-      go : (o : Option Record) → P (option_map_or (λ (y : Record). y.slots) o []) → P (option_map_or (λ (y : Record). y.slots) (option_or o (found_at n (r ∷ []))) [])
+      go : (o : Option Record) → P (option_map_or (λ (y : Record). y.slots) o [])
+          → P (option_map_or (λ (y : Record). y.slots) (option_or o (found_at n (r ∷ []))) [])
       go None k = absurd (never k)
       go (Some y) k = k
 

@@ -1,44 +1,45 @@
 -- Adding a device, and the places of devices: refused attempts keep them, and what is known of a board on which one may be added.
-use Rattle.std.proofs.Common.{◌≡◌, refl, ap, sym, subst, ◌∙◌, ℕ, zero, suc, ◌<◌, Bool, true, false, ◌==◌, eqb, List, [], ◌∷◌, ◌++◌, filter_map, find, length, codes, decimal, Option, Some, None, is_some, option_and_then, arith}
-use Rattle.std.specs.Prelude.{if◌then◌else◌, ◌^◌}
+use Rattle.std.proofs.Common.{◌≡◌, refl, ap, sym, subst, ◌∙◌, ℕ, zero, suc, ◌<◌, Bool, true, false, ◌==◌, eqb, List, [], ◌∷◌, find, length, codes, Option, Some, None, option_and_then, arith}
+use Rattle.std.specs.Prelude.{if◌then◌else◌}
 use Rattle.std.specs.List.{AllByRecursion, list_any}
 use Rattle.std.specs.Option.{option_map_or}
 use Rattle.std.specs.Str.{bytes_eq}
 use Rattle.std.proofs.lemmas.Bool.{eqb-true}
-use Rattle.std.proofs.lemmas.Fmt.{decimal_injective}
-use Rattle.std.proofs.lemmas.List.{append_cancel_left, append_cancel_right}
 use Rattle.std.proofs.lemmas.Slice.Eq.{bytes_eq-Decides}
 use Rattle.qo_values.specs.declared.births.TheConstants.{ANONYMOUS_BIRTH, MACHINE_BIRTH, MEMORY_BUS_BIRTH, PERIPHERAL_BIRTH, ROOT_BUS_BIRTH}
 use Rattle.qo_values.specs.declared.codes.Code.{Code}
 use Rattle.qo_values.specs.declared.kinds.TypeId.{TypeId}
-use Rattle.qo_model.specs.Board.{Board, Record, Slot, plain, child, strong, weak, alias, slots_at}
+use Rattle.qo_model.specs.Board.{Board, Record}
 use Rattle.qo_model.specs.Depth.{among, by_depth}
-use Rattle.qo_model.specs.Devices.{anonymous_name, bridge_of, bus_above, bus_of, depth_of, depth_turn, device_named, has_id}
-use Rattle.qo_model.specs.Objects.{has_slot}
-use Rattle.qo_model.specs.Paths.{births, child_of, is_of}
+use Rattle.qo_model.specs.Devices.{bridge_of, bus_above, bus_of, depth_of, depth_turn, device_named, has_id}
+use Rattle.qo_model.specs.Paths.{births, is_of}
 use Rattle.qo_model.specs.Plug.{Wanted, barred_early, barred_late, bus_for, cut_attempt, plug, plug_as, plug_attempt, plug_by, plug_late, spot_of, type_barred, with_plugged}
 use Rattle.qo_model.specs.Types.{TypeRow, is_a, row_named}
 use Rattle.qo_sound.proofs.FirmLemmas.{Firm}
 use Rattle.qo_sound.proofs.PlugLemmas.{IsPlace, cut_attempt-rest, device-of, place-of, plug_attempt-rest}
 use Rattle.qo_sound.proofs.RecordLemmas.{all-imply}
 use Rattle.qo_sound.proofs.ViewLemmas.{AtRest}
-use Rattle.qo_sound_devices.specs.SoundPlaces.{child_entries, child_entry, HasOwner, machines, bridges, id_of, IsAnonymous, IsHome, IsPeripheral, listed, PlacesBut, stands}
+use Rattle.qo_sound_devices.specs.SoundPlaces.{child_entries, HasOwner, machines, bridges, id_of, IsAnonymous, IsHome, IsPeripheral, listed, PlacesBut, stands}
 use Rattle.qo_sound_devices.proofs.AlikeLemmas.{alike-record}
 use Rattle.qo_sound_devices.proofs.AttachedLemmas.{owns-listed, parent-is}
 use Rattle.qo_sound_devices.proofs.LowLemmas.{room}
 use Rattle.qo_sound_devices.proofs.PlacesLemmas.{all-listed, kept-alike, or-cases, owner-live, places-kept}
 
 -- attempts take births, and are noted
-pub plug_attempt-places : (depth : ℕ → ℕ) (b : Board) (t : TypeId) (bus stage : ℕ) → AtRest b → PlacesBut depth None (λ x. false) b → PlacesBut depth None (λ x. false) (plug_attempt b t bus stage)
+pub plug_attempt-places : (depth : ℕ → ℕ) (b : Board) (t : TypeId) (bus stage : ℕ) → AtRest b → PlacesBut depth None (λ x. false) b
+    → PlacesBut depth None (λ x. false) (plug_attempt b t bus stage)
 plug_attempt-places depth b t bus stage rest h =
     places-kept b (plug_attempt b t bus stage)
-    (kept-alike b (plug_attempt b t bus stage) (plug_attempt-rest b t bus stage rest).used.firm (owner-live b 1 MACHINE_BIRTH h.machine) refl (λ x e. alike-record b (plug_attempt b t bus stage) x refl))
+    (kept-alike b (plug_attempt b t bus stage) (plug_attempt-rest b t bus stage rest).used.firm (owner-live b 1 MACHINE_BIRTH h.machine) refl
+    (λ x e. alike-record b (plug_attempt b t bus stage) x refl))
     depth None (λ x. false) h
 
-pub cut_attempt-places : (depth : ℕ → ℕ) (b : Board) (t : TypeId) (i : ℕ) (joined : Bool) → AtRest b → PlacesBut depth None (λ x. false) b → PlacesBut depth None (λ x. false) (cut_attempt b t i joined)
+pub cut_attempt-places : (depth : ℕ → ℕ) (b : Board) (t : TypeId) (i : ℕ) (joined : Bool) → AtRest b → PlacesBut depth None (λ x. false) b
+    → PlacesBut depth None (λ x. false) (cut_attempt b t i joined)
 cut_attempt-places depth b t i joined rest h =
     places-kept b (cut_attempt b t i joined)
-    (kept-alike b (cut_attempt b t i joined) (cut_attempt-rest b t i joined rest).used.firm (owner-live b 1 MACHINE_BIRTH h.machine) refl (λ x e. alike-record b (cut_attempt b t i joined) x refl))
+    (kept-alike b (cut_attempt b t i joined) (cut_attempt-rest b t i joined rest).used.firm (owner-live b 1 MACHINE_BIRTH h.machine) refl
+    (λ x e. alike-record b (cut_attempt b t i joined) x refl))
     depth None (λ x. false) h
 
 -- what a device that is added finds: nothing refuses it
@@ -51,7 +52,8 @@ pub record Accepted (b : Board) (t : TypeId) (bus : ℕ) (a : Wanted) : Type 0 w
 
 -- a fact of the board behind an add: as it was, behind an attempt, or behind a device that was added
 module _ (P : Board → Type 0) (b : Board) (a : Wanted) (same : P b) (attempt : (t : TypeId) (bus stage : ℕ) → P (plug_attempt b t bus stage)) (taken : (t : TypeId) (bus : ℕ) → Accepted b t bus a → P (with_plugged b t a (spot_of b t bus a.props))) where
-  by-late : (t : TypeId) (bus : ℕ) (o : Option (ℕ × Code)) → barred_late b t bus a.props ≡ o → (barred_late b t bus a.props ≡ None → Accepted b t bus a) → P (plug_late b t bus a o).board
+  by-late : (t : TypeId) (bus : ℕ) (o : Option (ℕ × Code)) → barred_late b t bus a.props ≡ o
+      → (barred_late b t bus a.props ≡ None → Accepted b t bus a) → P (plug_late b t bus a o).board
   by-late t bus (Some refusal) e accepted = attempt t bus refusal.0
   by-late t bus None e accepted = taken t bus (accepted e)
 
@@ -61,7 +63,10 @@ module _ (P : Board → Type 0) (b : Board) (a : Wanted) (same : P b) (attempt :
     where
       go : (m : Option ℕ) → bus_for b t a.bus ≡ m → P (plug_as b t a None).board
       go None p = rw (plug_as, p) same
-      go (Some bus) p = rw (plug_as, p) (by-late t bus (barred_late b t bus a.props) refl (λ late. record { device = device; chosen = p; early = e; late = late; place = place-of b t bus a device p e late }))
+      go (Some bus) p =
+          rw (plug_as, p)
+          (by-late t bus (barred_late b t bus a.props) refl
+          (λ late. record { device = device; chosen = p; early = e; late = late; place = place-of b t bus a device p e late }))
 
   by-type : (o : Option Code) → type_barred a.driver ≡ o → P (plug_by b a o).board
   by-type (Some code) e = same
@@ -75,44 +80,18 @@ module _ (P : Board → Type 0) (b : Board) (a : Wanted) (same : P b) (attempt :
   unfolding plug
   behind-plug = by-type (type_barred a.driver) refl
 
--- the next name of a device without id
-
-abbrev pub IsChild : List ℕ × Slot → Type 0
-IsChild s = is_some (child_of s.1) ≡ true
-
-numbers-differ : (n m : ℕ) → n < m → m < 2 ^ 64 → anonymous_name n ≡ anonymous_name m → ⊥
-numbers-differ n m low small e =
-    let behind : decimal n ++ codes "]" ≡ decimal m ++ codes "]" = append_cancel_left (codes "device[") (decimal n ++ codes "]") (decimal m ++ codes "]") e in
-    let own : decimal n ≡ decimal m = append_cancel_right (decimal n) (decimal m) (codes "]") behind in
-    let is : n ≡ m = decimal_injective n m (omega (arith, low, small)) small own in
-    absurd (let clash : 0 < 0 = omega (arith, is, low) in omega arith)
-
-none-named : (b : Board) → b.anonymous < 2 ^ 64 → (slots : List (List ℕ × Slot)) → AllByRecursion IsChild slots → AllByRecursion (IsAnonymous b) (filter_map child_entry slots) → list_any (λ (s : List ℕ × Slot). bytes_eq s.0 (anonymous_name b.anonymous)) slots ≡ false
-none-named b small [] only h = refl
-none-named b small ((name, plain v) ∷ slots) only h = absurd (let clash : false ≡ true = only.0 in cc)
-none-named b small ((name, strong t target) ∷ slots) only h = absurd (let clash : false ≡ true = only.0 in cc)
-none-named b small ((name, weak t target) ∷ slots) only h = absurd (let clash : false ≡ true = only.0 in cc)
-none-named b small ((name, alias m property) ∷ slots) only h = absurd (let clash : false ≡ true = only.0 in cc)
-none-named b small ((name, child m) ∷ slots) only h = go (bytes_eq name (anonymous_name b.anonymous)) refl (none-named b small slots only.1 h.1)
-  where
-    go : (t : Bool) → bytes_eq name (anonymous_name b.anonymous) ≡ t → list_any (λ (s : List ℕ × Slot). bytes_eq s.0 (anonymous_name b.anonymous)) slots ≡ false → list_any (λ (s : List ℕ × Slot). bytes_eq s.0 (anonymous_name b.anonymous)) ((name, child m) ∷ slots) ≡ false
-    go true p rest =
-        let (n, (low, named)) = h.0.numbered in
-        absurd (numbers-differ n b.anonymous low small (sym named ∙ (bytes_eq-Decides name (anonymous_name b.anonymous)).0 p))
-    go false p rest = rw p rest
-
-pub anonymous-free : (depth : ℕ → ℕ) (left : Option ℕ) (out : ℕ → Bool) (b : Board) → b.anonymous < 2 ^ 64 → AllByRecursion IsChild (slots_at b ANONYMOUS_BIRTH) → PlacesBut depth left out b → has_slot b ANONYMOUS_BIRTH (anonymous_name b.anonymous) ≡ false
-anonymous-free depth left out b small only h = none-named b small (slots_at b ANONYMOUS_BIRTH) only h.anonymous
-
 -- depths
 
-pub stands-device : (depth : ℕ → ℕ) (left : Option ℕ) (out : ℕ → Bool) (b : Board) → PlacesBut depth left out b → (d : ℕ) → stands b d ≡ true → is_of b (codes "device") d ≡ true
+pub stands-device : (depth : ℕ → ℕ) (left : Option ℕ) (out : ℕ → Bool) (b : Board) → PlacesBut depth left out b → (d : ℕ) → stands b d ≡ true
+    → is_of b (codes "device") d ≡ true
 stands-device depth left out b h d e =
     or-cases (listed d (child_entries b PERIPHERAL_BIRTH)) (listed d (child_entries b ANONYMOUS_BIRTH)) e
-    (all-listed (λ x. is_of b (codes "device") x ≡ true) (child_entries b PERIPHERAL_BIRTH) (all-imply (IsPeripheral b) (λ (x : List ℕ × ℕ). is_of b (codes "device") x.1 ≡ true) (λ x k. k.device) (child_entries b PERIPHERAL_BIRTH) h.peripheral) d)
-    (all-listed (λ x. is_of b (codes "device") x ≡ true) (child_entries b ANONYMOUS_BIRTH) (all-imply (IsAnonymous b) (λ (x : List ℕ × ℕ). is_of b (codes "device") x.1 ≡ true) (λ x k. k.device) (child_entries b ANONYMOUS_BIRTH) h.anonymous) d)
+    (all-listed (λ x. is_of b (codes "device") x ≡ true) (child_entries b PERIPHERAL_BIRTH)
+    (all-imply (IsPeripheral b) (λ (x : List ℕ × ℕ). is_of b (codes "device") x.1 ≡ true) (λ x k. k.device) (child_entries b PERIPHERAL_BIRTH) h.peripheral) d)
+    (all-listed (λ x. is_of b (codes "device") x ≡ true) (child_entries b ANONYMOUS_BIRTH)
+    (all-imply (IsAnonymous b) (λ (x : List ℕ × ℕ). is_of b (codes "device") x.1 ≡ true) (λ x k. k.device) (child_entries b ANONYMOUS_BIRTH) h.anonymous) d)
 
-among-all : (P : ℕ → Type 0) (ns : List ℕ) → AllByRecursion P ns → (q : ℕ) → among ns q ≡ true → P q
+pub among-all : (P : ℕ → Type 0) (ns : List ℕ) → AllByRecursion P ns → (q : ℕ) → among ns q ≡ true → P q
 among-all P [] h q e = cc
 among-all P (n ∷ ns) h q e = go (eqb q n) refl (among-all P ns h.1 q)
   where
@@ -124,7 +103,9 @@ module _ (depth : ℕ → ℕ) (out : ℕ → Bool) (b : Board) (firm : Firm b) 
   module _ (machine : is_of b (codes "device") MACHINE_BIRTH ≡ false) where
     none-above : (q : ℕ) → listed q (child_entries b MACHINE_BIRTH) ≡ true → bus_above b q ≡ None
     none-above q e =
-        let bridge : bridge_of b q ≡ None = ap (option_and_then (λ p. if is_of b (codes "device") p then Some p else None)) (parent-is b firm MACHINE_BIRTH q e) ∙ ap (λ (t : Bool). if t then Some MACHINE_BIRTH else None) machine in
+        let bridge : bridge_of b q ≡ None =
+        ap (option_and_then (λ p. if is_of b (codes "device") p then Some p else None)) (parent-is b firm MACHINE_BIRTH q e)
+        ∙ ap (λ (t : Bool). if t then Some MACHINE_BIRTH else None) machine in
         ap (option_and_then (bus_of b)) bridge
 
     depth-machines : (k q : ℕ) → listed q (child_entries b MACHINE_BIRTH) ≡ true → depth q ≡ 0 → by_depth (depth_turn b) (λ x. 0) (suc k) q ≡ depth q
@@ -138,9 +119,12 @@ module _ (depth : ℕ → ℕ) (out : ℕ → Bool) (b : Board) (firm : Firm b) 
     depth-enough (suc k) q (bridges p s o) low =
         let home : IsHome b p = h.home p s (λ z. cc) in
         let deeper : depth q ≡ suc (depth home.bus) = h.shallow.below p home.bus q s home.on o in
-        let bridge : bridge_of b q ≡ Some p = ap (option_and_then (λ x. if is_of b (codes "device") x then Some x else None)) (parent-is b firm p q (owns-listed q (child_entries b p) o)) ∙ ap (λ (t : Bool). if t then Some p else None) (stands-device depth None out b h p s) in
+        let bridge : bridge_of b q ≡ Some p =
+        ap (option_and_then (λ x. if is_of b (codes "device") x then Some x else None)) (parent-is b firm p q (owns-listed q (child_entries b p) o))
+        ∙ ap (λ (t : Bool). if t then Some p else None) (stands-device depth None out b h p s) in
         let above : bus_above b q ≡ Some home.bus = ap (option_and_then (bus_of b)) bridge ∙ home.on in
-        let below : by_depth (depth_turn b) (λ x. 0) k home.bus ≡ depth home.bus = depth-enough k home.bus (h.owner p home.bus s home.on) (omega (arith, low, deeper)) in
+        let below : by_depth (depth_turn b) (λ x. 0) k home.bus ≡ depth home.bus =
+        depth-enough k home.bus (h.owner p home.bus s home.on) (omega (arith, low, deeper)) in
         rw (depth_turn, above) (ap (λ (m : ℕ). suc m) below ∙ sym deeper)
 
     pub depth-is : (q : ℕ) → HasOwner b q → depth q ≡ depth_of b q
@@ -148,16 +132,21 @@ module _ (depth : ℕ → ℕ) (out : ℕ → Bool) (b : Board) (firm : Firm b) 
     depth-is q o = sym (depth-enough (suc (length (births b))) q o (omega (arith, h.shallow.most q o, room depth None out b firm h)))
 
 -- an id that no device has is no object's
-named-none : (id : List ℕ) (rs : List Record) (x : ℕ) → list_any (has_id id) rs ≡ false → option_and_then (λ (r : Record). r.device_id) (find (λ (r : Record). r.birth == x) rs) ≡ Some id → ⊥
+named-none : (id : List ℕ) (rs : List Record) (x : ℕ) → list_any (has_id id) rs ≡ false
+    → option_and_then (λ (r : Record). r.device_id) (find (λ (r : Record). r.birth == x) rs) ≡ Some id → ⊥
 named-none id [] x e k = absurd (let clash : None ≡ Some id = k in cc)
 named-none id (r ∷ rs) x e k = go (r.birth == x) refl (has_id id r) refl (named-none id rs x)
   where
-    go : (t : Bool) → (r.birth == x) ≡ t → (u : Bool) → has_id id r ≡ u → (list_any (has_id id) rs ≡ false → option_and_then (λ (y : Record). y.device_id) (find (λ (y : Record). y.birth == x) rs) ≡ Some id → ⊥) → ⊥
+    go : (t : Bool) → (r.birth == x) ≡ t → (u : Bool) → has_id id r ≡ u
+        → (list_any (has_id id) rs ≡ false → option_and_then (λ (y : Record). y.device_id) (find (λ (y : Record). y.birth == x) rs) ≡ Some id → ⊥) → ⊥
     go t p true q rest = absurd (let clash : true ≡ false = rw q at e in cc)
     go false p false q rest = rest (rw q at e) (rw p at k)
     go true p false q rest =
         let own : r.device_id ≡ Some id = rw p at k in
-        absurd (let clash : true ≡ false = sym ((bytes_eq-Decides id id).1 refl) ∙ sym (ap (λ (o : Option (List ℕ)). option_map_or (λ (its : List ℕ). bytes_eq its id) o false) own) ∙ q in cc)
+        absurd
+        (let clash : true ≡ false =
+        sym ((bytes_eq-Decides id id).1 refl) ∙ sym (ap (λ (o : Option (List ℕ)). option_map_or (λ (its : List ℕ). bytes_eq its id) o false) own) ∙ q in
+        cc)
 
 pub id-new : (b : Board) (id : List ℕ) → device_named b id ≡ false → (x : ℕ) → id_of b x ≡ Some id → ⊥
 id-new b id e x k = named-none id b.records x e k

@@ -16,10 +16,8 @@ use Rattle.qo_model.specs.Objects.{init_notes, place_from}
 use Rattle.qo_model.specs.Opening.{first_value}
 use Rattle.qo_model.specs.Plug.{Spot, Wanted, drafted, fitted, joined, link_named, name_for, parent_for, rows_made, valued, with_given, with_new}
 use Rattle.qo_model.specs.Release.{edit, edited}
-use Rattle.qo_model.specs.RowNames.{property_name}
 use Rattle.qo_model.specs.Types.{property, is_a, slots_of, types, up_to}
 use Rattle.qo_model.specs.declared.properties.Property.{Property}
-use Rattle.qo_model.specs.declared.properties.RowKind.{RowKind}
 use Rattle.qo_model.specs.declared.properties.RowKind.TheVariants as row
 use Rattle.qo_model.specs.declared.properties.First.TheVariants as first
 use Rattle.qo_model.specs.declared.properties.Mark.TheVariants.{Never, Add}
@@ -30,7 +28,7 @@ use Rattle.qo_sound.proofs.FirmLemmas.{Firm}
 use Rattle.qo_sound.proofs.MadeLemmas.{grown-new}
 use Rattle.qo_sound.proofs.UnplugLemmas.{Found, found-at}
 use Rattle.qo_sound_devices.proofs.DropLemmas.{edited-slots}
-use Rattle.qo_sound_devices.proofs.PlainLemmas.{kept-add, kept-given_at, kept-link, kept-rows, kept-set, named_in, PlainIn, stay-rows}
+use Rattle.qo_sound_devices.proofs.PlainLemmas.{kept-append, kept-given_at, kept-link, kept-set, named_in, PlainIn, stay-add, stay-rows}
 use Rattle.qo_sound_devices.proofs.UnrealizeLemmas.{first-changed, mild-val, named-changed, named-other, none-found, other-name, reads}
 
 -- the rows of a device begin so
@@ -61,7 +59,8 @@ device-rows MemoryBackend e = absurd (let clash : false ≡ true = e in cc)
 device-rows MemoryBackendRam e = absurd (let clash : false ≡ true = e in cc)
 device-rows Tag e = absurd (let clash : false ≡ true = e in cc)
 
-own-added : (n : ℕ) (name : List ℕ) (s : Slot) (c : Board) (r : Record) → r.birth ≡ n → record_of c n ≡ Some r → record_of (add n name s c) n ≡ Some (with_added name s r)
+own-added : (n : ℕ) (name : List ℕ) (s : Slot) (c : Board) (r : Record) → r.birth ≡ n → record_of c n ≡ Some r
+    → record_of (add n name s c) n ≡ Some (with_added name s r)
 unfolding add
 own-added n name s c r is e =
     let own : (r.birth == n) ≡ true = eq-eqb r.birth n is in
@@ -80,32 +79,45 @@ set-value v (Some (strong t target)) e = absurd (let clash : false ≡ true = e 
 set-value v (Some (weak t target)) e = absurd (let clash : false ≡ true = e in cc)
 set-value v (Some (alias m property)) e = absurd (let clash : false ≡ true = e in cc)
 
-pub set-read : (n : ℕ) (name : List ℕ) (v : Val) (c : Board) → PlainIn name (slots_at c n) → option_and_then plain_in (named_in name (slots_at (set_named n name v c) n)) ≡ Some v
+pub set-read : (n : ℕ) (name : List ℕ) (v : Val) (c : Board) → PlainIn name (slots_at c n)
+    → option_and_then plain_in (named_in name (slots_at (set_named n name v c) n)) ≡ Some v
 unfolding set
 set-read n name v c e = go (place_from (is_named name) 0 (slots_at c n)) refl
   where
-    there : (i : ℕ) → place_from (is_named name) 0 (slots_at c n) ≡ Some i → (o : Option Record) → record_of c n ≡ o → option_and_then plain_in (named_in name (slots_at (edit n (with_changed (with_val v) i) c) n)) ≡ Some v
-    there i k None q = absurd (let clash : false ≡ true = sym (ap (λ (o : Option Record). is_some (option_and_then plain_in (named_in name (option_map_or (λ (r : Record). r.slots) o [])))) q) ∙ e in cc)
+    there : (i : ℕ) → place_from (is_named name) 0 (slots_at c n) ≡ Some i → (o : Option Record) → record_of c n ≡ o
+        → option_and_then plain_in (named_in name (slots_at (edit n (with_changed (with_val v) i) c) n)) ≡ Some v
+    there i k None q =
+        absurd
+        (let clash : false ≡ true =
+        sym (ap (λ (o : Option Record). is_some (option_and_then plain_in (named_in name (option_map_or (λ (r : Record). r.slots) o [])))) q) ∙ e in
+        cc)
     there i k (Some r) q =
         let was : slots_at c n ≡ r.slots = ap (λ (o : Option Record). option_map_or (λ (y : Record). y.slots) o []) q in
         ap (λ (ss : List (List ℕ × Slot)). option_and_then plain_in (named_in name ss)) (edited-slots c n (with_changed (with_val v) i) (λ y. refl) r q)
         ∙ ap (option_and_then plain_in) (first-changed (with_val v) name r.slots 0 i i (ap (place_from (is_named name) 0) (sym was) ∙ k) (omega arith))
         ∙ set-value v (named_in name r.slots) (sym (ap (λ (ss : List (List ℕ × Slot)). is_some (option_and_then plain_in (named_in name ss))) was) ∙ e)
 
-    go : (o : Option ℕ) → place_from (is_named name) 0 (slots_at c n) ≡ o → option_and_then plain_in (named_in name (slots_at (set_named n name v c) n)) ≡ Some v
-    go None k = absurd (let clash : false ≡ true = sym (ap (λ (o : Option Slot). is_some (option_and_then plain_in o)) (none-found name (slots_at c n) 0 k)) ∙ e in cc)
+    go : (o : Option ℕ) → place_from (is_named name) 0 (slots_at c n) ≡ o
+        → option_and_then plain_in (named_in name (slots_at (set_named n name v c) n)) ≡ Some v
+    go None k =
+        absurd
+        (let clash : false ≡ true = sym (ap (λ (o : Option Slot). is_some (option_and_then plain_in o)) (none-found name (slots_at c n) 0 k)) ∙ e in cc)
     go (Some i) k = rw (set_named, k) (there i k (record_of c n) refl)
 
 -- a value stays where another name is set, and where a link is filled
-set-other : (n : ℕ) (name own : List ℕ) (v : Val) → bytes_eq own name ≡ false → (c : Board) → option_and_then plain_in (named_in name (slots_at (set_named n own v c) n)) ≡ option_and_then plain_in (named_in name (slots_at c n))
+set-other : (n : ℕ) (name own : List ℕ) (v : Val) → bytes_eq own name ≡ false → (c : Board)
+    → option_and_then plain_in (named_in name (slots_at (set_named n own v c) n)) ≡ option_and_then plain_in (named_in name (slots_at c n))
 unfolding set
 set-other n name own v apart c = go (place_from (is_named own) 0 (slots_at c n)) refl
   where
-    go : (o : Option ℕ) → place_from (is_named own) 0 (slots_at c n) ≡ o → option_and_then plain_in (named_in name (slots_at (set_named n own v c) n)) ≡ option_and_then plain_in (named_in name (slots_at c n))
+    go : (o : Option ℕ) → place_from (is_named own) 0 (slots_at c n) ≡ o
+        → option_and_then plain_in (named_in name (slots_at (set_named n own v c) n)) ≡ option_and_then plain_in (named_in name (slots_at c n))
     go None e = rw (set_named, e) refl
     go (Some i) e =
         let f : Found (is_named own) (slots_at c n) i = found-at (is_named own) i (slots_at c n) e in
-        rw (set_named, e) (reads (with_val v) (mild-val v) n i c (λ slots. option_and_then plain_in (named_in name slots)) (λ slots q. ap (option_and_then plain_in) (named-other (with_val v) name i slots f.entry (ap (λ (x : List (List ℕ × Slot)). slice_get x i) (sym q) ∙ f.at) (other-name own name apart f.entry f.passes))) n)
+        rw (set_named, e)
+        (reads (with_val v) (mild-val v) n i c (λ slots. option_and_then plain_in (named_in name slots))
+        (λ slots q. ap (option_and_then plain_in) (named-other (with_val v) name i slots f.entry (ap (λ (x : List (List ℕ × Slot)). slice_get x i) (sym q) ∙ f.at) (other-name own name apart f.entry f.passes))) n)
 
 fitted-same : (b : Board) (m : ℕ) (s : Slot) → plain_in (fitted b m s) ≡ plain_in s
 fitted-same b m (plain w) = refl
@@ -116,17 +128,22 @@ fitted-same b m (weak t None) = refl
 fitted-same b m (weak t (Some k)) = refl
 fitted-same b m (alias k property) = refl
 
-link-other : (n : ℕ) (name own : List ℕ) (m : ℕ) (c : Board) → option_and_then plain_in (named_in name (slots_at (link_named n own m c) n)) ≡ option_and_then plain_in (named_in name (slots_at c n))
+link-other : (n : ℕ) (name own : List ℕ) (m : ℕ) (c : Board)
+    → option_and_then plain_in (named_in name (slots_at (link_named n own m c) n)) ≡ option_and_then plain_in (named_in name (slots_at c n))
 link-other n name own m c = go (place_from (is_named own) 0 (slots_at c n)) refl
   where
-    there : (i : ℕ) (o : Option Record) → record_of c n ≡ o → option_and_then plain_in (named_in name (slots_at (edit n (with_changed (fitted c m) i) c) n)) ≡ option_and_then plain_in (named_in name (slots_at c n))
-    there i None q = ap (λ (o : Option Record). option_and_then plain_in (named_in name (option_map_or (λ (r : Record). r.slots) o []))) (found-edited n (with_changed (fitted c m) i) (λ r. refl) n c.records ∙ ap (option_map (edited n (with_changed (fitted c m) i))) q ∙ sym q)
+    there : (i : ℕ) (o : Option Record) → record_of c n ≡ o
+        → option_and_then plain_in (named_in name (slots_at (edit n (with_changed (fitted c m) i) c) n)) ≡ option_and_then plain_in (named_in name (slots_at c n))
+    there i None q =
+        ap (λ (o : Option Record). option_and_then plain_in (named_in name (option_map_or (λ (r : Record). r.slots) o [])))
+        (found-edited n (with_changed (fitted c m) i) (λ r. refl) n c.records ∙ ap (option_map (edited n (with_changed (fitted c m) i))) q ∙ sym q)
     there i (Some r) q =
         ap (λ (ss : List (List ℕ × Slot)). option_and_then plain_in (named_in name ss)) (edited-slots c n (with_changed (fitted c m) i) (λ y. refl) r q)
         ∙ named-changed plain_in (fitted c m) (fitted-same c m) name i r.slots
         ∙ sym (ap (λ (o : Option Record). option_and_then plain_in (named_in name (option_map_or (λ (y : Record). y.slots) o []))) q)
 
-    go : (o : Option ℕ) → place_from (is_named own) 0 (slots_at c n) ≡ o → option_and_then plain_in (named_in name (slots_at (link_named n own m c) n)) ≡ option_and_then plain_in (named_in name (slots_at c n))
+    go : (o : Option ℕ) → place_from (is_named own) 0 (slots_at c n) ≡ o
+        → option_and_then plain_in (named_in name (slots_at (link_named n own m c) n)) ≡ option_and_then plain_in (named_in name (slots_at c n))
     go None e = rw (link_named, e) refl
     go (Some i) e = rw (link_named, e) (there i (record_of c n) refl)
 
@@ -167,7 +184,9 @@ module _ (b : Board) (t : TypeId) (firm : Firm b) (device : is_a t (codes "devic
 
   -- what is so behind the first rows stays so, where it stays so with a slot more behind
   pub rows-stay : (P : List (List ℕ × Slot) → Type 0) → (P [] → ⊥) → ((y : List ℕ × Slot) (slots : List (List ℕ × Slot)) → P slots → P (slots ++ y ∷ []))
-      → P ((codes "type", plain (first_value t first.TypeName)) ∷ (codes "realized", plain (first_value t (first.Bool false))) ∷ (codes "parent_bus", strong Bus None) ∷ (codes "slot", plain (first_value t first.Nothing)) ∷ []) → P (slots_at (drafted b t) (b.born + 1))
+      → P
+      ((codes "type", plain (first_value t first.TypeName)) ∷ (codes "realized", plain (first_value t (first.Bool false))) ∷ (codes "parent_bus", strong Bus None) ∷ (codes "slot", plain (first_value t first.Nothing)) ∷ []) → P
+      (slots_at (drafted b t) (b.born + 1))
   rows-stay P never more begins =
       subst (λ (ps : List Property). P (slots_at (rows_made n t ps c0) n)) (sym (device-rows t device))
       (stay-rows P never more n t (drop 4 (slots_of t)) (rows_made n t first_rows c0)
@@ -175,17 +194,20 @@ module _ (b : Board) (t : TypeId) (firm : Firm b) (device : is_a t (codes "devic
 
   -- what is plain behind the first rows stays so
   rows-plain : (name : List ℕ) → PlainIn name r4.slots → PlainIn name (slots_at (drafted b t) (b.born + 1))
-  rows-plain name begins =
-      subst (λ (ps : List Property). PlainIn name (slots_at (rows_made n t ps c0) n)) (sym (device-rows t device))
-      (kept-rows name n t (drop 4 (slots_of t)) (rows_made n t first_rows c0)
-      (subst (λ (o : Option Record). PlainIn name (option_map_or (λ (r : Record). r.slots) o [])) (sym found4) begins))
+  rows-plain name begins = rows-stay (PlainIn name) (λ e. absurd (let clash : false ≡ true = e in cc)) (kept-append name) begins
 
-  joined-plain : (name : List ℕ) (a : Wanted) (spot : Spot) → PlainIn name r4.slots → PlainIn name (slots_at (joined b (b.born + 1) a spot (drafted b t)) (b.born + 1))
+  joined-plain : (name : List ℕ) (a : Wanted) (spot : Spot) → PlainIn name r4.slots
+      → PlainIn name (slots_at (joined b (b.born + 1) a spot (drafted b t)) (b.born + 1))
   joined-plain name a spot begins =
-      kept-add name n spot.bus (kid_name spot.slot) (strong Device (Some n)) (add (parent_for a.id) (name_for b a.id) (child n) (drafted b t))
-      (kept-add name n (parent_for a.id) (name_for b a.id) (child n) (drafted b t) (rows-plain name begins))
+      stay-add (PlainIn name) never (kept-append name) n spot.bus (kid_name spot.slot) (strong Device (Some n))
+      (add (parent_for a.id) (name_for b a.id) (child n) (drafted b t))
+      (stay-add (PlainIn name) never (kept-append name) n (parent_for a.id) (name_for b a.id) (child n) (drafted b t) (rows-plain name begins))
+    where
+      never : PlainIn name [] → ⊥
+      never e = absurd (let clash : false ≡ true = e in cc)
 
-  pub valued-realized : (a : Wanted) (spot : Spot) → is_realized (valued b (b.born + 1) a.props spot (joined b (b.born + 1) a spot (drafted b t))) (b.born + 1) ≡ true
+  pub valued-realized : (a : Wanted) (spot : Spot)
+      → is_realized (valued b (b.born + 1) a.props spot (joined b (b.born + 1) a spot (drafted b t))) (b.born + 1) ≡ true
   valued-realized a spot =
       let c : Board = joined b n a spot (drafted b t) in
       let c3 : Board = edit n (with_given b a.props) c in
@@ -197,11 +219,15 @@ module _ (b : Board) (t : TypeId) (firm : Firm b) (device : is_a t (codes "devic
       (kept-given_at (codes "realized") n b a.props c (joined-plain (codes "realized") a spot refl))) in
       ap (λ (o : Option Val). option_map_or is_true o false) (set-read n (codes "realized") (val.Bool true) c5 there)
 
-  pub valued-at : (a : Wanted) (spot : Spot) → place_on (valued b (b.born + 1) a.props spot (joined b (b.born + 1) a spot (drafted b t))) (b.born + 1) ≡ Some spot.slot
+  pub valued-at : (a : Wanted) (spot : Spot)
+      → place_on (valued b (b.born + 1) a.props spot (joined b (b.born + 1) a spot (drafted b t))) (b.born + 1) ≡ Some spot.slot
   valued-at a spot =
       let c : Board = joined b n a spot (drafted b t) in
       let c3 : Board = edit n (with_given b a.props) c in
       let c4 : Board = set_named n (codes "slot") (val.Uint spot.slot) c3 in
       let c5 : Board = link_named n (codes "parent_bus") spot.bus c4 in
       let there : PlainIn (codes "slot") (slots_at c3 n) = kept-given_at (codes "slot") n b a.props c (joined-plain (codes "slot") a spot refl) in
-      ap (option_and_then number_in) (set-other n (codes "slot") (codes "realized") (val.Bool true) refl c5 ∙ link-other n (codes "slot") (codes "parent_bus") spot.bus c4 ∙ set-read n (codes "slot") (val.Uint spot.slot) c3 there)
+      ap (option_and_then number_in)
+      (set-other n (codes "slot") (codes "realized") (val.Bool true) refl c5
+      ∙ link-other n (codes "slot") (codes "parent_bus") spot.bus c4
+      ∙ set-read n (codes "slot") (val.Uint spot.slot) c3 there)

@@ -1,19 +1,18 @@
 -- The clock of a device that is added gets its source, which changes nothing that places speak of.
-use Rattle.std.proofs.Common.{◌≡◌, refl, ap, sym, subst, ◌∙◌, ℕ, zero, suc, ◌+◌, Bool, true, false, ◌==◌, List, [], ◌∷◌, filter_map, find, slice_get, Option, Some, None, is_some, option_map, option_and_then, codes, arith}
-use Rattle.std.specs.List.{AllByRecursion, cons_option, list_any}
+use Rattle.std.proofs.Common.{◌≡◌, refl, ap, sym, subst, ◌∙◌, ℕ, zero, suc, ◌+◌, Bool, true, false, ◌==◌, List, [], ◌∷◌, filter_map, find, slice_get, Option, Some, None, option_map, option_and_then, codes, arith}
+use Rattle.std.specs.List.{cons_option}
 use Rattle.std.specs.Option.{option_map_or}
 use Rattle.std.specs.Str.{bytes_eq}
 use Rattle.std.proofs.lemmas.Bool.{eqb-true, eq-eqb}
 use Rattle.std.proofs.Math.Bool.{or-true}
 use Rattle.std.proofs.lemmas.Option.{same_Some}
-use Rattle.std.proofs.lemmas.Slice.Eq.{bytes_eq-Decides}
 use Rattle.qo_values.specs.declared.births.TheConstants.{ANONYMOUS_BIRTH, MACHINE_BIRTH, PERIPHERAL_BIRTH}
 use Rattle.qo_values.specs.declared.kinds.TypeId.{TypeId}
 use Rattle.qo_values.specs.declared.kinds.TypeId.TheVariants.{Device}
 use Rattle.qo_values.specs.declared.properties.Val.{Val}
 use Rattle.qo_values.specs.declared.properties.Val.TheVariants as val
 use Rattle.qo_values.specs.declared.ranges.Range.{Range}
-use Rattle.qo_model.specs.Board.{Board, Record, Slot, plain, child, strong, weak, alias, record_of, is_live, kind_of, slots_at}
+use Rattle.qo_model.specs.Board.{Board, Record, Slot, plain, child, strong, weak, alias, record_of, is_live, slots_at}
 use Rattle.qo_model.specs.Changes.{add, changed_at, set, with_added, with_changed, with_val}
 use Rattle.qo_model.specs.Devices.{child_named, clock_of, is_true, kid_name, number_in, plain_in, strong_in}
 use Rattle.qo_model.specs.Objects.{place_from}
@@ -23,7 +22,6 @@ use Rattle.qo_model.specs.Release.{edit, edited}
 use Rattle.qo_model.specs.Types.{is_a}
 use Rattle.qo_model.specs.Unplug.{is_named, set_named}
 use Rattle.qo_model.proofs.StepLemmas.{found-edited}
-use Rattle.qo_sound.proofs.FirmLemmas.{Firm}
 use Rattle.qo_sound.proofs.PlugLemmas.{shut-above}
 use Rattle.qo_sound.proofs.UnplugLemmas.{Found, found-at, found-from}
 use Rattle.qo_sound.proofs.ViewLemmas.{AtRest}
@@ -36,7 +34,7 @@ use Rattle.qo_sound_devices.proofs.MadeLemmas.{Goal, now_at}
 use Rattle.qo_sound_devices.proofs.PlacesLemmas.{child-live, of-live, SameBody}
 use Rattle.qo_sound_devices.proofs.StoodLemmas.{child-fitted, joined-stood}
 use Rattle.qo_sound_devices.proofs.UnrealizeLemmas.{Dims, dims-none, entries-changed, named-other, other-name}
-use Rattle.qo_sound_devices.proofs.WhereLemmas.{Entry, entry-of}
+use Rattle.qo_sound_devices.proofs.WhereLemmas.{entry-of}
 
 abbrev named_in : List ℕ → List (List ℕ × Slot) → Option Slot
 named_in name slots = option_map (λ (s : List ℕ × Slot). s.1) (find (λ s. bytes_eq s.0 name) slots)
@@ -48,7 +46,8 @@ place-slot name [] k j i e is s at = cc
 place-slot name (x ∷ slots) k j i e is s at = go (is_named name x) refl i is at (place-slot name slots (suc k) j)
   where
     go : (t : Bool) → is_named name x ≡ t → (m : ℕ) → j ≡ m + k → slice_get (x ∷ slots) m ≡ Some s
-        → ((n : ℕ) → place_from (is_named name) (suc k) slots ≡ Some j → j ≡ n + suc k → (y : List ℕ × Slot) → slice_get slots n ≡ Some y → named_in name slots ≡ Some y.1)
+        →
+        ((n : ℕ) → place_from (is_named name) (suc k) slots ≡ Some j → j ≡ n + suc k → (y : List ℕ × Slot) → slice_get slots n ≡ Some y → named_in name slots ≡ Some y.1)
         → named_in name (x ∷ slots) ≡ Some s.1
     go true p zero q here rest = rw p (ap (λ (y : List ℕ × Slot). Some y.1) (same_Some x s here))
     go true p (suc m) q here rest = absurd (let same : k ≡ j = same_Some k j (rw p at e) in omega (arith, same, q))
@@ -78,14 +77,17 @@ module _ (g : Slot → Slot) (n i : ℕ) (b : Board) where
   abbrev c : Board
   c = edit n (with_changed g i) b
 
-  reads-at : {A : Type 0} (f : List (List ℕ × Slot) → A) → ((slots : List (List ℕ × Slot)) → slots_at b n ≡ slots → f (changed_at g i slots) ≡ f slots) → (x : ℕ)
+  reads-at : {A : Type 0} (f : List (List ℕ × Slot) → A)
+      → ((slots : List (List ℕ × Slot)) → slots_at b n ≡ slots → f (changed_at g i slots) ≡ f slots) → (x : ℕ)
       → f (slots_at (edit n (with_changed g i) b) x) ≡ f (slots_at b x)
   reads-at f same x = go (x == n) refl
     where
       at_owner : (o : Option Record) → record_of b n ≡ o → f (slots_at c n) ≡ f (slots_at b n)
       at_owner None e =
           let was : slots_at b n ≡ [] = ap (λ (o : Option Record). option_map_or (λ (r : Record). r.slots) o []) e in
-          let now : slots_at c n ≡ [] = ap (λ (o : Option Record). option_map_or (λ (r : Record). r.slots) o []) (found-edited n (with_changed g i) (λ r. refl) n b.records ∙ ap (option_map (edited n (with_changed g i))) e) in
+          let now : slots_at c n ≡ [] =
+          ap (λ (o : Option Record). option_map_or (λ (r : Record). r.slots) o [])
+          (found-edited n (with_changed g i) (λ r. refl) n b.records ∙ ap (option_map (edited n (with_changed g i))) e) in
           ap f (now ∙ sym was)
       at_owner (Some r) e =
           let was : slots_at b n ≡ r.slots = ap (λ (o : Option Record). option_map_or (λ (y : Record). y.slots) o []) e in
@@ -93,7 +95,9 @@ module _ (g : Slot → Slot) (n i : ℕ) (b : Board) where
 
       go : (t : Bool) → (x == n) ≡ t → f (slots_at c x) ≡ f (slots_at b x)
       go true p = subst (λ (m : ℕ). f (slots_at c m) ≡ f (slots_at b m)) (sym (eqb-true x n p)) (at_owner (record_of b n) refl)
-      go false p = ap (λ (o : Option Record). f (option_map_or (λ (r : Record). r.slots) o [])) (found-edited n (with_changed g i) (λ r. refl) x b.records ∙ other-record n x (with_changed g i) b refl p (record_of b x) refl)
+      go false p =
+          ap (λ (o : Option Record). f (option_map_or (λ (r : Record). r.slots) o []))
+          (found-edited n (with_changed g i) (λ r. refl) x b.records ∙ other-record n x (with_changed g i) b refl p (record_of b x) refl)
 
   bodies-at : (x : ℕ) → SameBody b (edit n (with_changed g i) b) x
   bodies-at x = ap (option_map bodiless) (found-edited n (with_changed g i) (λ r. refl) x b.records) ∙ go (record_of b x)
@@ -117,8 +121,12 @@ dims-source n m c e = go (place_from (is_named (codes "source")) 0 (slots_at c n
                 body = bodies-at g n i c;
                 children = reads-at g n i c (filter_map child_entry) (λ slots q. entries-changed child_entry g (child-fitted c m) i slots);
                 kids = reads-at g n i c (filter_map kid_entry) (λ slots q. entries-at kid_entry g i slots f.entry (here slots q) (kid-fitted c m f.entry sees));
-                bus = reads-at g n i c (λ slots. option_and_then strong_in (named_in (codes "parent_bus") slots)) (λ slots q. ap (option_and_then strong_in) (other (codes "parent_bus") refl slots q));
-                place = reads-at g n i c (λ slots. option_and_then number_in (option_and_then plain_in (named_in (codes "slot") slots))) (λ slots q. ap (λ (o : Option Slot). option_and_then number_in (option_and_then plain_in o)) (other (codes "slot") refl slots q));
+                bus =
+                    reads-at g n i c (λ slots. option_and_then strong_in (named_in (codes "parent_bus") slots))
+                    (λ slots q. ap (option_and_then strong_in) (other (codes "parent_bus") refl slots q));
+                place =
+                    reads-at g n i c (λ slots. option_and_then number_in (option_and_then plain_in (named_in (codes "slot") slots)))
+                    (λ slots q. ap (λ (o : Option Slot). option_and_then number_in (option_and_then plain_in o)) (other (codes "slot") refl slots q));
                 fading = λ x k. sym (realized x) ∙ k;
                 anonymous = refl;
               };
@@ -137,15 +145,20 @@ dims-source n m c e = go (place_from (is_named (codes "source")) 0 (slots_at c n
         here : (slots : List (List ℕ × Slot)) → slots_at c n ≡ slots → slice_get slots i ≡ Some f.entry
         here slots q = sym (ap (λ (x : List (List ℕ × Slot)). slice_get x i) q) ∙ f.at
 
-        other : (name : List ℕ) → bytes_eq (codes "source") name ≡ false → (slots : List (List ℕ × Slot)) → slots_at c n ≡ slots → named_in name (changed_at g i slots) ≡ named_in name slots
+        other : (name : List ℕ) → bytes_eq (codes "source") name ≡ false → (slots : List (List ℕ × Slot)) → slots_at c n ≡ slots
+            → named_in name (changed_at g i slots) ≡ named_in name slots
         other name apart slots q = named-other g name i slots f.entry (here slots q) (other-name (codes "source") name apart f.entry f.passes)
 
-        realized : (x : ℕ) → option_map_or is_true (option_and_then plain_in (named_in (codes "realized") (slots_at (edit n (with_changed g i) c) x))) false ≡ option_map_or is_true (option_and_then plain_in (named_in (codes "realized") (slots_at c x))) false
-        realized = reads-at g n i c (λ slots. option_map_or is_true (option_and_then plain_in (named_in (codes "realized") slots)) false) (λ slots q. ap (λ (o : Option Slot). option_map_or is_true (option_and_then plain_in o) false) (other (codes "realized") refl slots q))
+        realized : (x : ℕ)
+            → option_map_or is_true (option_and_then plain_in (named_in (codes "realized") (slots_at (edit n (with_changed g i) c) x))) false ≡ option_map_or is_true (option_and_then plain_in (named_in (codes "realized") (slots_at c x))) false
+        realized =
+            reads-at g n i c (λ slots. option_map_or is_true (option_and_then plain_in (named_in (codes "realized") slots)) false)
+            (λ slots q. ap (λ (o : Option Slot). option_map_or is_true (option_and_then plain_in o) false) (other (codes "realized") refl slots q))
 
 -- other objects stay where one is edited
 module _ (x : ℕ) where
-  edit-other : (n : ℕ) (change : Record → Record) → ((r : Record) → (change r).birth ≡ r.birth) → (x == n) ≡ false → (c : Board) → record_of (edit n change c) x ≡ record_of c x
+  edit-other : (n : ℕ) (change : Record → Record) → ((r : Record) → (change r).birth ≡ r.birth) → (x == n) ≡ false → (c : Board)
+      → record_of (edit n change c) x ≡ record_of c x
   edit-other n change same_birth apart c = found-edited n change same_birth x c.records ∙ other-record n x change c refl apart (record_of c x) refl
 
   add-other : (n : ℕ) (name : List ℕ) (s : Slot) → (x == n) ≡ false → (c : Board) → record_of (add n name s c) x ≡ record_of c x
@@ -189,7 +202,8 @@ module _ (x : ℕ) where
       ∙ add-other (parent_for a.id) (name_for b a.id) (child n) parent c
 
 -- the clock is a child
-clock-listed : (m : ℕ) (slots : List (List ℕ × Slot)) → option_and_then child_named (named_in (codes "clk") slots) ≡ Some m → listed m (filter_map child_entry slots) ≡ true
+clock-listed : (m : ℕ) (slots : List (List ℕ × Slot)) → option_and_then child_named (named_in (codes "clk") slots) ≡ Some m
+    → listed m (filter_map child_entry slots) ≡ true
 clock-listed m [] e = cc
 clock-listed m (s ∷ slots) e = go (bytes_eq s.0 (codes "clk")) refl (clock-listed m slots)
   where
@@ -207,7 +221,9 @@ clock-listed m (s ∷ slots) e = go (bytes_eq s.0 (codes "clk")) refl (clock-lis
     there (name, weak t target) k = k
     there (name, alias j property) k = k
 
-    go : (t : Bool) → bytes_eq s.0 (codes "clk") ≡ t → (option_and_then child_named (named_in (codes "clk") slots) ≡ Some m → listed m (filter_map child_entry slots) ≡ true) → listed m (filter_map child_entry (s ∷ slots)) ≡ true
+    go : (t : Bool) → bytes_eq s.0 (codes "clk") ≡ t
+        → (option_and_then child_named (named_in (codes "clk") slots) ≡ Some m → listed m (filter_map child_entry slots) ≡ true)
+        → listed m (filter_map child_entry (s ∷ slots)) ≡ true
     go true p rest = here s (rw p at e)
     go false p rest = there s (rest (rw p at e))
 
@@ -220,7 +236,9 @@ module _ (depth : ℕ → ℕ) (b : Board) (t : TypeId) (a : Wanted) (spot : Spo
 
   -- the clock is new
   source-blank : (m : ℕ) → clock_of d n ≡ Some m → may_see (named_in (codes "source") (slots_at d m)) ≡ true
-  source-blank m e = ap (λ (o : Option Record). may_see (named_in (codes "source") (option_map_or (λ (r : Record). r.slots) o []))) (stood-other m b n a spot (drafted b t) (not_it m_new) (apart spot.bus bus_live) (apart (parent_for a.id) (parent_live a.id)))
+  source-blank m e =
+      ap (λ (o : Option Record). may_see (named_in (codes "source") (option_map_or (λ (r : Record). r.slots) o [])))
+      (stood-other m b n a spot (drafted b t) (not_it m_new) (apart spot.bus bus_live) (apart (parent_for a.id) (parent_live a.id)))
       ∙ drafted-source b t (shut-above b.born rest.used.firm.begun) rest.used m m_new
     where
       j : Joined depth b n spot.bus spot.slot a.id t (record (now_at n (valued b n a.props spot (joined b n a spot (drafted b t)))) { its = a.id }) d
@@ -233,7 +251,9 @@ module _ (depth : ℕ → ℕ) (b : Board) (t : TypeId) (a : Wanted) (spot : Spo
       m_new = j.heirs m heir
 
       apart : (y : ℕ) → is_live b y ≡ true → (m == y) ≡ false
-      apart y k = choose (m == y) {A = (m == y) ≡ false} (λ p. absurd (let clash : false ≡ true = sym m_new ∙ ap (is_live b) (eqb-true m y p) ∙ k in cc)) (λ p. p)
+      apart y k =
+          choose (m == y) {A = (m == y) ≡ false} (λ p. absurd (let clash : false ≡ true = sym m_new ∙ ap (is_live b) (eqb-true m y p) ∙ k in cc))
+          (λ p. p)
 
       bus_live : is_live b spot.bus ≡ true
       bus_live = of-live b (codes "bus") spot.bus goal.is_bus
@@ -247,7 +267,13 @@ module _ (depth : ℕ → ℕ) (b : Board) (t : TypeId) (a : Wanted) (spot : Spo
 
       not_it : is_live b m ≡ false → (m == n) ≡ false
       not_it new = choose (m == n) {A = (m == n) ≡ false}
-          (λ p. absurd (let clash : false ≡ true = sym (entry-of (IsFurther d n) m (child_entries d n) (j.further n j.absent) heir).holds.0 ∙ ap (is_of d (codes "device")) (eqb-true m n p) ∙ is_device in cc))
+          (λ p.
+          absurd
+          (let clash : false ≡ true =
+          sym (entry-of (IsFurther d n) m (child_entries d n) (j.further n j.absent) heir).holds.0
+          ∙ ap (is_of d (codes "device")) (eqb-true m n p)
+          ∙ is_device in
+          cc))
           (λ p. p)
 
   pub holds-source : Dims (stood b (b.born + 1) a spot (drafted b t)) (clocked (source_for b spot.bus) (b.born + 1) (stood b (b.born + 1) a spot (drafted b t)))

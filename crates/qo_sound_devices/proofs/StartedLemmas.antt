@@ -22,7 +22,7 @@ use Rattle.qo_sound.proofs.FirmLemmas.{Firm}
 use Rattle.qo_sound.proofs.RecordLemmas.{found-birth}
 use Rattle.qo_sound_devices.specs.SoundPlaces.{child_entries, child_entry, id_of, kid_entries, listed, owns_it, path_of, PlacesBut}
 use Rattle.qo_sound_devices.proofs.AlikeLemmas.{Alike, alike-record, other-record}
-use Rattle.qo_sound_devices.proofs.JoinedLemmas.{choose, count_behind, deepened, device-no_bus, done, further-same, Joined, Now, path_behind, places-joined}
+use Rattle.qo_sound_devices.proofs.JoinedLemmas.{choose, count_behind, device-no_bus, done, further-same, Joined, Now, path_behind}
 use Rattle.qo_sound_devices.proofs.PlacesLemmas.{child-live, id-alike, kind-alike, of-alike, of-live, path-alike}
 use Rattle.qo_sound_devices.proofs.UnrealizeLemmas.{Dims, dims-acted, dims-alike, dims-none, dims-then}
 
@@ -94,7 +94,8 @@ module _ (depth : ℕ → ℕ) (b : Board) (n bus slot : ℕ) (id : Option (List
         new_id = j.new_id;
       }
 
-  pub joined-beside : (left : Option ℕ) (out : ℕ → Bool) → Firm b → PlacesBut depth left out b → (now next : Now) (c d : Board) → Beside n c d → IsNow n next d → Joined depth b n bus slot id t now c → Joined depth b n bus slot id t next d
+  pub joined-beside : (left : Option ℕ) (out : ℕ → Bool) → Firm b → PlacesBut depth left out b → (now next : Now) (c d : Board) → Beside n c d
+      → IsNow n next d → Joined depth b n bus slot id t now c → Joined depth b n bus slot id t next d
   joined-beside left out firm h now next c d k is j =
       record {
         body = λ x e. (k.others x (differs x e)).body ∙ j.body x e;
@@ -129,13 +130,17 @@ module _ (depth : ℕ → ℕ) (b : Board) (n bus slot : ℕ) (id : Option (List
       }
     where
       differs : (x : ℕ) → is_live b x ≡ true → (x == n) ≡ false
-      differs x e = choose (x == n) {A = (x == n) ≡ false} (λ p. absurd (let clash : true ≡ false = sym e ∙ ap (is_live b) (eqb-true x n p) ∙ j.absent in cc)) (λ p. p)
+      differs x e =
+          choose (x == n) {A = (x == n) ≡ false} (λ p. absurd (let clash : true ≡ false = sym e ∙ ap (is_live b) (eqb-true x n p) ∙ j.absent in cc))
+          (λ p. p)
 
       at_each : (P : ℕ → Type 0) → ((x : ℕ) → Alike c d x → P x) → P n → (x : ℕ) → P x
       at_each P other its x = choose (x == n) {A = P x} (λ p. subst P (sym (eqb-true x n p)) its) (λ p. other x (k.others x p))
 
       same_types : (name : List ℕ) (y : ℕ) → is_of d name y ≡ is_of c name y
-      same_types name = at_each (λ y. is_of d name y ≡ is_of c name y) (λ y a. of-alike c d y name a.body) (ap (λ (o : Option TypeId). option_map_or (λ (x : TypeId). is_a x name) o false) k.kind)
+      same_types name =
+          at_each (λ y. is_of d name y ≡ is_of c name y) (λ y a. of-alike c d y name a.body)
+          (ap (λ (o : Option TypeId). option_map_or (λ (x : TypeId). is_a x name) o false) k.kind)
 
       same_children : (x : ℕ) → child_entries d x ≡ child_entries c x
       same_children = at_each (λ x. child_entries d x ≡ child_entries c x) (λ x a. a.children) k.children
@@ -150,7 +155,8 @@ module _ (depth : ℕ → ℕ) (b : Board) (n bus slot : ℕ) (id : Option (List
           (λ q. (k.others x q).kids ∙ j.no_kids x e (sym (of-alike c d x (codes "bus") (k.others x q).body) ∙ p))
 
 -- one add more of a device without id
-pub joined-counted : (depth : ℕ → ℕ) (b : Board) (n bus slot : ℕ) (id : Option (List ℕ)) (t : TypeId) (now : Now) (c : Board) (other : Option (List ℕ)) → Joined depth b n bus slot id t now c → Joined depth b n bus slot id t (record now { count = count_behind other now.count }) (counted other c)
+pub joined-counted : (depth : ℕ → ℕ) (b : Board) (n bus slot : ℕ) (id : Option (List ℕ)) (t : TypeId) (now : Now) (c : Board) (other : Option (List ℕ))
+    → Joined depth b n bus slot id t now c → Joined depth b n bus slot id t (record now { count = count_behind other now.count }) (counted other c)
 joined-counted depth b n bus slot id t now c (Some i) j = j
 joined-counted depth b n bus slot id t now c None j =
     record {
@@ -187,7 +193,8 @@ joined-counted depth b n bus slot id t now c None j =
 
 -- an edit of the device that leaves its slots
 module _ (c : Board) (n : ℕ) (change : Record → Record) (same_birth : (r : Record) → (change r).birth ≡ r.birth) (same_slots : (r : Record) → (change r).slots ≡ r.slots) (same_kind : (r : Record) → (change r).kind ≡ r.kind) where
-  reads : {A : Type 0} (f : Option Record → A) → ((r : Record) → f (Some (edited n change r)) ≡ f (Some r)) → f (record_of (edit n change c) n) ≡ f (record_of c n)
+  reads : {A : Type 0} (f : Option Record → A) → ((r : Record) → f (Some (edited n change r)) ≡ f (Some r))
+      → f (record_of (edit n change c) n) ≡ f (record_of c n)
   reads f same = ap f (found-edited n change same_birth n c.records) ∙ go (record_of c n)
     where
       go : (o : Option Record) → f (option_map (edited n change) o) ≡ f o
@@ -212,7 +219,8 @@ module _ (c : Board) (n : ℕ) (change : Record → Record) (same_birth : (r : R
       }
 
   -- what is read of the device itself behind the edit
-  pub edit-own : {A : Type 0} (f : Record → Option A) (a : Option A) (t : TypeId) → kind_of c n ≡ Some t → ((r : Record) → record_of c n ≡ Some r → f (change r) ≡ a) → option_and_then f (record_of (edit n change c) n) ≡ a
+  pub edit-own : {A : Type 0} (f : Record → Option A) (a : Option A) (t : TypeId) → kind_of c n ≡ Some t
+      → ((r : Record) → record_of c n ≡ Some r → f (change r) ≡ a) → option_and_then f (record_of (edit n change c) n) ≡ a
   edit-own {A} f a t there same = ap (option_and_then f) (found-edited n change same_birth n c.records) ∙ go (record_of c n) refl
     where
       go : (o : Option Record) → record_of c n ≡ o → option_and_then f (option_map (edited n change) o) ≡ a
@@ -233,11 +241,13 @@ named_in name slots = option_map (λ (s : List ℕ × Slot). s.1) (find (λ s. b
 
 module _ (depth : ℕ → ℕ) (b : Board) (n bus slot : ℕ) (id : Option (List ℕ)) (t : TypeId) (firm : Firm b) (h : PlacesBut depth None (λ x. false) b) where
   -- its path is kept, and the guest is told
-  pub joined-told : (now : Now) (c : Board) → Joined depth b n bus slot id t now c → Joined depth b n bus slot id t (record now { path = canonical c n }) (told_plug n c)
+  pub joined-told : (now : Now) (c : Board) → Joined depth b n bus slot id t now c
+      → Joined depth b n bus slot id t (record now { path = canonical c n }) (told_plug n c)
   joined-told now c j =
       joined-dims depth b n bus slot id t (record now { path = canonical c n }) (edit n (with_path (canonical c n)) c) (told_plug n c)
       (dims-alike (edit n (with_path (canonical c n)) c) (told_plug n c) refl (λ x. alike-record (edit n (with_path (canonical c n)) c) (told_plug n c) x refl))
-      (joined-beside depth b n bus slot id t None (λ x. false) firm h now (record now { path = canonical c n }) c (edit n (with_path (canonical c n)) c) (edit-beside c n (with_path (canonical c n)) (λ r. refl) (λ r. refl) (λ r. refl)) is j)
+      (joined-beside depth b n bus slot id t None (λ x. false) firm h now (record now { path = canonical c n }) c
+      (edit n (with_path (canonical c n)) c) (edit-beside c n (with_path (canonical c n)) (λ r. refl) (λ r. refl) (λ r. refl)) is j)
     where
       slots : slots_at (edit n (with_path (canonical c n)) c) n ≡ slots_at c n
       slots = edit-slots c n (with_path (canonical c n)) (λ r. refl) (λ r. refl) (λ r. refl)
@@ -245,17 +255,26 @@ module _ (depth : ℕ → ℕ) (b : Board) (n bus slot : ℕ) (id : Option (List
       is : IsNow n (record now { path = canonical c n }) (edit n (with_path (canonical c n)) c)
       is =
           record {
-            its_id = edit-own c n (with_path (canonical c n)) (λ r. refl) (λ r. refl) (λ r. refl) (λ (r : Record). r.device_id) now.its t j.kind (λ r e. sym (ap (option_and_then (λ (x : Record). x.device_id)) e) ∙ j.its_id);
-            its_path = edit-own c n (with_path (canonical c n)) (λ r. refl) (λ r. refl) (λ r. refl) (λ (r : Record). r.kept_path) (canonical c n) t j.kind (λ r e. refl);
+            its_id =
+                edit-own c n (with_path (canonical c n)) (λ r. refl) (λ r. refl) (λ r. refl) (λ (r : Record). r.device_id) now.its t j.kind
+                (λ r e. sym (ap (option_and_then (λ (x : Record). x.device_id)) e) ∙ j.its_id);
+            its_path =
+                edit-own c n (with_path (canonical c n)) (λ r. refl) (λ r. refl) (λ r. refl) (λ (r : Record). r.kept_path) (canonical c n) t j.kind
+                (λ r e. refl);
             anonymous = j.anonymous;
             on = ap (λ (ss : List (List ℕ × Slot)). option_and_then strong_in (named_in (codes "parent_bus") ss)) slots ∙ j.on;
             at = ap (λ (ss : List (List ℕ × Slot)). option_and_then number_in (option_and_then plain_in (named_in (codes "slot") ss))) slots ∙ j.at;
-            realized = ap (λ (ss : List (List ℕ × Slot)). option_map_or is_true (option_and_then plain_in (named_in (codes "realized") ss)) false) slots ∙ j.stands_realized;
+            realized =
+                ap (λ (ss : List (List ℕ × Slot)). option_map_or is_true (option_and_then plain_in (named_in (codes "realized") ss)) false) slots
+                ∙ j.stands_realized;
           }
 
   -- what it is besides its slots
-  pub joined-body : (now : Now) (c : Board) (range : Option Range) → Joined depth b n bus slot id t now c → Joined depth b n bus slot id t (record now { its = id }) (edit n (with_body_of id range) c)
-  joined-body now c range j = joined-beside depth b n bus slot id t None (λ x. false) firm h now (record now { its = id }) c (edit n (with_body_of id range) c) (edit-beside c n (with_body_of id range) (λ r. refl) (λ r. refl) (λ r. refl)) is j
+  pub joined-body : (now : Now) (c : Board) (range : Option Range) → Joined depth b n bus slot id t now c
+      → Joined depth b n bus slot id t (record now { its = id }) (edit n (with_body_of id range) c)
+  joined-body now c range j =
+      joined-beside depth b n bus slot id t None (λ x. false) firm h now (record now { its = id }) c (edit n (with_body_of id range) c)
+      (edit-beside c n (with_body_of id range) (λ r. refl) (λ r. refl) (λ r. refl)) is j
     where
       slots : slots_at (edit n (with_body_of id range) c) n ≡ slots_at c n
       slots = edit-slots c n (with_body_of id range) (λ r. refl) (λ r. refl) (λ r. refl)
@@ -264,15 +283,20 @@ module _ (depth : ℕ → ℕ) (b : Board) (n bus slot : ℕ) (id : Option (List
       is =
           record {
             its_id = edit-own c n (with_body_of id range) (λ r. refl) (λ r. refl) (λ r. refl) (λ (r : Record). r.device_id) id t j.kind (λ r e. refl);
-            its_path = edit-own c n (with_body_of id range) (λ r. refl) (λ r. refl) (λ r. refl) (λ (r : Record). r.kept_path) now.path t j.kind (λ r e. sym (ap (option_and_then (λ (x : Record). x.kept_path)) e) ∙ j.its_path);
+            its_path =
+                edit-own c n (with_body_of id range) (λ r. refl) (λ r. refl) (λ r. refl) (λ (r : Record). r.kept_path) now.path t j.kind
+                (λ r e. sym (ap (option_and_then (λ (x : Record). x.kept_path)) e) ∙ j.its_path);
             anonymous = j.anonymous;
             on = ap (λ (ss : List (List ℕ × Slot)). option_and_then strong_in (named_in (codes "parent_bus") ss)) slots ∙ j.on;
             at = ap (λ (ss : List (List ℕ × Slot)). option_and_then number_in (option_and_then plain_in (named_in (codes "slot") ss))) slots ∙ j.at;
-            realized = ap (λ (ss : List (List ℕ × Slot)). option_map_or is_true (option_and_then plain_in (named_in (codes "realized") ss)) false) slots ∙ j.stands_realized;
+            realized =
+                ap (λ (ss : List (List ℕ × Slot)). option_map_or is_true (option_and_then plain_in (named_in (codes "realized") ss)) false) slots
+                ∙ j.stands_realized;
           }
 
   -- it acts, goes through the phases, and its path is kept
-  pub joined-started : (now : Now) (c : Board) → Joined depth b n bus slot id t now c → Joined depth b n bus slot id t (record now { path = canonical (acting n t c) n }) (started n t c)
+  pub joined-started : (now : Now) (c : Board) → Joined depth b n bus slot id t now c
+      → Joined depth b n bus slot id t (record now { path = canonical (acting n t c) n }) (started n t c)
   joined-started now c j =
       joined-told now (acting n t c) (joined-dims depth b n bus slot id t now c (acting n t c) (dims-acting n t c) j)
 
@@ -280,5 +304,9 @@ module _ (depth : ℕ → ℕ) (b : Board) (n bus slot : ℕ) (id : Option (List
   abbrev pub before : Option (List ℕ) → Now
   before path = record (done b bus slot id) { path = path }
 
-  pub started-places : (c : Board) (path : Option (List ℕ)) → Joined depth b n bus slot id t (before path) c → canonical (acting n t c) n ≡ Some (path_behind b id) → PlacesBut (deepened depth n bus (started n t c)) None (λ x. false) (started n t c)
-  started-places c path j e = places-joined depth b n bus slot id t (started n t c) (subst (λ (p : Option (List ℕ)). Joined depth b n bus slot id t (record (done b bus slot id) { path = p }) (started n t c)) e (joined-started (before path) c j)) firm h
+  pub started-joined : (c : Board) (path : Option (List ℕ)) → Joined depth b n bus slot id t (before path) c
+      → canonical (acting n t c) n ≡ Some (path_behind b id)
+      → Joined depth b n bus slot id t (done b bus slot id) (started n t c)
+  started-joined c path j e =
+      subst (λ (p : Option (List ℕ)). Joined depth b n bus slot id t (record (done b bus slot id) { path = p }) (started n t c)) e
+      (joined-started (before path) c j)

@@ -50,7 +50,17 @@ pub record Steps (b c : Board) : Type 0 where
   pub anonymous : c.anonymous ≡ b.anonymous
 
 pub steps-none : (b : Board) → Steps b b
-steps-none b = record { live = λ x e. e; body = λ x e. refl; realized = λ x e. refl; place = λ x e. refl; bus = λ x q e. e; children = λ x. within-all (child_entries b x); kids = λ x. within-all (kid_entries b x); anonymous = refl }
+steps-none b =
+    record {
+      live = λ x e. e;
+      body = λ x e. refl;
+      realized = λ x e. refl;
+      place = λ x e. refl;
+      bus = λ x q e. e;
+      children = λ x. within-all (child_entries b x);
+      kids = λ x. within-all (kid_entries b x);
+      anonymous = refl;
+    }
 
 pub steps-then : (b c d : Board) → Steps b c → Steps c d → Steps b d
 steps-then b c d h k =
@@ -104,19 +114,24 @@ pub record SlotSteps (xs ys : List (List ℕ × Slot)) : Type 0 where
   pub plains : (name : List ℕ) → option_and_then plain_in (named_in name ys) ≡ option_and_then plain_in (named_in name xs)
   pub strongs : (name : List ℕ) (q : ℕ) → option_and_then strong_in (named_in name ys) ≡ Some q → option_and_then strong_in (named_in name xs) ≡ Some q
 
-strong-back : (name : List ℕ) (q i : ℕ) (slots : List (List ℕ × Slot)) → IsDistinct bytes_eq (names_in slots) → option_and_then strong_in (named_in name (without_hold i slots)) ≡ Some q → option_and_then strong_in (named_in name slots) ≡ Some q
+strong-back : (name : List ℕ) (q i : ℕ) (slots : List (List ℕ × Slot)) → IsDistinct bytes_eq (names_in slots)
+    → option_and_then strong_in (named_in name (without_hold i slots)) ≡ Some q → option_and_then strong_in (named_in name slots) ≡ Some q
 unfolding IsDistinct
 strong-back name q i [] h e = e
 strong-back name q (suc i) (s ∷ slots) h e = go (bytes_eq s.0 name) refl (strong-back name q i slots h.1)
   where
-    go : (t : Bool) → bytes_eq s.0 name ≡ t → (option_and_then strong_in (named_in name (without_hold i slots)) ≡ Some q → option_and_then strong_in (named_in name slots) ≡ Some q) → option_and_then strong_in (named_in name (s ∷ slots)) ≡ Some q
+    go : (t : Bool) → bytes_eq s.0 name ≡ t
+        → (option_and_then strong_in (named_in name (without_hold i slots)) ≡ Some q → option_and_then strong_in (named_in name slots) ≡ Some q)
+        → option_and_then strong_in (named_in name (s ∷ slots)) ≡ Some q
     go true p rest = rw p (rw p at e)
     go false p rest = rw p (rest (rw p at e))
 strong-back name q zero ((own, plain v) ∷ slots) h e = e
 strong-back name q zero ((own, child m) ∷ slots) h e = go (bytes_eq own name) refl
   where
     go : (t : Bool) → bytes_eq own name ≡ t → option_and_then strong_in (named_in name ((own, child m) ∷ slots)) ≡ Some q
-    go true p = absurd (let clash : None ≡ Some q = sym (ap (option_and_then strong_in) (none-named name own ((bytes_eq-Decides own name).0 p) slots h.0)) ∙ e in cc)
+    go true p =
+        absurd
+        (let clash : None ≡ Some q = sym (ap (option_and_then strong_in) (none-named name own ((bytes_eq-Decides own name).0 p) slots h.0)) ∙ e in cc)
     go false p = rw p e
 strong-back name q zero ((own, strong t target) ∷ slots) h e = go (bytes_eq own name) refl
   where
@@ -131,10 +146,18 @@ strong-back name q zero ((own, weak t target) ∷ slots) h e = go (bytes_eq own 
 strong-back name q zero ((own, alias m property) ∷ slots) h e = e
 
 pub dropped-slots : (i : ℕ) (slots : List (List ℕ × Slot)) → IsDistinct bytes_eq (names_in slots) → SlotSteps slots (without_hold i slots)
-dropped-slots i slots h = record { children = children-fewer i slots; kids = kids-fewer i slots; plains = λ name. plain-dropped name i slots h; strongs = λ name q. strong-back name q i slots h }
+dropped-slots i slots h =
+    record {
+      children = children-fewer i slots;
+      kids = kids-fewer i slots;
+      plains = λ name. plain-dropped name i slots h;
+      strongs = λ name q. strong-back name q i slots h;
+    }
 
 -- a slot that is removed, of which nothing is read
-pub removed-same : {A : Type 0} (f : Slot → Option A) (name : List ℕ) (i : ℕ) (slots : List (List ℕ × Slot)) → IsDistinct bytes_eq (names_in slots) → (s : List ℕ × Slot) → slice_get slots i ≡ Some s → f s.1 ≡ None → option_and_then f (named_in name (remove slots i)) ≡ option_and_then f (named_in name slots)
+pub removed-same : {A : Type 0} (f : Slot → Option A) (name : List ℕ) (i : ℕ) (slots : List (List ℕ × Slot)) → IsDistinct bytes_eq (names_in slots)
+    → (s : List ℕ × Slot) → slice_get slots i ≡ Some s → f s.1 ≡ None
+    → option_and_then f (named_in name (remove slots i)) ≡ option_and_then f (named_in name slots)
 unfolding IsDistinct
 removed-same f name i [] h s e none = cc
 removed-same f name zero (x ∷ slots) h s e none = go (bytes_eq x.0 name) refl
@@ -147,11 +170,13 @@ removed-same f name zero (x ∷ slots) h s e none = go (bytes_eq x.0 name) refl
     go false p = rw p refl
 removed-same f name (suc i) (x ∷ slots) h s e none = go (bytes_eq x.0 name) refl (removed-same f name i slots h.1 s e none)
   where
-    go : (t : Bool) → bytes_eq x.0 name ≡ t → option_and_then f (named_in name (remove slots i)) ≡ option_and_then f (named_in name slots) → option_and_then f (named_in name (x ∷ remove slots i)) ≡ option_and_then f (named_in name (x ∷ slots))
+    go : (t : Bool) → bytes_eq x.0 name ≡ t → option_and_then f (named_in name (remove slots i)) ≡ option_and_then f (named_in name slots)
+        → option_and_then f (named_in name (x ∷ remove slots i)) ≡ option_and_then f (named_in name (x ∷ slots))
     go true p rest = rw p refl
     go false p rest = rw p rest
 
-pub entries-removed : (f : List ℕ × Slot → Option (List ℕ × ℕ)) (i : ℕ) (slots : List (List ℕ × Slot)) (s : List ℕ × Slot) → slice_get slots i ≡ Some s → f s ≡ None → filter_map f (remove slots i) ≡ filter_map f slots
+pub entries-removed : (f : List ℕ × Slot → Option (List ℕ × ℕ)) (i : ℕ) (slots : List (List ℕ × Slot)) (s : List ℕ × Slot)
+    → slice_get slots i ≡ Some s → f s ≡ None → filter_map f (remove slots i) ≡ filter_map f slots
 entries-removed f i [] s e none = cc
 entries-removed f zero (x ∷ slots) s e none = ap (λ (o : Option (List ℕ × ℕ)). cons_option o (filter_map f slots)) (sym (ap f (same_Some x s e) ∙ none))
 entries-removed f (suc i) (x ∷ slots) s e none = ap (cons_option (f x)) (entries-removed f i slots s e none)
@@ -203,8 +228,14 @@ module _ (b : Board) (n : ℕ) (change : Record → Record) (same_birth : (r : R
         realized = λ x e. at_each (λ y. is_realized c y ≡ is_realized b y) (λ y a. a.realized) (at-slots (λ ss. option_map_or is_true (option_and_then plain_in (named_in (codes "realized") ss)) false) (ap (λ (o : Option Val). option_map_or is_true o false) (h.plains (codes "realized")))) x;
         place = λ x e. at_each (λ y. place_on c y ≡ place_on b y) (λ y a. a.place) (at-slots (λ ss. option_and_then number_in (option_and_then plain_in (named_in (codes "slot") ss))) (ap (option_and_then number_in) (h.plains (codes "slot")))) x;
         bus = λ x q. at_each (λ y. bus_of c y ≡ Some q → bus_of b y ≡ Some q) (λ y a e. sym a.bus ∙ e) (λ e. ap (λ ss. option_and_then strong_in (named_in (codes "parent_bus") ss)) was ∙ h.strongs (codes "parent_bus") q (sym (ap (λ ss. option_and_then strong_in (named_in (codes "parent_bus") ss)) now) ∙ e)) x;
-        children = at_each (λ y. Within (child_entries c y) (child_entries b y)) (λ y a. within-same a.children) (subst (λ (xs : List (List ℕ × ℕ)). Within xs (child_entries b n)) (sym (ap (filter_map child_entry) now)) (subst (λ (ys : List (List ℕ × ℕ)). Within (filter_map child_entry (change r).slots) ys) (sym (ap (filter_map child_entry) was)) h.children));
-        kids = at_each (λ y. Within (kid_entries c y) (kid_entries b y)) (λ y a. within-same a.kids) (subst (λ (xs : List (List ℕ × ℕ)). Within xs (kid_entries b n)) (sym (ap (filter_map kid_entry) now)) (subst (λ (ys : List (List ℕ × ℕ)). Within (filter_map kid_entry (change r).slots) ys) (sym (ap (filter_map kid_entry) was)) h.kids));
+        children =
+            at_each (λ y. Within (child_entries c y) (child_entries b y)) (λ y a. within-same a.children)
+            (subst (λ (xs : List (List ℕ × ℕ)). Within xs (child_entries b n)) (sym (ap (filter_map child_entry) now))
+            (subst (λ (ys : List (List ℕ × ℕ)). Within (filter_map child_entry (change r).slots) ys) (sym (ap (filter_map child_entry) was)) h.children));
+        kids =
+            at_each (λ y. Within (kid_entries c y) (kid_entries b y)) (λ y a. within-same a.kids)
+            (subst (λ (xs : List (List ℕ × ℕ)). Within xs (kid_entries b n)) (sym (ap (filter_map kid_entry) now))
+            (subst (λ (ys : List (List ℕ × ℕ)). Within (filter_map kid_entry (change r).slots) ys) (sym (ap (filter_map kid_entry) was)) h.kids));
         anonymous = refl;
       }
 

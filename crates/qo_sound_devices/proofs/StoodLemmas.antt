@@ -1,8 +1,6 @@
 -- A device that was made and joined gets its values, its address and its id: of what places speak of, only what stands on itself changes.
-use Rattle.std.proofs.Common.{◌≡◌, refl, ap, ap₂, subst, ◌∙◌, ℕ, ◌+◌, Bool, true, false, ◌==◌, List, [], ◌∷◌, filter_map, find, map, Option, Some, None, option_map, codes}
-use Rattle.std.specs.List.{cons_option}
+use Rattle.std.proofs.Common.{◌≡◌, refl, ap, subst, ◌∙◌, ℕ, ◌+◌, Bool, true, false, ◌==◌, List, [], filter_map, Option, Some, None, option_map, codes}
 use Rattle.std.specs.Option.{option_map_or}
-use Rattle.std.specs.Str.{bytes_eq}
 use Rattle.qo_values.specs.declared.kinds.TypeId.{TypeId}
 use Rattle.qo_values.specs.declared.properties.Val.{Val}
 use Rattle.qo_values.specs.declared.properties.Val.TheVariants as val
@@ -10,41 +8,47 @@ use Rattle.qo_values.specs.declared.ranges.Range.{Range}
 use Rattle.qo_model.specs.Board.{Board, Record, Slot, plain, child, strong, weak, alias, record_of, slots_at}
 use Rattle.qo_model.specs.Changes.{add, set, with_changed, with_val}
 use Rattle.qo_model.specs.Devices.{bus_of, is_realized, place_on}
-use Rattle.qo_model.specs.Objects.{Given, given_to, place_from, slot_given}
+use Rattle.qo_model.specs.Objects.{Given, place_from}
 use Rattle.qo_model.specs.Paths.{canonical}
-use Rattle.qo_model.specs.Plug.{Spot, Wanted, addressed_at, clocked, drafted, fitted, joined, link_named, plug, source_for, spot_of, stood, valued, with_device, with_given, with_plugged}
+use Rattle.qo_model.specs.Plug.{Spot, Wanted, addressed_at, clocked, drafted, fitted, joined, link_named, source_for, stood, valued, with_device, with_given, with_plugged}
 use Rattle.qo_model.specs.Release.{edit, edited}
 use Rattle.qo_model.specs.Unplug.{is_named, set_named}
 use Rattle.qo_model.proofs.StepLemmas.{found-edited}
 use Rattle.qo_sound.proofs.FirmLemmas.{Firm}
 use Rattle.qo_sound.proofs.PlugLemmas.{shut-above}
 use Rattle.qo_sound.proofs.ViewLemmas.{AtRest}
-use Rattle.qo_sound_devices.specs.SoundPlaces.{child_entry, path_of, PlacesBut, SoundPlaces}
+use Rattle.qo_sound_devices.specs.SoundPlaces.{child_entry, path_of, PlacesBut}
 use Rattle.qo_sound_devices.proofs.AddLemmas.{children-given}
 use Rattle.qo_sound_devices.proofs.AlikeLemmas.{alike-none, alike-record, other-record}
 use Rattle.qo_sound_devices.proofs.DraftedLemmas.{drafted-made}
-use Rattle.qo_sound_devices.proofs.JoinedLemmas.{choose, deepened, Joined, Now, path_behind}
+use Rattle.qo_sound_devices.proofs.JoinedLemmas.{choose, done, Joined, Now, path_behind}
 use Rattle.qo_sound_devices.proofs.MadeLemmas.{Goal, joined-wanted, now_at}
-use Rattle.qo_sound_devices.proofs.PlugLemmas.{Accepted, behind-plug, plug_attempt-places}
 use Rattle.qo_sound_devices.proofs.RealizedLemmas.{valued-at, valued-realized}
-use Rattle.qo_sound_devices.proofs.StartedLemmas.{acting, Beside, IsNow, joined-beside, joined-body, joined-counted, joined-dims, started-places}
+use Rattle.qo_sound_devices.proofs.StartedLemmas.{acting, Beside, IsNow, joined-beside, joined-body, joined-counted, joined-dims, started-joined}
 use Rattle.qo_sound_devices.proofs.UnrealizeLemmas.{Dims, dims-none, dims-set, entries-changed, mild-val}
 
 beside-none : (n : ℕ) (c : Board) → Beside n c c
 beside-none n c = record { others = λ x apart. alike-none c x; children = refl; kind = refl }
 
 -- an edit of the device that leaves its children
-beside-slots : (n : ℕ) (change : Record → Record) → ((r : Record) → (change r).birth ≡ r.birth) → ((r : Record) → (change r).kind ≡ r.kind) → ((r : Record) → filter_map child_entry (change r).slots ≡ filter_map child_entry r.slots) → (c : Board) → Beside n c (edit n change c)
+beside-slots : (n : ℕ) (change : Record → Record) → ((r : Record) → (change r).birth ≡ r.birth) → ((r : Record) → (change r).kind ≡ r.kind)
+    → ((r : Record) → filter_map child_entry (change r).slots ≡ filter_map child_entry r.slots) → (c : Board) → Beside n c (edit n change c)
 beside-slots n change same_birth same_kind same c =
     record {
       others = λ x apart. alike-record c (edit n change c) x (found-edited n change same_birth x c.records ∙ other-record n x change c refl apart (record_of c x) refl);
-      children = ap (λ (o : Option Record). filter_map child_entry (option_map_or (λ (r : Record). r.slots) o [])) (found-edited n change same_birth n c.records) ∙ slots (record_of c n);
+      children =
+          ap (λ (o : Option Record). filter_map child_entry (option_map_or (λ (r : Record). r.slots) o []))
+          (found-edited n change same_birth n c.records)
+          ∙ slots (record_of c n);
       kind = ap (option_map (λ (r : Record). r.kind)) (found-edited n change same_birth n c.records) ∙ kinds (record_of c n);
     }
   where
-    slots : (o : Option Record) → filter_map child_entry (option_map_or (λ (r : Record). r.slots) (option_map (edited n change) o) []) ≡ filter_map child_entry (option_map_or (λ (r : Record). r.slots) o [])
+    slots : (o : Option Record)
+        → filter_map child_entry (option_map_or (λ (r : Record). r.slots) (option_map (edited n change) o) []) ≡ filter_map child_entry (option_map_or (λ (r : Record). r.slots) o [])
     slots None = refl
-    slots (Some r) = choose (r.birth == n) {A = filter_map child_entry (edited n change r).slots ≡ filter_map child_entry r.slots} (λ p. rw (edited, p) (same r)) (λ p. rw (edited, p) refl)
+    slots (Some r) =
+        choose (r.birth == n) {A = filter_map child_entry (edited n change r).slots ≡ filter_map child_entry r.slots} (λ p. rw (edited, p) (same r))
+        (λ p. rw (edited, p) refl)
 
     kinds : (o : Option Record) → option_map (λ (r : Record). r.kind) (option_map (edited n change) o) ≡ option_map (λ (r : Record). r.kind) o
     kinds None = refl
@@ -68,14 +72,18 @@ beside-set n name v c = go (place_from (is_named name) 0 (slots_at c n)) refl
   where
     go : (o : Option ℕ) → place_from (is_named name) 0 (slots_at c n) ≡ o → Beside n c (set_named n name v c)
     go None e = rw (set_named, e) (beside-none n c)
-    go (Some i) e = rw (set_named, e) (beside-slots n (with_changed (with_val v) i) (λ r. refl) (λ r. refl) (λ r. entries-changed child_entry (with_val v) (mild-val v).children i r.slots) c)
+    go (Some i) e =
+        rw (set_named, e)
+        (beside-slots n (with_changed (with_val v) i) (λ r. refl) (λ r. refl) (λ r. entries-changed child_entry (with_val v) (mild-val v).children i r.slots) c)
 
 beside-link : (n : ℕ) (name : List ℕ) (m : ℕ) (c : Board) → Beside n c (link_named n name m c)
 beside-link n name m c = go (place_from (is_named name) 0 (slots_at c n)) refl
   where
     go : (o : Option ℕ) → place_from (is_named name) 0 (slots_at c n) ≡ o → Beside n c (link_named n name m c)
     go None e = rw (link_named, e) (beside-none n c)
-    go (Some i) e = rw (link_named, e) (beside-slots n (with_changed (fitted c m) i) (λ r. refl) (λ r. refl) (λ r. entries-changed child_entry (fitted c m) (child-fitted c m) i r.slots) c)
+    go (Some i) e =
+        rw (link_named, e)
+        (beside-slots n (with_changed (fitted c m) i) (λ r. refl) (λ r. refl) (λ r. entries-changed child_entry (fitted c m) (child-fitted c m) i r.slots) c)
 
 dims-addressed : (n : ℕ) (range : Option Range) (c : Board) → Dims c (addressed_at n range c)
 dims-addressed n None c = dims-none c
@@ -141,7 +149,8 @@ module _ (depth : ℕ → ℕ) (b : Board) (t : TypeId) (a : Wanted) (spot : Spo
   pub joined-stood : Joined depth b (b.born + 1) spot.bus spot.slot a.id t (record (now_at (b.born + 1) (valued b (b.born + 1) a.props spot (joined b (b.born + 1) a spot (drafted b t)))) { its = a.id }) (stood b (b.born + 1) a spot (drafted b t))
   joined-stood =
       joined-body depth b n spot.bus spot.slot a.id t firm h (now_at n has_values) (addressed_at n spot.range has_values) spot.range
-      (joined-dims depth b n spot.bus spot.slot a.id t (now_at n has_values) has_values (addressed_at n spot.range has_values) (dims-addressed n spot.range has_values) joined-valued)
+      (joined-dims depth b n spot.bus spot.slot a.id t (now_at n has_values) has_values (addressed_at n spot.range has_values)
+      (dims-addressed n spot.range has_values) joined-valued)
 
   -- what is left: its link holds its bus; its clock gets its source; its path is the one below its container
   pub record Holds : Type 0 where
@@ -156,7 +165,10 @@ module _ (depth : ℕ → ℕ) (b : Board) (t : TypeId) (a : Wanted) (spot : Spo
       let c3 : Board = edit n (with_given b a.props) c in
       let c4 : Board = set_named n (codes "slot") (val.Uint spot.slot) c3 in
       let c5 : Board = link_named n (codes "parent_bus") spot.bus c4 in
-      set-count n (codes "realized") (val.Bool true) c5 ∙ link-count n (codes "parent_bus") spot.bus c4 ∙ set-count n (codes "slot") (val.Uint spot.slot) c3 ∙ (drafted-made b t (shut-above b.born rest.used.firm.begun) rest.used goal.device).anonymous
+      set-count n (codes "realized") (val.Bool true) c5
+      ∙ link-count n (codes "parent_bus") spot.bus c4
+      ∙ set-count n (codes "slot") (val.Uint spot.slot) c3
+      ∙ (drafted-made b t (shut-above b.born rest.used.firm.begun) rest.used goal.device).anonymous
 
   module _ (k : Holds) where
     stands_so : Now
@@ -164,26 +176,21 @@ module _ (depth : ℕ → ℕ) (b : Board) (t : TypeId) (a : Wanted) (spot : Spo
 
     joined-so : IsJoined (record { its = a.id; path = path_of has_values n; count = b.anonymous; on = Some spot.bus; at = Some spot.slot; realized = true }) (stood b n a spot (drafted b t))
     joined-so =
-        subst (λ (x : Bool). IsJoined (record { its = a.id; path = path_of has_values n; count = b.anonymous; on = Some spot.bus; at = Some spot.slot; realized = x }) (stood b n a spot (drafted b t))) (valued-realized b t firm goal.device a spot)
+        subst
+        (λ (x : Bool).
+        IsJoined (record { its = a.id; path = path_of has_values n; count = b.anonymous; on = Some spot.bus; at = Some spot.slot; realized = x })
+        (stood b n a spot (drafted b t)))
+        (valued-realized b t firm goal.device a spot)
         (subst (λ (x : Option ℕ). IsJoined (record { its = a.id; path = path_of has_values n; count = b.anonymous; on = Some spot.bus; at = x; realized = is_realized has_values n }) (stood b n a spot (drafted b t))) (valued-at b t firm goal.device a spot)
         (subst (λ (x : Option ℕ). IsJoined (record { its = a.id; path = path_of has_values n; count = b.anonymous; on = x; at = place_on has_values n; realized = is_realized has_values n }) (stood b n a spot (drafted b t))) k.on
-        (subst (λ (x : ℕ). IsJoined (record { its = a.id; path = path_of has_values n; count = x; on = bus_of has_values n; at = place_on has_values n; realized = is_realized has_values n }) (stood b n a spot (drafted b t))) uncounted joined-stood)))
+        (subst
+        (λ (x : ℕ). IsJoined (record { its = a.id; path = path_of has_values n; count = x; on = bus_of has_values n; at = place_on has_values n; realized = is_realized has_values n }) (stood b n a spot (drafted b t))) uncounted joined-stood)))
 
-    pub plugged-places : PlacesBut (deepened depth (b.born + 1) spot.bus (with_plugged b t a spot)) None (λ x. false) (with_plugged b t a spot)
-    plugged-places =
+    pub plugged-joined : Joined depth b (b.born + 1) spot.bus spot.slot a.id t (done b spot.bus spot.slot a.id) (with_plugged b t a spot)
+    plugged-joined =
         let e : Board = clocked (source_for b spot.bus) n (stood b n a spot (drafted b t)) in
         let now : Now = record { its = a.id; path = path_of has_values n; count = b.anonymous; on = Some spot.bus; at = Some spot.slot; realized = true } in
-        started-places depth b n spot.bus spot.slot a.id t firm h (with_device b t a spot) (path_of has_values n)
+        started-joined depth b n spot.bus spot.slot a.id t firm h (with_device b t a spot) (path_of has_values n)
         (joined-counted depth b n spot.bus spot.slot a.id t now e a.id
         (joined-dims depth b n spot.bus spot.slot a.id t now (stood b n a spot (drafted b t)) e k.source joined-so))
         k.path
-
--- adding a device keeps places, where what is left of the accepted add is shown
-pub plug-places : (depth : ℕ → ℕ) (b : Board) (a : Wanted) (rest : AtRest b) (h : PlacesBut depth None (λ x. false) b)
-    → (goals : (t : TypeId) (bus : ℕ) → Accepted b t bus a → Goal depth b (b.born + 1) bus (spot_of b t bus a.props).slot a.id t (drafted b t))
-    → ((t : TypeId) (bus : ℕ) (k : Accepted b t bus a) → Holds depth b t a (spot_of b t bus a.props) rest h (goals t bus k))
-    → SoundPlaces (plug b a).board
-plug-places depth b a rest h goals holds =
-    behind-plug SoundPlaces b a (depth, h)
-    (λ t bus stage. (depth, plug_attempt-places depth b t bus stage rest h))
-    (λ t bus k. (deepened depth (b.born + 1) bus (with_plugged b t a (spot_of b t bus a.props)), plugged-places depth b t a (spot_of b t bus a.props) rest h (goals t bus k) (holds t bus k)))

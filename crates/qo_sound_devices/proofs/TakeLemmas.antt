@@ -53,9 +53,6 @@ record-at b n e = go (record_of b n) refl
     go None q = absurd (let clash : false ≡ true = sym (ap is_some q) ∙ e in cc)
     go (Some r) q = (r, q)
 
-on-slots : (b : Board) (n i : ℕ) (r : Record) (s : List ℕ × Slot) → record_of b n ≡ Some r → slice_get (slots_at b n) i ≡ Some s → slice_get r.slots i ≡ Some s
-on-slots b n i r s q e = sym (ap (λ (o : Option Record). slice_get (option_map_or (λ (x : Record). x.slots) o []) i) q) ∙ e
-
 -- who stands is none of these
 pub aside-apart : (b : Board) (ns : List ℕ) → AllByRecursion (λ n. stands b n ≡ false) ns → (d : ℕ) → stands b d ≡ true → among ns d ≡ false
 aside-apart b [] h d e = refl
@@ -79,32 +76,39 @@ is-child_slot m (name, weak t target) e = absurd (let clash : false ≡ true = e
 is-child_slot m (name, alias k property) e = absurd (let clash : false ≡ true = e in cc)
 
 -- the other entries stay
-pub any-child_dropped : (p : List ℕ × ℕ → Bool) (i : ℕ) (slots : List (List ℕ × Slot)) (s : List ℕ × Slot) (e : List ℕ × ℕ) → slice_get slots i ≡ Some s → child_entry s ≡ Some e → p e ≡ false → list_any p (filter_map child_entry (without_hold i slots)) ≡ list_any p (filter_map child_entry slots)
+pub any-child_dropped : (p : List ℕ × ℕ → Bool) (i : ℕ) (slots : List (List ℕ × Slot)) (s : List ℕ × Slot) (e : List ℕ × ℕ)
+    → slice_get slots i ≡ Some s → child_entry s ≡ Some e → p e ≡ false
+    → list_any p (filter_map child_entry (without_hold i slots)) ≡ list_any p (filter_map child_entry slots)
 any-child_dropped p i [] s e at is no_more = cc
 any-child_dropped p (suc i) (x ∷ slots) s e at is no_more = go (child_entry x) (any-child_dropped p i slots s e at is no_more)
   where
-    go : (o : Option (List ℕ × ℕ)) → list_any p (filter_map child_entry (without_hold i slots)) ≡ list_any p (filter_map child_entry slots) → list_any p (cons_option o (filter_map child_entry (without_hold i slots))) ≡ list_any p (cons_option o (filter_map child_entry slots))
+    go : (o : Option (List ℕ × ℕ)) → list_any p (filter_map child_entry (without_hold i slots)) ≡ list_any p (filter_map child_entry slots)
+        → list_any p (cons_option o (filter_map child_entry (without_hold i slots))) ≡ list_any p (cons_option o (filter_map child_entry slots))
     go None rest = rest
     go (Some y) rest = ap (λ (t : Bool). p y || t) rest
 any-child_dropped p zero (x ∷ slots) s e at is no_more = go x (ap child_entry (same_Some x s at) ∙ is)
   where
-    go : (y : List ℕ × Slot) → child_entry y ≡ Some e → list_any p (filter_map child_entry (without_hold zero (y ∷ slots))) ≡ list_any p (filter_map child_entry (y ∷ slots))
+    go : (y : List ℕ × Slot) → child_entry y ≡ Some e
+        → list_any p (filter_map child_entry (without_hold zero (y ∷ slots))) ≡ list_any p (filter_map child_entry (y ∷ slots))
     go (name, plain v) q = absurd (let clash : None ≡ Some e = q in cc)
     go (name, child m) q = let other : p (name, m) ≡ false = ap p (same_Some (name, m) e q) ∙ no_more in rw other refl
     go (name, strong t target) q = absurd (let clash : None ≡ Some e = q in cc)
     go (name, weak t target) q = absurd (let clash : None ≡ Some e = q in cc)
     go (name, alias m property) q = absurd (let clash : None ≡ Some e = q in cc)
 
-pub any-kid_dropped : (p : List ℕ × ℕ → Bool) (i : ℕ) (slots : List (List ℕ × Slot)) (s : List ℕ × Slot) (e : List ℕ × ℕ) → slice_get slots i ≡ Some s → kid_entry s ≡ Some e → p e ≡ false → list_any p (filter_map kid_entry (without_hold i slots)) ≡ list_any p (filter_map kid_entry slots)
+pub any-kid_dropped : (p : List ℕ × ℕ → Bool) (i : ℕ) (slots : List (List ℕ × Slot)) (s : List ℕ × Slot) (e : List ℕ × ℕ) → slice_get slots i ≡ Some s
+    → kid_entry s ≡ Some e → p e ≡ false → list_any p (filter_map kid_entry (without_hold i slots)) ≡ list_any p (filter_map kid_entry slots)
 any-kid_dropped p i [] s e at is no_more = cc
 any-kid_dropped p (suc i) (x ∷ slots) s e at is no_more = go (kid_entry x) (any-kid_dropped p i slots s e at is no_more)
   where
-    go : (o : Option (List ℕ × ℕ)) → list_any p (filter_map kid_entry (without_hold i slots)) ≡ list_any p (filter_map kid_entry slots) → list_any p (cons_option o (filter_map kid_entry (without_hold i slots))) ≡ list_any p (cons_option o (filter_map kid_entry slots))
+    go : (o : Option (List ℕ × ℕ)) → list_any p (filter_map kid_entry (without_hold i slots)) ≡ list_any p (filter_map kid_entry slots)
+        → list_any p (cons_option o (filter_map kid_entry (without_hold i slots))) ≡ list_any p (cons_option o (filter_map kid_entry slots))
     go None rest = rest
     go (Some y) rest = ap (λ (t : Bool). p y || t) rest
 any-kid_dropped p zero (x ∷ slots) s e at is no_more = go x (ap kid_entry (same_Some x s at) ∙ is)
   where
-    go : (y : List ℕ × Slot) → kid_entry y ≡ Some e → list_any p (filter_map kid_entry (without_hold zero (y ∷ slots))) ≡ list_any p (filter_map kid_entry (y ∷ slots))
+    go : (y : List ℕ × Slot) → kid_entry y ≡ Some e
+        → list_any p (filter_map kid_entry (without_hold zero (y ∷ slots))) ≡ list_any p (filter_map kid_entry (y ∷ slots))
     go (name, plain v) q = absurd (let clash : None ≡ Some e = q in cc)
     go (name, child m) q = absurd (let clash : None ≡ Some e = q in cc)
     go (name, strong t None) q = absurd (let clash : None ≡ Some e = q in cc)
@@ -151,7 +155,9 @@ module _ (depth : ℕ → ℕ) (out : ℕ → Bool) (left : Option ℕ) (ps : Li
   pub went-let_go : (now : Option ℕ) → Sits ps (let_go b n i) → PlacesBut depth now out (drop_slot b n i) → Went depth out now ps b (let_go b n i)
   unfolding let_go drop_slot
   went-let_go now sits places =
-      let slot : slot_at b n i ≡ Some s.1 = ap (λ (o : Option Record). option_map (λ (x : List ℕ × Slot). x.1) (slice_get (option_map_or (λ (x : Record). x.slots) o []) i)) found ∙ ap (option_map (λ (x : List ℕ × Slot). x.1)) at in
+      let slot : slot_at b n i ≡ Some s.1 =
+      ap (λ (o : Option Record). option_map (λ (x : List ℕ × Slot). x.1) (slice_get (option_map_or (λ (x : Record). x.slots) o []) i)) found
+      ∙ ap (option_map (λ (x : List ℕ × Slot). x.1)) at in
       let c : Board = drop_slot b n i in
       let ends : Firm (after finalise c (held s.1)) = rw (let_go, slot) at sits.near.firm in
       let pinned : among c.pins 1 ≡ true = ap (λ (qs : List ℕ). among qs 1) h.sits.pins ∙ h.one in
@@ -167,7 +173,9 @@ module _ (depth : ℕ → ℕ) (out : ℕ → Bool) (left : Option ℕ) (ps : Li
 
   -- a child slot of an object that stands, whose child is no bus with kids
   pub bus-dropped : (m : ℕ) → stands b n ≡ true → IsChildSlot m s → kid_entries b m ≡ [] → left ≡ None → PlacesBut depth None out (drop_slot b n i)
-  bus-dropped m e is none lone = places-moved b (drop_slot b n i) depth None left out out moved h.places (λ x k q. rw lone (λ z. cc)) (λ x there k was. same-stands x ∙ was) (λ x k apart. dropped.realized x (stands-live c (firm-drop b n i firm) x k) ∙ h.places.each x (sym (same-stands x) ∙ k) apart)
+  bus-dropped m e is none lone =
+      places-moved b (drop_slot b n i) depth None left out out moved h.places (λ x k q. rw lone (λ z. cc)) (λ x there k was. same-stands x ∙ was)
+      (λ x k apart. dropped.realized x (stands-live c (firm-drop b n i firm) x k) ∙ h.places.each x (sym (same-stands x) ∙ k) apart)
     where
       c : Board
       c = drop_slot b n i
@@ -175,20 +183,34 @@ module _ (depth : ℕ → ℕ) (out : ℕ → Bool) (left : Option ℕ) (ps : Li
       aside : among (1 ∷ MACHINE_BIRTH ∷ PERIPHERAL_BIRTH ∷ ANONYMOUS_BIRTH ∷ ROOT_BUS_BIRTH ∷ MEMORY_BUS_BIRTH ∷ OBJECTS_BIRTH ∷ []) n ≡ false
       aside = aside-apart b (1 ∷ MACHINE_BIRTH ∷ PERIPHERAL_BIRTH ∷ ANONYMOUS_BIRTH ∷ ROOT_BUS_BIRTH ∷ MEMORY_BUS_BIRTH ∷ OBJECTS_BIRTH ∷ []) h.places.aside n e
 
-      child-same : (x : ℕ) → among (1 ∷ MACHINE_BIRTH ∷ PERIPHERAL_BIRTH ∷ ANONYMOUS_BIRTH ∷ ROOT_BUS_BIRTH ∷ MEMORY_BUS_BIRTH ∷ OBJECTS_BIRTH ∷ []) x ≡ true → child_entries c x ≡ child_entries b x
-      child-same x = for-each (λ y. among (1 ∷ MACHINE_BIRTH ∷ PERIPHERAL_BIRTH ∷ ANONYMOUS_BIRTH ∷ ROOT_BUS_BIRTH ∷ MEMORY_BUS_BIRTH ∷ OBJECTS_BIRTH ∷ []) y ≡ true → child_entries c y ≡ child_entries b y) (λ y p a k. a.children) (λ k. absurd (let clash : true ≡ false = sym k ∙ aside in cc)) x
+      child-same : (x : ℕ)
+          → among (1 ∷ MACHINE_BIRTH ∷ PERIPHERAL_BIRTH ∷ ANONYMOUS_BIRTH ∷ ROOT_BUS_BIRTH ∷ MEMORY_BUS_BIRTH ∷ OBJECTS_BIRTH ∷ []) x ≡ true
+          → child_entries c x ≡ child_entries b x
+      child-same x =
+          for-each
+          (λ y.
+          among (1 ∷ MACHINE_BIRTH ∷ PERIPHERAL_BIRTH ∷ ANONYMOUS_BIRTH ∷ ROOT_BUS_BIRTH ∷ MEMORY_BUS_BIRTH ∷ OBJECTS_BIRTH ∷ []) y ≡ true → child_entries c y ≡ child_entries b y)
+          (λ y p a k. a.children) (λ k. absurd (let clash : true ≡ false = sym k ∙ aside in cc)) x
 
       same-stands : (x : ℕ) → stands c x ≡ stands b x
       same-stands x = ap₂ (λ (xs ys : List (List ℕ × ℕ)). listed x xs || listed x ys) (child-same PERIPHERAL_BIRTH refl) (child-same ANONYMOUS_BIRTH refl)
 
       same-bus : (x : ℕ) → bus_of c x ≡ bus_of b x
-      same-bus = for-each (λ y. bus_of c y ≡ bus_of b y) (λ y p a. a.bus) (dropped-read (λ ss. option_and_then strong_in (option_map (λ (y : List ℕ × Slot). y.1) (find (λ y. bytes_eq y.0 (codes "parent_bus")) ss))) (strong-dropped (codes "parent_bus") i r.slots (names-at b firm n r found) s at (inl is.some)))
+      same-bus =
+          for-each (λ y. bus_of c y ≡ bus_of b y) (λ y p a. a.bus)
+          (dropped-read (λ ss. option_and_then strong_in (option_map (λ (y : List ℕ × Slot). y.1) (find (λ y. bytes_eq y.0 (codes "parent_bus")) ss)))
+          (strong-dropped (codes "parent_bus") i r.slots (names-at b firm n r found) s at (inl is.some)))
 
       same-kids : (x : ℕ) → kid_entries c x ≡ kid_entries b x
       same-kids = for-each (λ y. kid_entries c y ≡ kid_entries b y) (λ y p a. a.kids) (dropped-read (filter_map kid_entry) (kids-kept i r.slots s at is.no_kid))
 
       still-owns : (q : ℕ) → (m == q) ≡ false → (p : ℕ) → owns b p q ≡ true → owns c p q ≡ true
-      still-owns q apart = for-each (λ p. owns b p q ≡ true → owns c p q ≡ true) (λ p k a o. ap (list_any (owns_it q)) a.children ∙ o) (λ o. dropped-read (λ ss. list_any (owns_it q) (filter_map child_entry ss)) (any-child_dropped (owns_it q) i r.slots s (s.0, m) at is.entry (rw apart refl)) ∙ o)
+      still-owns q apart =
+          for-each (λ p. owns b p q ≡ true → owns c p q ≡ true) (λ p k a o. ap (list_any (owns_it q)) a.children ∙ o)
+          (λ o.
+          dropped-read (λ ss. list_any (owns_it q) (filter_map child_entry ss))
+          (any-child_dropped (owns_it q) i r.slots s (s.0, m) at is.entry (rw apart refl))
+          ∙ o)
 
       owned : (x q : ℕ) → stands c x ≡ true → bus_of c x ≡ Some q → HasOwner b q → HasOwner c q
       owned x q k on (machines o) = machines o
@@ -210,24 +232,30 @@ module _ (depth : ℕ → ℕ) (out : ℕ → Bool) (left : Option ℕ) (ps : Li
           (λ q x isb apart l. ap (listed x) (same-kids q) ∙ l)
           owned
         where
-          wider : (x : ℕ) → among (1 ∷ MACHINE_BIRTH ∷ []) x ≡ true → among (1 ∷ MACHINE_BIRTH ∷ PERIPHERAL_BIRTH ∷ ANONYMOUS_BIRTH ∷ ROOT_BUS_BIRTH ∷ MEMORY_BUS_BIRTH ∷ OBJECTS_BIRTH ∷ []) x ≡ true
+          wider : (x : ℕ) → among (1 ∷ MACHINE_BIRTH ∷ []) x ≡ true
+              → among (1 ∷ MACHINE_BIRTH ∷ PERIPHERAL_BIRTH ∷ ANONYMOUS_BIRTH ∷ ROOT_BUS_BIRTH ∷ MEMORY_BUS_BIRTH ∷ OBJECTS_BIRTH ∷ []) x ≡ true
           wider x k = go (eqb x 1) refl (eqb x MACHINE_BIRTH) refl
             where
-              go : (t : Bool) → eqb x 1 ≡ t → (u : Bool) → eqb x MACHINE_BIRTH ≡ u → among (1 ∷ MACHINE_BIRTH ∷ PERIPHERAL_BIRTH ∷ ANONYMOUS_BIRTH ∷ ROOT_BUS_BIRTH ∷ MEMORY_BUS_BIRTH ∷ OBJECTS_BIRTH ∷ []) x ≡ true
+              go : (t : Bool) → eqb x 1 ≡ t → (u : Bool) → eqb x MACHINE_BIRTH ≡ u
+                  → among (1 ∷ MACHINE_BIRTH ∷ PERIPHERAL_BIRTH ∷ ANONYMOUS_BIRTH ∷ ROOT_BUS_BIRTH ∷ MEMORY_BUS_BIRTH ∷ OBJECTS_BIRTH ∷ []) x ≡ true
               go true p u q = rw p refl
               go false p true q = rw (p, q) refl
               go false p false q = absurd (let clash : false ≡ true = rw (p, q) at k in cc)
 
   -- steps that keep all child slots: a link that is let go
   pub link-stands : child_of s.1 ≡ None → (x : ℕ) → child_entries (drop_slot b n i) x ≡ child_entries b x
-  link-stands none = for-each (λ y. child_entries (drop_slot b n i) y ≡ child_entries b y) (λ y p a. a.children) (dropped-read (filter_map child_entry) (children-kept i r.slots s at none))
+  link-stands none =
+      for-each (λ y. child_entries (drop_slot b n i) y ≡ child_entries b y) (λ y p a. a.children)
+      (dropped-read (filter_map child_entry) (children-kept i r.slots s at none))
 
   -- a link that is let go, by which a bus has d, or which is the bus of d, which no bus has
   pub link-dropped : (d : ℕ) → child_of s.1 ≡ None → ((x : ℕ) → left ≢ Some x ⊎ (d ≡ x)) → ((x : ℕ) → d ≢ x → bus_of (drop_slot b n i) x ≡ bus_of b x)
       → ((q x : ℕ) → is_of b (codes "bus") q ≡ true → listed x (kid_entries (drop_slot b n i) q) ≡ true → bus_of (drop_slot b n i) x ≡ bus_of b x)
       → ((q x : ℕ) → is_of b (codes "bus") q ≡ true → d ≢ x → listed x (kid_entries b q) ≡ true → listed x (kid_entries (drop_slot b n i) q) ≡ true)
       → PlacesBut depth (Some d) out (drop_slot b n i)
-  link-dropped d none was same_bus kid hold = places-moved b c depth (Some d) left out out moved h.places apart (λ x there k w. same-stands x ∙ w) (λ x k a. dropped.realized x (stands-live c (firm-drop b n i firm) x k) ∙ h.places.each x (sym (same-stands x) ∙ k) a)
+  link-dropped d none was same_bus kid hold =
+      places-moved b c depth (Some d) left out out moved h.places apart (λ x there k w. same-stands x ∙ w)
+      (λ x k a. dropped.realized x (stands-live c (firm-drop b n i firm) x k) ∙ h.places.each x (sym (same-stands x) ∙ k) a)
     where
       c : Board
       c = drop_slot b n i
@@ -256,16 +284,22 @@ module _ (depth : ℕ → ℕ) (out : ℕ → Bool) (left : Option ℕ) (ps : Li
           (λ x q k on o. owned q o)
 
   -- the child slot of a container, of a device without bus and buses that no bus has
-  pub child-dropped : (d : ℕ) → among (PERIPHERAL_BIRTH ∷ ANONYMOUS_BIRTH ∷ []) n ≡ true → IsChildSlot d s → ((x : ℕ) → left ≢ Some x ⊎ (d ≡ x)) → bus_of b d ≡ None → is_realized b d ≡ false
+  pub child-dropped : (d : ℕ) → among (PERIPHERAL_BIRTH ∷ ANONYMOUS_BIRTH ∷ []) n ≡ true → IsChildSlot d s → ((x : ℕ) → left ≢ Some x ⊎ (d ≡ x))
+      → bus_of b d ≡ None → is_realized b d ≡ false
       → ((q : ℕ) → is_of b (codes "bus") q ≡ true → owns b d q ≡ false) → ((q : ℕ) → is_of b (codes "bus") q ≡ true → listed d (kid_entries b q) ≡ false)
       → PlacesBut depth (Some d) out (drop_slot b n i)
-  child-dropped d shelf is was off unrealized ownless unlisted = places-moved b c depth (Some d) left out out moved h.places apart only (λ x k a. dropped.realized x (stands-live c (firm-drop b n i firm) x k) ∙ h.places.each x (stood x k) a)
+  child-dropped d shelf is was off unrealized ownless unlisted =
+      places-moved b c depth (Some d) left out out moved h.places apart only
+      (λ x k a. dropped.realized x (stands-live c (firm-drop b n i firm) x k) ∙ h.places.each x (stood x k) a)
     where
       c : Board
       c = drop_slot b n i
 
       listed-same : (x : ℕ) → (d == x) ≡ false → (y : ℕ) → listed x (child_entries c y) ≡ listed x (child_entries b y)
-      listed-same x differs = for-each (λ y. listed x (child_entries c y) ≡ listed x (child_entries b y)) (λ y p a. ap (listed x) a.children) (dropped-read (λ ss. listed x (filter_map child_entry ss)) (any-child_dropped (λ (e : List ℕ × ℕ). e.1 == x) i r.slots s (s.0, d) at is.entry differs))
+      listed-same x differs =
+          for-each (λ y. listed x (child_entries c y) ≡ listed x (child_entries b y)) (λ y p a. ap (listed x) a.children)
+          (dropped-read (λ ss. listed x (filter_map child_entry ss))
+          (any-child_dropped (λ (e : List ℕ × ℕ). e.1 == x) i r.slots s (s.0, d) at is.entry differs))
 
       same-stands : (x : ℕ) → (d == x) ≡ false → stands c x ≡ stands b x
       same-stands x differs = ap₂ (λ (t u : Bool). t || u) (listed-same x differs PERIPHERAL_BIRTH) (listed-same x differs ANONYMOUS_BIRTH)
@@ -277,7 +311,10 @@ module _ (depth : ℕ → ℕ) (out : ℕ → Bool) (left : Option ℕ) (ps : Li
           (λ e. rw (within-listed x (dropped.children ANONYMOUS_BIRTH) e) (or-true (listed x (child_entries b PERIPHERAL_BIRTH))))
 
       same-bus : (x : ℕ) → bus_of c x ≡ bus_of b x
-      same-bus = for-each (λ y. bus_of c y ≡ bus_of b y) (λ y p a. a.bus) (dropped-read (λ ss. option_and_then strong_in (option_map (λ (y : List ℕ × Slot). y.1) (find (λ y. bytes_eq y.0 (codes "parent_bus")) ss))) (strong-dropped (codes "parent_bus") i r.slots (names-at b firm n r found) s at (inl is.some)))
+      same-bus =
+          for-each (λ y. bus_of c y ≡ bus_of b y) (λ y p a. a.bus)
+          (dropped-read (λ ss. option_and_then strong_in (option_map (λ (y : List ℕ × Slot). y.1) (find (λ y. bytes_eq y.0 (codes "parent_bus")) ss)))
+          (strong-dropped (codes "parent_bus") i r.slots (names-at b firm n r found) s at (inl is.some)))
 
       same-kids : (x : ℕ) → kid_entries c x ≡ kid_entries b x
       same-kids = for-each (λ y. kid_entries c y ≡ kid_entries b y) (λ y p a. a.kids) (dropped-read (filter_map kid_entry) (kids-kept i r.slots s at is.no_kid))
@@ -300,8 +337,13 @@ module _ (depth : ℕ → ℕ) (out : ℕ → Bool) (left : Option ℕ) (ps : Li
       nobody k = go (eqb n 1) refl (eqb n MACHINE_BIRTH) refl
         where
           go : (t : Bool) → eqb n 1 ≡ t → (u : Bool) → eqb n MACHINE_BIRTH ≡ u → ⊥
-          go true p u q = let clash : false ≡ true = subst (λ (y : ℕ). among (PERIPHERAL_BIRTH ∷ ANONYMOUS_BIRTH ∷ []) y ≡ true) (eqb-true n 1 p) shelf in absurd cc
-          go false p true q = let clash : false ≡ true = subst (λ (y : ℕ). among (PERIPHERAL_BIRTH ∷ ANONYMOUS_BIRTH ∷ []) y ≡ true) (eqb-true n MACHINE_BIRTH q) shelf in absurd cc
+          go true p u q =
+              let clash : false ≡ true = subst (λ (y : ℕ). among (PERIPHERAL_BIRTH ∷ ANONYMOUS_BIRTH ∷ []) y ≡ true) (eqb-true n 1 p) shelf in
+              absurd cc
+          go false p true q =
+              let clash : false ≡ true =
+              subst (λ (y : ℕ). among (PERIPHERAL_BIRTH ∷ ANONYMOUS_BIRTH ∷ []) y ≡ true) (eqb-true n MACHINE_BIRTH q) shelf in
+              absurd cc
           go false p false q = let clash : false ≡ true = rw (p, q) at k in absurd cc
 
       alone : stands b n ≡ true → ⊥
@@ -316,7 +358,9 @@ module _ (depth : ℕ → ℕ) (out : ℕ → Bool) (left : Option ℕ) (ps : Li
       fixed = for-each (λ y. among (1 ∷ MACHINE_BIRTH ∷ []) y ≡ true → child_entries c y ≡ child_entries b y) (λ y p a k. a.children) (λ k. absurd (nobody k))
 
       still-owns : (q p : ℕ) → stands b p ≡ true → owns b p q ≡ true → owns c p q ≡ true
-      still-owns q = for-each (λ p. stands b p ≡ true → owns b p q ≡ true → owns c p q ≡ true) (λ p k a t o. ap (list_any (owns_it q)) a.children ∙ o) (λ t o. absurd (alone t))
+      still-owns q =
+          for-each (λ p. stands b p ≡ true → owns b p q ≡ true → owns c p q ≡ true) (λ p k a t o. ap (list_any (owns_it q)) a.children ∙ o)
+          (λ t o. absurd (alone t))
 
       owned : (x q : ℕ) → stands c x ≡ true → bus_of c x ≡ Some q → HasOwner b q → HasOwner c q
       owned x q k on (machines o) = machines o
@@ -348,12 +392,16 @@ module _ (depth : ℕ → ℕ) (out : ℕ → Bool) (left : Option ℕ) (ps : Li
           go true p = absurd (let clash : true ≡ false = sym before ∙ ap (λ (y : ℕ). listed y (kid_entries b q)) (sym (eqb-true d x p)) ∙ unlisted q isb in cc)
 
       moved : Moved (Some d) b c
-      moved = moved-steps (Some d) b c (firm-drop b n i firm) dropped-root dropped fixed (λ x k a. same-bus x) kid (λ q x isb a l. ap (listed x) (same-kids q) ∙ l) owned
+      moved =
+          moved-steps (Some d) b c (firm-drop b n i firm) dropped-root dropped fixed (λ x k a. same-bus x) kid
+          (λ q x isb a l. ap (listed x) (same-kids q) ∙ l) owned
 
 -- an empty link is removed
-pub cut-kept : (b : Board) → is_live b 1 ≡ true → (n i : ℕ) → Firm b → Firm (cut n i b) → (r : Record) → record_of b n ≡ Some r → (s : List ℕ × Slot) → slice_get r.slots i ≡ Some s → (t : TypeId) → s.1 ≡ strong t None → Kept b (cut n i b) × Steps b (cut n i b)
+pub cut-kept : (b : Board) → is_live b 1 ≡ true → (n i : ℕ) → Firm b → Firm (cut n i b) → (r : Record) → record_of b n ≡ Some r → (s : List ℕ × Slot)
+    → slice_get r.slots i ≡ Some s → (t : TypeId) → s.1 ≡ strong t None → Kept b (cut n i b) × Steps b (cut n i b)
 unfolding cut
-cut-kept b root n i firm firm_behind r found s at t is = (kept-edit n (with_cut i) (λ x. refl) (λ x. refl) b firm_behind root here, steps-edit b n (with_cut i) (λ x. refl) (λ x. refl) r found slots)
+cut-kept b root n i firm firm_behind r found s at t is =
+    (kept-edit n (with_cut i) (λ x. refl) (λ x. refl) b firm_behind root here, steps-edit b n (with_cut i) (λ x. refl) (λ x. refl) r found slots)
   where
     names : IsDistinct bytes_eq (names_in r.slots)
     names = names-at b firm n r found
@@ -367,10 +415,12 @@ cut-kept b root n i firm firm_behind r found s at t is = (kept-edit n (with_cut 
     child_none : child_entry s ≡ None
     child_none = ap (λ (x : Slot). child_entry (s.0, x)) is
 
-    plains : (name : List ℕ) → option_and_then plain_in (option_map (λ (y : List ℕ × Slot). y.1) (find (λ y. bytes_eq y.0 name) (remove r.slots i))) ≡ option_and_then plain_in (option_map (λ (y : List ℕ × Slot). y.1) (find (λ y. bytes_eq y.0 name) r.slots))
+    plains : (name : List ℕ)
+        → option_and_then plain_in (option_map (λ (y : List ℕ × Slot). y.1) (find (λ y. bytes_eq y.0 name) (remove r.slots i))) ≡ option_and_then plain_in (option_map (λ (y : List ℕ × Slot). y.1) (find (λ y. bytes_eq y.0 name) r.slots))
     plains name = removed-same plain_in name i r.slots names s at (none_in plain_in refl)
 
-    strongs : (name : List ℕ) → option_and_then strong_in (option_map (λ (y : List ℕ × Slot). y.1) (find (λ y. bytes_eq y.0 name) (remove r.slots i))) ≡ option_and_then strong_in (option_map (λ (y : List ℕ × Slot). y.1) (find (λ y. bytes_eq y.0 name) r.slots))
+    strongs : (name : List ℕ)
+        → option_and_then strong_in (option_map (λ (y : List ℕ × Slot). y.1) (find (λ y. bytes_eq y.0 name) (remove r.slots i))) ≡ option_and_then strong_in (option_map (λ (y : List ℕ × Slot). y.1) (find (λ y. bytes_eq y.0 name) r.slots))
     strongs name = removed-same strong_in name i r.slots names s at (none_in strong_in refl)
 
     slots : SlotSteps r.slots (remove r.slots i)
@@ -388,7 +438,12 @@ cut-kept b root n i firm firm_behind r found s at t is = (kept-edit n (with_cut 
     here : KeptAt b (edit n (with_cut i) b) n
     here =
         record {
-          realized = reads (λ ss. option_map_or is_true (option_and_then plain_in (option_map (λ (y : List ℕ × Slot). y.1) (find (λ y. bytes_eq y.0 (codes "realized")) ss))) false) (ap (λ (o : Option Val). option_map_or is_true o false) (plains (codes "realized")));
+          realized =
+              reads
+              (λ ss.
+              option_map_or is_true
+              (option_and_then plain_in (option_map (λ (y : List ℕ × Slot). y.1) (find (λ y. bytes_eq y.0 (codes "realized")) ss))) false)
+              (ap (λ (o : Option Val). option_map_or is_true o false) (plains (codes "realized")));
           bus = λ k. reads (λ ss. option_and_then strong_in (option_map (λ (y : List ℕ × Slot). y.1) (find (λ y. bytes_eq y.0 (codes "parent_bus")) ss))) (strongs (codes "parent_bus"));
           place = λ k. reads (λ ss. option_and_then number_in (option_and_then plain_in (option_map (λ (y : List ℕ × Slot). y.1) (find (λ y. bytes_eq y.0 (codes "slot")) ss)))) (ap (option_and_then number_in) (plains (codes "slot")));
           children = λ k. reads (filter_map child_entry) (entries-removed child_entry i r.slots s at child_none);
@@ -398,7 +453,8 @@ cut-kept b root n i firm firm_behind r found s at t is = (kept-edit n (with_cut 
         }
 
 -- where a device is a child at most once, it is none behind the end of its slot
-pub child-gone : (d i : ℕ) (slots : List (List ℕ × Slot)) (s : List ℕ × Slot) → slice_get slots i ≡ Some s → is_child d s.1 ≡ true → sum_by (one_child d) slots ≤ 1 → listed d (filter_map child_entry (without_hold i slots)) ≡ false
+pub child-gone : (d i : ℕ) (slots : List (List ℕ × Slot)) (s : List ℕ × Slot) → slice_get slots i ≡ Some s → is_child d s.1 ≡ true
+    → sum_by (one_child d) slots ≤ 1 → listed d (filter_map child_entry (without_hold i slots)) ≡ false
 child-gone d i slots s at is few = go (listed d (filter_map child_entry (without_hold i slots))) refl
   where
     left_none : (y : Slot) → is_child d y ≡ true → emptied y ≡ None
@@ -425,17 +481,22 @@ none-listed d k ((name, weak t target) ∷ slots) e = none-listed d (suc k) slot
 none-listed d k ((name, alias m property) ∷ slots) e = none-listed d (suc k) slots e
 none-listed d k ((name, child m) ∷ slots) e = go (m == d) refl (none-listed d (suc k) slots)
   where
-    go : (t : Bool) → (m == d) ≡ t → (place_from (is_child_slot d) (suc k) slots ≡ None → listed d (filter_map child_entry slots) ≡ false) → (m == d) || listed d (filter_map child_entry slots) ≡ false
+    go : (t : Bool) → (m == d) ≡ t → (place_from (is_child_slot d) (suc k) slots ≡ None → listed d (filter_map child_entry slots) ≡ false)
+        → (m == d) || listed d (filter_map child_entry slots) ≡ false
     go true p rest = absurd (let clash : Some k ≡ None = rw p at e in cc)
     go false p rest = rw p (rest (rw p at e))
 
 -- a bus has a kid of one name at most once
-pub kid-gone : (d i : ℕ) (name : List ℕ) (slots : List (List ℕ × Slot)) (s : List ℕ × Slot) → IsDistinct bytes_eq (names_in slots) → AllByRecursion (λ (e : List ℕ × ℕ). e.1 ≡ d → e.0 ≡ name) (filter_map kid_entry slots) → slice_get slots i ≡ Some s → kid_entry s ≡ Some (s.0, d) → listed d (filter_map kid_entry (without_hold i slots)) ≡ false
+pub kid-gone : (d i : ℕ) (name : List ℕ) (slots : List (List ℕ × Slot)) (s : List ℕ × Slot) → IsDistinct bytes_eq (names_in slots)
+    → AllByRecursion (λ (e : List ℕ × ℕ). e.1 ≡ d → e.0 ≡ name) (filter_map kid_entry slots) → slice_get slots i ≡ Some s
+    → kid_entry s ≡ Some (s.0, d) → listed d (filter_map kid_entry (without_hold i slots)) ≡ false
 unfolding IsDistinct
 kid-gone d i name [] s distinct h at is = cc
-kid-gone d zero name (x ∷ slots) s distinct h at is = go x (ap kid_entry (same_Some x s at) ∙ is ∙ ap (λ (y : List ℕ × Slot). Some (y.0, d)) (sym (same_Some x s at))) distinct h
+kid-gone d zero name (x ∷ slots) s distinct h at is =
+    go x (ap kid_entry (same_Some x s at) ∙ is ∙ ap (λ (y : List ℕ × Slot). Some (y.0, d)) (sym (same_Some x s at))) distinct h
   where
-    none-left : (own : List ℕ) → own ≡ name → (ys : List (List ℕ × Slot)) → AllByRecursion (λ m. bytes_eq own m ≡ false) (names_in ys) → AllByRecursion (λ (e : List ℕ × ℕ). e.1 ≡ d → e.0 ≡ name) (filter_map kid_entry ys) → listed d (filter_map kid_entry ys) ≡ false
+    none-left : (own : List ℕ) → own ≡ name → (ys : List (List ℕ × Slot)) → AllByRecursion (λ m. bytes_eq own m ≡ false) (names_in ys)
+        → AllByRecursion (λ (e : List ℕ × ℕ). e.1 ≡ d → e.0 ≡ name) (filter_map kid_entry ys) → listed d (filter_map kid_entry ys) ≡ false
     none-left own is_name [] a k = refl
     none-left own is_name ((n, plain v) ∷ ys) a k = none-left own is_name ys a.1 k
     none-left own is_name ((n, child m) ∷ ys) a k = none-left own is_name ys a.1 k
@@ -450,7 +511,9 @@ kid-gone d zero name (x ∷ slots) s distinct h at is = go x (ap kid_entry (same
             let its : own ≡ n = is_name ∙ sym (k.0 (eqb-true m d p)) in
             absurd (let clash : true ≡ false = sym ((bytes_eq-Decides own n).1 its) ∙ a.0 in cc)
 
-    go : (y : List ℕ × Slot) → kid_entry y ≡ Some (y.0, d) → IsDistinct bytes_eq (names_in (y ∷ slots)) → AllByRecursion (λ (e : List ℕ × ℕ). e.1 ≡ d → e.0 ≡ name) (filter_map kid_entry (y ∷ slots)) → listed d (filter_map kid_entry (without_hold zero (y ∷ slots))) ≡ false
+    go : (y : List ℕ × Slot) → kid_entry y ≡ Some (y.0, d) → IsDistinct bytes_eq (names_in (y ∷ slots))
+        → AllByRecursion (λ (e : List ℕ × ℕ). e.1 ≡ d → e.0 ≡ name) (filter_map kid_entry (y ∷ slots))
+        → listed d (filter_map kid_entry (without_hold zero (y ∷ slots))) ≡ false
     go (n, plain v) q a k = absurd (let clash : None ≡ Some (n, d) = q in cc)
     go (n, child m) q a k = absurd (let clash : None ≡ Some (n, d) = q in cc)
     go (n, strong t None) q a k = absurd (let clash : None ≡ Some (n, d) = q in cc)
@@ -459,25 +522,33 @@ kid-gone d zero name (x ∷ slots) s distinct h at is = go x (ap kid_entry (same
     go (n, alias m property) q a k = absurd (let clash : None ≡ Some (n, d) = q in cc)
 kid-gone d (suc i) name (x ∷ slots) s distinct h at is = choose x distinct h (kid-gone d i name slots s distinct.1)
   where
-    named-later : (own : List ℕ) (j : ℕ) (ys : List (List ℕ × Slot)) → slice_get ys j ≡ Some s → AllByRecursion (λ m. bytes_eq own m ≡ false) (names_in ys) → bytes_eq own s.0 ≡ false
+    named-later : (own : List ℕ) (j : ℕ) (ys : List (List ℕ × Slot)) → slice_get ys j ≡ Some s
+        → AllByRecursion (λ m. bytes_eq own m ≡ false) (names_in ys) → bytes_eq own s.0 ≡ false
     named-later own j [] e a = cc
     named-later own zero (y ∷ ys) e a = subst (λ (z : List ℕ × Slot). bytes_eq own z.0 ≡ false) (same_Some y s e) a.0
     named-later own (suc j) (y ∷ ys) e a = named-later own j ys e a.1
 
-    named-here : (j : ℕ) (ys : List (List ℕ × Slot)) → slice_get ys j ≡ Some s → AllByRecursion (λ (e : List ℕ × ℕ). e.1 ≡ d → e.0 ≡ name) (filter_map kid_entry ys) → s.0 ≡ name
+    named-here : (j : ℕ) (ys : List (List ℕ × Slot)) → slice_get ys j ≡ Some s
+        → AllByRecursion (λ (e : List ℕ × ℕ). e.1 ≡ d → e.0 ≡ name) (filter_map kid_entry ys) → s.0 ≡ name
     named-here j [] e a = cc
     named-here (suc j) (y ∷ ys) e a = further (kid_entry y) a (named-here j ys e)
       where
-        further : (o : Option (List ℕ × ℕ)) → AllByRecursion (λ (e : List ℕ × ℕ). e.1 ≡ d → e.0 ≡ name) (cons_option o (filter_map kid_entry ys)) → (AllByRecursion (λ (e : List ℕ × ℕ). e.1 ≡ d → e.0 ≡ name) (filter_map kid_entry ys) → s.0 ≡ name) → s.0 ≡ name
+        further : (o : Option (List ℕ × ℕ)) → AllByRecursion (λ (e : List ℕ × ℕ). e.1 ≡ d → e.0 ≡ name) (cons_option o (filter_map kid_entry ys))
+            → (AllByRecursion (λ (e : List ℕ × ℕ). e.1 ≡ d → e.0 ≡ name) (filter_map kid_entry ys) → s.0 ≡ name) → s.0 ≡ name
         further None k rest = rest k
         further (Some z) k rest = rest k.1
-    named-here zero (y ∷ ys) e a = (subst (λ (o : Option (List ℕ × ℕ)). AllByRecursion (λ (e : List ℕ × ℕ). e.1 ≡ d → e.0 ≡ name) (cons_option o (filter_map kid_entry ys))) (ap kid_entry (same_Some y s e) ∙ is) a).0 refl
+    named-here zero (y ∷ ys) e a =
+        (subst (λ (o : Option (List ℕ × ℕ)). AllByRecursion (λ (e : List ℕ × ℕ). e.1 ≡ d → e.0 ≡ name) (cons_option o (filter_map kid_entry ys))) (ap kid_entry (same_Some y s e) ∙ is) a).0 refl
 
-    rest-of : (o : Option (List ℕ × ℕ)) (ys : List (List ℕ × ℕ)) → AllByRecursion (λ (e : List ℕ × ℕ). e.1 ≡ d → e.0 ≡ name) (cons_option o ys) → AllByRecursion (λ (e : List ℕ × ℕ). e.1 ≡ d → e.0 ≡ name) ys
+    rest-of : (o : Option (List ℕ × ℕ)) (ys : List (List ℕ × ℕ)) → AllByRecursion (λ (e : List ℕ × ℕ). e.1 ≡ d → e.0 ≡ name) (cons_option o ys)
+        → AllByRecursion (λ (e : List ℕ × ℕ). e.1 ≡ d → e.0 ≡ name) ys
     rest-of None ys k = k
     rest-of (Some z) ys k = k.1
 
-    choose : (y : List ℕ × Slot) → IsDistinct bytes_eq (names_in (y ∷ slots)) → AllByRecursion (λ (e : List ℕ × ℕ). e.1 ≡ d → e.0 ≡ name) (filter_map kid_entry (y ∷ slots)) → (AllByRecursion (λ (e : List ℕ × ℕ). e.1 ≡ d → e.0 ≡ name) (filter_map kid_entry slots) → slice_get slots i ≡ Some s → kid_entry s ≡ Some (s.0, d) → listed d (filter_map kid_entry (without_hold i slots)) ≡ false) → listed d (filter_map kid_entry (y ∷ without_hold i slots)) ≡ false
+    choose : (y : List ℕ × Slot) → IsDistinct bytes_eq (names_in (y ∷ slots))
+        → AllByRecursion (λ (e : List ℕ × ℕ). e.1 ≡ d → e.0 ≡ name) (filter_map kid_entry (y ∷ slots))
+        → (AllByRecursion (λ (e : List ℕ × ℕ). e.1 ≡ d → e.0 ≡ name) (filter_map kid_entry slots) → slice_get slots i ≡ Some s → kid_entry s ≡ Some (s.0, d) → listed d (filter_map kid_entry (without_hold i slots)) ≡ false)
+        → listed d (filter_map kid_entry (y ∷ without_hold i slots)) ≡ false
     choose y a k rest = go (kid_entry y) refl
       where
         behind : listed d (filter_map kid_entry (without_hold i slots)) ≡ false
@@ -496,7 +567,9 @@ kid-gone d (suc i) name (x ∷ slots) s distinct h at is = choose x distinct h (
             name-of (n, alias m property) u = absurd (let clash : None ≡ Some e = u in cc)
 
             first : AllByRecursion (λ (z : List ℕ × ℕ). z.1 ≡ d → z.0 ≡ name) (cons_option (Some e) (filter_map kid_entry slots))
-            first = subst (λ (o : Option (List ℕ × ℕ)). AllByRecursion (λ (z : List ℕ × ℕ). z.1 ≡ d → z.0 ≡ name) (cons_option o (filter_map kid_entry slots))) q k
+            first =
+                subst
+                (λ (o : Option (List ℕ × ℕ)). AllByRecursion (λ (z : List ℕ × ℕ). z.1 ≡ d → z.0 ≡ name) (cons_option o (filter_map kid_entry slots))) q k
 
             decide : (u : Bool) → (e.1 == d) ≡ u → listed d (cons_option (kid_entry y) (filter_map kid_entry (without_hold i slots))) ≡ false
             decide false u = rw (q, u) behind

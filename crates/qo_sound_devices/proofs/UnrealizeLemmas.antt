@@ -86,12 +86,15 @@ dims-alike b c anonymous alike =
 abbrev named_in : List ℕ → List (List ℕ × Slot) → Option Slot
 named_in name slots = option_map (λ (s : List ℕ × Slot). s.1) (find (λ s. bytes_eq s.0 name) slots)
 
-pub entries-changed : (f : List ℕ × Slot → Option (List ℕ × ℕ)) (g : Slot → Slot) → ((s : List ℕ × Slot) → f (s.0, g s.1) ≡ f s) → (i : ℕ) (slots : List (List ℕ × Slot)) → filter_map f (changed_at g i slots) ≡ filter_map f slots
+pub entries-changed : (f : List ℕ × Slot → Option (List ℕ × ℕ)) (g : Slot → Slot) → ((s : List ℕ × Slot) → f (s.0, g s.1) ≡ f s)
+    → (i : ℕ) (slots : List (List ℕ × Slot)) → filter_map f (changed_at g i slots) ≡ filter_map f slots
 entries-changed f g same i [] = refl
 entries-changed f g same zero (s ∷ slots) = ap (λ (o : Option (List ℕ × ℕ)). cons_option o (filter_map f slots)) (same s)
 entries-changed f g same (suc i) (s ∷ slots) = ap (cons_option (f s)) (entries-changed f g same i slots)
 
-pub named-changed : {A : Type 0} (f : Slot → Option A) (g : Slot → Slot) → ((s : Slot) → f (g s) ≡ f s) → (name : List ℕ) (i : ℕ) (slots : List (List ℕ × Slot)) → option_and_then f (named_in name (changed_at g i slots)) ≡ option_and_then f (named_in name slots)
+pub named-changed : {A : Type 0} (f : Slot → Option A) (g : Slot → Slot) → ((s : Slot) → f (g s) ≡ f s)
+    → (name : List ℕ) (i : ℕ) (slots : List (List ℕ × Slot))
+    → option_and_then f (named_in name (changed_at g i slots)) ≡ option_and_then f (named_in name slots)
 named-changed f g same name i [] = refl
 named-changed f g same name zero (s ∷ slots) = go (bytes_eq s.0 name) refl
   where
@@ -100,26 +103,33 @@ named-changed f g same name zero (s ∷ slots) = go (bytes_eq s.0 name) refl
     go false p = rw p refl
 named-changed f g same name (suc i) (s ∷ slots) = go (bytes_eq s.0 name) refl (named-changed f g same name i slots)
   where
-    go : (t : Bool) → bytes_eq s.0 name ≡ t → option_and_then f (named_in name (changed_at g i slots)) ≡ option_and_then f (named_in name slots) → option_and_then f (named_in name (s ∷ changed_at g i slots)) ≡ option_and_then f (named_in name (s ∷ slots))
+    go : (t : Bool) → bytes_eq s.0 name ≡ t → option_and_then f (named_in name (changed_at g i slots)) ≡ option_and_then f (named_in name slots)
+        → option_and_then f (named_in name (s ∷ changed_at g i slots)) ≡ option_and_then f (named_in name (s ∷ slots))
     go true p rest = rw p refl
     go false p rest = rw p rest
 
 -- of another name
-pub named-other : (g : Slot → Slot) (name : List ℕ) (i : ℕ) (slots : List (List ℕ × Slot)) (s : List ℕ × Slot) → slice_get slots i ≡ Some s → bytes_eq s.0 name ≡ false → named_in name (changed_at g i slots) ≡ named_in name slots
+pub named-other : (g : Slot → Slot) (name : List ℕ) (i : ℕ) (slots : List (List ℕ × Slot)) (s : List ℕ × Slot) → slice_get slots i ≡ Some s
+    → bytes_eq s.0 name ≡ false → named_in name (changed_at g i slots) ≡ named_in name slots
 named-other g name i [] s e apart = refl
-named-other g name zero (x ∷ slots) s e apart = let other : bytes_eq x.0 name ≡ false = ap (λ (y : List ℕ × Slot). bytes_eq y.0 name) (same_Some x s e) ∙ apart in rw other refl
+named-other g name zero (x ∷ slots) s e apart =
+    let other : bytes_eq x.0 name ≡ false = ap (λ (y : List ℕ × Slot). bytes_eq y.0 name) (same_Some x s e) ∙ apart in rw other refl
 named-other g name (suc i) (x ∷ slots) s e apart = go (bytes_eq x.0 name) refl (named-other g name i slots s e apart)
   where
-    go : (t : Bool) → bytes_eq x.0 name ≡ t → named_in name (changed_at g i slots) ≡ named_in name slots → named_in name (x ∷ changed_at g i slots) ≡ named_in name (x ∷ slots)
+    go : (t : Bool) → bytes_eq x.0 name ≡ t → named_in name (changed_at g i slots) ≡ named_in name slots
+        → named_in name (x ∷ changed_at g i slots) ≡ named_in name (x ∷ slots)
     go true p rest = rw p refl
     go false p rest = rw p rest
 
 -- the first of a name
-pub first-changed : (g : Slot → Slot) (name : List ℕ) (slots : List (List ℕ × Slot)) (k j i : ℕ) → place_from (is_named name) k slots ≡ Some j → j ≡ i + k → named_in name (changed_at g i slots) ≡ option_map g (named_in name slots)
+pub first-changed : (g : Slot → Slot) (name : List ℕ) (slots : List (List ℕ × Slot)) (k j i : ℕ) → place_from (is_named name) k slots ≡ Some j
+    → j ≡ i + k → named_in name (changed_at g i slots) ≡ option_map g (named_in name slots)
 first-changed g name [] k j i e is = refl
 first-changed g name (s ∷ slots) k j i e is = go (is_named name s) refl i is (first-changed g name slots (suc k) j)
   where
-    go : (t : Bool) → is_named name s ≡ t → (m : ℕ) → j ≡ m + k → ((n : ℕ) → place_from (is_named name) (suc k) slots ≡ Some j → j ≡ n + suc k → named_in name (changed_at g n slots) ≡ option_map g (named_in name slots)) → named_in name (changed_at g m (s ∷ slots)) ≡ option_map g (named_in name (s ∷ slots))
+    go : (t : Bool) → is_named name s ≡ t → (m : ℕ) → j ≡ m + k
+        → ((n : ℕ) → place_from (is_named name) (suc k) slots ≡ Some j → j ≡ n + suc k → named_in name (changed_at g n slots) ≡ option_map g (named_in name slots))
+        → named_in name (changed_at g m (s ∷ slots)) ≡ option_map g (named_in name (s ∷ slots))
     go true p zero q rest = rw p refl
     go true p (suc m) q rest = absurd (let same : k ≡ j = same_Some k j (rw p at e) in omega (arith, same, q))
     go false p zero q rest =
@@ -146,13 +156,16 @@ module _ (g : Slot → Slot) (mild : IsMild g) (n i : ℕ) (b : Board) where
   c = edit n (with_changed g i) b
 
   -- what is read of slots stays, if it stays where one is changed
-  pub reads : {A : Type 0} (f : List (List ℕ × Slot) → A) → ((slots : List (List ℕ × Slot)) → slots_at b n ≡ slots → f (changed_at g i slots) ≡ f slots) → (x : ℕ) → f (slots_at c x) ≡ f (slots_at b x)
+  pub reads : {A : Type 0} (f : List (List ℕ × Slot) → A)
+      → ((slots : List (List ℕ × Slot)) → slots_at b n ≡ slots → f (changed_at g i slots) ≡ f slots) → (x : ℕ) → f (slots_at c x) ≡ f (slots_at b x)
   reads f same x = go (x == n) refl
     where
       at_owner : (o : Option Record) → record_of b n ≡ o → f (slots_at c n) ≡ f (slots_at b n)
       at_owner None e =
           let was : slots_at b n ≡ [] = ap (λ (o : Option Record). option_map_or (λ (r : Record). r.slots) o []) e in
-          let now : slots_at c n ≡ [] = ap (λ (o : Option Record). option_map_or (λ (r : Record). r.slots) o []) (found-edited n (with_changed g i) (λ r. refl) n b.records ∙ ap (option_map (edited n (with_changed g i))) e) in
+          let now : slots_at c n ≡ [] =
+          ap (λ (o : Option Record). option_map_or (λ (r : Record). r.slots) o [])
+          (found-edited n (with_changed g i) (λ r. refl) n b.records ∙ ap (option_map (edited n (with_changed g i))) e) in
           ap f (now ∙ sym was)
       at_owner (Some r) e =
           let was : slots_at b n ≡ r.slots = ap (λ (o : Option Record). option_map_or (λ (y : Record). y.slots) o []) e in
@@ -160,7 +173,9 @@ module _ (g : Slot → Slot) (mild : IsMild g) (n i : ℕ) (b : Board) where
 
       go : (t : Bool) → (x == n) ≡ t → f (slots_at c x) ≡ f (slots_at b x)
       go true p = subst (λ (m : ℕ). f (slots_at c m) ≡ f (slots_at b m)) (sym (eqb-true x n p)) (at_owner (record_of b n) refl)
-      go false p = ap (λ (o : Option Record). f (option_map_or (λ (r : Record). r.slots) o [])) (found-edited n (with_changed g i) (λ r. refl) x b.records ∙ other-record n x (with_changed g i) b refl p (record_of b x) refl)
+      go false p =
+          ap (λ (o : Option Record). f (option_map_or (λ (r : Record). r.slots) o []))
+          (found-edited n (with_changed g i) (λ r. refl) x b.records ∙ other-record n x (with_changed g i) b refl p (record_of b x) refl)
 
   bodies : (x : ℕ) → SameBody b c x
   bodies x = ap (option_map bodiless) (found-edited n (with_changed g i) (λ r. refl) x b.records) ∙ go (record_of b x)
@@ -174,14 +189,19 @@ module _ (g : Slot → Slot) (mild : IsMild g) (n i : ℕ) (b : Board) where
       go (Some r) = ap Some (at_record r (r.birth == n) refl)
 
   -- where the value of one name is changed
-  pub mild-dimmed : ((slots : List (List ℕ × Slot)) → slots_at b n ≡ slots → option_and_then plain_in (named_in (codes "slot") (changed_at g i slots)) ≡ option_and_then plain_in (named_in (codes "slot") slots)) → ((x : ℕ) → is_realized c x ≡ true → is_realized b x ≡ true) → Dimmed b c
+  pub mild-dimmed : ((slots : List (List ℕ × Slot)) → slots_at b n ≡ slots → option_and_then plain_in (named_in (codes "slot") (changed_at g i slots)) ≡ option_and_then plain_in (named_in (codes "slot") slots))
+      → ((x : ℕ) → is_realized c x ≡ true → is_realized b x ≡ true) → Dimmed b c
   mild-dimmed slot fading =
       record {
         body = bodies;
         children = reads (filter_map child_entry) (λ slots e. entries-changed child_entry g mild.children i slots);
         kids = reads (filter_map kid_entry) (λ slots e. entries-changed kid_entry g mild.kids i slots);
-        bus = reads (λ slots. option_and_then strong_in (named_in (codes "parent_bus") slots)) (λ slots e. named-changed strong_in g mild.strongs (codes "parent_bus") i slots);
-        place = reads (λ slots. option_and_then number_in (option_and_then plain_in (named_in (codes "slot") slots))) (λ slots e. ap (option_and_then number_in) (slot slots e));
+        bus =
+            reads (λ slots. option_and_then strong_in (named_in (codes "parent_bus") slots))
+            (λ slots e. named-changed strong_in g mild.strongs (codes "parent_bus") i slots);
+        place =
+            reads (λ slots. option_and_then number_in (option_and_then plain_in (named_in (codes "slot") slots)))
+            (λ slots e. ap (option_and_then number_in) (slot slots e));
         fading = fading;
         anonymous = refl;
       }
@@ -248,15 +268,20 @@ dims-unseen n name b = go (place_from (is_named name) 0 (slots_at b n)) refl
     go : (o : Option ℕ) → place_from (is_named name) 0 (slots_at b n) ≡ o → Dims b (unseen_named n name b)
     go None e = rw (unseen_named, e) (dims-none b)
     go (Some i) e =
-        let same_plain : (own : List ℕ) → (slots : List (List ℕ × Slot)) → slots_at b n ≡ slots → option_and_then plain_in (named_in own (changed_at unseen i slots)) ≡ option_and_then plain_in (named_in own slots) = λ own slots q. named-changed plain_in unseen plain-unseen own i slots in
-        let realized : (x : ℕ) → is_realized (edit n (with_changed unseen i) b) x ≡ is_realized b x = reads unseen mild-unseen n i b (λ slots. option_map_or is_true (option_and_then plain_in (named_in (codes "realized") slots)) false) (λ slots q. ap (λ (o : Option Val). option_map_or is_true o false) (same_plain (codes "realized") slots q)) in
-        rw (unseen_named, e) (record { dimmed = mild-dimmed unseen mild-unseen n i b (same_plain (codes "slot")) (λ x q. sym (realized x) ∙ q); same = realized })
+        let same_plain : (own : List ℕ) → (slots : List (List ℕ × Slot)) → slots_at b n ≡ slots → option_and_then plain_in (named_in own (changed_at unseen i slots)) ≡ option_and_then plain_in (named_in own slots) =
+        λ own slots q. named-changed plain_in unseen plain-unseen own i slots in
+        let realized : (x : ℕ) → is_realized (edit n (with_changed unseen i) b) x ≡ is_realized b x =
+        reads unseen mild-unseen n i b (λ slots. option_map_or is_true (option_and_then plain_in (named_in (codes "realized") slots)) false)
+        (λ slots q. ap (λ (o : Option Val). option_map_or is_true o false) (same_plain (codes "realized") slots q)) in
+        rw (unseen_named, e)
+        (record { dimmed = mild-dimmed unseen mild-unseen n i b (same_plain (codes "slot")) (λ x q. sym (realized x) ∙ q); same = realized })
 
 -- a plain value of another name than those of places
 pub other-name : (name own : List ℕ) → bytes_eq name own ≡ false → (s : List ℕ × Slot) → is_named name s ≡ true → bytes_eq s.0 own ≡ false
 other-name name own apart s e = subst (λ (x : List ℕ). bytes_eq x own ≡ false) (sym ((bytes_eq-Decides s.0 name).0 e)) apart
 
-pub dims-set : (n : ℕ) (name : List ℕ) (v : Val) → bytes_eq name (codes "slot") ≡ false → bytes_eq name (codes "realized") ≡ false → (b : Board) → Dims b (set_named n name v b)
+pub dims-set : (n : ℕ) (name : List ℕ) (v : Val) → bytes_eq name (codes "slot") ≡ false → bytes_eq name (codes "realized") ≡ false → (b : Board)
+    → Dims b (set_named n name v b)
 unfolding set
 dims-set n name v no_slot no_mark b = go (place_from (is_named name) 0 (slots_at b n)) refl
   where
@@ -264,9 +289,18 @@ dims-set n name v no_slot no_mark b = go (place_from (is_named name) 0 (slots_at
     go None e = rw (set_named, e) (dims-none b)
     go (Some i) e =
         let f : Found (is_named name) (slots_at b n) i = found-at (is_named name) i (slots_at b n) e in
-        let same_named : (own : List ℕ) → bytes_eq name own ≡ false → (slots : List (List ℕ × Slot)) → slots_at b n ≡ slots → named_in own (changed_at (with_val v) i slots) ≡ named_in own slots = λ own apart slots q. named-other (with_val v) own i slots f.entry (ap (λ (x : List (List ℕ × Slot)). slice_get x i) (sym q) ∙ f.at) (other-name name own apart f.entry f.passes) in
-        let realized : (x : ℕ) → is_realized (edit n (with_changed (with_val v) i) b) x ≡ is_realized b x = reads (with_val v) (mild-val v) n i b (λ slots. option_map_or is_true (option_and_then plain_in (named_in (codes "realized") slots)) false) (λ slots q. ap (λ (o : Option Slot). option_map_or is_true (option_and_then plain_in o) false) (same_named (codes "realized") no_mark slots q)) in
-        rw (set_named, e) (record { dimmed = mild-dimmed (with_val v) (mild-val v) n i b (λ slots q. ap (option_and_then plain_in) (same_named (codes "slot") no_slot slots q)) (λ x q. sym (realized x) ∙ q); same = realized })
+        let same_named : (own : List ℕ) → bytes_eq name own ≡ false → (slots : List (List ℕ × Slot)) → slots_at b n ≡ slots → named_in own (changed_at (with_val v) i slots) ≡ named_in own slots =
+        λ own apart slots q. named-other (with_val v) own i slots f.entry (ap (λ (x : List (List ℕ × Slot)). slice_get x i) (sym q) ∙ f.at) (other-name name own apart f.entry f.passes) in
+        let realized : (x : ℕ) → is_realized (edit n (with_changed (with_val v) i) b) x ≡ is_realized b x =
+        reads (with_val v) (mild-val v) n i b (λ slots. option_map_or is_true (option_and_then plain_in (named_in (codes "realized") slots)) false)
+        (λ slots q. ap (λ (o : Option Slot). option_map_or is_true (option_and_then plain_in o) false) (same_named (codes "realized") no_mark slots q)) in
+        rw (set_named, e)
+        (record {
+          dimmed =
+              mild-dimmed (with_val v) (mild-val v) n i b (λ slots q. ap (option_and_then plain_in) (same_named (codes "slot") no_slot slots q))
+              (λ x q. sym (realized x) ∙ q);
+          same = realized;
+        })
 
 -- a device is not realized any more, and each other is as before
 pub record Fades (d : ℕ) (b c : Board) : Type 0 where
@@ -287,8 +321,17 @@ unfolding set
 fades-set d b = go (place_from (is_named (codes "realized")) 0 (slots_at b d)) refl
   where
     go : (o : Option ℕ) → place_from (is_named (codes "realized")) 0 (slots_at b d) ≡ o → Fades d b (set_named d (codes "realized") (val.Bool false) b)
-    go None e = rw (set_named, e) (record { dimmed = dimmed-none b; gone = ap (λ (o : Option Slot). option_map_or is_true (option_and_then plain_in o) false) (none-found (codes "realized") (slots_at b d) 0 e); same = λ x p. refl })
-    go (Some i) e = rw (set_named, e) (record { dimmed = mild-dimmed g (mild-val (val.Bool false)) d i b slot (λ x q. fading x (x == d) refl q); gone = gone; same = λ x p. others x p })
+    go None e =
+        rw (set_named, e)
+        (record {
+          dimmed = dimmed-none b;
+          gone =
+              ap (λ (o : Option Slot). option_map_or is_true (option_and_then plain_in o) false) (none-found (codes "realized") (slots_at b d) 0 e);
+          same = λ x p. refl;
+        })
+    go (Some i) e =
+        rw (set_named, e)
+        (record { dimmed = mild-dimmed g (mild-val (val.Bool false)) d i b slot (λ x q. fading x (x == d) refl q); gone = gone; same = λ x p. others x p })
       where
         g : Slot → Slot
         g = with_val (val.Bool false)
@@ -299,11 +342,17 @@ fades-set d b = go (place_from (is_named (codes "realized")) 0 (slots_at b d)) r
         f : Found (is_named (codes "realized")) (slots_at b d) i
         f = found-at (is_named (codes "realized")) i (slots_at b d) e
 
-        slot : (slots : List (List ℕ × Slot)) → slots_at b d ≡ slots → option_and_then plain_in (named_in (codes "slot") (changed_at g i slots)) ≡ option_and_then plain_in (named_in (codes "slot") slots)
-        slot slots q = ap (option_and_then plain_in) (named-other g (codes "slot") i slots f.entry (ap (λ (x : List (List ℕ × Slot)). slice_get x i) (sym q) ∙ f.at) (other-name (codes "realized") (codes "slot") refl f.entry f.passes))
+        slot : (slots : List (List ℕ × Slot)) → slots_at b d ≡ slots
+            → option_and_then plain_in (named_in (codes "slot") (changed_at g i slots)) ≡ option_and_then plain_in (named_in (codes "slot") slots)
+        slot slots q =
+            ap (option_and_then plain_in)
+            (named-other g (codes "slot") i slots f.entry (ap (λ (x : List (List ℕ × Slot)). slice_get x i) (sym q) ∙ f.at)
+            (other-name (codes "realized") (codes "slot") refl f.entry f.passes))
 
         others : (x : ℕ) → (x == d) ≡ false → is_realized c x ≡ is_realized b x
-        others x p = (alike-record b c x (found-edited d (with_changed g i) (λ r. refl) x b.records ∙ other-record d x (with_changed g i) b refl p (record_of b x) refl)).realized
+        others x p =
+            (alike-record b c x
+            (found-edited d (with_changed g i) (λ r. refl) x b.records ∙ other-record d x (with_changed g i) b refl p (record_of b x) refl)).realized
 
         gone : is_realized c d ≡ false
         gone = at_owner (record_of b d) refl
@@ -313,8 +362,10 @@ fades-set d b = go (place_from (is_named (codes "realized")) 0 (slots_at b d)) r
             at_owner (Some r) q =
                 let was : slots_at b d ≡ r.slots = ap (λ (o : Option Record). option_map_or (λ (y : Record). y.slots) o []) q in
                 let first : place_from (is_named (codes "realized")) 0 r.slots ≡ Some i = ap (place_from (is_named (codes "realized")) 0) (sym was) ∙ e in
-                ap (λ (x : List (List ℕ × Slot)). option_map_or is_true (option_and_then plain_in (named_in (codes "realized") x)) false) (edited-slots b d (with_changed g i) (λ y. refl) r q)
-                ∙ ap (λ (o : Option Slot). option_map_or is_true (option_and_then plain_in o) false) (first-changed g (codes "realized") r.slots 0 i i first (omega arith))
+                ap (λ (x : List (List ℕ × Slot)). option_map_or is_true (option_and_then plain_in (named_in (codes "realized") x)) false)
+                (edited-slots b d (with_changed g i) (λ y. refl) r q)
+                ∙ ap (λ (o : Option Slot). option_map_or is_true (option_and_then plain_in o) false)
+                (first-changed g (codes "realized") r.slots 0 i i first (omega arith))
                 ∙ set-false (named_in (codes "realized") r.slots)
 
         fading : (x : ℕ) (t : Bool) → (x == d) ≡ t → is_realized c x ≡ true → is_realized b x ≡ true
@@ -333,17 +384,21 @@ dims-acted act n period b = dims-alike b (acted act n period b) refl alike
   where
     alike : (x : ℕ) → Alike b (acted act n period b) x
     alike x =
-        let found : record_of (acted act n period b) x ≡ option_map (edited n (with_act_on act b.now period)) (record_of b x) = found-edited n (with_act_on act b.now period) (λ r. refl) x b.records in
+        let found : record_of (acted act n period b) x ≡ option_map (edited n (with_act_on act b.now period)) (record_of b x) =
+        found-edited n (with_act_on act b.now period) (λ r. refl) x b.records in
         same_slots (record_of b x) refl found
       where
-        same_slots : (o : Option Record) → record_of b x ≡ o → record_of (acted act n period b) x ≡ option_map (edited n (with_act_on act b.now period)) o → Alike b (acted act n period b) x
+        same_slots : (o : Option Record) → record_of b x ≡ o
+            → record_of (acted act n period b) x ≡ option_map (edited n (with_act_on act b.now period)) o → Alike b (acted act n period b) x
         same_slots None e q = alike-record b (acted act n period b) x (q ∙ sym e)
         same_slots (Some r) e q = at_record (r.birth == n) refl
           where
             at_record : (t : Bool) → (r.birth == n) ≡ t → Alike b (acted act n period b) x
             at_record true p =
                 let now : record_of (acted act n period b) x ≡ Some (with_act_on act b.now period r) = q ∙ rw (edited, p) refl in
-                let slots : slots_at (acted act n period b) x ≡ slots_at b x = ap (λ (o : Option Record). option_map_or (λ (y : Record). y.slots) o []) now ∙ sym (ap (λ (o : Option Record). option_map_or (λ (y : Record). y.slots) o []) e) in
+                let slots : slots_at (acted act n period b) x ≡ slots_at b x =
+                ap (λ (o : Option Record). option_map_or (λ (y : Record). y.slots) o []) now
+                ∙ sym (ap (λ (o : Option Record). option_map_or (λ (y : Record). y.slots) o []) e) in
                 record {
                   children = ap (filter_map child_entry) slots;
                   kids = ap (filter_map kid_entry) slots;
@@ -362,7 +417,9 @@ dims-unnoticed n b = dims-alike b (unnoticed n b) refl (λ x. alike-record b (un
 
 pub dims-disconnected : (o : Option ℕ) (b : Board) → Dims b (disconnected o b)
 dims-disconnected None b = dims-none b
-dims-disconnected (Some n) b = dims-then b (unseen_named n (codes "source") b) (disconnected (Some n) b) (dims-unseen n (codes "source") b) (dims-set n (codes "period") (val.Uint 0) refl refl (unseen_named n (codes "source") b))
+dims-disconnected (Some n) b =
+    dims-then b (unseen_named n (codes "source") b) (disconnected (Some n) b) (dims-unseen n (codes "source") b)
+    (dims-set n (codes "period") (val.Uint 0) refl refl (unseen_named n (codes "source") b))
 
 pub dims-bus : (m : ℕ) (b : Board) → Dims b (unrealized_bus m b)
 dims-bus m b = dims-then b (acted Unrealize m 0 b) (unrealized_bus m b) (dims-acted Unrealize m 0 b) (dims-unheld m (acted Unrealize m 0 b))
@@ -373,7 +430,8 @@ fades-device d b =
     let two : Board = disconnected (clock_of b d) one in
     let three : Board = set_named d (codes "realized") (val.Bool false) two in
     let first : Dims b two = dims-then b one two (dims-acted Unrealize d (device_period b d) b) (dims-disconnected (clock_of b d) one) in
-    fades-before d b three (unnoticed d (unheld d three)) (fades-after d b two three first (fades-set d two)) (dims-then three (unheld d three) (unnoticed d (unheld d three)) (dims-unheld d three) (dims-unnoticed d (unheld d three)))
+    fades-before d b three (unnoticed d (unheld d three)) (fades-after d b two three first (fades-set d two))
+    (dims-then three (unheld d three) (unnoticed d (unheld d three)) (dims-unheld d three) (dims-unnoticed d (unheld d three)))
 
 -- what is below a device, by the board before
 
@@ -388,15 +446,19 @@ IsLow b (suc n) d = (m k : ℕ) → among (buses_of b d) m ≡ true → among (k
 
 -- each of some, in order
 
-pub each-keeps : (P : Board → Type 0) (f : ℕ → Board → Board) (ns : List ℕ) → ((n : ℕ) → among ns n ≡ true → (c : Board) → P c → P (f n c)) → (c : Board) → P c → P (each f ns c)
+pub each-keeps : (P : Board → Type 0) (f : ℕ → Board → Board) (ns : List ℕ) → ((n : ℕ) → among ns n ≡ true → (c : Board) → P c → P (f n c))
+    → (c : Board) → P c → P (each f ns c)
 each-keeps P f [] keeps c h = h
 each-keeps P f (n ∷ ns) keeps c h = each-keeps P f ns (λ k e. keeps k (rw e (or-true (eqb k n)))) (f n c) (keeps n (rw (eq-eqb n n refl) refl) c h)
 
-each-makes : (P : Board → Type 0) (f : ℕ → Board → Board) (ns : List ℕ) (k : ℕ) → among ns k ≡ true → ((c : Board) → P (f k c)) → ((n : ℕ) (c : Board) → P c → P (f n c)) → (c : Board) → P (each f ns c)
+each-makes : (P : Board → Type 0) (f : ℕ → Board → Board) (ns : List ℕ) (k : ℕ) → among ns k ≡ true → ((c : Board) → P (f k c))
+    → ((n : ℕ) (c : Board) → P c → P (f n c)) → (c : Board) → P (each f ns c)
 each-makes P f [] k e makes keeps c = absurd (let clash : false ≡ true = e in cc)
 each-makes P f (n ∷ ns) k e makes keeps c = go (eqb k n) refl (each-makes P f ns k)
   where
-    go : (t : Bool) → eqb k n ≡ t → (among ns k ≡ true → ((x : Board) → P (f k x)) → ((m : ℕ) (x : Board) → P x → P (f m x)) → (x : Board) → P (each f ns x)) → P (each f ns (f n c))
+    go : (t : Bool) → eqb k n ≡ t
+        → (among ns k ≡ true → ((x : Board) → P (f k x)) → ((m : ℕ) (x : Board) → P x → P (f m x)) → (x : Board) → P (each f ns x))
+        → P (each f ns (f n c))
     go true p rest = each-keeps P f ns (λ m q. keeps m) (f n c) (subst (λ (m : ℕ). P (f m c)) (eqb-true k n p) (makes c))
     go false p rest = rest (rw p at e) makes keeps (f n c)
 
@@ -413,7 +475,10 @@ module _ (b : Board) where
     where
       turn : ((k : ℕ) (e : Board) → Dimmed e (turns depth k e)) → Dimmed c (turns (suc depth) d c)
       turn keeps =
-          let inner : Dimmed c (each (on_bus depth) (buses_of b d) c) = each-keeps (Dimmed c) (on_bus depth) (buses_of b d) (λ m q e h. dimmed-then c (each (turns depth) (kids_of b m) e) (on_bus depth m e) (each-keeps (Dimmed c) (turns depth) (kids_of b m) (λ k r x j. dimmed-then c x (turns depth k x) j (keeps k x)) e h) (dims-bus m (each (turns depth) (kids_of b m) e)).dimmed) c (dimmed-none c) in
+          let inner : Dimmed c (each (on_bus depth) (buses_of b d) c) =
+          each-keeps (Dimmed c) (on_bus depth) (buses_of b d)
+          (λ m q e h. dimmed-then c (each (turns depth) (kids_of b m) e) (on_bus depth m e) (each-keeps (Dimmed c) (turns depth) (kids_of b m) (λ k r x j. dimmed-then c x (turns depth k x) j (keeps k x)) e h) (dims-bus m (each (turns depth) (kids_of b m) e)).dimmed) c
+          (dimmed-none c) in
           dimmed-then c (each (on_bus depth) (buses_of b d) c) (turns (suc depth) d c) inner (fades-device d (each (on_bus depth) (buses_of b d) c)).dimmed
 
   -- only what is below the device
@@ -425,7 +490,9 @@ module _ (b : Board) where
       Lost e = is_realized e y ≡ false → Under b d y
 
       turn : ((k : ℕ) (e : Board) (x : ℕ) → is_realized e x ≡ true → is_realized (turns depth k e) x ≡ false → Under b k x) → Under b d y
-      turn only = own (each (on_bus depth) (buses_of b d) c) (each-keeps Lost (on_bus depth) (buses_of b d) by_bus c (λ q. absurd (let clash : true ≡ false = sym was ∙ q in cc))) (y == d) refl is
+      turn only =
+          own (each (on_bus depth) (buses_of b d) c)
+          (each-keeps Lost (on_bus depth) (buses_of b d) by_bus c (λ q. absurd (let clash : true ≡ false = sym was ∙ q in cc))) (y == d) refl is
         where
           by_kid : (m : ℕ) → among (buses_of b d) m ≡ true → (k : ℕ) → among (kids_of b m) k ≡ true → (e : Board) → Lost e → Lost (turns depth k e)
           by_kid m q k r e h lost = choose (is_realized e y) refl
@@ -435,7 +502,8 @@ module _ (b : Board) where
               choose false p = h p
 
           by_bus : (m : ℕ) → among (buses_of b d) m ≡ true → (e : Board) → Lost e → Lost (on_bus depth m e)
-          by_bus m q e h lost = each-keeps Lost (turns depth) (kids_of b m) (by_kid m q) e h (sym ((dims-bus m (each (turns depth) (kids_of b m) e)).same y) ∙ lost)
+          by_bus m q e h lost =
+              each-keeps Lost (turns depth) (kids_of b m) (by_kid m q) e h (sym ((dims-bus m (each (turns depth) (kids_of b m) e)).same y) ∙ lost)
 
           own : (e : Board) → Lost e → (t : Bool) → (y == d) ≡ t → is_realized (unrealized_device d e) y ≡ false → Under b d y
           own e h true p lost = subst (Under b d) (sym (eqb-true y d p)) here
@@ -456,11 +524,21 @@ module _ (b : Board) where
       inner : Board
       inner = each (on_bus depth) (buses_of b d) c
 
-      turn : ((k : ℕ) → IsLow b depth k → (x : ℕ) → Under b k x → (e : Board) → is_realized (turns depth k e) x ≡ false) → (x : ℕ) → Under b d x → is_realized (unrealized_device d (each (on_bus depth) (buses_of b d) c)) x ≡ false
+      turn : ((k : ℕ) → IsLow b depth k → (x : ℕ) → Under b k x → (e : Board) → is_realized (turns depth k e) x ≡ false) → (x : ℕ) → Under b d x
+          → is_realized (unrealized_device d (each (on_bus depth) (buses_of b d) c)) x ≡ false
       turn all x here = (fades-device d (each (on_bus depth) (buses_of b d) c)).gone
       turn all x (down m k q r v) =
-          faded (each (on_bus depth) (buses_of b d) c) (unrealized_device d (each (on_bus depth) (buses_of b d) c)) x (fades-device d (each (on_bus depth) (buses_of b d) c)).dimmed
+          faded (each (on_bus depth) (buses_of b d) c) (unrealized_device d (each (on_bus depth) (buses_of b d) c)) x
+          (fades-device d (each (on_bus depth) (buses_of b d) c)).dimmed
           (each-makes (λ e. is_realized e x ≡ false) (on_bus depth) (buses_of b d) m q
-          (λ e. faded (each (turns depth) (kids_of b m) e) (on_bus depth m e) x (dims-bus m (each (turns depth) (kids_of b m) e)).dimmed (each-makes (λ z. is_realized z x ≡ false) (turns depth) (kids_of b m) k r (all k (low m k q r) x v) (λ n z. faded z (turns depth n z) x (turns-dimmed depth n z)) e))
-          (λ n e. faded e (on_bus depth n e) x (dimmed-then e (each (turns depth) (kids_of b n) e) (on_bus depth n e) (each-keeps (Dimmed e) (turns depth) (kids_of b n) (λ j s z h. dimmed-then e z (turns depth j z) h (turns-dimmed depth j z)) e (dimmed-none e)) (dims-bus n (each (turns depth) (kids_of b n) e)).dimmed))
+          (λ e.
+          faded (each (turns depth) (kids_of b m) e) (on_bus depth m e) x (dims-bus m (each (turns depth) (kids_of b m) e)).dimmed
+          (each-makes (λ z. is_realized z x ≡ false) (turns depth) (kids_of b m) k r (all k (low m k q r) x v)
+          (λ n z. faded z (turns depth n z) x (turns-dimmed depth n z)) e))
+          (λ n e.
+          faded e (on_bus depth n e) x
+          (dimmed-then e (each (turns depth) (kids_of b n) e) (on_bus depth n e)
+          (each-keeps (Dimmed e) (turns depth) (kids_of b n) (λ j s z h. dimmed-then e z (turns depth j z) h (turns-dimmed depth j z)) e
+          (dimmed-none e))
+          (dims-bus n (each (turns depth) (kids_of b n) e)).dimmed))
           c)

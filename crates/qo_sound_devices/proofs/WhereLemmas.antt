@@ -1,5 +1,5 @@
 -- Where objects stand in the tree: the place of a child, and what an attached bus and an attached device are.
-use Rattle.std.proofs.Common.{◌≡◌, refl, ap, sym, subst, ◌∙◌, ℕ, ◌<◌, ◌≤◌, Bool, true, false, ◌==◌, ◌&&◌, ◌||◌, eqb, List, [], ◌∷◌, find, filter_map, sum_by, Option, Some, None, is_some, option_map, codes, arith}
+use Rattle.std.proofs.Common.{◌≡◌, refl, ap, sym, subst, ◌∙◌, ℕ, ◌<◌, ◌≤◌, Bool, true, false, ◌==◌, ◌&&◌, eqb, List, [], ◌∷◌, find, filter_map, sum_by, Option, Some, None, is_some, option_map, codes, arith}
 use Rattle.std.specs.List.{AllByRecursion, list_any}
 use Rattle.std.specs.Option.{option_map_or}
 use Rattle.std.specs.Str.{bytes_eq}
@@ -11,7 +11,7 @@ use Rattle.std.proofs.Math.Bool.{or-true}
 use Rattle.qo_values.specs.declared.births.TheConstants.{ANONYMOUS_BIRTH, MACHINE_BIRTH, PERIPHERAL_BIRTH}
 use Rattle.qo_values.specs.declared.kinds.TypeId.{TypeId}
 use Rattle.qo_values.specs.declared.kinds.TypeId.TheVariants.{Container}
-use Rattle.qo_model.specs.Board.{Board, Record, Slot, plain, child, strong, weak, alias, record_of}
+use Rattle.qo_model.specs.Board.{Board, Record, Slot, plain, child, strong, weak, alias}
 use Rattle.qo_model.specs.Depth.{among}
 use Rattle.qo_model.specs.Devices.{clock_name}
 use Rattle.qo_model.specs.Paths.{attached, attached_turn, is_child, is_of, place_in, place_of}
@@ -23,7 +23,7 @@ use Rattle.qo_model.proofs.TreeLemmas.{paths_lem, place_at}
 use Rattle.qo_sound.proofs.FirmLemmas.{Firm, parents_in}
 use Rattle.qo_sound.proofs.RecordLemmas.{births_at}
 use Rattle.qo_sound.proofs.SlotLemmas.{one_child}
-use Rattle.qo_sound_devices.specs.SoundPlaces.{child_entries, child_entry, has_entry, HasOwner, machines, bridges, IsAtHome, IsHosted, on_machine, on_device, listed, owns, owns_it, PlacesBut, stands}
+use Rattle.qo_sound_devices.specs.SoundPlaces.{child_entries, child_entry, has_entry, HasOwner, machines, bridges, IsAtHome, IsHosted, on_machine, on_device, listed, owns_it, PlacesBut, stands}
 use Rattle.qo_sound_devices.proofs.AttachedLemmas.{found-counted, listed-found, parent-is, place-birth, place-some}
 
 -- the object that has a place
@@ -67,7 +67,8 @@ place-listed b firm x u e =
     ∙ listed-found x k.owner.slots ∙ sym (place-some x k.owner) ∙ ap is_some k.place
 
 -- and under the name that it has there
-first-named : (x : ℕ) (name : List ℕ) (slots : List (List ℕ × Slot)) → sum_by (one_child x) slots ≤ 1 → has_entry (name, x) (filter_map child_entry slots) ≡ true
+first-named : (x : ℕ) (name : List ℕ) (slots : List (List ℕ × Slot)) → sum_by (one_child x) slots ≤ 1
+    → has_entry (name, x) (filter_map child_entry slots) ≡ true
     → (s : List ℕ × Slot) → find (λ (y : List ℕ × Slot). is_child x y.1) slots ≡ Some s → s.0 ≡ name
 first-named x name [] few h s e = cc
 first-named x name (y ∷ slots) few h s e = go (is_child x y.1) refl (first-named x name slots)
@@ -80,7 +81,8 @@ first-named x name (y ∷ slots) few h s e = go (is_child x y.1) refl (first-nam
         pick true p rest = rw p refl
         pick false p rest = rw p (rest (rw p at k))
 
-    here : (z : List ℕ × Slot) → is_child x z.1 ≡ true → has_entry (name, x) (filter_map child_entry (z ∷ slots)) ≡ true → sum_by (one_child x) (z ∷ slots) ≤ 1 → z.0 ≡ name
+    here : (z : List ℕ × Slot) → is_child x z.1 ≡ true → has_entry (name, x) (filter_map child_entry (z ∷ slots)) ≡ true
+        → sum_by (one_child x) (z ∷ slots) ≤ 1 → z.0 ≡ name
     here (own, plain v) p k l = absurd (let clash : false ≡ true = p in cc)
     here (own, strong t target) p k l = absurd (let clash : false ≡ true = p in cc)
     here (own, weak t target) p k l = absurd (let clash : false ≡ true = p in cc)
@@ -95,14 +97,17 @@ first-named x name (y ∷ slots) few h s e = go (is_child x y.1) refl (first-nam
             let one : one_child x (own, child m) ≡ 1 = rw p refl in
             absurd (let clash : 2 ≤ 1 = omega (arith, one, some, l, sum_by-cons (one_child x) (own, child m) slots) in omega (arith, clash))
 
-    behind : (z : List ℕ × Slot) → is_child x z.1 ≡ false → has_entry (name, x) (filter_map child_entry (z ∷ slots)) ≡ true → has_entry (name, x) (filter_map child_entry slots) ≡ true
+    behind : (z : List ℕ × Slot) → is_child x z.1 ≡ false → has_entry (name, x) (filter_map child_entry (z ∷ slots)) ≡ true
+        → has_entry (name, x) (filter_map child_entry slots) ≡ true
     behind (own, plain v) p k = k
     behind (own, strong t target) p k = k
     behind (own, weak t target) p k = k
     behind (own, alias m property) p k = k
     behind (own, child m) p k = rw p at k
 
-    go : (t : Bool) → is_child x y.1 ≡ t → (sum_by (one_child x) slots ≤ 1 → has_entry (name, x) (filter_map child_entry slots) ≡ true → (z : List ℕ × Slot) → find (λ (w : List ℕ × Slot). is_child x w.1) slots ≡ Some z → z.0 ≡ name) → s.0 ≡ name
+    go : (t : Bool) → is_child x y.1 ≡ t
+        → (sum_by (one_child x) slots ≤ 1 → has_entry (name, x) (filter_map child_entry slots) ≡ true → (z : List ℕ × Slot) → find (λ (w : List ℕ × Slot). is_child x w.1) slots ≡ Some z → z.0 ≡ name)
+        → s.0 ≡ name
     go true p rest = subst (λ (z : List ℕ × Slot). z.0 ≡ name) (same_Some y s (rw p at e)) (here y p h few)
     go false p rest = rest (omega (arith, few, sum_by-cons (one_child x) y slots)) (behind y p h) s (rw p at e)
 
@@ -127,12 +132,16 @@ place-named b firm p x name e = go (place_of b x) refl
         k = place-owner b.records firm.rising x u q
 
         there : has_entry (name, x) (filter_map child_entry k.owner.slots) ≡ true
-        there = sym (ap (λ (o : Option Record). has_entry (name, x) (filter_map child_entry (option_map_or (λ (r : Record). r.slots) o []))) k.found) ∙ ap (λ (m : ℕ). has_entry (name, x) (child_entries b m)) is ∙ e
+        there =
+            sym (ap (λ (o : Option Record). has_entry (name, x) (filter_map child_entry (option_map_or (λ (r : Record). r.slots) o []))) k.found)
+            ∙ ap (λ (m : ℕ). has_entry (name, x) (child_entries b m)) is
+            ∙ e
 
         few : sum_by (one_child x) k.owner.slots ≤ 1
         few = omega (arith, found-within (parents_in x) u.0 b.records k.owner k.found, firm.one_parent x)
 
-        from : (o : Option (List ℕ × Slot)) → find (λ (s : List ℕ × Slot). is_child x s.1) k.owner.slots ≡ o → option_map (λ (s : List ℕ × Slot). (k.owner.birth, s.0)) o ≡ Some u → u.1 ≡ name
+        from : (o : Option (List ℕ × Slot)) → find (λ (s : List ℕ × Slot). is_child x s.1) k.owner.slots ≡ o
+            → option_map (λ (s : List ℕ × Slot). (k.owner.birth, s.0)) o ≡ Some u → u.1 ≡ name
         from None r l = absurd (let clash : None ≡ Some u = l in cc)
         from (Some s) r l = sym (ap (λ (v : ℕ × List ℕ). v.1) (same_Some (k.owner.birth, s.0) u l)) ∙ first-named x name k.owner.slots few there s r
 
@@ -159,16 +168,20 @@ entry-of P q (x ∷ es) h e = go (x.1 == q) refl (entry-of P q es h.1)
     go true p rest =
         let same_name : bytes_eq x.0 x.0 ≡ true = (bytes_eq-Decides x.0 x.0).1 refl in
         record { name = x.0; holds = subst (λ (m : ℕ). P (x.0, m)) (eqb-true x.1 q p) h.0; there = rw (p, same_name) refl }
-    go false p rest = let k : Entry P q es = rest (rw p at e) in record { name = k.name; holds = k.holds; there = rw k.there (or-true (x.1 == q && bytes_eq x.0 k.name)) }
+    go false p rest =
+        let k : Entry P q es = rest (rw p at e) in
+        record { name = k.name; holds = k.holds; there = rw k.there (or-true (x.1 == q && bytes_eq x.0 k.name)) }
 
-entry-owned : (name : List ℕ) (q : ℕ) → bytes_eq name clock_name ≡ false → (es : List (List ℕ × ℕ)) → has_entry (name, q) es ≡ true → list_any (owns_it q) es ≡ true
+entry-owned : (name : List ℕ) (q : ℕ) → bytes_eq name clock_name ≡ false → (es : List (List ℕ × ℕ)) → has_entry (name, q) es ≡ true
+    → list_any (owns_it q) es ≡ true
 entry-owned name q apart [] e = cc
 entry-owned name q apart (x ∷ es) e = go (x.1 == q) refl (bytes_eq x.0 name) refl (entry-owned name q apart es)
   where
     other : bytes_eq x.0 name ≡ true → bytes_eq x.0 clock_name ≡ false
     other k = subst (λ (own : List ℕ). bytes_eq own clock_name ≡ false) (sym ((bytes_eq-Decides x.0 name).0 k)) apart
 
-    go : (t : Bool) → (x.1 == q) ≡ t → (u : Bool) → bytes_eq x.0 name ≡ u → (has_entry (name, q) es ≡ true → list_any (owns_it q) es ≡ true) → list_any (owns_it q) (x ∷ es) ≡ true
+    go : (t : Bool) → (x.1 == q) ≡ t → (u : Bool) → bytes_eq x.0 name ≡ u → (has_entry (name, q) es ≡ true → list_any (owns_it q) es ≡ true)
+        → list_any (owns_it q) (x ∷ es) ≡ true
     go true p true k rest = rw (p, other k) refl
     go true p false k rest = rw (rest (rw (p, k) at e)) (or-true (owns_it q x))
     go false p k l rest = rw (rest (rw p at e)) (or-true (owns_it q x))
@@ -201,7 +214,9 @@ module _ (b : Board) (sound : SoundGraph b) (firm : Firm b) (depth : ℕ → ℕ
         where
           go : (t : Bool) → eqb p PERIPHERAL_BIRTH ≡ t → (u : Bool) → eqb p ANONYMOUS_BIRTH ≡ u → stands b d ≡ true
           go true q u r = rw (sym (ap (λ (m : ℕ). listed d (child_entries b m)) (eqb-true p PERIPHERAL_BIRTH q)) ∙ l) refl
-          go false q true r = rw (sym (ap (λ (m : ℕ). listed d (child_entries b m)) (eqb-true p ANONYMOUS_BIRTH r)) ∙ l) (or-true (listed d (child_entries b PERIPHERAL_BIRTH)))
+          go false q true r =
+              rw (sym (ap (λ (m : ℕ). listed d (child_entries b m)) (eqb-true p ANONYMOUS_BIRTH r)) ∙ l)
+              (or-true (listed d (child_entries b PERIPHERAL_BIRTH)))
           go false q false r = absurd (let clash : false ≡ true = rw (q, r) at k in cc)
 
   pub attached-owner : (q : ℕ) → is_of b (codes "bus") q ≡ true → attached b q ≡ true → HasOwner b q

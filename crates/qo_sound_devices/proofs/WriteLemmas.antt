@@ -36,14 +36,17 @@ use Rattle.qo_sound.proofs.TargetLemmas.{FitsResult, target-fits}
 use Rattle.qo_sound.proofs.ViewLemmas.{AtRest}
 use Rattle.qo_sound_devices.specs.SoundPlaces.{child_entry, PlacesBut}
 use Rattle.qo_sound_devices.proofs.AlikeLemmas.{Alike}
-use Rattle.qo_sound_devices.proofs.CommandLemmas.{Goes, goes-after, goes-kept}
+use Rattle.qo_sound_devices.proofs.CommandLemmas.{Goes, goes-after, goes-kept, goes-then, keeps-goes}
 use Rattle.qo_sound_devices.proofs.DropLemmas.{edited-slots, kept-drop, kept-edit, KeptAt}
-use Rattle.qo_sound_devices.proofs.PlacesLemmas.{Kept, kept-alike, of-alike, owner-live, places-kept, within-same}
+use Rattle.qo_sound_devices.proofs.PlacesLemmas.{Keeps, keeps-none, Kept, kept-alike, of-alike, owner-live, within-same}
 use Rattle.qo_sound_devices.proofs.UnrealizeLemmas.{Dimmed, dimmed-live, entries-changed, mild-dimmed, mild-val, named-changed, named-other, reads}
 
 -- what `qom-set` may write: no property of buses, and none that places speak of
 abbrev fits_places : TypeId → Property → Bool
-fits_places t p = not (may_set p.mark) || ((not (is_a t (codes "bus")) && not (bytes_eq (property_name p.name) (codes "parent_bus"))) && (not (bytes_eq (property_name p.name) (codes "realized")) && not (bytes_eq (property_name p.name) (codes "slot"))))
+fits_places t p =
+    not (may_set p.mark) ||
+    ((not (is_a t (codes "bus")) && not (bytes_eq (property_name p.name) (codes "parent_bus"))) &&
+    (not (bytes_eq (property_name p.name) (codes "realized")) && not (bytes_eq (property_name p.name) (codes "slot"))))
 
 all-fit : (t : TypeId) → AllByRecursion (λ (p : Property). fits_places t p ≡ true) (slots_of t)
 unfolding types
@@ -79,29 +82,41 @@ both true true e = (refl, refl)
 both true false e = absurd (let clash : false ≡ true = e in cc)
 both false u e = absurd (let clash : false ≡ true = e in cc)
 
-found-fits : (t : TypeId) (name : List ℕ) (ps : List Property) → AllByRecursion (λ (p : Property). fits_places t p ≡ true) ps → (row : Property) → find (λ (p : Property). bytes_eq (property_name p.name) name) ps ≡ Some row → (fits_places t row ≡ true) × (bytes_eq (property_name row.name) name ≡ true)
+found-fits : (t : TypeId) (name : List ℕ) (ps : List Property) → AllByRecursion (λ (p : Property). fits_places t p ≡ true) ps → (row : Property)
+    → find (λ (p : Property). bytes_eq (property_name p.name) name) ps ≡ Some row
+    → (fits_places t row ≡ true) × (bytes_eq (property_name row.name) name ≡ true)
 found-fits t name [] h row e = cc
 found-fits t name (p ∷ ps) h row e = go (bytes_eq (property_name p.name) name) refl (found-fits t name ps h.1 row)
   where
-    go : (u : Bool) → bytes_eq (property_name p.name) name ≡ u → (find (λ (x : Property). bytes_eq (property_name x.name) name) ps ≡ Some row → (fits_places t row ≡ true) × (bytes_eq (property_name row.name) name ≡ true)) → (fits_places t row ≡ true) × (bytes_eq (property_name row.name) name ≡ true)
+    go : (u : Bool) → bytes_eq (property_name p.name) name ≡ u
+        → (find (λ (x : Property). bytes_eq (property_name x.name) name) ps ≡ Some row → (fits_places t row ≡ true) × (bytes_eq (property_name row.name) name ≡ true))
+        → (fits_places t row ≡ true) × (bytes_eq (property_name row.name) name ≡ true)
     go true q rest = subst (λ (x : Property). (fits_places t x ≡ true) × (bytes_eq (property_name x.name) name ≡ true)) (same_Some p row (rw q at e)) (h.0, q)
     go false q rest = rest (rw q at e)
 
-row-fits : (b : Board) (n : ℕ) (name : List ℕ) (row : Property) → option_and_then (λ t. row_of_property t name) (kind_of b n) ≡ Some row → may_set row.mark ≡ true → Fits b n name
+row-fits : (b : Board) (n : ℕ) (name : List ℕ) (row : Property) → option_and_then (λ t. row_of_property t name) (kind_of b n) ≡ Some row
+    → may_set row.mark ≡ true → Fits b n name
 row-fits b n name row e may = go (kind_of b n) refl e
   where
     go : (o : Option TypeId) → kind_of b n ≡ o → option_and_then (λ t. row_of_property t name) o ≡ Some row → Fits b n name
     go None q k = absurd (let clash : None ≡ Some row = k in cc)
     go (Some t) q k =
         let all : (fits_places t row ≡ true) × (bytes_eq (property_name row.name) name ≡ true) = found-fits t name (slots_of t) (all-fit t) row k in
-        let parts : (not (is_a t (codes "bus")) && not (bytes_eq (property_name row.name) (codes "parent_bus"))) && (not (bytes_eq (property_name row.name) (codes "realized")) && not (bytes_eq (property_name row.name) (codes "slot"))) ≡ true = rw (fits_places, may) at all.0 in
-        let halves : (not (is_a t (codes "bus")) && not (bytes_eq (property_name row.name) (codes "parent_bus")) ≡ true) × (not (bytes_eq (property_name row.name) (codes "realized")) && not (bytes_eq (property_name row.name) (codes "slot")) ≡ true) = both (not (is_a t (codes "bus")) && not (bytes_eq (property_name row.name) (codes "parent_bus"))) (not (bytes_eq (property_name row.name) (codes "realized")) && not (bytes_eq (property_name row.name) (codes "slot"))) parts in
-        let kinds : (not (is_a t (codes "bus")) ≡ true) × (not (bytes_eq (property_name row.name) (codes "parent_bus")) ≡ true) = both (not (is_a t (codes "bus"))) (not (bytes_eq (property_name row.name) (codes "parent_bus"))) halves.0 in
-        let names : (not (bytes_eq (property_name row.name) (codes "realized")) ≡ true) × (not (bytes_eq (property_name row.name) (codes "slot")) ≡ true) = both (not (bytes_eq (property_name row.name) (codes "realized"))) (not (bytes_eq (property_name row.name) (codes "slot"))) halves.1 in
+        let parts : (not (is_a t (codes "bus")) && not (bytes_eq (property_name row.name) (codes "parent_bus"))) && (not (bytes_eq (property_name row.name) (codes "realized")) && not (bytes_eq (property_name row.name) (codes "slot"))) ≡ true =
+        rw (fits_places, may) at all.0 in
+        let halves : (not (is_a t (codes "bus")) && not (bytes_eq (property_name row.name) (codes "parent_bus")) ≡ true) × (not (bytes_eq (property_name row.name) (codes "realized")) && not (bytes_eq (property_name row.name) (codes "slot")) ≡ true) =
+        both (not (is_a t (codes "bus")) && not (bytes_eq (property_name row.name) (codes "parent_bus")))
+        (not (bytes_eq (property_name row.name) (codes "realized")) && not (bytes_eq (property_name row.name) (codes "slot"))) parts in
+        let kinds : (not (is_a t (codes "bus")) ≡ true) × (not (bytes_eq (property_name row.name) (codes "parent_bus")) ≡ true) =
+        both (not (is_a t (codes "bus"))) (not (bytes_eq (property_name row.name) (codes "parent_bus"))) halves.0 in
+        let names : (not (bytes_eq (property_name row.name) (codes "realized")) ≡ true) × (not (bytes_eq (property_name row.name) (codes "slot")) ≡ true) =
+        both (not (bytes_eq (property_name row.name) (codes "realized"))) (not (bytes_eq (property_name row.name) (codes "slot"))) halves.1 in
         let its : property_name row.name ≡ name = (bytes_eq-Decides (property_name row.name) name).0 all.1 in
         record {
           no_bus = ap (λ (o : Option TypeId). option_map_or (λ (k : TypeId). is_a k (codes "bus")) o false) q ∙ flip (is_a t (codes "bus")) kinds.0;
-          unlinked = subst (λ (x : List ℕ). bytes_eq x (codes "parent_bus") ≡ false) its (flip (bytes_eq (property_name row.name) (codes "parent_bus")) kinds.1);
+          unlinked =
+              subst (λ (x : List ℕ). bytes_eq x (codes "parent_bus") ≡ false) its
+              (flip (bytes_eq (property_name row.name) (codes "parent_bus")) kinds.1);
           unmarked = subst (λ (x : List ℕ). bytes_eq x (codes "realized") ≡ false) its (flip (bytes_eq (property_name row.name) (codes "realized")) names.0);
           unplaced = subst (λ (x : List ℕ). bytes_eq x (codes "slot") ≡ false) its (flip (bytes_eq (property_name row.name) (codes "slot")) names.1);
         }
@@ -117,14 +132,17 @@ record SlotFound (name : List ℕ) (slots : List (List ℕ × Slot)) (i : ℕ) :
   at : slice_get slots i ≡ Some entry
   passes : bytes_eq entry.0 name ≡ true
 
-position-slot : (name : List ℕ) (slots : List (List ℕ × Slot)) (i : ℕ) → position (λ (s : List ℕ × Slot). bytes_eq s.0 name) slots ≡ Some i → SlotFound name slots i
+position-slot : (name : List ℕ) (slots : List (List ℕ × Slot)) (i : ℕ) → position (λ (s : List ℕ × Slot). bytes_eq s.0 name) slots ≡ Some i
+    → SlotFound name slots i
 position-slot name slots i e =
     let d : List ℕ × Slot = ([], plain val.Nothing) in
-    let h : (i < length slots) × (bytes_eq (get_or slots i d).0 name ≡ true) × ((k : ℕ) → k < i → bytes_eq (get_or slots k d).0 name ≡ false) = position-Some (λ (s : List ℕ × Slot). bytes_eq s.0 name) slots i d e in
+    let h : (i < length slots) × (bytes_eq (get_or slots i d).0 name ≡ true) × ((k : ℕ) → k < i → bytes_eq (get_or slots k d).0 name ≡ false) =
+    position-Some (λ (s : List ℕ × Slot). bytes_eq s.0 name) slots i d e in
     record { entry = get_or slots i d; at = slice-of slots i d h.0; passes = h.1 }
 
 -- a plain value
-set-kept : (b : Board) (n i : ℕ) (v : Val) (name : List ℕ) → Fits b n name → SlotFound name (slots_at b n) i → Firm (set n i v b) → is_live b 1 ≡ true → Kept b (set n i v b)
+set-kept : (b : Board) (n i : ℕ) (v : Val) (name : List ℕ) → Fits b n name → SlotFound name (slots_at b n) i → Firm (set n i v b) → is_live b 1 ≡ true
+    → Kept b (set n i v b)
 unfolding set
 set-kept b n i v name fits f firm root = kept-alike b c firm (dimmed-live b c dims 1 ∙ root) refl alike
   where
@@ -134,14 +152,23 @@ set-kept b n i v name fits f firm root = kept-alike b c firm (dimmed-live b c di
     own : f.entry.0 ≡ name
     own = (bytes_eq-Decides f.entry.0 name).0 f.passes
 
-    same_named : (other : List ℕ) → bytes_eq name other ≡ false → (slots : List (List ℕ × Slot)) → slots_at b n ≡ slots → option_map (λ (s : List ℕ × Slot). s.1) (find (λ s. bytes_eq s.0 other) (changed_at (with_val v) i slots)) ≡ option_map (λ (s : List ℕ × Slot). s.1) (find (λ s. bytes_eq s.0 other) slots)
-    same_named other apart slots q = named-other (with_val v) other i slots f.entry (ap (λ (x : List (List ℕ × Slot)). slice_get x i) (sym q) ∙ f.at) (subst (λ (x : List ℕ). bytes_eq x other ≡ false) (sym own) apart)
+    same_named : (other : List ℕ) → bytes_eq name other ≡ false → (slots : List (List ℕ × Slot)) → slots_at b n ≡ slots
+        → option_map (λ (s : List ℕ × Slot). s.1) (find (λ s. bytes_eq s.0 other) (changed_at (with_val v) i slots)) ≡ option_map (λ (s : List ℕ × Slot). s.1) (find (λ s. bytes_eq s.0 other) slots)
+    same_named other apart slots q =
+        named-other (with_val v) other i slots f.entry (ap (λ (x : List (List ℕ × Slot)). slice_get x i) (sym q) ∙ f.at)
+        (subst (λ (x : List ℕ). bytes_eq x other ≡ false) (sym own) apart)
 
     realized : (x : ℕ) → is_realized c x ≡ is_realized b x
-    realized = reads (with_val v) (mild-val v) n i b (λ slots. option_map_or is_true (option_and_then plain_in (option_map (λ (s : List ℕ × Slot). s.1) (find (λ s. bytes_eq s.0 (codes "realized")) slots))) false) (λ slots q. ap (λ (o : Option Slot). option_map_or is_true (option_and_then plain_in o) false) (same_named (codes "realized") fits.unmarked slots q))
+    realized =
+        reads (with_val v) (mild-val v) n i b
+        (λ slots.
+        option_map_or is_true (option_and_then plain_in (option_map (λ (s : List ℕ × Slot). s.1) (find (λ s. bytes_eq s.0 (codes "realized")) slots))) false)
+        (λ slots q. ap (λ (o : Option Slot). option_map_or is_true (option_and_then plain_in o) false) (same_named (codes "realized") fits.unmarked slots q))
 
     dims : Dimmed b c
-    dims = mild-dimmed (with_val v) (mild-val v) n i b (λ slots q. ap (option_and_then plain_in) (same_named (codes "slot") fits.unplaced slots q)) (λ x q. sym (realized x) ∙ q)
+    dims =
+        mild-dimmed (with_val v) (mild-val v) n i b (λ slots q. ap (option_and_then plain_in) (same_named (codes "slot") fits.unplaced slots q))
+        (λ x q. sym (realized x) ∙ q)
 
     alike : (x : ℕ) → is_live c x ≡ true → Alike b c x
     alike x there = record { children = dims.children x; kids = dims.kids x; bus = dims.bus x; place = dims.place x; realized = realized x; body = dims.body x }
@@ -161,9 +188,11 @@ child-entry-pointed m (name, weak t target) = refl
 child-entry-pointed m (name, alias k property) = refl
 
 -- a link of an object that is no bus, and that is no bus's link, points elsewhere
-point-kept : (depth : ℕ → ℕ) (b : Board) → PlacesBut depth None (λ x. false) b → (n i m : ℕ) (name : List ℕ) → SlotFound name (slots_at b n) i → bytes_eq name (codes "parent_bus") ≡ false → is_of b (codes "bus") n ≡ false → Firm (point n i m b) → Kept b (point n i m b)
+point-kept : (depth : ℕ → ℕ) (b : Board) → PlacesBut depth None (λ x. false) b → (n i m : ℕ) (name : List ℕ) → SlotFound name (slots_at b n) i
+    → bytes_eq name (codes "parent_bus") ≡ false → is_of b (codes "bus") n ≡ false → Firm (point n i m b) → Kept b (point n i m b)
 unfolding point
-point-kept depth b h n i m name f unlinked no_bus firm = kept-edit n (with_changed (pointed m) i) (λ r. refl) (λ r. refl) b firm (owner-live b 1 MACHINE_BIRTH h.machine) here
+point-kept depth b h n i m name f unlinked no_bus firm =
+    kept-edit n (with_changed (pointed m) i) (λ r. refl) (λ r. refl) b firm (owner-live b 1 MACHINE_BIRTH h.machine) here
   where
     c : Board
     c = edit n (with_changed (pointed m) i) b
@@ -174,20 +203,26 @@ point-kept depth b h n i m name f unlinked no_bus firm = kept-edit n (with_chang
     apart : bytes_eq f.entry.0 (codes "parent_bus") ≡ false
     apart = subst (λ (x : List ℕ). bytes_eq x (codes "parent_bus") ≡ false) (sym ((bytes_eq-Decides f.entry.0 name).0 f.passes)) unlinked
 
-    at_owner : {A : Type 0} (g : List (List ℕ × Slot) → A) → ((slots : List (List ℕ × Slot)) → slots_at b n ≡ slots → g (changed_at (pointed m) i slots) ≡ g slots) → g (slots_at c n) ≡ g (slots_at b n)
+    at_owner : {A : Type 0} (g : List (List ℕ × Slot) → A)
+        → ((slots : List (List ℕ × Slot)) → slots_at b n ≡ slots → g (changed_at (pointed m) i slots) ≡ g slots) → g (slots_at c n) ≡ g (slots_at b n)
     at_owner g same = go (record_of b n) refl
       where
         go : (o : Option Record) → record_of b n ≡ o → g (slots_at c n) ≡ g (slots_at b n)
         go None q =
             let was : slots_at b n ≡ [] = ap (λ (o : Option Record). option_map_or (λ (r : Record). r.slots) o []) q in
-            let now : slots_at c n ≡ [] = ap (λ (o : Option Record). option_map_or (λ (r : Record). r.slots) o []) (found-edited n (with_changed (pointed m) i) (λ r. refl) n b.records ∙ ap (option_map (edited n (with_changed (pointed m) i))) q) in
+            let now : slots_at c n ≡ [] =
+            ap (λ (o : Option Record). option_map_or (λ (r : Record). r.slots) o [])
+            (found-edited n (with_changed (pointed m) i) (λ r. refl) n b.records ∙ ap (option_map (edited n (with_changed (pointed m) i))) q) in
             ap g (now ∙ sym was)
         go (Some r) q =
             let was : slots_at b n ≡ r.slots = ap (λ (o : Option Record). option_map_or (λ (y : Record). y.slots) o []) q in
             ap g (edited-slots b n (with_changed (pointed m) i) (λ y. refl) r q) ∙ same r.slots was ∙ sym (ap g was)
 
-    plains : (own : List ℕ) → option_and_then plain_in (option_map (λ (s : List ℕ × Slot). s.1) (find (λ s. bytes_eq s.0 own) (slots_at c n))) ≡ option_and_then plain_in (option_map (λ (s : List ℕ × Slot). s.1) (find (λ s. bytes_eq s.0 own) (slots_at b n)))
-    plains own = at_owner (λ slots. option_and_then plain_in (option_map (λ (s : List ℕ × Slot). s.1) (find (λ s. bytes_eq s.0 own) slots))) (λ slots q. named-changed plain_in (pointed m) (plain-pointed m) own i slots)
+    plains : (own : List ℕ)
+        → option_and_then plain_in (option_map (λ (s : List ℕ × Slot). s.1) (find (λ s. bytes_eq s.0 own) (slots_at c n))) ≡ option_and_then plain_in (option_map (λ (s : List ℕ × Slot). s.1) (find (λ s. bytes_eq s.0 own) (slots_at b n)))
+    plains own =
+        at_owner (λ slots. option_and_then plain_in (option_map (λ (s : List ℕ × Slot). s.1) (find (λ s. bytes_eq s.0 own) slots)))
+        (λ slots q. named-changed plain_in (pointed m) (plain-pointed m) own i slots)
 
     here : KeptAt b c n
     here =
@@ -202,7 +237,8 @@ point-kept depth b h n i m name f unlinked no_bus firm = kept-edit n (with_chang
         }
 
 -- a link that was let go keeps its name
-name-kept : (i : ℕ) (slots : List (List ℕ × Slot)) (s : List ℕ × Slot) (left : Slot) → slice_get slots i ≡ Some s → emptied s.1 ≡ Some left → slice_get (without_hold i slots) i ≡ Some (s.0, left)
+name-kept : (i : ℕ) (slots : List (List ℕ × Slot)) (s : List ℕ × Slot) (left : Slot) → slice_get slots i ≡ Some s → emptied s.1 ≡ Some left
+    → slice_get (without_hold i slots) i ≡ Some (s.0, left)
 name-kept i [] s left e q = cc
 name-kept zero (x ∷ slots) s left e q =
     let is : emptied x.1 ≡ Some left = ap (λ (y : List ℕ × Slot). emptied y.1) (same_Some x s e) ∙ q in
@@ -217,14 +253,21 @@ no-child-link t (plain v) l = elim l [ ]
 no-child-link t (child m) l = elim l [ ]
 no-child-link t (alias m property) l = elim l [ ]
 
-left-link : (t : TypeId) (s : Slot) → IsLink t s → (left : Slot) × ((emptied s ≡ Some left) × ((kinds : ℕ → Option TypeId) (m : ℕ) → FitsKind kinds t (Some m) → Linked kinds (pointed m left)))
+left-link : (t : TypeId) (s : Slot) → IsLink t s
+    → (left : Slot) × ((emptied s ≡ Some left) × ((kinds : ℕ → Option TypeId) (m : ℕ) → FitsKind kinds t (Some m) → Linked kinds (pointed m left)))
 left-link t (strong u target) (holding to) = (strong t None, (refl, λ kinds m f. f))
 left-link t (weak u target) (seeing to) = (weak t None, (refl, λ kinds m f. f))
 left-link t (plain v) l = elim l [ ]
 left-link t (child m) l = elim l [ ]
 left-link t (alias m property) l = elim l [ ]
 
-relinked-places : (depth : ℕ → ℕ) (b : Board) (n i : ℕ) (name : List ℕ) (t : TypeId) (s : Slot) → Fits b n name → SlotFound name (slots_at b n) i → IsLink t s → slot_at b n i ≡ Some s → (target : Option ℕ) → FitsKind (kind_of b) t target → AtRest b → PlacesBut depth None (λ x. false) b → PlacesBut depth None (λ x. false) (relinked b n i target)
+set-pins : (n i : ℕ) (v : Val) (b : Board) → among b.pins 1 ≡ true → among (set n i v b).pins 1 ≡ true
+unfolding set
+set-pins n i v b e = e
+
+relinked-places : (depth : ℕ → ℕ) (b : Board) (n i : ℕ) (name : List ℕ) (t : TypeId) (s : Slot) → Fits b n name → SlotFound name (slots_at b n) i
+    → IsLink t s → slot_at b n i ≡ Some s → (target : Option ℕ) → FitsKind (kind_of b) t target → AtRest b → PlacesBut depth None (λ x. false) b
+    → Keeps depth b (relinked b n i target)
 unfolding drop_slot point
 relinked-places depth b n i name t s fits f link e target fits_target rest h = rw (relinked, e) (ends target fits_target refl)
   where
@@ -246,7 +289,10 @@ relinked-places depth b n i name t s fits f link e target fits_target rest h = r
     kept : Kept b c
     kept =
         kept-drop b rest.used.firm root n i at.entry at.owner at.found at.at
-        (λ k. inr (subst (λ (x : List ℕ × Slot). bytes_eq x.0 (codes "parent_bus") ≡ false) same_entry (subst (λ (x : List ℕ). bytes_eq x (codes "parent_bus") ≡ false) (sym ((bytes_eq-Decides f.entry.0 name).0 f.passes)) fits.unlinked)))
+        (λ k.
+        inr
+        (subst (λ (x : List ℕ × Slot). bytes_eq x.0 (codes "parent_bus") ≡ false) same_entry
+        (subst (λ (x : List ℕ). bytes_eq x (codes "parent_bus") ≡ false) (sym ((bytes_eq-Decides f.entry.0 name).0 f.passes)) fits.unlinked)))
         (λ k. ap child_of at.is ∙ no-child-link t s link)
         (λ k o. absurd (let clash : true ≡ false = sym k ∙ fits.no_bus in cc))
 
@@ -257,15 +303,20 @@ relinked-places depth b n i name t s fits f link e target fits_target rest h = r
     named_behind left leaves =
         record {
           entry = (at.entry.0, left);
-          at = ap (λ (ss : List (List ℕ × Slot)). slice_get ss i) (edited-slots b n (with_dropped i) (λ x. refl) at.owner at.found) ∙ name-kept i at.owner.slots at.entry left at.at (ap emptied at.is ∙ leaves);
+          at =
+              ap (λ (ss : List (List ℕ × Slot)). slice_get ss i) (edited-slots b n (with_dropped i) (λ x. refl) at.owner at.found)
+              ∙ name-kept i at.owner.slots at.entry left at.at (ap emptied at.is ∙ leaves);
           passes = subst (λ (x : List ℕ × Slot). bytes_eq x.0 name ≡ true) same_entry f.passes;
         }
 
     live_n : is_live c n ≡ true
     live_n = drop-live b n i n ∙ ap is_some at.found
 
-    ends : (to : Option ℕ) → FitsKind (kind_of b) t to → to ≡ target → PlacesBut depth None (λ x. false) (after finalise (pointed_at to n i c) (held s))
-    ends to fits_to is = (goes-after depth None (λ x. false) (pointed_at to n i c) (held s) firm_behind (pins_to to) (middle to fits_to)).places
+    ends : (to : Option ℕ) → FitsKind (kind_of b) t to → to ≡ target → Keeps depth b (after finalise (pointed_at to n i c) (held s))
+    ends to fits_to is =
+        keeps-goes depth b (after finalise (pointed_at to n i c) (held s))
+        (goes-then depth None (λ x. false) b (pointed_at to n i c) (after finalise (pointed_at to n i c) (held s)) (middle to fits_to)
+        (goes-after depth None (λ x. false) (pointed_at to n i c) (held s) firm_behind (pins_to to) (middle to fits_to).places))
       where
         near_firm : Firm (relinked b n i to)
         near_firm = (near-relinked b n i t s link e to fits_to rest.used).firm
@@ -277,58 +328,82 @@ relinked-places depth b n i name t s fits f link e target fits_target rest h = r
         pins_to None = pinned
         pins_to (Some m) = pinned
 
-        middle : (goal : Option ℕ) → FitsKind (kind_of b) t goal → PlacesBut depth None (λ x. false) (pointed_at goal n i c)
-        middle None k = first.places
+        middle : (goal : Option ℕ) → FitsKind (kind_of b) t goal → Goes depth None (λ x. false) b (pointed_at goal n i c)
+        middle None k = first
         middle (Some m) k =
             let (left, (leaves, points)) = left-link t s link in
             let empty : slot_at c n i ≡ Some left = emptied-at b n i s left e leaves in
             let same_kinds : kind_of c ≡ kind_of b = edited-kinds n (with_dropped i) (λ r. refl) (λ r. refl) b in
-            let firm : Firm (point n i m c) = firm-changed (pointed m) (child-pointed m) c n i (λ x q old. subst (λ (y : Slot). Linked (kind_of c) (pointed m y)) (same_Some left x (sym empty ∙ q)) (subst (λ (kinds : ℕ → Option TypeId). Linked kinds (pointed m left)) (sym same_kinds) (points (kind_of b) m k))) (firm-drop b n i rest.used.firm) in
+            let firm : Firm (point n i m c) =
+            firm-changed (pointed m) (child-pointed m) c n i
+            (λ x q old.
+            subst (λ (y : Slot). Linked (kind_of c) (pointed m y)) (same_Some left x (sym empty ∙ q))
+            (subst (λ (kinds : ℕ → Option TypeId). Linked kinds (pointed m left)) (sym same_kinds) (points (kind_of b) m k)))
+            (firm-drop b n i rest.used.firm) in
             let no_bus : is_of c (codes "bus") n ≡ false = of-alike b c n (codes "bus") (kept.body n live_n) ∙ fits.no_bus in
-            (goes-kept depth None (λ x. false) c (point n i m c) (point-kept depth c first.places n i m name (named_behind left leaves) fits.unlinked no_bus firm) pinned first.places).places
+            goes-then depth None (λ x. false) b c (point n i m c) first
+            (goes-kept depth None (λ x. false) c (point n i m c)
+            (point-kept depth c first.places n i m name (named_behind left leaves) fits.unlinked no_bus firm) pinned first.places)
 
-linked-places : (depth : ℕ → ℕ) (b : Board) (n i : ℕ) (name : List ℕ) (t : TypeId) (s : Slot) → Fits b n name → SlotFound name (slots_at b n) i → IsLink t s → slot_at b n i ≡ Some s → (target : Result (Option ℕ) Code) → FitsResult b t target → AtRest b → PlacesBut depth None (λ x. false) b → PlacesBut depth None (λ x. false) (behind_write b (linked b n i target))
+linked-places : (depth : ℕ → ℕ) (b : Board) (n i : ℕ) (name : List ℕ) (t : TypeId) (s : Slot) → Fits b n name → SlotFound name (slots_at b n) i
+    → IsLink t s → slot_at b n i ≡ Some s → (target : Result (Option ℕ) Code) → FitsResult b t target → AtRest b → PlacesBut depth None (λ x. false) b
+    → Keeps depth b (behind_write b (linked b n i target))
 linked-places depth b n i name t s fits f link e (Ok target) k rest h = relinked-places depth b n i name t s fits f link e target k rest h
-linked-places depth b n i name t s fits f link e (Err code) k rest h = h
+linked-places depth b n i name t s fits f link e (Err code) k rest h = keeps-none depth b h
 
-link_written-places : (depth : ℕ → ℕ) (b : Board) (n i : ℕ) (name : List ℕ) (t : TypeId) (s : Slot) → Fits b n name → SlotFound name (slots_at b n) i → IsLink t s → slot_at b n i ≡ Some s → (v : Val) → AtRest b → PlacesBut depth None (λ x. false) b → PlacesBut depth None (λ x. false) (behind_write b (link_written b n i t v))
-link_written-places depth b n i name t s fits f link e (val.Text path) rest h = linked-places depth b n i name t s fits f link e (link_target b t path) (target-fits b t path) rest h
-link_written-places depth b n i name t s fits f link e (val.Bool v) rest h = h
-link_written-places depth b n i name t s fits f link e (val.Int v) rest h = h
-link_written-places depth b n i name t s fits f link e (val.Uint v) rest h = h
-link_written-places depth b n i name t s fits f link e val.Nothing rest h = h
+link_written-places : (depth : ℕ → ℕ) (b : Board) (n i : ℕ) (name : List ℕ) (t : TypeId) (s : Slot) → Fits b n name → SlotFound name (slots_at b n) i
+    → IsLink t s → slot_at b n i ≡ Some s → (v : Val) → AtRest b → PlacesBut depth None (λ x. false) b
+    → Keeps depth b (behind_write b (link_written b n i t v))
+link_written-places depth b n i name t s fits f link e (val.Text path) rest h =
+    linked-places depth b n i name t s fits f link e (link_target b t path) (target-fits b t path) rest h
+link_written-places depth b n i name t s fits f link e (val.Bool v) rest h = keeps-none depth b h
+link_written-places depth b n i name t s fits f link e (val.Int v) rest h = keeps-none depth b h
+link_written-places depth b n i name t s fits f link e (val.Uint v) rest h = keeps-none depth b h
+link_written-places depth b n i name t s fits f link e val.Nothing rest h = keeps-none depth b h
 
-written-places : (depth : ℕ → ℕ) (b : Board) (n i : ℕ) (name : List ℕ) → Fits b n name → SlotFound name (slots_at b n) i → (kind : RowKind) (s : Option Slot) → slot_at b n i ≡ s → (v : Val) → AtRest b → PlacesBut depth None (λ x. false) b → PlacesBut depth None (λ x. false) (behind_write b (written b n i kind s v))
+written-places : (depth : ℕ → ℕ) (b : Board) (n i : ℕ) (name : List ℕ) → Fits b n name → SlotFound name (slots_at b n) i
+    → (kind : RowKind) (s : Option Slot) → slot_at b n i ≡ s → (v : Val) → AtRest b → PlacesBut depth None (λ x. false) b
+    → Keeps depth b (behind_write b (written b n i kind s v))
 written-places depth b n i name fits f (row.Plain type first) (Some (plain old)) e v rest h = go (admits type v) refl
   where
-    go : (t : Bool) → admits type v ≡ t → PlacesBut depth None (λ x. false) (behind_write b (written b n i (row.Plain type first) (Some (plain old)) v))
-    go true p = rw (written, p) (places-kept b (set n i v b) (set-kept b n i v name fits f (near-set b n i v old e rest.used).firm (owner-live b 1 MACHINE_BIRTH h.machine)) depth None (λ x. false) h)
-    go false p = rw (written, p) h
-written-places depth b n i name fits f (row.Link t holds) (Some (strong to target)) e v rest h = link_written-places depth b n i name to (strong to target) fits f (holding target) e v rest h
-written-places depth b n i name fits f (row.Link t holds) (Some (weak to target)) e v rest h = link_written-places depth b n i name to (weak to target) fits f (seeing target) e v rest h
-written-places depth b n i name fits f (row.Plain type first) None e v rest h = h
-written-places depth b n i name fits f (row.Plain type first) (Some (child m)) e v rest h = h
-written-places depth b n i name fits f (row.Plain type first) (Some (strong to target)) e v rest h = h
-written-places depth b n i name fits f (row.Plain type first) (Some (weak to target)) e v rest h = h
-written-places depth b n i name fits f (row.Plain type first) (Some (alias m property)) e v rest h = h
-written-places depth b n i name fits f (row.Link t holds) None e v rest h = h
-written-places depth b n i name fits f (row.Link t holds) (Some (plain old)) e v rest h = h
-written-places depth b n i name fits f (row.Link t holds) (Some (child m)) e v rest h = h
-written-places depth b n i name fits f (row.Link t holds) (Some (alias m property)) e v rest h = h
-written-places depth b n i name fits f (row.Child t) s e v rest h = h
-written-places depth b n i name fits f (row.Alias owner property) s e v rest h = h
+    go : (t : Bool) → admits type v ≡ t → Keeps depth b (behind_write b (written b n i (row.Plain type first) (Some (plain old)) v))
+    go true p =
+        rw (written, p) (keeps-goes depth b (set n i v b) (goes-kept depth None (λ x. false) b (set n i v b)
+        (set-kept b n i v name fits f (near-set b n i v old e rest.used).firm (owner-live b 1 MACHINE_BIRTH h.machine))
+        (set-pins n i v b (ap (λ (ps : List ℕ). among ps 1) rest.pinned)) h))
+    go false p = rw (written, p) (keeps-none depth b h)
+written-places depth b n i name fits f (row.Link t holds) (Some (strong to target)) e v rest h =
+    link_written-places depth b n i name to (strong to target) fits f (holding target) e v rest h
+written-places depth b n i name fits f (row.Link t holds) (Some (weak to target)) e v rest h =
+    link_written-places depth b n i name to (weak to target) fits f (seeing target) e v rest h
+written-places depth b n i name fits f (row.Plain type first) None e v rest h = keeps-none depth b h
+written-places depth b n i name fits f (row.Plain type first) (Some (child m)) e v rest h = keeps-none depth b h
+written-places depth b n i name fits f (row.Plain type first) (Some (strong to target)) e v rest h = keeps-none depth b h
+written-places depth b n i name fits f (row.Plain type first) (Some (weak to target)) e v rest h = keeps-none depth b h
+written-places depth b n i name fits f (row.Plain type first) (Some (alias m property)) e v rest h = keeps-none depth b h
+written-places depth b n i name fits f (row.Link t holds) None e v rest h = keeps-none depth b h
+written-places depth b n i name fits f (row.Link t holds) (Some (plain old)) e v rest h = keeps-none depth b h
+written-places depth b n i name fits f (row.Link t holds) (Some (child m)) e v rest h = keeps-none depth b h
+written-places depth b n i name fits f (row.Link t holds) (Some (alias m property)) e v rest h = keeps-none depth b h
+written-places depth b n i name fits f (row.Child t) s e v rest h = keeps-none depth b h
+written-places depth b n i name fits f (row.Alias owner property) s e v rest h = keeps-none depth b h
 
-written_by-places : (depth : ℕ → ℕ) (b : Board) (n i : ℕ) (name : List ℕ) → SlotFound name (slots_at b n) i → (row : Option Property) → option_and_then (λ t. row_of_property t name) (kind_of b n) ≡ row → (v : Val) → AtRest b → PlacesBut depth None (λ x. false) b → PlacesBut depth None (λ x. false) (behind_write b (written_by b n i row v))
-written_by-places depth b n i name f None e v rest h = h
+written_by-places : (depth : ℕ → ℕ) (b : Board) (n i : ℕ) (name : List ℕ) → SlotFound name (slots_at b n) i → (row : Option Property)
+    → option_and_then (λ t. row_of_property t name) (kind_of b n) ≡ row → (v : Val) → AtRest b → PlacesBut depth None (λ x. false) b
+    → Keeps depth b (behind_write b (written_by b n i row v))
+written_by-places depth b n i name f None e v rest h = keeps-none depth b h
 written_by-places depth b n i name f (Some row) e v rest h = go (may_set row.mark) refl
   where
-    go : (t : Bool) → may_set row.mark ≡ t → PlacesBut depth None (λ x. false) (behind_write b (written_by b n i (Some row) v))
+    go : (t : Bool) → may_set row.mark ≡ t → Keeps depth b (behind_write b (written_by b n i (Some row) v))
     go true p = rw (written_by, p) (written-places depth b n i name (row-fits b n name row e p) f row.kind (slot_at b n i) refl v rest h)
-    go false p = rw (written_by, p) h
+    go false p = rw (written_by, p) (keeps-none depth b h)
 
-pub write-places : (depth : ℕ → ℕ) (b : Board) (n : ℕ) (name : List ℕ) (v : Val) → AtRest b → PlacesBut depth None (λ x. false) b → PlacesBut depth None (λ x. false) (behind_write b (write b n name v))
+pub write-places : (depth : ℕ → ℕ) (b : Board) (n : ℕ) (name : List ℕ) (v : Val) → AtRest b → PlacesBut depth None (λ x. false) b
+    → Keeps depth b (behind_write b (write b n name v))
 write-places depth b n name v rest h = go (position (λ (s : List ℕ × Slot). bytes_eq s.0 name) (slots_at b n)) refl
   where
-    go : (place : Option ℕ) → position (λ (s : List ℕ × Slot). bytes_eq s.0 name) (slots_at b n) ≡ place → PlacesBut depth None (λ x. false) (behind_write b (write b n name v))
-    go None p = rw (write, p) h
-    go (Some i) p = rw (write, p) (written_by-places depth b n i name (position-slot name (slots_at b n) i p) (option_and_then (λ t. row_of_property t name) (kind_of b n)) refl v rest h)
+    go : (place : Option ℕ) → position (λ (s : List ℕ × Slot). bytes_eq s.0 name) (slots_at b n) ≡ place → Keeps depth b (behind_write b (write b n name v))
+    go None p = rw (write, p) (keeps-none depth b h)
+    go (Some i) p =
+        rw (write, p)
+        (written_by-places depth b n i name (position-slot name (slots_at b n) i p) (option_and_then (λ t. row_of_property t name) (kind_of b n)) refl v rest h)

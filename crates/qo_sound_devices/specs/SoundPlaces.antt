@@ -3,8 +3,9 @@ use Rattle.std.specs.Prelude.{◌≡◌, ◌≢◌, ℕ, ◌≤◌, ◌<◌, suc
 use Rattle.std.specs.List.{AllByRecursion, list_any}
 use Rattle.std.specs.Option.{option_map_or}
 use Rattle.std.specs.Str.{bytes_eq}
-use Rattle.qo_values.specs.declared.births.TheConstants.{ANONYMOUS_BIRTH, MACHINE_BIRTH, MEMORY_BUS_BIRTH, OBJECTS_BIRTH, PERIPHERAL_BIRTH, ROOT_BUS_BIRTH, SYSTEM_CLOCK_BIRTH}
+use Rattle.qo_values.specs.declared.births.TheConstants.{ANONYMOUS_BIRTH, MACHINE_BIRTH, MEMORY_BUS_BIRTH, OBJECTS_BIRTH, PERIPHERAL_BIRTH, ROOT_BIRTH, ROOT_BUS_BIRTH, SYSTEM_CLOCK_BIRTH}
 use Rattle.qo_values.specs.declared.kinds.TypeId.TheVariants.{Container}
+use Rattle.qo_values.specs.declared.limits.TheConstants.{BUS_DEPTH_MAX, BUS_SLOTS}
 use Rattle.qo_model.specs.Board.{Board, Record, Slot, child, strong, kind_of, record_of, slots_at}
 use Rattle.qo_model.specs.Depth.{among}
 use Rattle.qo_model.specs.Devices.{anonymous_name, bus_of, clock_name, is_realized, kid_name, place_on}
@@ -73,7 +74,7 @@ pub record IsKid (b : Board) (bus : ℕ) (e : List ℕ × ℕ) : Type 0 where
   pub there : stands b e.1 ≡ true
   pub on : bus_of b e.1 ≡ Some bus
   pub fits : suits b bus e.1 ≡ true
-  pub slot : (k : ℕ) × ((k ≤ 7) × ((place_on b e.1 ≡ Some k) × (e.0 ≡ kid_name k)))
+  pub slot : (k : ℕ) × ((k < BUS_SLOTS) × ((place_on b e.1 ≡ Some k) × (e.0 ≡ kid_name k)))
 
 -- a device is on a bus, and the bus has it
 pub record IsHome (b : Board) (d : ℕ) : Type 0 where
@@ -87,11 +88,11 @@ pub data HasOwner (b : Board) (q : ℕ) : Type 0 where
   machines : among (ROOT_BUS_BIRTH ∷ MEMORY_BUS_BIRTH ∷ []) q ≡ true → HasOwner b q
   bridges : (p : ℕ) → stands b p ≡ true → owns b p q ≡ true → HasOwner b q
 
--- how many bridges stand above each bus: none above the machine's, one more above a bridge's than above the bus that the bridge is on, and at most 8
+-- how many bridges stand above each bus: none above the machine's, one more above a bridge's than above the bus that the bridge is on, and no more than the profile allows
 pub record IsShallow (depth : ℕ → ℕ) (b : Board) : Type 0 where
   pub top : AllByRecursion (λ q. depth q ≡ 0) (ROOT_BUS_BIRTH ∷ MEMORY_BUS_BIRTH ∷ [])
   pub below : (p q m : ℕ) → stands b p ≡ true → bus_of b p ≡ Some q → owns b p m ≡ true → depth m ≡ suc (depth q)
-  pub most : (q : ℕ) → HasOwner b q → depth q ≤ 8
+  pub most : (q : ℕ) → HasOwner b q → depth q ≤ BUS_DEPTH_MAX
 
 -- whether a name and what it names are among the entries
 abbrev pub has_entry : List ℕ × ℕ → List (List ℕ × ℕ) → Bool
@@ -109,22 +110,22 @@ pub record IsAtHome (b : Board) (p : ℕ) (e : List ℕ × ℕ) : Type 0 where
 
 -- the root is a container, and the machine and the containers of devices stand under their names
 pub record IsRooted (b : Board) : Type 0 where
-  pub root : kind_of b 1 ≡ Some Container
-  pub machine : has_entry (codes "machine", MACHINE_BIRTH) (child_entries b 1) ≡ true
+  pub root : kind_of b ROOT_BIRTH ≡ Some Container
+  pub machine : has_entry (codes "machine", MACHINE_BIRTH) (child_entries b ROOT_BIRTH) ≡ true
   pub peripheral : has_entry (codes "peripheral", PERIPHERAL_BIRTH) (child_entries b MACHINE_BIRTH) ≡ true
   pub anonymous : has_entry (codes "peripheral-anon", ANONYMOUS_BIRTH) (child_entries b MACHINE_BIRTH) ≡ true
 
 -- the facts, by the depths of buses, where one device may have left its bus, and those of `out` may be unrealized
 pub record PlacesBut (depth : ℕ → ℕ) (left : Option ℕ) (out : ℕ → Bool) (b : Board) : Type 0 where
   -- the objects of the machine under their parents
-  pub machine : listed MACHINE_BIRTH (child_entries b 1) ≡ true
-  pub objects : listed OBJECTS_BIRTH (child_entries b 1) ≡ true
+  pub machine : listed MACHINE_BIRTH (child_entries b ROOT_BIRTH) ≡ true
+  pub objects : listed OBJECTS_BIRTH (child_entries b ROOT_BIRTH) ≡ true
   pub parts : AllByRecursion (λ n. listed n (child_entries b MACHINE_BIRTH) ≡ true) (PERIPHERAL_BIRTH ∷ ANONYMOUS_BIRTH ∷ ROOT_BUS_BIRTH ∷ MEMORY_BUS_BIRTH ∷ SYSTEM_CLOCK_BIRTH ∷ [])
   pub rooted : IsRooted b
   -- what is a child of which object
   pub children : (p : ℕ) → AllByRecursion (IsAtHome b p) (child_entries b p)
   -- these, and `/objects`, stand in no container of devices
-  pub aside : AllByRecursion (λ n. stands b n ≡ false) (1 ∷ MACHINE_BIRTH ∷ PERIPHERAL_BIRTH ∷ ANONYMOUS_BIRTH ∷ ROOT_BUS_BIRTH ∷ MEMORY_BUS_BIRTH ∷ OBJECTS_BIRTH ∷ [])
+  pub aside : AllByRecursion (λ n. stands b n ≡ false) (ROOT_BIRTH ∷ MACHINE_BIRTH ∷ PERIPHERAL_BIRTH ∷ ANONYMOUS_BIRTH ∷ ROOT_BUS_BIRTH ∷ MEMORY_BUS_BIRTH ∷ OBJECTS_BIRTH ∷ [])
   -- what stands in the containers
   pub peripheral : AllByRecursion (IsPeripheral b) (child_entries b PERIPHERAL_BIRTH)
   pub anonymous : AllByRecursion (IsAnonymous b) (child_entries b ANONYMOUS_BIRTH)

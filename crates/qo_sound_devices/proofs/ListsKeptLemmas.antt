@@ -1,0 +1,204 @@
+-- What keeps the lists of pending removals and of notices: commands, attempts, removals that are asked for or refused, and adding a device.
+use Rattle.std.proofs.Common.{nat_eq, ◌≡◌, refl, ap, sym, subst, ◌∙◌, ℕ, ◌+◌, ◌<◌, ◌≤◌, Bool, true, false, not, ◌||◌, ◌==◌, eqb, List, [], ◌∷◌, ◌++◌, filter_map, find, length, Option, Some, None, option_map, option_and_then, codes, arith}
+use Rattle.std.specs.Prelude.{nat_le}
+use Rattle.std.specs.List.{AllByRecursion, IsDistinct}
+use Rattle.std.specs.Str.{bytes_eq}
+use Rattle.std.proofs.lemmas.Bool.{eq-eqb}
+use Rattle.std.proofs.lemmas.List.{length-append}
+use Rattle.std.proofs.lemmas.Option.{same_Some}
+use Rattle.std.proofs.Math.Bool.{or-true}
+use Rattle.qo_values.specs.declared.births.TheConstants.{PERIPHERAL_BIRTH}
+use Rattle.qo_values.specs.declared.codes.Code.{Code}
+use Rattle.qo_values.specs.declared.codes.Code.TheVariants.{E44}
+use Rattle.qo_values.specs.declared.kinds.TypeId.{TypeId}
+use Rattle.qo_values.specs.declared.limits.TheConstants.{NOTICES_MAX}
+use Rattle.qo_model.specs.Board.{Board, Notice, Slot, plain, child, strong, weak, alias, slots_at}
+use Rattle.qo_model.specs.Depth.{among}
+use Rattle.qo_model.specs.FinalNotesRuns.{Change, changed}
+use Rattle.qo_model.specs.Hotplug.{asked, asked_of, device_at, refused, with_asked}
+use Rattle.qo_model.specs.Objects.{with_attempt}
+use Rattle.qo_model.specs.Opening.{opening_board}
+use Rattle.qo_model.specs.Paths.{attached, child_of, components, is_absolute, is_of, only_of, resolve_absolute, walk}
+use Rattle.qo_model.specs.Plug.{Wanted, cut_attempt, notice_barred, plug, plug_attempt, spot_of, with_plugged}
+use Rattle.qo_model.proofs.StaysLemmas.{stays_lem}
+use Rattle.qo_sound.proofs.AddLemmas.{unbarred}
+use Rattle.qo_sound.proofs.DevicesStayLemmas.{devices_stay_lem}
+use Rattle.qo_sound.proofs.RecordLemmas.{all-append, all-imply}
+use Rattle.qo_sound.proofs.ViewLemmas.{AtRest, sound-from_rest}
+use Rattle.qo_sound_devices.specs.SoundLists.{IsOn, SoundLists}
+use Rattle.qo_sound_devices.specs.SoundPlaces.{child_entry, listed, PlacesBut, stands}
+use Rattle.qo_sound_devices.proofs.AcceptedLemmas.{passes}
+use Rattle.qo_sound_devices.proofs.JoinedLemmas.{done, Joined, new-stands, old-stands}
+use Rattle.qo_sound_devices.proofs.LawLemmas.{changed-keeps}
+use Rattle.qo_sound_devices.proofs.ListsLemmas.{lists-fewer, lists-same, on-stands, within-filter}
+use Rattle.qo_sound_devices.proofs.PlacesLemmas.{Keeps, more, stands-live, within-all, Within}
+use Rattle.qo_sound_devices.proofs.PlugLemmas.{Accepted, behind-plug}
+use Rattle.qo_sound_devices.proofs.PluggedLemmas.{accepted-joined}
+use Rattle.qo_sound_devices.proofs.WhereLemmas.{attached-stands}
+
+pub opening-lists : SoundLists opening_board
+unfolding opening_board IsDistinct
+opening-lists = record { pending = tt; once = tt; notices = tt; few = omega arith }
+
+pub changed-lists : (depth : ℕ → ℕ) (b : Board) (change : Change) → AtRest b → PlacesBut depth None (λ x. false) b → SoundLists b
+    → SoundLists (changed b change)
+changed-lists depth b change rest h lists =
+    let k : Keeps depth b (changed b change) = changed-keeps depth b change rest h in
+    lists-same b (changed b change) (stays_lem.change b change).pending (stays_lem.change b change).notices
+    (λ x on. on-stands depth (changed b change) k.places x (k.stood x ∙ on.0)) lists
+
+-- attempts
+pub attempt-lists : (b : Board) (t : TypeId) → SoundLists b → SoundLists (with_attempt b t)
+attempt-lists b t h = lists-same b (with_attempt b t) refl refl (λ x on. on) h
+
+pub plug_attempt-lists : (b : Board) (t : TypeId) (bus stage : ℕ) → SoundLists b → SoundLists (plug_attempt b t bus stage)
+plug_attempt-lists b t bus stage h = lists-same b (plug_attempt b t bus stage) refl refl (λ x on. on) h
+
+pub cut_attempt-lists : (b : Board) (t : TypeId) (i : ℕ) (joined : Bool) → SoundLists b → SoundLists (cut_attempt b t i joined)
+cut_attempt-lists b t i joined h = lists-same b (cut_attempt b t i joined) refl refl (λ x on. on) h
+
+-- a removal that is refused, and a notice that is read
+pub refused-lists : (b : Board) (d : ℕ) → SoundLists b → SoundLists (refused b d)
+refused-lists b d h =
+    lists-fewer b (refused b d)
+    (record { pending = within-filter (λ m. not (m == d)) b.pending; notices = within-filter (λ (x : Notice). x.plug || not (x.birth == d)) b.notices })
+    (λ x e on. on) h
+
+pub read-lists : (b : Board) (notice : Notice) (others : List Notice) → b.notices ≡ notice ∷ others → SoundLists b → SoundLists (record b { notices = others })
+read-lists b notice others e h =
+    lists-fewer b (record b { notices = others })
+    (record { pending = within-all b.pending; notices = subst (Within others) (sym e) (more notice (within-all others)) })
+    (λ x e on. on) h
+
+-- one more
+distinct-more : (xs : List ℕ) (d : ℕ) → among xs d ≡ false → IsDistinct nat_eq xs → IsDistinct nat_eq (xs ++ d ∷ [])
+unfolding IsDistinct
+distinct-more [] d e h = (tt, tt)
+distinct-more (x ∷ xs) d e h = go (eqb d x) refl (distinct-more xs d)
+  where
+    go : (t : Bool) → eqb d x ≡ t → (among xs d ≡ false → IsDistinct nat_eq xs → IsDistinct nat_eq (xs ++ d ∷ [])) → IsDistinct nat_eq ((x ∷ xs) ++ d ∷ [])
+    go true p rest = absurd (let clash : true ≡ false = rw p at e in cc)
+    go false p rest =
+        let apart : nat_eq x d ≡ false = grind (arith, p) in
+        (all-append (λ y. nat_eq x y ≡ false) xs (d ∷ []) h.0 (apart, tt), rest (rw p at e) h.1)
+
+room-for : (b : Board) → notice_barred b ≡ None → length b.notices < NOTICES_MAX
+room-for b e = let few : nat_le NOTICES_MAX (length b.notices) ≡ false = (unbarred (nat_le NOTICES_MAX (length b.notices)) E44 None e).0 in grind (arith, few)
+
+more-notices : (P : Notice → Type 0) (b : Board) (notice : Notice) → P notice → AllByRecursion P b.notices → AllByRecursion P (b.notices ++ notice ∷ [])
+more-notices P b notice own h = all-append P b.notices (notice ∷ []) h (own, tt)
+
+few-notices : (b : Board) (notice : Notice) → notice_barred b ≡ None → length (b.notices ++ notice ∷ []) ≤ NOTICES_MAX
+few-notices b notice e = let room : length b.notices < NOTICES_MAX = room-for b e in omega (arith, room, length-append b.notices (notice ∷ []))
+
+-- the device that is asked for stands in its place
+named-child : (d : ℕ) (name : List ℕ) (slots : List (List ℕ × Slot))
+    → option_and_then child_of (option_map (λ (s : List ℕ × Slot). s.1) (find (λ s. bytes_eq s.0 name) slots)) ≡ Some d
+    → listed d (filter_map child_entry slots) ≡ true
+named-child d name [] e = cc
+named-child d name (s ∷ slots) e = go (bytes_eq s.0 name) refl (named-child d name slots)
+  where
+    here : (y : List ℕ × Slot) → child_of y.1 ≡ Some d → listed d (filter_map child_entry (y ∷ slots)) ≡ true
+    here (own, plain v) k = cc
+    here (own, child j) k = let is : (j == d) ≡ true = eq-eqb j d (same_Some j d k) in rw is refl
+    here (own, strong t target) k = cc
+    here (own, weak t target) k = cc
+    here (own, alias j property) k = cc
+
+    there : (y : List ℕ × Slot) → listed d (filter_map child_entry slots) ≡ true → listed d (filter_map child_entry (y ∷ slots)) ≡ true
+    there (own, plain v) k = k
+    there (own, child j) k = rw k (or-true (j == d))
+    there (own, strong t target) k = k
+    there (own, weak t target) k = k
+    there (own, alias j property) k = k
+
+    go : (t : Bool) → bytes_eq s.0 name ≡ t
+        → (option_and_then child_of (option_map (λ (y : List ℕ × Slot). y.1) (find (λ y. bytes_eq y.0 name) slots)) ≡ Some d → listed d (filter_map child_entry slots) ≡ true)
+        → listed d (filter_map child_entry (s ∷ slots)) ≡ true
+    go true p rest = here s (rw p at e)
+    go false p rest = there s (rest (rw p at e))
+
+module _ (depth : ℕ → ℕ) (b : Board) (rest : AtRest b) (h : PlacesBut depth None (λ x. false) b) where
+  only-device : (o : Option ℕ) (d : ℕ) → option_and_then (only_of b (codes "device")) o ≡ Some d → is_of b (codes "device") d ≡ true
+  only-device None d e = absurd (let clash : None ≡ Some d = e in cc)
+  only-device (Some n) d e = go (is_of b (codes "device") n) refl
+    where
+      go : (t : Bool) → is_of b (codes "device") n ≡ t → is_of b (codes "device") d ≡ true
+      go true p = ap (is_of b (codes "device")) (sym (same_Some n d (rw (only_of, p) at e))) ∙ p
+      go false p = absurd (let clash : None ≡ Some d = rw (only_of, p) at e in cc)
+
+  asked-stands : (id : List ℕ) (d : ℕ) → device_at b id ≡ Some d → attached b d ≡ true → stands b d ≡ true
+  asked-stands id d e home = go (is_absolute id) refl
+    where
+      go : (t : Bool) → is_absolute id ≡ t → stands b d ≡ true
+      go true p =
+          attached-stands b (sound-from_rest b rest).0 rest.used.firm depth None (λ x. false) h d
+          (only-device (walk b 1 (components id)) d (rw (device_at, resolve_absolute, p) at e)) home
+      go false p = rw (named-child d id (slots_at b PERIPHERAL_BIRTH) (rw (device_at, p) at e)) refl
+
+  asked_of-lists : (d : ℕ) → (attached b d ≡ true → stands b d ≡ true) → SoundLists b → SoundLists (asked_of b d).board
+  asked_of-lists d home lists = go (attached b d) refl (among b.pending d) refl (notice_barred b) refl
+    where
+      more : stands b d ≡ true → among b.pending d ≡ false → notice_barred b ≡ None → SoundLists (with_asked b d)
+      more e new room =
+          let on : IsOn b d = on-stands depth b h d e in
+          record {
+            pending = all-append (IsOn b) b.pending (d ∷ []) lists.pending (on, tt);
+            once = distinct-more b.pending d new lists.once;
+            notices = more-notices (λ (x : Notice). IsOn b x.birth) b (record { plug = false; birth = d }) on lists.notices;
+            few = few-notices b (record { plug = false; birth = d }) room;
+          }
+
+      go : (at_home : Bool) → attached b d ≡ at_home → (pending : Bool) → among b.pending d ≡ pending → (full : Option Code) → notice_barred b ≡ full
+          → SoundLists (asked_of b d).board
+      go false p pending q full r = rw (asked_of, p) lists
+      go true p true q full r = rw (asked_of, p, q) lists
+      go true p false q (Some code) r = rw (asked_of, p, q, r) lists
+      go true p false q None r = rw (asked_of, p, q, r) (more (home p) q r)
+
+  pub asked-lists : (id : List ℕ) → SoundLists b → SoundLists (asked b id).board
+  asked-lists id lists = go (device_at b id) refl
+    where
+      go : (o : Option ℕ) → device_at b id ≡ o → SoundLists (asked b id).board
+      go None e = rw (asked, e) lists
+      go (Some d) e = rw (asked, e) (asked_of-lists d (asked-stands id d e) lists)
+
+  -- a device that is added
+  module _ (a : Wanted) (lists : SoundLists b) where
+    plugged-on : (t : TypeId) (bus : ℕ) → Accepted b t bus a → SoundLists (with_plugged b t a (spot_of b t bus a.props))
+    plugged-on t bus k =
+        record {
+          pending = subst (AllByRecursion (IsOn c)) (sym pending) (all-imply (IsOn b) (IsOn c) old b.pending lists.pending);
+          once = subst (IsDistinct nat_eq) (sym pending) lists.once;
+          notices =
+              subst (AllByRecursion (λ (x : Notice). IsOn c x.birth)) (sym notices)
+              (more-notices (λ (x : Notice). IsOn c x.birth) b (record { plug = true; birth = b.born + 1 }) new
+              (all-imply (λ (x : Notice). IsOn b x.birth) (λ (x : Notice). IsOn c x.birth) (λ x. old x.birth) b.notices lists.notices));
+          few =
+              subst (λ (xs : List Notice). length xs ≤ NOTICES_MAX) (sym notices)
+              (few-notices b (record { plug = true; birth = b.born + 1 }) (passes b t bus a k).notice);
+        }
+      where
+        c : Board
+        c = with_plugged b t a (spot_of b t bus a.props)
+
+        j : Joined depth b (b.born + 1) bus (spot_of b t bus a.props).slot a.id t (done b bus (spot_of b t bus a.props).slot a.id) c
+        j = accepted-joined depth b a rest h t bus k
+
+        pending : c.pending ≡ b.pending
+        pending = (devices_stay_lem.added b t a (spot_of b t bus a.props)).pending
+
+        notices : c.notices ≡ b.notices ++ record { plug = true; birth = b.born + 1 } ∷ []
+        notices = devices_stay_lem.told b t a (spot_of b t bus a.props)
+
+        old : (x : ℕ) → IsOn b x → IsOn c x
+        old x on = (
+          old-stands depth b (b.born + 1) bus (spot_of b t bus a.props).slot a.id t c j rest.used.firm h x on.0,
+          j.realized x (stands-live b rest.used.firm x on.0) ∙ on.1,
+        )
+
+        new : IsOn c (b.born + 1)
+        new = (new-stands depth b (b.born + 1) bus (spot_of b t bus a.props).slot a.id t c j rest.used.firm h, j.stands_realized)
+
+    pub plugged-lists : SoundLists (plug b a).board
+    plugged-lists = behind-plug SoundLists b a lists (λ t bus stage. plug_attempt-lists b t bus stage lists) plugged-on

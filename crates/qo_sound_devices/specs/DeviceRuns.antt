@@ -1,0 +1,50 @@
+-- Runs of a board: commands on objects, devices that come and go, what the guest answers, acts, holds and resets.
+use Rattle.std.specs.Prelude.{ℕ, Bool, if◌then◌else◌, List, [], ◌∷◌}
+use Rattle.qo_values.specs.declared.kinds.Act.{Act}
+use Rattle.qo_values.specs.declared.kinds.TypeId.{TypeId}
+use Rattle.qo_model.specs.Board.{Board}
+use Rattle.qo_model.specs.Clocks.{acted}
+use Rattle.qo_model.specs.Depth.{among}
+use Rattle.qo_model.specs.FinalNotesRuns.{Change, changed}
+use Rattle.qo_model.specs.Hotplug.{asked, completed, refused, reset_whole}
+use Rattle.qo_model.specs.Plug.{Wanted, cut_attempt, plug}
+use Rattle.qo_model.specs.Reset.{held, released}
+
+-- a step: a command on objects; a device is added, or the attempt is cut; its removal is asked for, and the guest refuses it or lets it go; a notice is read; an object acts, is held, and no longer; the whole board is reset; the events are sent
+pub data Step : Type 0 where
+  commands : Change → Step
+  adds : Wanted → Step
+  cuts : TypeId → ℕ → Bool → Step
+  asks : List ℕ → Step
+  refuses : ℕ → Step
+  lets_go : ℕ → Step
+  reads : Step
+  acts : Act → ℕ → ℕ → Step
+  holds : ℕ → Step
+  releases : ℕ → Step
+  resets : Step
+  sends : Step
+
+-- the first notice is read, if there is one
+abbrev pub notice_read : Board → Board
+notice_read b = elim b.notices [ [] ↦ b | notice ∷ others ↦ record b { notices = others } ]
+
+-- the board behind a step; a device is let go only where its removal is pending
+abbrev pub stepped : Board → Step → Board
+stepped b (commands change) = changed b change
+stepped b (adds a) = (plug b a).board
+stepped b (cuts t i joined) = cut_attempt b t i joined
+stepped b (asks id) = (asked b id).board
+stepped b (refuses d) = refused b d
+stepped b (lets_go d) = if among b.pending d then completed b d else b
+stepped b reads = notice_read b
+stepped b (acts act n period) = acted act n period b
+stepped b (holds n) = held b n
+stepped b (releases n) = released b n
+stepped b resets = reset_whole b
+stepped b sends = record b { events = [] }
+
+-- and behind some, in order
+abbrev pub behind_steps : Board → List Step → Board
+behind_steps b [] = b
+behind_steps b (step ∷ steps) = behind_steps (stepped b step) steps
