@@ -1,5 +1,5 @@
 -- What stands where the guest lets a device go.
-use Rattle.std.proofs.Common.{◌≡◌, ◌≤◌, refl, ap, ap₂, sym, subst, ◌∙◌, ℕ, Bool, true, false, ◌||◌, List, [], ◌∷◌, length, arith}
+use Rattle.std.proofs.Common.{◌≡◌, ◌≤◌, refl, ap, ap₂, sym, ◌∙◌, ℕ, Bool, true, false, ◌||◌, List, [], ◌∷◌, length, arith}
 use Rattle.std.specs.List.{AllByRecursion, list_any}
 use Rattle.std.specs.Option.{option_map_or}
 use Rattle.std.specs.Prelude.{replicate, ◌++◌, ◌+◌, ◌==◌, zero, suc}
@@ -11,7 +11,7 @@ use Rattle.qo_hotplug.specs.Asked.{Asked}
 use Rattle.qo_model.specs.Board.{Board, Record}
 use Rattle.qo_model.specs.Hotplug.{completed}
 use Rattle.qo_model.specs.Unplug.{detach}
-use Rattle.qo_heap.specs.Board.{Shows, pins_in}
+use Rattle.qo_heap.specs.Board.{pins_in}
 use Rattle.qo_heap.specs.Objects.{Objects, pins_of}
 use Rattle.qo_properties.specs.Claims.{KeepsBook}
 use Rattle.qo_properties.specs.Pinned.{OnlyRootPinned}
@@ -21,7 +21,7 @@ use Rattle.qo_sound.specs.Timerless as boards
 use Rattle.qo_sound.proofs.DevicesStayLemmas.{devices_stay_lem}
 use Rattle.qo_unplug.specs.Beside.{Beside}
 use Rattle.qo_unplug.specs.Timerless.{Timerless}
-use Rattle.qo_unplug.proofs.TimerLemmas.{Untimed, timed, timer_in, untimed-shows}
+use Rattle.qo_unplug.proofs.TimerLemmas.{timed, timer_in, untimed-shows}
 use Rattle.qo_realize.specs.Parts.{Parts, parts_of}
 use Rattle.qo_realize.specs.Stands.{Stands, StandsForGood}
 use Rattle.qo_realize.proofs.SoundLemmas.{detached-good, root-pinned}

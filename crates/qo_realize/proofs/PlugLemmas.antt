@@ -1,5 +1,5 @@
 -- What stands where a device is added, or refused, or an attempt at it was cut.
-use Rattle.std.proofs.Common.{◌≡◌, ◌+◌, refl, ap, sym, subst, ◌∙◌, ℕ, suc, Bool, true, false, List, [], ◌∷◌, Option, None, Some, Result, Ok, Err, OnErr, is_some, if◌then◌else◌, ◌⊎◌, inl, inr, nat_le, ◌≤◌, ◌&&◌, arith, option_map}
+use Rattle.std.proofs.Common.{◌≡◌, refl, ap, sym, subst, ◌∙◌, ℕ, Bool, true, false, List, [], Option, None, Some, Result, Ok, Err, if◌then◌else◌, inl, inr, nat_le, ◌≤◌, ◌&&◌, arith, option_map}
 use Rattle.std.specs.Option.{option_map_or}
 use Rattle.std.proofs.lemmas.Bool.{le-leb}
 use Rattle.std.proofs.lemmas.Option.{same_Some}
@@ -22,7 +22,7 @@ use Rattle.qo_plug.specs.declared.refusals.AddRefusal.TheVariants.{Refused, Memo
 use Rattle.qo_properties.specs.Claims.{KeepsBook}
 use Rattle.qo_properties.specs.Pinned.{OnlyRootPinned}
 use Rattle.qo_reset.specs.HoldList.{HoldList}
-use Rattle.qo_sound.specs.DevicesStay.{AddLeaves, AttemptLeaves, anonymous_behind}
+use Rattle.qo_sound.specs.DevicesStay.{AddLeaves, anonymous_behind}
 use Rattle.qo_sound.specs.PlugComesTo as comes
 use Rattle.qo_sound.proofs.DevicesStayLemmas.{devices_stay_lem}
 use Rattle.qo_sound.proofs.PlugComesToLemmas.{plug_comes_to_lem}
@@ -176,7 +176,7 @@ pub barred-stands : (b : Board) (a : Wanted) (anonymous : ℕ) (running : Bool) 
 barred-stands b a anonymous running holds old new v w (Refused stage code) s refused memory same keeps = (
   refused.refusal,
   subst (λ (h : Asked). Stands (added b a).board (parts_of anonymous running holds h w)) (sym same)
-  (cut-stands b (added b a).board anonymous running holds old v w s (refused-stays b a (stage, code) refused.refusal) refused.shown keeps),
+      (cut-stands b (added b a).board anonymous running holds old v w s (refused-stays b a (stage, code) refused.refusal) refused.shown keeps),
 )
 barred-stands b a anonymous running holds old new v w Memory s refused memory same keeps = by (memory refl)
   where

@@ -18,7 +18,6 @@ use Rattle.qo_heap.specs.Objects.{Objects, content_of, refused_event, with_event
 use Rattle.qo_heap.proofs.ShowsReads.{shows-record}
 use Rattle.qo_properties.specs.Claims.{KeepsBook}
 use Rattle.qo_reset.specs.HoldList.{HoldList}
-use Rattle.qo_realize.specs.Good.{Good}
 use Rattle.qo_realize.specs.Parts.{parts_of}
 use Rattle.qo_realize.specs.Removals.{IsAsked}
 use Rattle.qo_realize.specs.Stands.{Stands, StandsForGood}

@@ -1,6 +1,6 @@
 -- The board that stands is good behind each call.
-use Rattle.std.proofs.Common.{◌≡◌, ◌==◌, refl, ap, ap₂, sym, subst, ◌∙◌, ℕ, Bool, true, false, List, [], ◌∷◌, Option, None, Some, Result, Ok, Err, if◌then◌else◌}
-use Rattle.std.specs.Option.{option_map_or, option_or}
+use Rattle.std.proofs.Common.{◌≡◌, refl, ap, sym, subst, ◌∙◌, ℕ, Bool, true, false, List, [], Option, None, Some, Result, Ok, Err, if◌then◌else◌}
+use Rattle.std.specs.Option.{option_map_or}
 use Rattle.std.proofs.lemmas.Bool.{true≢false}
 use Rattle.qo_values.specs.Registers.{fresh_registers}
 use Rattle.qo_values.specs.declared.codes.Code.{Code}
@@ -25,7 +25,7 @@ use Rattle.qo_plug.specs.Added.{added, driver_barred, is_built, unbuilt}
 use Rattle.qo_plug.specs.Cuts.{cut_as, cut_of, cut_open}
 use Rattle.qo_properties.specs.Pinned.{OnlyRootPinned}
 use Rattle.qo_sound.specs.Kept.{SoundTree}
-use Rattle.qo_sound.specs.Timerless.{Timerless, is_timer, makes_timer}
+use Rattle.qo_sound.specs.Timerless.{is_timer, makes_timer}
 use Rattle.qo_sound.proofs.KeptLemmas.{changed-sound, sound_kept_lem}
 use Rattle.qo_sound.proofs.TimerlessLemmas.{timerless_kept_lem}
 use Rattle.qo_realize.specs.Good.{Good}

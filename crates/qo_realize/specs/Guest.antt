@@ -1,5 +1,5 @@
 -- Where a device stands for the guest: its address (docs/PROFILE.md, guest lines).
-use Rattle.std.specs.Prelude.{ℕ, zero, suc, Bool, false, ◌==◌, List, [], ◌∷◌, ◌++◌, drop, slice_get, Option, Some, None, option_and_then, unwrap_or, if◌then◌else◌}
+use Rattle.std.specs.Prelude.{ℕ, zero, suc, Bool, false, ◌==◌, List, [], ◌∷◌, ◌++◌, drop, slice_get, Option, option_and_then, unwrap_or, if◌then◌else◌}
 use Rattle.std.specs.Option.{option_map_or}
 use Rattle.qo_values.specs.Placing.{least}
 use Rattle.qo_values.specs.declared.births.TheConstants.{MEMORY_BUS_BIRTH}

@@ -1,8 +1,6 @@
 -- The device is added, or what refuses it is told.
-use Rattle.std.proofs.Common.{◌≡◌, sym, subst, ◌∙◌, ℕ, List, Option, Result, Ok, Err}
+use Rattle.std.proofs.Common.{sym, subst, Ok, Err}
 use Rattle.std.specs.Prelude.{option_map}
-use Rattle.qo_model.specs.Board.{Board}
-use Rattle.qo_model.specs.Plug.{Wanted}
 use Rattle.qo_plug.specs.Added.{wanted}
 use Rattle.qo_realize.specs.Parts.{Parts, parts_of}
 use Rattle.qo_realize.specs.Stands.{Stands}
