@@ -1,4 +1,4 @@
--- A run that sends no reply that is refused for want of memory is the run in which each command has its memory.
+-- A run that sends no reply or answer that is refused for want of memory is the run in which each command and each line has its memory.
 use Rattle.std.proofs.Common.{◌≡◌, ℕ, suc, Bool, true, false, if◌then◌else◌, ◌||◌, List, [], ◌∷◌, ◌++◌, map, refl, sym, ◌∙◌}
 use Rattle.std.proofs.Common.{ap, subst, append-nil, Option, None, Some, slice_index_or}
 use Rattle.std.proofs.lemmas.Bool.{true≢false}
@@ -22,16 +22,19 @@ use Rattle.qo_values.specs.declared.limits.TheConstants.{SESSIONS}
 use Rattle.std.specs.Prelude.{nat_lt}
 use Rattle.qo_replies.specs.Replies.{error_reply}
 use Rattle.qo_machine.proofs.RunLemmas.{closed_none, outs_more}
-use Rattle.qo_machine.specs.Machine.{Choice, Made, Message, State, Stepped, behind, defined, finished, input_step, item_step, made_by, mode_of}
-use Rattle.qo_machine.specs.Machine.{opened, opening, refused, serve, serve_unless, step, taken, unchanged, with_session}
+use Rattle.qo_causes.specs.declared.hubs.Lane.TheVariants.{Guest as guest}
+use Rattle.qo_guest.specs.declared.answers.GuestAnswer.TheVariants.{NoMemory}
+use Rattle.qo_lane.specs.Lines.{lines_of, without_return}
+use Rattle.qo_machine.specs.Machine.{Choice, Made, Message, State, Stepped, answer_line, behind, by_item, by_line, defined, finished, input_step, item_step, line_made, line_step}
+use Rattle.qo_machine.specs.Machine.{made_by, mode_of, opened, opening, refused, serve_by, serve_unless, step, taken, unchanged, with_line, with_session}
 use Rattle.qo_machine.specs.Runs.{EndsAtLast, Turn, after, closed_where, has_end, outs_at, outs_of, state_after, turn_inputs}
 use Rattle.compose.proofs.ReplayLemmas.{going_on, no_end}
 use Rattle.compose.specs.Demo.{as_defined}
 use Rattle.compose.specs.Replay.{NoneLost}
 
--- no message is a reply that is refused for want of memory
+-- no message is a reply, or an answer to the guest, that is refused for want of memory
 abbrev pub NoneRefused : List Message → Type 0
-NoneRefused outs = AllByRecursion (λ (m : Message). (id : Option (List ℕ)) → m.1 ≡ error_reply id E99 → ⊥) outs
+NoneRefused outs = AllByRecursion (λ (m : Message). ((id : Option (List ℕ)) → m.1 ≡ error_reply id E99 → ⊥) × (m ≡ (guest, answer_line NoMemory) → ⊥)) outs
 
 none_before : (xs ys : List Message) → NoneRefused (xs ++ ys) → NoneRefused xs
 none_before [] ys h = tt
@@ -52,39 +55,51 @@ made_same : (c : Choice) (at : Moment) (n : ℕ) (s : State) (what : SessionAct)
 made_same defined at n s what h = refl
 made_same (refused i joined) at n s (Answer code id) h = refl
 made_same (refused i joined) at n s (Negotiated id) h = refl
-made_same (refused i joined) at n s (Do request id) h = absurd (h.0 id refl)
+made_same (refused i joined) at n s (Do request id) h = absurd (h.0.0 id refl)
 
 item_same : (c : Choice) (at : Moment) (n : ℕ) (s : State) (item : Item) → NoneRefused (item_step c at n s item).outs →
     item_step c at n s item ≡ item_step defined at n s item
 unfolding item_step
 item_same c at n s item h = made_same c at n s (act (mode_of s n) item) h
 
--- the items behind the first, with the choices that are left
-abbrev Goes : Moment → ℕ → List Item → Type 0
-Goes at n items = (s : State) (cs : List Choice) → NoneRefused (serve at n items s cs).outs → Same (serve at n items s cs) (serve at n items s [])
+line_made_same : (c : Choice) (at : Moment) (s : State) (line : List ℕ) → NoneRefused (line_made c at s line).outs → line_made c at s line ≡ line_made defined at s line
+line_made_same defined at s line h = refl
+line_made_same (refused i joined) at s line h = absurd (h.0.1 refl)
 
-next_same : (at : Moment) (n : ℕ) (items : List Item) (made plain : Made) (cs : List Choice) → made ≡ plain →
-    NoneRefused (serve at n items made.state cs).outs →
-    Goes at n items → Same (behind made.outs (serve at n items made.state cs)) (behind plain.outs (serve at n items plain.state []))
-next_same at n items made plain cs same h goes =
-    subst (λ (m : Made). Same (behind made.outs (serve at n items made.state cs)) (behind m.outs (serve at n items m.state []))) same
+line_same : (c : Choice) (at : Moment) (s : State) (line : List ℕ) → NoneRefused (line_step c at s line).outs → line_step c at s line ≡ line_step defined at s line
+unfolding line_step
+line_same c at s line h = line_made_same c at s (without_return line) h
+
+-- a step that is the defined one where nothing is refused
+abbrev SameStep : {X : Type 0} → (Choice → State → X → Made) → Type 0
+SameStep {X = X} f = (c : Choice) (s : State) (x : X) → NoneRefused (f c s x).outs → f c s x ≡ f defined s x
+
+-- what is behind the first, with the choices that are left
+abbrev Goes : {X : Type 0} → (Choice → State → X → Made) → List X → Type 0
+Goes f xs = (s : State) (cs : List Choice) → NoneRefused (serve_by f xs s cs).outs → Same (serve_by f xs s cs) (serve_by f xs s [])
+
+next_same : {X : Type 0} (f : Choice → State → X → Made) (xs : List X) (made plain : Made) (cs : List Choice) → made ≡ plain →
+    NoneRefused (serve_by f xs made.state cs).outs →
+    Goes f xs → Same (behind made.outs (serve_by f xs made.state cs)) (behind plain.outs (serve_by f xs plain.state []))
+next_same f xs made plain cs same h goes =
+    subst (λ (m : Made). Same (behind made.outs (serve_by f xs made.state cs)) (behind m.outs (serve_by f xs m.state []))) same
     (record { outs = ap (λ (l : List Message). made.outs ++ l) (goes made.state cs h).outs; state = (goes made.state cs h).state })
 
-serve_at : (at : Moment) (n : ℕ) (item : Item) (items : List Item) (s : State) (c : Choice) (cs : List Choice) (ended : Bool) → Goes at n items →
-    NoneRefused (serve_unless ended (unchanged s (c ∷ cs)) (behind (item_step c at n s item).outs (serve at n items (item_step c at n s item).state cs))).outs →
-    Same (serve_unless ended (unchanged s (c ∷ cs)) (behind (item_step c at n s item).outs (serve at n items (item_step c at n s item).state cs)))
-    (serve_unless ended (unchanged s []) (behind (item_step defined at n s item).outs (serve at n items (item_step defined at n s item).state [])))
-serve_at at n item items s c cs true goes h = record { outs = refl; state = refl }
-serve_at at n item items s c cs false goes h =
-    let made : Made = item_step c at n s item in
-    next_same at n items made (item_step defined at n s item) cs
-    (item_same c at n s item (none_before made.outs (serve at n items made.state cs).outs h))
-    (none_behind made.outs (serve at n items made.state cs).outs h) goes
+serve_at : {X : Type 0} (f : Choice → State → X → Made) → SameStep f → (x : X) (xs : List X) (s : State) (c : Choice) (cs : List Choice) (ended : Bool) → Goes f xs →
+    NoneRefused (serve_unless ended (unchanged s (c ∷ cs)) (behind (f c s x).outs (serve_by f xs (f c s x).state cs))).outs →
+    Same (serve_unless ended (unchanged s (c ∷ cs)) (behind (f c s x).outs (serve_by f xs (f c s x).state cs)))
+    (serve_unless ended (unchanged s []) (behind (f defined s x).outs (serve_by f xs (f defined s x).state [])))
+serve_at f same x xs s c cs true goes h = record { outs = refl; state = refl }
+serve_at f same x xs s c cs false goes h =
+    let made : Made = f c s x in
+    next_same f xs made (f defined s x) cs
+    (same c s x (none_before made.outs (serve_by f xs made.state cs).outs h))
+    (none_behind made.outs (serve_by f xs made.state cs).outs h) goes
 
-serve_same : (at : Moment) (n : ℕ) (items : List Item) → Goes at n items
-serve_same at n [] s cs h = record { outs = refl; state = refl }
-serve_same at n (item ∷ items) s [] h = record { outs = refl; state = refl }
-serve_same at n (item ∷ items) s (c ∷ cs) h = serve_at at n item items s c cs s.ended (serve_same at n items) h
+serve_same : {X : Type 0} (f : Choice → State → X → Made) → SameStep f → (xs : List X) → Goes f xs
+serve_same f same [] s cs h = record { outs = refl; state = refl }
+serve_same f same (x ∷ xs) s [] h = record { outs = refl; state = refl }
+serve_same f same (x ∷ xs) s (c ∷ cs) h = serve_at f same x xs s c cs s.ended (serve_same f same xs) h
 
 open_same : (few : Bool) (s : State) (n : ℕ) (mode : Mode) (cs : List Choice) →
     Same (if few then opened s n mode cs else unchanged s cs) (if few then opened s n mode [] else unchanged s [])
@@ -101,7 +116,7 @@ bytes_same : (few : Bool) (at : Moment) (s : State) (n : ℕ) (bytes : List ℕ)
     Same (if few then taken at s n bytes cs else unchanged s cs) (if few then taken at s n bytes [] else unchanged s [])
 bytes_same true at s n bytes cs h =
     let f = sessions.fed (sessions_at s n) bytes in
-    serve_same at n f.items (with_session s n f.session) cs h
+    serve_same (by_item at n) (λ c t item. item_same c at n t item) f.items (with_session s n f.session) cs h
   where
     sessions_at : State → ℕ → sessions.State
     sessions_at t m = slice_index_or t.sessions m sessions.closed
@@ -117,7 +132,9 @@ input_same : (s : State) (at : Moment) (what : What) (cs : List Choice) → None
 input_same s at (Open n) cs h = open_same (nat_lt n SESSIONS) s n (mode_of s n) cs
 input_same s at (Bytes n bytes) cs h = bytes_same (nat_lt n SESSIONS) at s n bytes cs h
 input_same s at (Shut n) cs h = shut_same (nat_lt n SESSIONS) s (with_session s n sessions.closed) cs
-input_same s at (Guest bytes) cs h = record { outs = refl; state = refl }
+input_same s at (Guest bytes) cs h =
+    let l = lines_of s.guest_line bytes in
+    serve_same (by_line at) (λ c t line. line_same c at t line) l.lines (with_line s l.rest) cs h
 input_same s at (Step ns) cs h = record { outs = refl; state = refl }
 input_same s at End cs h = record { outs = refl; state = refl }
 

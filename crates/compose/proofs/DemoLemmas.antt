@@ -1,4 +1,4 @@
--- The transcript of a demo, where no reply is refused for want of memory.
+-- The transcript of a demo, where no reply and no line is refused for want of memory.
 use Rattle.std.proofs.Common.{◌≡◌, ℕ, ◌+◌, ◌<◌, ◌^◌, List, [], ◌∷◌, ◌++◌, length, codes, refl, sym, ◌∙◌, ap, subst, arith, append_assoc, length-append}
 use Rattle.std.proofs.Common.{Bool, false, Option, None, Some, is_some}
 use Rattle.std.proofs.lemmas.Bool.{true≢false}
@@ -16,7 +16,7 @@ use Rattle.qo_record.proofs.ReadingLemmas.{some_is}
 use Rattle.qo_record.specs.Demo.{demo_bytes, demo_inputs}
 use Rattle.qo_record.specs.Record.{stream_inputs}
 use Rattle.compose.proofs.DefinedLemmas.{NoneRefused, defined_run}
-use Rattle.compose.specs.Demo.{Lacks, demo_transcript, no_memory}
+use Rattle.compose.specs.Demo.{Lacks, demo_transcript, refused_line, refused_reply}
 use Rattle.compose.specs.Replay.{Replayed}
 use Rattle.compose.specs.declared.statuses.Status.{Status}
 use Rattle.compose.specs.declared.statuses.Status.TheVariants.{Done}
@@ -26,7 +26,7 @@ use Rattle.compose.specs.declared.statuses.Status.TheVariants.{Done}
 record HasCode (text : List ℕ) : Type 0 where
   before : List ℕ
   behind : List ℕ
-  parts : text ≡ before ++ (no_memory ++ behind)
+  parts : text ≡ before ++ (refused_reply ++ behind)
 
 refused_parts : (id : Option (List ℕ)) → HasCode (error_reply id E99)
 unfolding error_reply
@@ -40,17 +40,23 @@ refused_parts id =
 regrouped : (lane before code behind rest : List ℕ) → (lane ++ 32 ∷ (before ++ (code ++ behind))) ++ rest ≡ (lane ++ 32 ∷ before) ++ (code ++ (behind ++ rest))
 regrouped lane before code behind rest = simp append_assoc
 
-pub none_refused : (outs : List Message) → Lacks no_memory (transcript outs) → NoneRefused outs
-none_refused [] lacks = tt
-none_refused (m ∷ outs) lacks = (
-  λ id is.
-      let h = refused_parts id in
-      lacks (lane_text m.0 ++ 32 ∷ h.before) (h.behind ++ transcript outs)
-      (ap (λ (text : List ℕ). (lane_text m.0 ++ 32 ∷ text) ++ transcript outs) (is ∙ h.parts)
-      ∙ regrouped (lane_text m.0) h.before no_memory h.behind (transcript outs)),
-  none_refused outs
-      (λ before behind e. lacks (line m.0 m.1 ++ before) behind
-      (ap (λ (l : List ℕ). line m.0 m.1 ++ l) e ∙ sym (append_assoc (line m.0 m.1) before (no_memory ++ behind)))),
+-- what stands nowhere in a transcript stands nowhere behind its first line
+further : (part : List ℕ) (m : Message) (outs : List Message) → Lacks part (transcript (m ∷ outs)) → Lacks part (transcript outs)
+further part m outs lacks before behind e =
+    lacks (line m.0 m.1 ++ before) behind (ap (λ (l : List ℕ). line m.0 m.1 ++ l) e ∙ sym (append_assoc (line m.0 m.1) before (part ++ behind)))
+
+pub none_refused : (outs : List Message) → Lacks refused_reply (transcript outs) → Lacks refused_line (transcript outs) → NoneRefused outs
+none_refused [] replied told = tt
+none_refused (m ∷ outs) replied told = (
+  (
+    λ id is.
+        let h = refused_parts id in
+        replied (lane_text m.0 ++ 32 ∷ h.before) (h.behind ++ transcript outs)
+        (ap (λ (text : List ℕ). (lane_text m.0 ++ 32 ∷ text) ++ transcript outs) (is ∙ h.parts)
+        ∙ regrouped (lane_text m.0) h.before refused_reply h.behind (transcript outs)),
+    λ is. told [] (10 ∷ transcript outs) (ap (λ (x : Message). line x.0 x.1 ++ transcript outs) is),
+  ),
+  none_refused outs (further refused_reply m outs replied) (further refused_line m outs told),
 )
 
 -- What is not found stands nowhere.
@@ -73,21 +79,21 @@ not_found part bytes (Some k) found is h missed = absurd (true≢false (sym is �
 
 -- The kept transcript of a run over the record is that of the demo.
 kept_is : (bytes kept taken : List ℕ) (left : Option (List ℕ)) (seed steps place : ℕ) → bytes ≡ demo_bytes seed steps → steps < 2 ^ 32 →
-    Replayed Done (Some bytes) left (Some []) (Some kept) taken place → Lacks no_memory kept → kept ≡ demo_transcript seed steps
+    Replayed Done (Some bytes) left (Some []) (Some kept) taken place → Lacks refused_reply kept → Lacks refused_line kept → kept ≡ demo_transcript seed steps
 unfolding demo_transcript
-kept_is bytes kept taken left seed steps place is few ran lacks =
+kept_is bytes kept taken left seed steps place is few ran replied told =
     let d = ran.did in
     let put : kept ≡ transcript (outs_of opening d.0) = some_is d.1.put in
     let read : stream_inputs bytes ≡ demo_inputs seed steps = ap stream_inputs is ∙ (demos_are_read seed steps few).0 in
-    let none = none_refused (outs_of opening d.0) (subst (λ (l : List ℕ). Lacks no_memory l) put lacks) in
+    let none = none_refused (outs_of opening d.0) (subst (λ (l : List ℕ). Lacks refused_reply l) put replied) (subst (λ (l : List ℕ). Lacks refused_line l) put told) in
     put
     ∙ ap transcript
     (defined_run d.0 (demo_inputs seed steps) d.2.0 d.1.last d.1.lost (sym read ∙ d.2.1) (λ over. (d.2.2 over).0) none)
 
 pub demo_done : (status : Status) (bytes start kept taken : List ℕ) (left : Option (List ℕ)) (seed steps place : ℕ) → status ≡ Done →
     bytes ≡ demo_bytes seed steps → start ≡ [] → steps < 2 ^ 32 → Replayed status (Some bytes) left (Some start) (Some kept) taken place →
-    Lacks no_memory kept → kept ≡ demo_transcript seed steps
-demo_done status bytes start kept taken left seed steps place done is empty few ran lacks =
+    Lacks refused_reply kept → Lacks refused_line kept → kept ≡ demo_transcript seed steps
+demo_done status bytes start kept taken left seed steps place done is empty few ran replied told =
     let on = subst (λ (s : Status). Replayed s (Some bytes) left (Some start) (Some kept) taken place) done ran in
     kept_is bytes kept taken left seed steps place is few
-    (subst (λ (l : List ℕ). Replayed Done (Some bytes) left (Some l) (Some kept) taken place) empty on) lacks
+    (subst (λ (l : List ℕ). Replayed Done (Some bytes) left (Some l) (Some kept) taken place) empty on) replied told

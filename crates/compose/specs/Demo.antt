@@ -17,7 +17,7 @@ use Rattle.compose.specs.declared.counts.Kind.TheVariants.{Reply, Error, Event, 
 use Rattle.compose.specs.declared.statuses.Status.{Status}
 use Rattle.compose.specs.declared.statuses.Status.TheVariants.{Done, Usage, BadRecord, Memory, ReadFault, WriteFault, HubFault, InputLimit}
 
--- an input that is done as it is defined: each command has its memory, and no session is lost
+-- an input that is done as it is defined: each command and each line has its memory, and no session is lost
 abbrev pub as_defined : Input → Turn
 as_defined i = record { input = i; choices = []; lost = []; cut = λ _. 0 }
 
@@ -92,6 +92,9 @@ ToldDemo InputLimit seed steps held_old held_new = ⊥
 abbrev pub Lacks : List ℕ → List ℕ → Type 0
 Lacks part bytes = (before behind : List ℕ) → bytes ≡ before ++ (part ++ behind) → ⊥
 
--- what a reply has that is refused for want of memory (for proofs alone)
-abbrev pub no_memory : List ℕ
-no_memory = codes "\"desc\":\"E99 "
+-- what a reply has that is refused for want of memory, and the line of such an answer to the guest (for proofs alone)
+abbrev pub refused_reply : List ℕ
+refused_reply = codes "\"desc\":\"E99 "
+
+abbrev pub refused_line : List ℕ
+refused_line = codes "g no memory"

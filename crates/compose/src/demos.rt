@@ -2,7 +2,7 @@
 
 ghost use Rattle.std.specs.Prelude.{◌≡◌, ◌≢◌, ◌≤◌, false, IfOk};
 ghost use Rattle.qo_causes.specs.Cause.{Rose};
-ghost use Rattle.compose.specs.Demo.{Lacks, ToldDemo, demo_transcript, no_memory, summary};
+ghost use Rattle.compose.specs.Demo.{Lacks, ToldDemo, demo_transcript, summary};
 
 use crate::counts::summary;
 use crate::kept::Kept;
@@ -13,11 +13,17 @@ use qo_causes::{ByteSource, Failed, Sink, put_all};
 use qo_record::demo_record;
 use std::alloc::{AllocError, Global};
 
-/// Whether a reply of the transcript may be one that is refused for want of memory: no other text of a demo has its words.
-fn may_be_refused(transcript: &[u8]) -> bool
-    ensures { result ≡ false → Lacks no_memory transcript.now }
+/// What a reply has that is refused for want of memory: no other text of a demo has these words.
+const REFUSED_REPLY: &[u8] = b"\"desc\":\"E99 ";
+
+/// The line of an answer to the guest that is refused for want of memory.
+const REFUSED_LINE: &[u8] = b"g no memory";
+
+/// Whether a text may stand in others.
+fn may_have(transcript: &[u8], text: &[u8]) -> bool
+    ensures { result ≡ false → Lacks text.now transcript.now }
 {
-    memmem::find(transcript, b"\"desc\":\"E99 ").is_some()
+    memmem::find(transcript, text).is_some()
 }
 
 /// The transcript of the run over the demo record. Whatever else ends the run than its end is want of memory: the record
@@ -37,7 +43,10 @@ fn transcript_of(alloc: Global, seed: u64, steps: u32) -> Result<Vec<u8>, AllocE
         return Err(AllocError);
     };
     let transcript = sink.bytes;
-    if may_be_refused(&transcript) {
+    if may_have(&transcript, REFUSED_REPLY) {
+        return Err(AllocError);
+    }
+    if may_have(&transcript, REFUSED_LINE) {
         return Err(AllocError);
     }
     Ok(transcript)

@@ -1,4 +1,4 @@
-//! Worked sessions with users' objects, byte for byte through the top call. Expected texts are
+//! Worked sessions with users' objects and devices, byte for byte through the top call. Expected texts are
 //! written out by hand.
 
 use crate::Status;
@@ -639,6 +639,49 @@ fn objects_are_at_most_4096(rt: HostRuntime) -> Result<(), Fail> {
     add_reply(alloc, &mut want, "R")?;
     add_tag(alloc, &mut record, &mut want, 5000, "R")?;
     let left = call_with_room(alloc, &["replay"], record.as_slice(), &[], &[], 131_072)?;
+    assert_eq!(rt; left.status, Status::Done);
+    assert_eq!(rt; left.held.as_slice(), want.as_bytes());
+    Ok(())
+}
+
+/// Commands on a bridge, and for each the event that is told before its reply, if there is one.
+const BRIDGE: [(&str, &str, &str); 7] = [
+    (
+        "device_add {\"driver\":\"slot-bridge\",\"id\":\"br\"}",
+        "",
+        "R",
+    ),
+    (
+        "x-guest {\"line\":\"poll\"}",
+        "",
+        "{\"answer\":\"ok plug 0\"}",
+    ),
+    ("device_del {\"id\":\"br\"}", "", "R"),
+    (
+        "x-guest {\"line\":\"nack 0\"}",
+        "0 {\"data\":{\"device\":\"br\",\"path\":\"/machine/peripheral/br\"},\"event\":\"DEVICE_UNPLUG_GUEST_ERROR\",\"timestamp\":{\"microseconds\":0,\"seconds\":1}}\r\n",
+        "{\"answer\":\"ok\"}",
+    ),
+    ("device_del {\"id\":\"br\"}", "", "R"),
+    (
+        "x-guest {\"line\":\"ack 0\"}",
+        "0 {\"data\":{\"device\":\"br\",\"path\":\"/machine/peripheral/br\"},\"event\":\"DEVICE_DELETED\",\"timestamp\":{\"microseconds\":0,\"seconds\":1}}\r\n",
+        "{\"answer\":\"ok\"}",
+    ),
+    ("device_del {\"id\":\"br\"}", "", "E33"),
+];
+
+#[test]
+fn a_bridge_is_plugged_in_and_let_go(rt: HostRuntime) -> Result<(), Fail> {
+    let alloc = rt.alloc();
+    let mut record = opening(alloc)?;
+    let mut want = greeted(alloc)?;
+    for (command, event, reply) in BRIDGE {
+        add_command(alloc, &mut record, command)?;
+        want.push_str(event)?;
+        add_reply(alloc, &mut want, reply)?;
+    }
+    let left = call(alloc, &["replay"], record.as_slice(), &[], &[])?;
     assert_eq!(rt; left.status, Status::Done);
     assert_eq!(rt; left.held.as_slice(), want.as_bytes());
     Ok(())

@@ -1,7 +1,10 @@
-//! The lane of the guest: what one line of it does to the board, and what it is answered
+//! The lane of the guest: its lines, what one of them does to the board, and what it is answered
 //! (docs/PROFILE.md, guest lines; include/hw/hotplug.h, what a guest does of hotplug).
 #![tactic(auto)]
 
 mod hearing;
+pub mod laws;
+mod lines;
 
 pub use hearing::{Heard, hear};
+pub use lines::{cut_lines, without_return};

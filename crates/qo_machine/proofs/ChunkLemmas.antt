@@ -1,8 +1,8 @@
 -- Bytes of a session, and of the guest, may be cut anywhere.
-use Rattle.std.proofs.Common.{◌≡◌, ℕ, zero, suc, nat_lt, Bool, true, false, if◌then◌else◌, ◌||◌, List, [], ◌∷◌, ◌++◌, refl, sym, ◌∙◌, ap, append_assoc, slice_set, slice_index_or}
+use Rattle.std.proofs.Common.{◌≡◌, ℕ, zero, suc, nat_lt, Bool, true, false, if◌then◌else◌, ◌||◌, List, [], ◌∷◌, ◌++◌, refl, sym, ◌∙◌, ap, append_assoc, map, slice_set, slice_index_or}
 use Rattle.std.proofs.lemmas.Bool.{true≢false}
 use Rattle.std.specs.List.{flat_map}
-use Rattle.qo_causes.specs.declared.hubs.Lane.TheVariants.{Session as to_session}
+use Rattle.qo_causes.specs.declared.hubs.Lane.TheVariants.{Session as to_session, Guest as guest}
 use Rattle.qo_causes.specs.declared.inputs.Input.{Input}
 use Rattle.qo_causes.specs.declared.inputs.Moment.{Moment}
 use Rattle.qo_causes.specs.declared.inputs.What.{What}
@@ -10,6 +10,10 @@ use Rattle.qo_causes.specs.declared.inputs.What.TheVariants.{Bytes, Guest}
 use Rattle.qo_framing.proofs.Steps.{cuts_anywhere}
 use Rattle.qo_framing.specs.Cut.{Cut, Framing, cut}
 use Rattle.qo_framing.specs.declared.items.Item.{Item}
+use Rattle.qo_guest.specs.declared.answers.GuestAnswer.TheVariants.{NoMemory}
+use Rattle.qo_lane.proofs.LineLemmas.{lines-cut}
+use Rattle.qo_lane.specs.Hearing.{heard}
+use Rattle.qo_lane.specs.Lines.{Lines, lines_of, without_return}
 use Rattle.qo_model.specs.Board.{Board}
 use Rattle.qo_replies.specs.Replies.{error_reply, return_reply}
 use Rattle.qo_replies.specs.declared.events.Event.{Event}
@@ -22,11 +26,12 @@ use Rattle.qo_sessions.specs.declared.modes.Mode.{Mode}
 use Rattle.qo_sessions.specs.declared.modes.Mode.TheVariants.{Closed, Negotiating, Commanding}
 use Rattle.qo_values.specs.declared.codes.Code.TheVariants.{E99}
 use Rattle.qo_values.specs.declared.limits.TheConstants.{SESSIONS}
-use Rattle.qo_machine.proofs.MachineLemmas.{behind_twice, serve_on, step_ended, step_on, stopped, with_same}
+use Rattle.qo_machine.proofs.MachineLemmas.{behind_twice, serve_on_by, step_ended, step_on, stopped_by, with_same}
 use Rattle.qo_machine.proofs.RunLemmas.{outs_more, state_more}
-use Rattle.qo_commands.specs.Commands.{empty, perform}
+use Rattle.qo_commands.specs.Changes.{attempted}
+use Rattle.qo_commands.specs.Commands.{empty, event_of, perform, without_events}
 use Rattle.qo_machine.specs.Laws.{ChunksAreFree, CutAnywhere, Matches, in_one, in_two, quiet}
-use Rattle.qo_machine.specs.Machine.{Choice, Made, Message, State, Stepped, answered, behind, behind_command, defined, given_up, refused, event_outs, first, is_commanding, item_step, made_by, mode_of, numbers_below, opening, others, reply, serve, serve_unless, session_of, step, taken, those_commanding, told_of, unchanged, with_board, with_session}
+use Rattle.qo_machine.specs.Machine.{Choice, Made, Message, State, Stepped, answer_line, answered, behind, behind_command, by_item, by_line, defined, refused, event_outs, first, guest_told, is_commanding, item_step, line_step, made_by, mode_of, numbers_below, opening, others, reply, serve, serve_by, serve_lines, serve_unless, session_of, step, taken, those_commanding, told_of, unchanged, with_board, with_line, with_session}
 use Rattle.qo_machine.specs.Runs.{Turn, closed_where, outs_of, state_after}
 
 -- Where the stream of one session stands.
@@ -100,18 +105,40 @@ abbrev keep : Bool → State → State → State
 keep true s t = s
 keep false s t = t
 
--- the framing of a session, until the run has ended
+-- what is put into the state of the machine, until the run has ended
+abbrev still_by : (State → State) → State → State
+still_by put s = keep s.ended s (put s)
+
+abbrev made_by_put : (State → State) → Made → Made
+made_by_put put m = record { outs = m.outs; state = still_by put m.state }
+
+abbrev step_by_put : (State → State) → Stepped → Stepped
+step_by_put put r = record { outs = r.outs; state = still_by put r.state; rest = r.rest }
+
+still_on_by : (put : State → State) (s : State) (e : Bool) → s.ended ≡ e → still_by put s ≡ keep e s (put s)
+still_on_by put s e is = ap (λ (x : Bool). keep x s (put s)) is
+
+-- a step does not look at it
+abbrev Commutes : {X : Type 0} → (Choice → State → X → Made) → (State → State) → Type 0
+Commutes {X = X} f put =
+    (choice : Choice) (s : State) (x : X) → s.ended ≡ false → f choice (put s) x ≡ made_by_put put (f choice s x)
+
+-- nor does it end the run
+abbrev LeavesEnd : (State → State) → Type 0
+LeavesEnd put = (s : State) → (put s).ended ≡ s.ended
+
+-- the framing of a session
 abbrev still : ℕ → Framing → State → State
-still n f s = keep s.ended s (reframed n f s)
+still n f s = still_by (reframed n f) s
 
 abbrev still_made : ℕ → Framing → Made → Made
-still_made n f m = record { outs = m.outs; state = still n f m.state }
+still_made n f m = made_by_put (reframed n f) m
 
 abbrev still_step : ℕ → Framing → Stepped → Stepped
-still_step n f r = record { outs = r.outs; state = still n f r.state; rest = r.rest }
+still_step n f r = step_by_put (reframed n f) r
 
 still_on : (n : ℕ) (f : Framing) (s : State) (e : Bool) → s.ended ≡ e → still n f s ≡ keep e s (reframed n f s)
-still_on n f s e is = ap (λ (x : Bool). keep x s (reframed n f s)) is
+still_on n f s e is = still_on_by (reframed n f) s e is
 
 behind_same : (e : Bool) (n : ℕ) (f : Framing) (s : State) (b : Board) → s.ended ≡ false → behind_command e (with_board (reframed n f s) b) ≡ still n f (behind_command e (with_board s b))
 behind_same true n f s b going = refl
@@ -123,7 +150,7 @@ made_still (refused i joined) at n f s (Answer code id) going =
 made_still (refused i joined) at n f s (Negotiated id) going =
     ap (λ (t : State). answered t n (return_reply id empty)) (negotiated_same n f s ∙ sym (still_on n f (negotiated n s) false going))
 made_still (refused i joined) at n f s (Do request id) going =
-    ap (λ (t : State). answered t n (error_reply id E99)) (sym (still_on n f (with_board s (given_up s.board request i joined)) false going))
+    ap (λ (t : State). answered t n (error_reply id E99)) (sym (still_on n f (with_board s (attempted s.board request i joined)) false going))
 made_still defined at n f s (Answer code id) going =
     ap (λ (t : State). answered t n (error_reply id code)) (sym (still_on n f s false going))
 made_still defined at n f s (Negotiated id) going =
@@ -143,70 +170,74 @@ item_still choice at n f s item going =
     ap (λ (mode : Mode). made_by choice at n (reframed n f s) (act mode item)) (mode_kept s.sessions n n f) ∙ made_still choice at n f s (act (mode_of s n) item) going
 
 -- behind the end nothing is served, and the state is as it was
-still_stopped : (at : Moment) (n : ℕ) (f : Framing) (items : List Item) (s : State) (cs : List Choice) → s.ended ≡ true → still_step n f (serve at n items s cs) ≡ unchanged s cs
-still_stopped at n f items s cs over =
-    ap (still_step n f) (stopped at n items s cs over) ∙ ap (λ (t : State). unchanged t cs) (still_on n f s true over)
+stopped_still : {X : Type 0} (f : Choice → State → X → Made) (put : State → State) (xs : List X) (s : State) (cs : List Choice) → s.ended ≡ true → step_by_put put (serve_by f xs s cs) ≡ unchanged s cs
+stopped_still f put xs s cs over =
+    ap (step_by_put put) (stopped_by f xs s cs over) ∙ ap (λ (t : State). unchanged t cs) (still_on_by put s true over)
 
-from_still : (at : Moment) (n : ℕ) (f : Framing) (items : List Item) (s : State) (cs : List Choice) → (s.ended ≡ false → serve at n items (reframed n f s) cs ≡ still_step n f (serve at n items s cs)) → serve at n items (still n f s) cs ≡ still_step n f (serve at n items s cs)
-from_still at n f items s cs further = go s.ended refl
+from_still : {X : Type 0} (f : Choice → State → X → Made) (put : State → State) (xs : List X) (s : State) (cs : List Choice) → (s.ended ≡ false → serve_by f xs (put s) cs ≡ step_by_put put (serve_by f xs s cs)) → serve_by f xs (still_by put s) cs ≡ step_by_put put (serve_by f xs s cs)
+from_still f put xs s cs further = go s.ended refl
   where
-    go : (e : Bool) → s.ended ≡ e → serve at n items (still n f s) cs ≡ still_step n f (serve at n items s cs)
+    go : (e : Bool) → s.ended ≡ e → serve_by f xs (still_by put s) cs ≡ step_by_put put (serve_by f xs s cs)
     go true over =
-        ap (λ (t : State). serve at n items t cs) (still_on n f s true over) ∙ stopped at n items s cs over
-        ∙ sym (still_stopped at n f items s cs over)
-    go false going = ap (λ (t : State). serve at n items t cs) (still_on n f s false going) ∙ further going
+        ap (λ (t : State). serve_by f xs t cs) (still_on_by put s true over) ∙ stopped_by f xs s cs over
+        ∙ sym (stopped_still f put xs s cs over)
+    go false going = ap (λ (t : State). serve_by f xs t cs) (still_on_by put s false going) ∙ further going
+
+serve_still_by : {X : Type 0} (f : Choice → State → X → Made) (put : State → State) → LeavesEnd put → Commutes f put → (xs : List X) (s : State) (cs : List Choice) → s.ended ≡ false → serve_by f xs (put s) cs ≡ step_by_put put (serve_by f xs s cs)
+serve_still_by f put same commutes [] s cs going = ap (λ (t : State). unchanged t cs) (sym (still_on_by put s false going))
+serve_still_by f put same commutes (x ∷ xs) s cs going =
+    let m = f (first cs) s x in
+    serve_on_by f (put s) x xs cs (same s ∙ going)
+    ∙ ap (λ (y : Made). behind y.outs (serve_by f xs y.state (others cs))) (commutes (first cs) s x going)
+    ∙ ap (behind m.outs) (from_still f put xs m.state (others cs) (serve_still_by f put same commutes xs m.state (others cs)))
+    ∙ ap (step_by_put put) (sym (serve_on_by f s x xs cs going))
 
 serve_still : (items : List Item) (at : Moment) (n : ℕ) (f : Framing) (s : State) (cs : List Choice) → s.ended ≡ false → serve at n items (reframed n f s) cs ≡ still_step n f (serve at n items s cs)
-serve_still [] at n f s cs going = ap (λ (t : State). unchanged t cs) (sym (still_on n f s false going))
-serve_still (item ∷ items) at n f s cs going =
-    let m = item_step (first cs) at n s item in
-    serve_on at n (reframed n f s) item items cs going
-    ∙ ap (λ (x : Made). behind x.outs (serve at n items x.state (others cs))) (item_still (first cs) at n f s item going)
-    ∙ ap (behind m.outs) (from_still at n f items m.state (others cs) (serve_still items at n f m.state (others cs)))
-    ∙ ap (still_step n f) (sym (serve_on at n s item items cs going))
+serve_still items at n f s cs going =
+    serve_still_by (by_item at n) (reframed n f) (λ t. refl) (λ choice t item h. item_still choice at n f t item h) items s cs going
 
--- Items, and then more.
+-- Some, and then more.
 
-abbrev then_serve : Moment → ℕ → List Item → Stepped → Stepped
-then_serve at n items r = behind r.outs (serve at n items r.state r.rest)
+abbrev then_serve : {X : Type 0} → (Choice → State → X → Made) → List X → Stepped → Stepped
+then_serve f xs r = behind r.outs (serve_by f xs r.state r.rest)
 
-serve_more : (is js : List Item) (at : Moment) (n : ℕ) (s : State) (cs : List Choice) → serve at n (is ++ js) s cs ≡ then_serve at n js (serve at n is s cs)
-serve_more [] js at n s cs = refl
-serve_more (i ∷ is) js at n s cs =
-    go s.ended refl (serve_more is js at n (item_step (first cs) at n s i).state (others cs))
+serve_more : {X : Type 0} (f : Choice → State → X → Made) (xs ys : List X) (s : State) (cs : List Choice) → serve_by f (xs ++ ys) s cs ≡ then_serve f ys (serve_by f xs s cs)
+serve_more f [] ys s cs = refl
+serve_more f (x ∷ xs) ys s cs =
+    go s.ended refl (serve_more f xs ys (f (first cs) s x).state (others cs))
   where
-    go : (e : Bool) → s.ended ≡ e → serve at n (is ++ js) (item_step (first cs) at n s i).state (others cs) ≡ then_serve at n js (serve at n is (item_step (first cs) at n s i).state (others cs)) → serve at n ((i ∷ is) ++ js) s cs ≡ then_serve at n js (serve at n (i ∷ is) s cs)
+    go : (e : Bool) → s.ended ≡ e → serve_by f (xs ++ ys) (f (first cs) s x).state (others cs) ≡ then_serve f ys (serve_by f xs (f (first cs) s x).state (others cs)) → serve_by f ((x ∷ xs) ++ ys) s cs ≡ then_serve f ys (serve_by f (x ∷ xs) s cs)
     go true over further =
-        stopped at n ((i ∷ is) ++ js) s cs over
-        ∙ sym (ap (then_serve at n js) (stopped at n (i ∷ is) s cs over) ∙ ap (behind []) (stopped at n js s cs over))
+        stopped_by f ((x ∷ xs) ++ ys) s cs over
+        ∙ sym (ap (then_serve f ys) (stopped_by f (x ∷ xs) s cs over) ∙ ap (behind []) (stopped_by f ys s cs over))
     go false going further =
-        let m = item_step (first cs) at n s i in
-        let r = serve at n is m.state (others cs) in
-        serve_on at n s i (is ++ js) cs going ∙ ap (behind m.outs) further ∙ behind_twice m.outs r.outs (serve at n js r.state r.rest)
-        ∙ ap (then_serve at n js) (sym (serve_on at n s i is cs going))
+        let m = f (first cs) s x in
+        let r = serve_by f xs m.state (others cs) in
+        serve_on_by f s x (xs ++ ys) cs going ∙ ap (behind m.outs) further ∙ behind_twice m.outs r.outs (serve_by f ys r.state r.rest)
+        ∙ ap (then_serve f ys) (sym (serve_on_by f s x xs cs going))
 
 -- with other choices left
 abbrev with_rest : List Choice → Stepped → Stepped
 with_rest ds r = record { outs = r.outs; state = r.state; rest = ds }
 
--- the choices that items use: with these alone it comes to the same, and all others are left
-abbrev ServeUses : Moment → ℕ → List Item → State → List Choice → Type 0
-ServeUses at n items s cs =
-    (us : List Choice) × ((ds : List Choice) → serve at n items s (us ++ ds) ≡ with_rest ds (serve at n items s cs))
+-- the choices that are used: with these alone it comes to the same, and all others are left
+abbrev ServeUses : {X : Type 0} → (Choice → State → X → Made) → List X → State → List Choice → Type 0
+ServeUses f xs s cs =
+    (us : List Choice) × ((ds : List Choice) → serve_by f xs s (us ++ ds) ≡ with_rest ds (serve_by f xs s cs))
 
-serve_uses : (items : List Item) (at : Moment) (n : ℕ) (s : State) (cs : List Choice) → ServeUses at n items s cs
-serve_uses [] at n s cs = ([], λ ds. refl)
-serve_uses (i ∷ is) at n s cs =
-    go s.ended refl (serve_uses is at n (item_step (first cs) at n s i).state (others cs))
+serve_uses : {X : Type 0} (f : Choice → State → X → Made) (xs : List X) (s : State) (cs : List Choice) → ServeUses f xs s cs
+serve_uses f [] s cs = ([], λ ds. refl)
+serve_uses f (x ∷ xs) s cs =
+    go s.ended refl (serve_uses f xs (f (first cs) s x).state (others cs))
   where
-    go : (e : Bool) → s.ended ≡ e → ServeUses at n is (item_step (first cs) at n s i).state (others cs) → ServeUses at n (i ∷ is) s cs
+    go : (e : Bool) → s.ended ≡ e → ServeUses f xs (f (first cs) s x).state (others cs) → ServeUses f (x ∷ xs) s cs
     go true over further =
-        ([], λ ds. stopped at n (i ∷ is) s ds over ∙ ap (with_rest ds) (sym (stopped at n (i ∷ is) s cs over)))
+        ([], λ ds. stopped_by f (x ∷ xs) s ds over ∙ ap (with_rest ds) (sym (stopped_by f (x ∷ xs) s cs over)))
     go false going further = (
       first cs ∷ further.0,
       λ ds.
-          serve_on at n s i is (first cs ∷ further.0 ++ ds) going ∙ ap (behind (item_step (first cs) at n s i).outs) (further.1 ds)
-          ∙ ap (with_rest ds) (sym (serve_on at n s i is cs going)),
+          serve_on_by f s x xs (first cs ∷ further.0 ++ ds) going ∙ ap (behind (f (first cs) s x).outs) (further.1 ds)
+          ∙ ap (with_rest ds) (sym (serve_on_by f s x xs cs going)),
     )
 
 -- A session stays open until the run has ended.
@@ -298,7 +329,7 @@ step_still s at n f bytes cs below h = go s.ended refl h
     go : (e : Bool) → s.ended ≡ e → (e || is_open (mode_of s n)) ≡ true → step (still n f s) (input at (Bytes n bytes)) cs ≡ still_step n (cut f bytes).state (serve at n (cut f bytes).items s cs)
     go true over takes =
         ap (λ (t : State). step t (input at (Bytes n bytes)) cs) (still_on n f s true over) ∙ step_ended s (input at (Bytes n bytes)) cs over
-        ∙ sym (still_stopped at n (cut f bytes).state (cut f bytes).items s cs over)
+        ∙ sym (stopped_still (by_item at n) (reframed n (cut f bytes).state) (cut f bytes).items s cs over)
     go false going takes =
         ap (λ (t : State). step t (input at (Bytes n bytes)) cs) (still_on n f s false going)
         ∙ step_open (reframed n f s) at n bytes cs going below (ap is_open (mode_kept s.sessions n n f) ∙ takes)
@@ -326,7 +357,7 @@ open_two s at n a b cs going below takes =
     step_open s at n (a ++ b) cs going below takes
     ∙ ap (λ (x : Cut). serve at n x.items (reframed n x.state s) cs) (cuts_anywhere f a b)
     ∙ serve_still (c.items ++ d.items) at n d.state s cs going
-    ∙ ap (still_step n d.state) (serve_more c.items d.items at n s cs)
+    ∙ ap (still_step n d.state) (serve_more (by_item at n) c.items d.items s cs)
     ∙ ap (behind r.outs) (sym (step_still r.state at n c.state b r.rest below (serve_lives c.items at n s cs here)))
     ∙ ap (then_step (input at (Bytes n b))) (sym (step_open s at n a cs going below takes ∙ serve_still c.items at n c.state s cs going))
 
@@ -374,23 +405,78 @@ Uses s i cs = (us : List Choice) × ((ds : List Choice) → step s i (us ++ ds) 
 bytes_uses : (n : ℕ) (s : State) (at : Moment) (bytes : List ℕ) (cs : List Choice) → Uses s (input at (Bytes n bytes)) cs
 bytes_uses n s at bytes cs =
     let p = bytes_serve n s at bytes in
-    let q = serve_uses p.0 at n p.1 cs in
+    let q = serve_uses (by_item at n) p.0 p.1 cs in
     (q.0, λ ds. p.2 (q.0 ++ ds) ∙ q.1 ds ∙ ap (with_rest ds) (sym (p.2 cs)))
 
--- the guest's bytes change nothing
-guest_step : (s : State) (at : Moment) (bytes : List ℕ) (cs : List Choice) → step s (input at (Guest bytes)) cs ≡ unchanged s cs
-unfolding step
-guest_step s at bytes cs = go s.ended
+-- The guest.
+
+-- another front of its unfinished line
+abbrev lined : List ℕ → State → State
+lined line s = with_line s line
+
+answered_still : (e : Bool) (line : List ℕ) (s : State) (b : Board) → s.ended ≡ false → behind_command e (with_board (lined line s) b) ≡ still_by (lined line) (behind_command e (with_board s b))
+answered_still true line s b going = refl
+answered_still false line s b going = sym (still_on_by (lined line) (with_board s b) false going)
+
+-- its lines do not look at it
+line_still : (at : Moment) (line : List ℕ) → Commutes (by_line at) (lined line)
+unfolding line_step
+line_still at line (refused i joined) s x going =
+    ap (λ (t : State). guest_told t NoMemory) (sym (still_on_by (lined line) s false going))
+line_still at line defined s x going =
+    let o = heard s.board (without_return x) in
+    ap
+    (λ (t : State). record { outs = event_outs at s (map event_of o.board.events ++ o.events) ++ (guest, answer_line o.answer) ∷ []; state = t })
+    (answered_still o.ends line s (without_events o.board) going)
+
+lines_still : (at : Moment) (line : List ℕ) (xs : List (List ℕ)) (s : State) (cs : List Choice) → s.ended ≡ false → serve_lines at xs (lined line s) cs ≡ step_by_put (lined line) (serve_lines at xs s cs)
+lines_still at line xs s cs going =
+    serve_still_by (by_line at) (lined line) (λ t. refl) (λ choice t x h. line_still at line choice t x h) xs s cs going
+
+guest_on : (s : State) (at : Moment) (bytes : List ℕ) (cs : List Choice) → s.ended ≡ false → step s (input at (Guest bytes)) cs ≡ serve_lines at (lines_of s.guest_line bytes).lines (lined (lines_of s.guest_line bytes).rest s) cs
+guest_on s at bytes cs going = step_on s (input at (Guest bytes)) (Guest bytes) cs going refl
+
+-- the lines of the first of two pieces are served from the state before them, and of the second from there
+guest_still : (s : State) (at : Moment) (line bytes : List ℕ) (cs : List Choice) → step (still_by (lined line) s) (input at (Guest bytes)) cs ≡ step_by_put (lined (lines_of line bytes).rest) (serve_lines at (lines_of line bytes).lines s cs)
+guest_still s at line bytes cs = go s.ended refl
   where
-    go : (e : Bool) → serve_unless e (unchanged s cs) (unchanged s cs) ≡ unchanged s cs
-    go true = refl
-    go false = refl
+    go : (e : Bool) → s.ended ≡ e → step (still_by (lined line) s) (input at (Guest bytes)) cs ≡ step_by_put (lined (lines_of line bytes).rest) (serve_lines at (lines_of line bytes).lines s cs)
+    go true over =
+        ap (λ (t : State). step t (input at (Guest bytes)) cs) (still_on_by (lined line) s true over) ∙ step_ended s (input at (Guest bytes)) cs over
+        ∙ sym (stopped_still (by_line at) (lined (lines_of line bytes).rest) (lines_of line bytes).lines s cs over)
+    go false going =
+        ap (λ (t : State). step t (input at (Guest bytes)) cs) (still_on_by (lined line) s false going)
+        ∙ guest_on (lined line s) at bytes cs going
+        ∙ lines_still at (lines_of line bytes).rest (lines_of line bytes).lines s cs going
+
+going_two : (s : State) (at : Moment) (a b : List ℕ) (cs : List Choice) → s.ended ≡ false → InTwo Guest s at a b cs
+going_two s at a b cs going =
+    let c = lines_of s.guest_line a in
+    let d = lines_of c.rest b in
+    let r = serve_lines at c.lines s cs in
+    guest_on s at (a ++ b) cs going
+    ∙ ap (λ (l : Lines). serve_lines at l.lines (lined l.rest s) cs) (lines-cut s.guest_line a b)
+    ∙ lines_still at d.rest (c.lines ++ d.lines) s cs going
+    ∙ ap (step_by_put (lined d.rest)) (serve_more (by_line at) c.lines d.lines s cs)
+    ∙ ap (behind r.outs) (sym (guest_still r.state at c.rest b r.rest))
+    ∙ ap (then_step (input at (Guest b))) (sym (guest_on s at a cs going ∙ lines_still at c.rest c.lines s cs going))
 
 guest_two : (s : State) (at : Moment) (a b : List ℕ) (cs : List Choice) → InTwo Guest s at a b cs
-guest_two s at a b cs = nothing_two s _ _ _ cs (guest_step s at (a ++ b) cs) (guest_step s at a cs) (guest_step s at b cs)
+guest_two s at a b cs = by_end s.ended refl
+  where
+    by_end : (e : Bool) → s.ended ≡ e → InTwo Guest s at a b cs
+    by_end true over = nothing_two s _ _ _ cs (step_ended s _ cs over) (step_ended s _ cs over) (step_ended s _ cs over)
+    by_end false going = going_two s at a b cs going
 
 guest_uses : (s : State) (at : Moment) (bytes : List ℕ) (cs : List Choice) → Uses s (input at (Guest bytes)) cs
-guest_uses s at bytes cs = ([], λ ds. guest_step s at bytes ds ∙ ap (with_rest ds) (sym (guest_step s at bytes cs)))
+guest_uses s at bytes cs = by_end s.ended refl
+  where
+    by_end : (e : Bool) → s.ended ≡ e → Uses s (input at (Guest bytes)) cs
+    by_end true over = ([], λ ds. step_ended s _ ds over ∙ ap (with_rest ds) (sym (step_ended s _ cs over)))
+    by_end false going =
+        let l = lines_of s.guest_line bytes in
+        let q = serve_uses (by_line at) l.lines (lined l.rest s) cs in
+        (q.0, λ ds. guest_on s at bytes (q.0 ++ ds) going ∙ q.1 ds ∙ ap (with_rest ds) (sym (guest_on s at bytes cs going)))
 
 -- Runs.
 

@@ -1,5 +1,5 @@
 -- What each command keeps of the board, and each attempt that is given up, a step and a run keep.
-use Rattle.std.proofs.Common.{◌≡◌, ℕ, nat_lt, ◌==◌, Bool, true, false, if◌then◌else◌, List, [], ◌∷◌, map, refl, Option, None, Some, Result, Ok, Err, codes}
+use Rattle.std.proofs.Common.{◌≡◌, ℕ, nat_lt, ◌==◌, Bool, true, false, if◌then◌else◌, List, [], ◌∷◌, map, refl, subst, sym, Option, None, Some, Result, Ok, Err, codes}
 use Rattle.std.specs.Option.{option_map_or}
 use Rattle.qo_causes.specs.declared.inputs.Input.{Input}
 use Rattle.qo_causes.specs.declared.inputs.Moment.{Moment}
@@ -15,10 +15,26 @@ use Rattle.qo_values.specs.declared.kinds.TypeId.{TypeId}
 use Rattle.qo_values.specs.declared.properties.Val.{Val}
 use Rattle.qo_values.specs.declared.limits.TheConstants.{SESSIONS}
 use Rattle.qo_model.specs.Board.{Board}
-use Rattle.qo_model.specs.FinalNotesRuns.{Change, added, deleted, wrote, severed, changed}
+use Rattle.qo_model.specs.FinalNotesRuns.{Change, added as object_added, deleted, wrote, severed, changed}
 use Rattle.qo_model.specs.Objects.{Changed, barred_by, object_add, object_del, sever, with_attempt}
 use Rattle.qo_model.specs.Properties.{object_at, write}
+use Rattle.qo_model.specs.Depth.{among}
+use Rattle.qo_model.specs.Hotplug.{asked, completed}
+use Rattle.qo_model.specs.Hotplug.{refused as refused_removal}
+use Rattle.qo_model.specs.Plug.{Plugged, Wanted, cut_attempt, plug}
 use Rattle.qo_model.specs.Types.{TypeRow, is_a, row_named}
+use Rattle.qo_buses.specs.Addresses.{addressed}
+use Rattle.qo_guest.specs.Lines.{guest_line}
+use Rattle.qo_guest.specs.declared.addresses.Addr.{Addr}
+use Rattle.qo_guest.specs.declared.answers.GuestAnswer.TheVariants.{NoPending, NoStopped}
+use Rattle.qo_guest.specs.declared.lines.GuestAct.{GuestAct}
+use Rattle.qo_guest.specs.declared.lines.GuestAct.TheVariants.{Ack, Nack, Poll, Read, Write, Reset, Shutdown}
+use Rattle.qo_lane.specs.Hearing.{act_in, acked, acted, fine, heard, heard_act, if_pending, nacked}
+use Rattle.qo_lane.specs.Hearing as hearing
+use Rattle.qo_lane.specs.Lines.{lines_of, without_return}
+use Rattle.qo_plug.specs.Added.{added, driver_barred, wanted}
+use Rattle.qo_realize.specs.Guest.{polled}
+use Rattle.qo_realize.specs.Stands.{Stands}
 use Rattle.qo_model.specs.Access.{listing_at, read, write_at}
 use Rattle.qo_requests.specs.declared.requests.Request.{Request}
 use Rattle.qo_requests.specs.declared.requests.Request.TheVariants.{QmpCapabilities, QueryVersion, QueryCommands, QueryStatus, Stop, Cont, SystemReset, Quit, QomList, QomGet, QomSet, QomListTypes, DeviceListProperties, ObjectAdd, ObjectDel, DeviceAdd, DeviceDel, ChardevAdd, ChardevRemove, RingbufRead, RingbufWrite, XResetHold, XResetRelease, XSever, XQueryNotes, XQueryDetached, XGuest, XStep}
@@ -28,21 +44,31 @@ use Rattle.qo_sessions.specs.declared.acts.SessionAct.{SessionAct}
 use Rattle.qo_sessions.specs.declared.acts.SessionAct.TheVariants.{Answer, Negotiated, Do}
 use Rattle.qo_sessions.specs.declared.modes.Mode.{Mode}
 use Rattle.qo_sessions.specs.declared.modes.Mode.TheVariants.{Closed, Negotiating, Commanding}
+use Rattle.qo_commands.proofs.AttemptLemmas.{attempted-all}
 use Rattle.qo_commands.specs.Changes.{attempted}
 use Rattle.qo_commands.specs.Commands.{answered, device_properties, perform, performed, without_events}
 use Rattle.qo_commands.specs.Commands as commands
-use Rattle.qo_machine.specs.Machine.{Choice, State, Stepped, behind, behind_command, defined, first, input_step, item_step, made_by, mode_of, opened, others, refused, serve, serve_unless, session_of, step, taken, unchanged, with_board, with_session}
+use Rattle.qo_machine.specs.Machine.{BreaksOff, BreaksOffAt, Choice, Made, Seen, State, Stepped, behind, behind_command, by_item, by_line, defined, fed_at, first, input_step, item_step, line_step, made_by, mode_of, opened, others, refused, serve, serve_by, serve_lines, serve_unless, session_of, step, taken, unchanged, with_board, with_line, with_session}
+use Rattle.qo_machine.proofs.LeftLemmas.{fed_board}
 use Rattle.qo_machine.specs.Runs.{Turn, after, state_after}
 
 -- what each change of the board keeps, and each attempt
 pub record KeepsBoard (P : Board → Type 0) : Type 0 where
   pub change : (b : Board) (change : Change) → P b → P (changed b change)
   pub attempt : (b : Board) (t : TypeId) → P b → P (with_attempt b t)
+  -- a device is added or refused, and an attempt at it is cut
+  pub plugged : (b : Board) (a : Wanted) → P b → P (plug b a).board
+  pub cut : (b : Board) (t : TypeId) (i : ℕ) (joined : Bool) → P b → P (cut_attempt b t i joined)
+  -- a removal is asked for, comes, or is refused, and the guest takes a notice
+  pub asked : (b : Board) (id : List ℕ) → P b → P (asked b id).board
+  pub completed : (b : Board) (at : Addr) (d : ℕ) → addressed b at ≡ Some d → P b → P (completed b d)
+  pub refused : (b : Board) (d : ℕ) → P b → P (refused_removal b d)
+  pub polled : (b : Board) → P b → P (polled b)
 
 -- what each command keeps of the board, and each attempt
 pub record KeepsCommands (P : Board → Type 0) : Type 0 where
   pub command : (b : Board) (r : Request) → P b → P (perform b r).board
-  pub attempt : (b : Board) (t : TypeId) → P b → P (with_attempt b t)
+  pub attempt : (b : Board) (r : Request) (i : ℕ) (joined : Bool) → P b → P (attempted b r i joined)
 
 -- Commands.
 
@@ -79,6 +105,59 @@ set_board P k b path name v p = by (object_at b path) refl
     by (Ok n) is = rw (write_at, is) (wrote_board P k b n name v p)
     by (Err code) is = rw (write_at, is) p
 
+-- a device
+plugged_board : (P : Board → Type 0) (add : Plugged) → P add.board → P (commands.plugged add).board
+plugged_board P add p = by add.refusal
+  where
+    by : (r : Option (ℕ × Code)) → P (commands.plugged (record { refusal = r; board = add.board })).board
+    by None = p
+    by (Some refusal) = p
+
+added_keeps : (P : Board → Type 0) → KeepsBoard P → (b : Board) (a : Wanted) → P b → P (added b a).board
+unfolding added
+added_keeps P k b a p = by (driver_barred a.driver)
+  where
+    by : (bar : Option Code) → P (elim bar as (λ o. Plugged) [ Some code ↦ record { refusal = Some (1, code); board = b } | None ↦ plug b a ]).board
+    by (Some code) = p
+    by None = k.plugged b a p
+
+-- a line of the guest
+pending_keeps : (P : Board → Type 0) (b c : Board) (d : ℕ) → P b → P c → P (if_pending b d c).board
+pending_keeps P b c d p q = by (among b.pending d)
+  where
+    by : (t : Bool) → P (if t then fine c else hearing.answered b NoPending).board
+    by true = q
+    by false = p
+
+acted_keeps : (P : Board → Type 0) → KeepsBoard P → (b : Board) (act : GuestAct) → P b → P (acted b act).board
+acted_keeps P k b (Ack at) p = by (addressed b at) refl
+  where
+    by : (o : Option ℕ) → addressed b at ≡ o → P (acked b o).board
+    by None is = p
+    by (Some d) is = pending_keeps P b (completed b d) d p (k.completed b at d is p)
+acted_keeps P k b (Nack at) p = by (addressed b at)
+  where
+    by : (o : Option ℕ) → P (nacked b o).board
+    by None = p
+    by (Some d) = pending_keeps P b (refused_removal b d) d p (k.refused b d p)
+acted_keeps P k b Poll p = k.polled b p
+acted_keeps P k b (Read at register) p = p
+acted_keeps P k b (Write at register value) p = p
+acted_keeps P k b Reset p = p
+acted_keeps P k b Shutdown p = p
+
+pub heard_keeps : (P : Board → Type 0) → KeepsBoard P → (b : Board) (line : List ℕ) → P b → P (heard b line).board
+unfolding heard
+heard_keeps P k b line p = by (act_in (guest_line line))
+  where
+    runs : (act : GuestAct) (t : Bool) → P (if t then acted b act else hearing.answered b NoStopped).board
+    runs act true = acted_keeps P k b act p
+    runs act false = p
+
+    by : (o : Option GuestAct) → P (heard_act b o).board
+    by None = p
+    by (Some act) = runs act b.running
+
 performed_keeps : (P : Board → Type 0) → KeepsBoard P → (b : Board) (r : Request) → P b → P (performed b r).board
 unfolding performed
 performed_keeps P k b (QmpCapabilities enable) p = p
@@ -94,10 +173,10 @@ performed_keeps P k b (QomGet path property) p = answered_board P b data_of (rea
 performed_keeps P k b (QomSet path property value) p = set_board P k b path property value p
 performed_keeps P k b (QomListTypes implements with_abstract) p = p
 performed_keeps P k b (DeviceListProperties typename) p = device_board P b (row_named typename) p
-performed_keeps P k b (ObjectAdd driver id props) p = changed_board P (object_add b driver id props) (k.change b (added driver id props) p)
+performed_keeps P k b (ObjectAdd driver id props) p = changed_board P (object_add b driver id props) (k.change b (object_added driver id props) p)
 performed_keeps P k b (ObjectDel id) p = changed_board P (object_del b id) (k.change b (deleted id) p)
-performed_keeps P k b (DeviceAdd driver id bus props) p = p
-performed_keeps P k b (DeviceDel id) p = p
+performed_keeps P k b (DeviceAdd driver id bus props) p = plugged_board P (added b (wanted driver id bus props)) (added_keeps P k b (wanted driver id bus props) p)
+performed_keeps P k b (DeviceDel id) p = changed_board P (asked b id) (k.asked b id p)
 performed_keeps P k b (ChardevAdd id kind size) p = p
 performed_keeps P k b (ChardevRemove id) p = p
 performed_keeps P k b (RingbufRead device size format) p = p
@@ -107,48 +186,16 @@ performed_keeps P k b (XResetRelease path) p = p
 performed_keeps P k b (XSever birth) p = changed_board P (sever b birth) (k.change b (severed birth) p)
 performed_keeps P k b (XQueryNotes start) p = p
 performed_keeps P k b XQueryDetached p = p
-performed_keeps P k b (XGuest line) p = p
+performed_keeps P k b (XGuest line) p = heard_keeps P k b line p
 performed_keeps P k b (XStep ns) p = p
 
 -- so does each command, where the events that wait are no matter
 pub keeps_commands : (P : Board → Type 0) → KeepsBoard P → ((b : Board) → P b → P (without_events b)) → KeepsCommands P
 keeps_commands P k free =
-    record { command = λ b r p. free (performed b r).board (performed_keeps P k b r p); attempt = k.attempt }
-
-pub attempted_keeps : (P : Board → Type 0) → KeepsCommands P → (b : Board) (r : Request) → P b → P (attempted b r)
-attempted_keeps P k b (ObjectAdd driver id props) p = by (barred_by b driver id) (row_named driver)
-  where
-    by : (bar : Option Code) (row : Option TypeRow) → P (elim bar as (λ o. Board) [ Some code ↦ b | None ↦ option_map_or (λ (row : TypeRow). with_attempt b row.id) row b ])
-    by (Some code) row = p
-    by None None = p
-    by None (Some row) = k.attempt b row.id p
-attempted_keeps P k b (QmpCapabilities enable) p = p
-attempted_keeps P k b QueryVersion p = p
-attempted_keeps P k b QueryCommands p = p
-attempted_keeps P k b QueryStatus p = p
-attempted_keeps P k b Stop p = p
-attempted_keeps P k b Cont p = p
-attempted_keeps P k b SystemReset p = p
-attempted_keeps P k b Quit p = p
-attempted_keeps P k b (QomList path) p = p
-attempted_keeps P k b (QomGet path property) p = p
-attempted_keeps P k b (QomSet path property value) p = p
-attempted_keeps P k b (QomListTypes implements with_abstract) p = p
-attempted_keeps P k b (DeviceListProperties typename) p = p
-attempted_keeps P k b (ObjectDel id) p = p
-attempted_keeps P k b (DeviceAdd driver id bus props) p = p
-attempted_keeps P k b (DeviceDel id) p = p
-attempted_keeps P k b (ChardevAdd id kind size) p = p
-attempted_keeps P k b (ChardevRemove id) p = p
-attempted_keeps P k b (RingbufRead device size format) p = p
-attempted_keeps P k b (RingbufWrite device payload format) p = p
-attempted_keeps P k b (XResetHold path) p = p
-attempted_keeps P k b (XResetRelease path) p = p
-attempted_keeps P k b (XSever birth) p = p
-attempted_keeps P k b (XQueryNotes start) p = p
-attempted_keeps P k b XQueryDetached p = p
-attempted_keeps P k b (XGuest line) p = p
-attempted_keeps P k b (XStep ns) p = p
+    record {
+      command = λ b r p. free (performed b r).board (performed_keeps P k b r p);
+      attempt = λ b r i joined p. attempted-all P b r i joined p (λ t. k.attempt b t p) (λ t. k.cut b t i joined p);
+    }
 
 -- Items, steps and runs.
 
@@ -156,14 +203,10 @@ ends_board : (P : Board → Type 0) (e : Bool) (s : State) → P s.board → P (
 ends_board P true s p = p
 ends_board P false s p = p
 
-given_up_board : (P : Board → Type 0) → KeepsCommands P → (b : Board) (request : Request) (made : Bool) → P b → P (if made then attempted b request else b)
-given_up_board P k b request true p = attempted_keeps P k b request p
-given_up_board P k b request false p = p
-
 made_board : (P : Board → Type 0) → KeepsCommands P → (choice : Choice) (at : Moment) (n : ℕ) (s : State) (what : SessionAct) → P s.board → P (made_by choice at n s what).state.board
 made_board P k (refused i joined) at n s (Answer code id) p = p
 made_board P k (refused i joined) at n s (Negotiated id) p = p
-made_board P k (refused i joined) at n s (Do request id) p = given_up_board P k s.board request (i == 1) p
+made_board P k (refused i joined) at n s (Do request id) p = k.attempt s.board request i joined p
 made_board P k defined at n s (Answer code id) p = p
 made_board P k defined at n s (Negotiated id) p = p
 made_board P k defined at n s (Do request id) p = ends_board P (perform s.board request).ends (with_board s (perform s.board request).board) (k.command s.board request p)
@@ -176,10 +219,37 @@ unless_board : (P : Board → Type 0) (e : Bool) (a b : Stepped) → P a.state.b
 unless_board P true a b p q = p
 unless_board P false a b p q = q
 
-pub serve_board : (P : Board → Type 0) → KeepsCommands P → (items : List Item) (at : Moment) (n : ℕ) (s : State) (cs : List Choice) → P s.board → P (serve at n items s cs).state.board
-serve_board P k [] at n s cs p = p
-serve_board P k (item ∷ items) at n s cs p =
-    unless_board P s.ended (unchanged s cs) (behind (item_step (first cs) at n s item).outs (serve at n items (item_step (first cs) at n s item).state (others cs))) p (serve_board P k items at n (item_step (first cs) at n s item).state (others cs) (item_board P k (first cs) at n s item p))
+-- a line of the guest keeps what it does as a command
+line_board : (P : Board → Type 0) → KeepsCommands P → (choice : Choice) (at : Moment) (s : State) (line : List ℕ) → P s.board → P (line_step choice at s line).state.board
+unfolding line_step performed
+line_board P k (refused i joined) at s line p = p
+line_board P k defined at s line p =
+    let o = heard s.board (without_return line) in
+    ends_board P o.ends (with_board s (without_events o.board)) (k.command s.board (XGuest (without_return line)) p)
+
+-- what is served in turn keeps what each keeps
+serve_board_by : {X : Type 0} (P : Board → Type 0) (f : Choice → State → X → Made) → ((choice : Choice) (s : State) (x : X) → P s.board → P (f choice s x).state.board) → (xs : List X) (s : State) (cs : List Choice) → P s.board → P (serve_by f xs s cs).state.board
+serve_board_by P f keeps [] s cs p = p
+serve_board_by P f keeps (x ∷ xs) s cs p =
+    unless_board P s.ended (unchanged s cs) (behind (f (first cs) s x).outs (serve_by f xs (f (first cs) s x).state (others cs))) p (serve_board_by P f keeps xs (f (first cs) s x).state (others cs) (keeps (first cs) s x p))
+
+serve_board : (P : Board → Type 0) → KeepsCommands P → (items : List Item) (at : Moment) (n : ℕ) (s : State) (cs : List Choice) → P s.board → P (serve at n items s cs).state.board
+serve_board P k items at n s cs p = serve_board_by P (by_item at n) (λ choice t item q. item_board P k choice at n t item q) items s cs p
+
+lines_board : (P : Board → Type 0) → KeepsCommands P → (lines : List (List ℕ)) (at : Moment) (s : State) (cs : List Choice) → P s.board → P (serve_lines at lines s cs).state.board
+lines_board P k lines at s cs p = serve_board_by P (by_line at) (λ choice t line q. line_board P k choice at t line q) lines s cs p
+
+-- a step that was broken off: the machine's objects stand for a board that keeps it too
+pub broken_keeps : (P : Board → Type 0) → KeepsCommands P → (s : State) (i : Input) (m : Seen) → BreaksOff s i m → P s.board → (b : Board) × Stands b m.board × P b
+broken_keeps P k s i m broken p = by i.what broken
+  where
+    by : (w : What) → BreaksOffAt s i.at w m → (b : Board) × Stands b m.board × P b
+    by (Open n) q = (s.board, q, p)
+    by (Bytes n bytes) q = (_, q.4, serve_board P k q.0 i.at n (fed_at s n bytes) q.2 (subst P (sym (fed_board s n bytes)) p))
+    by (Shut n) q = (s.board, q, p)
+    by (GuestLine bytes) q = (_, q.4, lines_board P k q.0 i.at (with_line s (lines_of s.guest_line bytes).rest) q.2 p)
+    by (Step ns) q = (s.board, q, p)
+    by End q = (s.board, q, p)
 
 pub step_keeps : (P : Board → Type 0) → KeepsCommands P → (s : State) (i : Input) (cs : List Choice) → P s.board → P (step s i cs).state.board
 unfolding step
@@ -203,7 +273,7 @@ step_keeps P k s i cs p = unless_board P s.ended (unchanged s cs) (input_step s 
     by (Open n) = opens n (mode_of s n) (nat_lt n SESSIONS)
     by (Bytes n bytes) = takes n bytes (nat_lt n SESSIONS)
     by (Shut n) = shuts n (nat_lt n SESSIONS)
-    by (GuestLine bytes) = p
+    by (GuestLine bytes) = lines_board P k (lines_of s.guest_line bytes).lines i.at (with_line s (lines_of s.guest_line bytes).rest) cs p
     by (Step ns) = p
     by End = p
 

@@ -1,4 +1,6 @@
+pub mod AddressLemmas
 pub mod ChunkLemmas
+pub mod GuestLemmas
 pub mod KeepLemmas
 pub mod LaneLemmas
 pub mod LawLemmas

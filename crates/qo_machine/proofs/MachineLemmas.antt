@@ -23,13 +23,14 @@ use Rattle.qo_values.specs.declared.codes.Code.TheVariants.{E99}
 use Rattle.qo_values.specs.declared.limits.TheConstants.{SESSIONS}
 use Rattle.qo_model.specs.Board.{Board}
 use Rattle.qo_model.specs.Opening.{opening_board}
-use Rattle.qo_commands.specs.Changes.{attempted}
+use Rattle.qo_commands.proofs.AttemptLemmas.{attempted-none}
+use Rattle.qo_commands.specs.Changes.{Left, attempted}
 use Rattle.qo_commands.specs.Commands.{Done, empty, event_of, perform, performed, without_events}
 use Rattle.qo_machine.specs.declared.machines.Replied.{Replied}
 use Rattle.qo_realize.specs.Parts.{Parts}
 use Rattle.qo_realize.specs.Stands.{Stands}
-use Rattle.qo_machine.specs.Machine.{Choice, IsIn, Made, Message, Seen, State, Stepped, Answers, opening, behind, behind_command, commanding, defined, refused, event_outs, first, input_step, item_step, made_by, mode_of, others, reply, serve, serve_unless, session_of, state_at, step, those_commanding, told_of, unchanged, with_board, with_session}
-use Rattle.qo_machine.specs.Serving.{Came, CommandLeft, CommandServed, Serves, ServesTo, Tells, moved}
+use Rattle.qo_machine.specs.Machine.{Choice, IsIn, Made, Message, Seen, State, Stepped, Answers, opening, behind, by_item, behind_command, commanding, defined, refused, event_outs, first, input_step, item_step, made_by, mode_of, others, reply, serve_by, serve_unless, session_of, state_at, step, those_commanding, told_of, unchanged, with_board, with_session}
+use Rattle.qo_machine.specs.Serving.{Came, CommandLeft, CommandServed, Serves, ServesBy, ServesTo, ServesToBy, Tells, moved}
 
 -- behind the end nothing is served
 pub step_ended : (s : State) (i : Input) (cs : List Choice) → s.ended ≡ true → step s i cs ≡ unchanged s cs
@@ -108,36 +109,42 @@ behind_twice a b r =
     ap (λ (outs : List Message). record { outs = outs; state = r.state; rest = r.rest }) (sym (append_assoc a b r.outs))
 
 -- none
+pub serves_none_by : {X : Type 0} (f : Choice → State → X → Made) (s : State) → ServesBy f s [] [] s
+serves_none_by f s = ([], λ further rest. refl)
+
 pub serves_none : (at : Moment) (n : ℕ) (s : State) → Serves at n s [] [] s
-serves_none at n s = ([], λ further rest. refl)
+serves_none at n s = serves_none_by (by_item at n) s
 
 -- some, and then more
-pub serves_more : (at : Moment) (n : ℕ) (s t u : State) (is js : List Item) (a b : List Message) → Serves at n s is a t → Serves at n t js b u → Serves at n s (is ++ js) (a ++ b) u
-serves_more at n s t u is js a b p q = (
+pub serves_more_by : {X : Type 0} (f : Choice → State → X → Made) (s t u : State) (xs ys : List X) (a b : List Message) → ServesBy f s xs a t → ServesBy f t ys b u → ServesBy f s (xs ++ ys) (a ++ b) u
+serves_more_by f s t u xs ys a b p q = (
   p.0 ++ q.0,
   λ further rest.
-      rw (append_assoc is js further, append_assoc p.0 q.0 rest) (p.1 (js ++ further) (q.0 ++ rest) ∙ ap (behind a) (q.1 further rest) ∙ behind_twice a b (serve at n further u rest)),
+      rw (append_assoc xs ys further, append_assoc p.0 q.0 rest) (p.1 (ys ++ further) (q.0 ++ rest) ∙ ap (behind a) (q.1 further rest) ∙ behind_twice a b (serve_by f further u rest)),
 )
 
 -- one
-pub serve_on : (at : Moment) (n : ℕ) (s : State) (item : Item) (items : List Item) (cs : List Choice) → s.ended ≡ false → serve at n (item ∷ items) s cs ≡ behind (item_step (first cs) at n s item).outs (serve at n items (item_step (first cs) at n s item).state (others cs))
-serve_on at n s item items cs going =
-    ap (λ (e : Bool). serve_unless e (unchanged s cs) (behind (item_step (first cs) at n s item).outs (serve at n items (item_step (first cs) at n s item).state (others cs)))) going
+pub serve_on_by : {X : Type 0} (f : Choice → State → X → Made) (s : State) (x : X) (xs : List X) (cs : List Choice) → s.ended ≡ false → serve_by f (x ∷ xs) s cs ≡ behind (f (first cs) s x).outs (serve_by f xs (f (first cs) s x).state (others cs))
+serve_on_by f s x xs cs going =
+    ap (λ (e : Bool). serve_unless e (unchanged s cs) (behind (f (first cs) s x).outs (serve_by f xs (f (first cs) s x).state (others cs)))) going
 
-serves_one : (at : Moment) (n : ℕ) (s t : State) (item : Item) (choice : Choice) (outs : List Message) → s.ended ≡ false → item_step choice at n s item ≡ record { outs = outs; state = t } → Serves at n s (item ∷ []) outs t
-serves_one at n s t item choice outs going is = (
+pub serves_one_by : {X : Type 0} (f : Choice → State → X → Made) (s t : State) (x : X) (choice : Choice) (outs : List Message) → s.ended ≡ false → f choice s x ≡ record { outs = outs; state = t } → ServesBy f s (x ∷ []) outs t
+serves_one_by f s t x choice outs going is = (
   choice ∷ [],
-  λ further rest. serve_on at n s item further (choice ∷ rest) going ∙ ap (λ (m : Made). behind m.outs (serve at n further m.state rest)) is,
+  λ further rest. serve_on_by f s x further (choice ∷ rest) going ∙ ap (λ (m : Made). behind m.outs (serve_by f further m.state rest)) is,
 )
 
--- behind the end none is
-pub stopped : (at : Moment) (n : ℕ) (items : List Item) (s : State) (rest : List Choice) → s.ended ≡ true → serve at n items s rest ≡ unchanged s rest
-stopped at n [] s rest over = refl
-stopped at n (i ∷ is) s rest over = rw over refl
+serves_one : (at : Moment) (n : ℕ) (s t : State) (item : Item) (choice : Choice) (outs : List Message) → s.ended ≡ false → item_step choice at n s item ≡ record { outs = outs; state = t } → Serves at n s (item ∷ []) outs t
+serves_one at n s t item choice outs going is = serves_one_by (by_item at n) s t item choice outs going is
 
-pub serves_ended : (at : Moment) (n : ℕ) (s : State) (item : Item) → s.ended ≡ true → Serves at n s (item ∷ []) [] s
-serves_ended at n s item over =
-    ([], λ further rest. stopped at n (item ∷ further) s rest over ∙ ap (behind []) (sym (stopped at n further s rest over)))
+-- behind the end none is
+pub stopped_by : {X : Type 0} (f : Choice → State → X → Made) (xs : List X) (s : State) (rest : List Choice) → s.ended ≡ true → serve_by f xs s rest ≡ unchanged s rest
+stopped_by f [] s rest over = refl
+stopped_by f (x ∷ xs) s rest over = rw over refl
+
+pub serves_ended_by : {X : Type 0} (f : Choice → State → X → Made) (s : State) (x : X) → s.ended ≡ true → ServesBy f s (x ∷ []) [] s
+serves_ended_by f s x over =
+    ([], λ further rest. stopped_by f (x ∷ further) s rest over ∙ ap (behind []) (sym (stopped_by f further s rest over)))
 
 item_made : (at : Moment) (n : ℕ) (s t : State) (item : Item) (choice : Choice) (what : SessionAct) (outs : List Message) → what ≡ act (mode_of s n) item → made_by choice at n s what ≡ record { outs = outs; state = t } → item_step choice at n s item ≡ record { outs = outs; state = t }
 unfolding item_step
@@ -173,16 +180,18 @@ command_done at n s request id outs m sent to = (defined, sent, to)
 
 -- a command was refused for want of memory
 pub command_refused : (at : Moment) (n : ℕ) (s : State) (request : Request) (id : Option (List ℕ)) (text : List ℕ) (m : Seen) → text ≡ error_reply id E99 → IsIn s m → CommandServed at n s request id ((to_session n, text) ∷ []) m
-command_refused at n s request id text m written to = (refused 0 false, rw written refl, to)
+command_refused at n s request id text m written to =
+    (refused 0 false, rw written refl, subst (λ (b : Board). IsIn (with_board s b) m) (sym (attempted-none s.board request)) to)
 
 -- a command was refused for want of memory, behind an attempt
-pub command_given_up : (at : Moment) (n : ℕ) (s : State) (request : Request) (id : Option (List ℕ)) (text : List ℕ) (m : Seen) → text ≡ error_reply id E99 → IsIn (with_board s (attempted s.board request)) m → CommandServed at n s request id ((to_session n, text) ∷ []) m
-command_given_up at n s request id text m written to = (refused 1 false, rw written refl, to)
+pub command_given_up : (at : Moment) (n : ℕ) (s : State) (request : Request) (id : Option (List ℕ)) (text : List ℕ) (m : Seen) (i : ℕ) (joined : Bool)
+    → text ≡ error_reply id E99 → IsIn (with_board s (attempted s.board request i joined)) m → CommandServed at n s request id ((to_session n, text) ∷ []) m
+command_given_up at n s request id text m i joined written to = (refused i joined, rw written refl, to)
 
--- all items of some bytes
-pub serve_all : (at : Moment) (n : ℕ) (s t : State) (items : List Item) (outs : List Message) → (p : Serves at n s items outs t) → serve at n items s p.0 ≡ record { outs = outs; state = t; rest = [] }
-serve_all at n s t items outs p =
-    ap (λ (is : List Item). serve at n is s p.0) (sym (append-nil items)) ∙ ap (serve at n (items ++ []) s) (sym (append-nil p.0)) ∙ p.1 [] []
+-- all of them
+pub serve_all_by : {X : Type 0} (f : Choice → State → X → Made) (s t : State) (xs : List X) (outs : List Message) → (p : ServesBy f s xs outs t) → serve_by f xs s p.0 ≡ record { outs = outs; state = t; rest = [] }
+serve_all_by {X = X} f s t xs outs p =
+    ap (λ (ys : List X). serve_by f ys s p.0) (sym (append-nil xs)) ∙ ap (serve_by f (xs ++ []) s) (sym (append-nil p.0)) ∙ p.1 [] []
     ∙ ap (λ (o : List Message). record { outs = o; state = t; rest = [] }) (append-nil outs)
 
 -- bytes of a session
@@ -191,7 +200,7 @@ bytes_taken at n s m bytes items outs below is p =
     let f = fed (session_of s n) bytes in
     let start = with_session s n f.session in
     let q : Serves at n start f.items outs p.0 = subst (λ (js : List Item). Serves at n start js outs p.0) is p.2 in
-    (q.0, p.0, p.1, rw (lt-ltb n SESSIONS below) (serve_all at n start p.0 f.items outs q))
+    (q.0, p.0, p.1, rw (lt-ltb n SESSIONS below) (serve_all_by (by_item at n) start p.0 f.items outs q))
 
 -- A machine that moved beside its board.
 
@@ -222,10 +231,10 @@ answers_taken i w outs m to going what s at p =
 
 -- A machine serves.
 
--- the items served so far, and one more
-pub serves_on : (at : Moment) (n : ℕ) (s : State) (mid to : Seen) (is js : List Item) (a b : List Message) → ServesTo at n s is a mid → ((t : State) → IsIn t mid → ServesTo at n t js b to) → ServesTo at n s (is ++ js) (a ++ b) to
-serves_on at n s mid to is js a b p q =
-    let next = q p.0 p.1 in (next.0, next.1, serves_more at n s p.0 next.0 is js a b p.2 next.2)
+-- what was served so far, and one more
+pub serves_on_by : {X : Type 0} (f : Choice → State → X → Made) (s : State) (mid to : Seen) (xs ys : List X) (a b : List Message) → ServesToBy f s xs a mid → ((t : State) → IsIn t mid → ServesToBy f t ys b to) → ServesToBy f s (xs ++ ys) (a ++ b) to
+serves_on_by f s mid to xs ys a b p q =
+    let next = q p.0 p.1 in (next.0, next.1, serves_more_by f s p.0 next.0 xs ys a b p.2 next.2)
 
 -- a refused item, and a negotiation, as the machine serves them
 pub serves_answer : (at : Moment) (n : ℕ) (m to : Seen) (item : Item) (code : Code) (id : Option (List ℕ)) (text : List ℕ) → m.ended ≡ false → ((b : Board) → Answer code id ≡ act (mode_of (state_at b m) n) item) → ((b : Board) → state_at b to ≡ moved (state_at b m) n (Answer code id)) → to.board ≡ m.board → text ≡ error_reply id code → (s : State) → IsIn s m → ServesTo at n s (item ∷ []) ((to_session n, text) ∷ []) to
@@ -254,10 +263,10 @@ serves_command at n m mid to item request id outs going is move same served s he
     item_done at n (state_at b m) to item request id outs going (is b)
     (served (state_at b m) (subst (λ (x : State). IsIn x mid) (move b) (in_at b mid (subst (Stands b) (sym same) stands))))) s here
 
--- an item behind the end
-pub serves_over : (at : Moment) (n : ℕ) (m to : Seen) (item : Item) → m.ended ≡ true → to ≡ m → (s : State) → IsIn s m → ServesTo at n s (item ∷ []) [] to
-serves_over at n m to item over same s here =
-    (s, in_still m to same s here, serves_ended at n s item (ap (λ (x : State). x.ended) here.rest ∙ over))
+-- one behind the end
+pub serves_over_by : {X : Type 0} (f : Choice → State → X → Made) (m to : Seen) (x : X) → m.ended ≡ true → to ≡ m → (s : State) → IsIn s m → ServesToBy f s (x ∷ []) [] to
+serves_over_by f m to x over same s here =
+    (s, in_still m to same s here, serves_ended_by f s x (ap (λ (y : State). y.ended) here.rest ∙ over))
 
 -- Commands.
 
@@ -277,7 +286,7 @@ done_in n m mid drained to request id r came still empties stays move same b sta
 
 pub served_command : (at : Moment) (n : ℕ) (m mid drained to : Seen) (request : Request) (id : Option (List ℕ)) (r : Replied) (front : List Message)
     → ((b : Board) → Stands b m.board → Came b request id r mid.board) → ((b : Board) → state_at b mid ≡ state_at b m)
-    → Tells at n mid r front
+    → Tells at (to_session n) mid r front
     → ((b : Board) → Stands b mid.board → Stands (without_events b) drained.board) → ((b : Board) → state_at b drained ≡ state_at b mid)
     → ((b : Board) → state_at b to ≡ behind_command r.ends (state_at b drained)) → to.board ≡ drained.board
     → (s : State) → IsIn s m → CommandServed at n s request id front to
@@ -306,16 +315,16 @@ left_done at n m mid drained to request id r came still empties stays move same 
     (λ b stands. inr (defined, done_in n m mid drained to request id r came still empties stays move same b stands)) s here
 
 -- one that was refused for want of memory
-pub served_want : (at : Moment) (n : ℕ) (m to : Seen) (request : Request) (id : Option (List ℕ)) (text : List ℕ) → text ≡ error_reply id E99 → ((b : Board) → Stands b m.board → Stands b to.board ⊎ Stands (attempted b request) to.board) → ((b : Board) → state_at b to ≡ state_at b m) → (s : State) → IsIn s m → CommandServed at n s request id ((to_session n, text) ∷ []) to
+pub served_want : (at : Moment) (n : ℕ) (m to : Seen) (request : Request) (id : Option (List ℕ)) (text : List ℕ) → text ≡ error_reply id E99 → ((b : Board) → Stands b m.board → Left b request to.board) → ((b : Board) → state_at b to ≡ state_at b m) → (s : State) → IsIn s m → CommandServed at n s request id ((to_session n, text) ∷ []) to
 served_want at n m to request id text written kept move s here =
     by_board (λ (x : State). CommandServed at n x request id ((to_session n, text) ∷ []) to) m
     (λ b stands. by b (kept b stands)) s here
   where
-    by : (b : Board) → Stands b to.board ⊎ Stands (attempted b request) to.board → CommandServed at n (state_at b m) request id ((to_session n, text) ∷ []) to
+    by : (b : Board) → Left b request to.board → CommandServed at n (state_at b m) request id ((to_session n, text) ∷ []) to
     by b (inl stands) =
         command_refused at n (state_at b m) request id text to written (subst (λ (x : State). IsIn x to) (move b) (in_at b to stands))
-    by b (inr stands) =
-        command_given_up at n (state_at b m) request id text to written (subst (λ (x : State). IsIn x to) (move (attempted b request)) (in_at (attempted b request) to stands))
+    by b (inr (i, joined, stands)) =
+        command_given_up at n (state_at b m) request id text to i joined written (subst (λ (x : State). IsIn x to) (move (attempted b request i joined)) (in_at (attempted b request i joined) to stands))
 
 -- The answers of the machine's own calls.
 

@@ -1,31 +1,38 @@
 -- Steps keep the tree of the board sound.
-use Rattle.std.proofs.Common.{◌≡◌, List, [], refl, subst, sym}
+use Rattle.std.proofs.Common.{◌≡◌, List, [], refl}
 use Rattle.qo_causes.specs.declared.inputs.Input.{Input}
 use Rattle.qo_model.proofs.OpeningLemmas.{opening_sound}
 use Rattle.qo_model.proofs.TreeLemmas.{frame_lem}
 use Rattle.qo_model.specs.Board.{Board}
 use Rattle.qo_model.specs.Sound.{IsSound}
 use Rattle.qo_model.specs.SoundGraph.{graph_of}
+use Rattle.qo_commands.proofs.AttemptLemmas.{attempted-all}
 use Rattle.qo_commands.specs.Commands.{without_events}
 use Rattle.qo_sound.proofs.KeptLemmas.{sound_kept_lem}
 use Rattle.qo_sound.specs.Kept.{SoundTree}
-use Rattle.qo_machine.proofs.KeepLemmas.{KeepsBoard, KeepsCommands, keeps_commands, run_keeps, serve_board, step_keeps}
-use Rattle.qo_machine.proofs.LeftLemmas.{fed_board}
+use Rattle.qo_machine.proofs.AddressLemmas.{asked-tree, polled-tree, refused-tree}
+use Rattle.qo_machine.proofs.KeepLemmas.{KeepsBoard, KeepsCommands, broken_keeps, keeps_commands, run_keeps, step_keeps}
 use Rattle.qo_machine.proofs.MachineLemmas.{in_at}
 use Rattle.qo_machine.proofs.SoundLemmas.{sound_by}
 use Rattle.qo_machine.specs.Laws.{SoundInRuns}
-use Rattle.qo_machine.specs.Machine.{Answers, BreaksOff, IsIn, Message, Seen, State, fed_at, number_of, opening, serve, state_at, step}
+use Rattle.qo_machine.specs.Machine.{Answers, BreaksOff, IsIn, Message, Seen, State, opening, state_at, step}
 
 -- changes and attempts keep the tree sound
-tree_kept : KeepsBoard SoundTree
+pub tree_kept : KeepsBoard SoundTree
 tree_kept =
     record {
       change = λ b change h. sound_kept_lem.change b change h;
       attempt = λ b t h. (sound_kept_lem.attempt b t h.0, sound_kept_lem.attempt_aliases b t h.1);
+      plugged = λ b a h. sound_kept_lem.plugged b a h;
+      cut = λ b t i joined h. sound_kept_lem.cut b t i joined h;
+      asked = λ b id h. asked-tree b id h;
+      completed = λ b at d is h. sound_kept_lem.detached b d h;
+      refused = λ b d h. refused-tree b d h;
+      polled = λ b h. polled-tree b h;
     }
 
 -- the tree has no part in the events
-tree_free : (b : Board) → SoundTree b → SoundTree (without_events b)
+pub tree_free : (b : Board) → SoundTree b → SoundTree (without_events b)
 unfolding graph_of
 tree_free b h = (frame_lem.graph b (without_events b) refl h.0, frame_lem.aliases b (without_events b) refl h.1)
 
@@ -37,7 +44,7 @@ abbrev IsDrained : Board → Type 0
 IsDrained b = b.events ≡ []
 
 drained_commands : KeepsCommands IsDrained
-drained_commands = record { command = λ b r p. refl; attempt = λ b t p. p }
+drained_commands = record { command = λ b r p. refl; attempt = λ b r i joined p. attempted-all IsDrained b r i joined p (λ t. p) (λ t. p) }
 
 -- the groups of a sound board
 sound_of : (b : Board) → SoundTree b → IsDrained b → IsSound b
@@ -58,12 +65,17 @@ stepped_sound old new i outs answered s at sound t there =
     (sound_of (step s i p.0).state.board (step_keeps SoundTree tree_commands s i p.0 (sound.graph, sound.aliases)) (step_keeps IsDrained drained_commands s i p.0 sound.events.none))
 
 -- a step that was broken off
+abbrev IsWhole : Board → Type 0
+IsWhole b = SoundTree b × IsDrained b
+
+whole_commands : KeepsCommands IsWhole
+whole_commands =
+    record {
+      command = λ b r p. (tree_commands.command b r p.0, drained_commands.command b r p.1);
+      attempt = λ b r i joined p. (tree_commands.attempt b r i joined p.0, drained_commands.attempt b r i joined p.1);
+    }
+
 pub broken_sound : (s : State) (i : Input) (m : Seen) → IsSound s.board → BreaksOff s i m → (t : State) → IsIn t m → IsSound t.board
 broken_sound s i m sound p t there =
-    let fed : State = fed_at s i.what in
-    let left : Board = (serve i.at (number_of i.what) p.0 fed p.2).state.board in
-    let same = fed_board s i.what in
-    sound_by (state_at left m) t m (in_at left m p.4) there
-    (sound_of left
-    (serve_board SoundTree tree_commands p.0 i.at (number_of i.what) fed p.2 (subst SoundTree (sym same) (sound.graph, sound.aliases)))
-    (serve_board IsDrained drained_commands p.0 i.at (number_of i.what) fed p.2 (subst IsDrained (sym same) sound.events.none)))
+    let q = broken_keeps IsWhole whole_commands s i m p ((sound.graph, sound.aliases), sound.events.none) in
+    sound_by (state_at q.0 m) t m (in_at q.0 m q.1) there (sound_of q.0 q.2.0 q.2.1)

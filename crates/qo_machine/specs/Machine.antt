@@ -6,12 +6,17 @@ use Rattle.qo_values.specs.declared.codes.Code.{Code}
 use Rattle.qo_values.specs.declared.codes.Code.TheVariants.{E99}
 use Rattle.qo_values.specs.declared.limits.TheConstants.{SESSIONS}
 use Rattle.qo_causes.specs.declared.hubs.Lane.{Lane}
-use Rattle.qo_causes.specs.declared.hubs.Lane.TheVariants.{Session as to_session}
+use Rattle.qo_causes.specs.declared.hubs.Lane.TheVariants.{Session as to_session, Guest as guest}
 use Rattle.qo_causes.specs.declared.inputs.Input.{Input}
 use Rattle.qo_causes.specs.declared.inputs.Moment.{Moment}
 use Rattle.qo_causes.specs.declared.inputs.What.{What}
-use Rattle.qo_causes.specs.declared.inputs.What.TheVariants.{Open, Bytes, Shut, End}
+use Rattle.qo_causes.specs.declared.inputs.What.TheVariants.{Open, Bytes, Shut, Guest, End}
 use Rattle.qo_framing.specs.declared.items.Item.{Item}
+use Rattle.qo_guest.specs.Answers.{text_of}
+use Rattle.qo_guest.specs.declared.answers.GuestAnswer.{GuestAnswer}
+use Rattle.qo_guest.specs.declared.answers.GuestAnswer.TheVariants.{NoMemory}
+use Rattle.qo_lane.specs.Hearing.{Outcome, heard}
+use Rattle.qo_lane.specs.Lines.{lines_of, without_return}
 use Rattle.qo_model.specs.Board.{Board}
 use Rattle.qo_model.specs.Opening.{opening_board}
 use Rattle.qo_replies.specs.Events.{event_line}
@@ -28,7 +33,7 @@ use Rattle.qo_sessions.specs.declared.modes.Mode.TheVariants.{Commanding, Closed
 use Rattle.qo_realize.specs.Parts.{Parts}
 use Rattle.qo_realize.specs.Stands.{Stands}
 use Rattle.qo_commands.specs.Changes.{attempted}
-use Rattle.qo_commands.specs.Commands.{Done, empty, perform}
+use Rattle.qo_commands.specs.Commands.{Done, empty, event_of, perform, without_events}
 
 -- a message: where it goes, and its bytes with their line end
 abbrev pub Message : Type 0
@@ -45,7 +50,7 @@ pub record State : Type 0 where
 abbrev pub opening : State
 opening = record { board = opening_board; sessions = replicate SESSIONS closed; guest_line = []; ended = false }
 
--- how an item is served: as it is defined; or, where it is a command, refused for want of memory, behind an attempt that had made so many objects, the last of them joined to the tree or not. A missing choice is `defined`.
+-- how an item is served: as it is defined; or, where it is a command, refused for want of memory, behind an attempt that had made so many objects, the last of them joined to the tree or not. A line of the guest is served as it is defined, or refused. A missing choice is `defined`.
 pub data Choice : Type 0 where
   defined : Choice
   refused : ℕ → Bool → Choice
@@ -86,6 +91,9 @@ with_session s n session =
 abbrev pub with_board : State → Board → State
 with_board s board = record { board = board; sessions = s.sessions; guest_line = s.guest_line; ended = s.ended }
 
+abbrev pub with_line : State → List ℕ → State
+with_line s line = record { board = s.board; sessions = s.sessions; guest_line = line; ended = s.ended }
+
 -- the run has ended: all sessions are closed, and no guest line is unfinished
 abbrev pub finished : State → State
 finished s = record { board = s.board; sessions = replicate SESSIONS closed; guest_line = []; ended = true }
@@ -119,7 +127,7 @@ abbrev pub reply : Option (List ℕ) → Result Data Code → List ℕ
 reply id (Ok value) = return_reply id value
 reply id (Err code) = error_reply id code
 
--- what one item makes: messages, and the state behind it
+-- what one item makes, or one line: messages, and the state behind it
 pub record Made : Type 0 where
   pub outs : List Message
   pub state : State
@@ -143,29 +151,59 @@ made at n s (Answer code id) = answered s n (error_reply id code)
 made at n s (Negotiated id) = answered (with_session s n (in_mode Commanding (session_of s n))) n (return_reply id empty)
 made at n s (Do request id) = done at n s id (perform s.board request)
 
--- the board behind an attempt of a command that was given up when it had made so many objects: an attempt makes one
-abbrev pub given_up : Board → Request → ℕ → Bool → Board
-given_up b request i joined = if i == 1 then attempted b request else b
-
 -- a command that is refused for want of memory: E99 with its id, and nothing changes but what an attempt leaves; all else is as it is defined
 abbrev pub made_by : Choice → Moment → ℕ → State → SessionAct → Made
-made_by (refused i joined) at n s (Do request id) = answered (with_board s (given_up s.board request i joined)) n (error_reply id E99)
+made_by (refused i joined) at n s (Do request id) = answered (with_board s (attempted s.board request i joined)) n (error_reply id E99)
 made_by choice at n s what = made at n s what
 
 -- each item of a session makes exactly one reply
 unfoldable pub item_step : Choice → Moment → ℕ → State → Item → Made
 item_step choice at n s item = made_by choice at n s (act (mode_of s n) item)
 
--- the items of a session in turn, until the run has ended
+-- an answer to the guest, with its line feed
+abbrev pub answer_line : GuestAnswer → List ℕ
+answer_line answer = text_of answer ++ 10 ∷ []
+
+abbrev pub guest_told : State → GuestAnswer → Made
+guest_told s answer = record { outs = (guest, answer_line answer) ∷ []; state = s }
+
+-- what a line of the guest does was done: the events that wait go first, then its own, then its answer
+abbrev pub line_done : Moment → State → Outcome → Made
+line_done at s o =
+    record { outs = event_outs at s (map event_of o.board.events ++ o.events) ++ (guest, answer_line o.answer) ∷ []; state = behind_command o.ends (with_board s (without_events o.board)) }
+
+-- one that is refused for want of memory changes nothing
+abbrev pub line_made : Choice → Moment → State → List ℕ → Made
+line_made (refused i joined) at s line = guest_told s NoMemory
+line_made defined at s line = line_done at s (heard s.board line)
+
+-- each line of the guest is answered once
+unfoldable pub line_step : Choice → Moment → State → List ℕ → Made
+line_step choice at s line = line_made choice at s (without_return line)
+
 abbrev pub serve_unless : Bool → Stepped → Stepped → Stepped
 serve_unless true ended on = ended
 serve_unless false ended on = on
 
-abbrev pub serve : Moment → ℕ → List Item → State → List Choice → Stepped
-serve at n [] s choices = unchanged s choices
-serve at n (item ∷ items) s choices =
+-- some things in turn, each by the step of one, until the run has ended
+abbrev pub serve_by : {X : Type 0} → (Choice → State → X → Made) → List X → State → List Choice → Stepped
+serve_by f [] s choices = unchanged s choices
+serve_by f (x ∷ xs) s choices =
     serve_unless s.ended (unchanged s choices)
-    (behind (item_step (first choices) at n s item).outs (serve at n items (item_step (first choices) at n s item).state (others choices)))
+    (behind (f (first choices) s x).outs (serve_by f xs (f (first choices) s x).state (others choices)))
+
+-- the items of a session, and the lines of the guest
+abbrev pub by_item : Moment → ℕ → Choice → State → Item → Made
+by_item at n choice s item = item_step choice at n s item
+
+abbrev pub by_line : Moment → Choice → State → List ℕ → Made
+by_line at choice s line = line_step choice at s line
+
+abbrev pub serve : Moment → ℕ → List Item → State → List Choice → Stepped
+serve at n items s choices = serve_by (by_item at n) items s choices
+
+abbrev pub serve_lines : Moment → List (List ℕ) → State → List Choice → Stepped
+serve_lines at lines s choices = serve_by (by_line at) lines s choices
 
 -- a session opens, and is greeted; an open one stays as it is
 abbrev pub opened : State → ℕ → Mode → List Choice → Stepped
@@ -178,11 +216,18 @@ taken at s n bytes choices =
     let f = fed (session_of s n) bytes in
     serve at n f.items (with_session s n f.session) choices
 
+-- bytes of the guest come: the lines that end in them are served, and the front of the unfinished one is kept
+abbrev pub guest_taken : Moment → State → List ℕ → List Choice → Stepped
+guest_taken at s bytes choices =
+    let l = lines_of s.guest_line bytes in
+    serve_lines at l.lines (with_line s l.rest) choices
+
 -- one input; a session number above 15 changes nothing
 abbrev pub input_step : State → Moment → What → List Choice → Stepped
 input_step s at (Open n) choices = if nat_lt n SESSIONS then opened s n (mode_of s n) choices else unchanged s choices
 input_step s at (Bytes n bytes) choices = if nat_lt n SESSIONS then taken at s n bytes choices else unchanged s choices
 input_step s at (Shut n) choices = if nat_lt n SESSIONS then unchanged (with_session s n closed) choices else unchanged s choices
+input_step s at (Guest bytes) choices = guest_taken at s bytes choices
 input_step s at End choices = unchanged (finished s) choices
 input_step s at what choices = unchanged s choices
 
@@ -215,21 +260,24 @@ pub record IsIn (s : State) (m : Seen) : Type 0 where
 abbrev pub Answers : State → Input → List Message → Seen → Type 0
 Answers s input outs m = (choices : List Choice) × ((step s input choices).outs ≡ outs) × IsIn (step s input choices).state m
 
--- the items that an input completes, the session whose they are, and the state in which they are served: what is unfinished is kept
-abbrev pub items_at : State → What → List Item
-items_at s (Bytes n bytes) = if nat_lt n SESSIONS then (fed (session_of s n) bytes).items else []
-items_at s what = []
+-- the items that bytes of a session complete, and the state in which they are served: what is unfinished is kept
+abbrev pub items_at : State → ℕ → List ℕ → List Item
+items_at s n bytes = if nat_lt n SESSIONS then (fed (session_of s n) bytes).items else []
 
-abbrev pub number_of : What → ℕ
-number_of (Bytes n bytes) = n
-number_of what = 0
+abbrev pub fed_at : State → ℕ → List ℕ → State
+fed_at s n bytes = if nat_lt n SESSIONS then with_session s n (fed (session_of s n) bytes).session else s
 
-abbrev pub fed_at : State → What → State
-fed_at s (Bytes n bytes) = if nat_lt n SESSIONS then with_session s n (fed (session_of s n) bytes).session else s
-fed_at s what = s
+-- by some choices, a front of some things leads to a board that the machine's objects stand for
+abbrev pub BreaksOffIn : {X : Type 0} → (Choice → State → X → Made) → List X → State → Seen → Type 0
+BreaksOffIn {X = X} f xs s m =
+    (front : List X) × (back : List X) × (choices : List Choice) × (xs ≡ front ++ back) × Stands (serve_by f front s choices).state.board m.board
 
--- broken off: by some choices, a front of the items leads to a board that the machine's objects stand for
+-- broken off: what the input completes was served in front
+abbrev pub BreaksOffAt : State → Moment → What → Seen → Type 0
+BreaksOffAt s at (Bytes n bytes) m = BreaksOffIn (by_item at n) (items_at s n bytes) (fed_at s n bytes) m
+BreaksOffAt s at (Guest bytes) m =
+    BreaksOffIn (by_line at) (lines_of s.guest_line bytes).lines (with_line s (lines_of s.guest_line bytes).rest) m
+BreaksOffAt s at what m = Stands s.board m.board
+
 abbrev pub BreaksOff : State → Input → Seen → Type 0
-BreaksOff s i m =
-    (front : List Item) × (back : List Item) × (choices : List Choice) × (items_at s i.what ≡ front ++ back)
-    × Stands (serve i.at (number_of i.what) front (fed_at s i.what) choices).state.board m.board
+BreaksOff s i m = BreaksOffAt s i.at i.what m

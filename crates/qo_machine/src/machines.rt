@@ -9,12 +9,13 @@ ghost use Rattle.qo_machine.specs.Machine.{Choice};
 ghost use Rattle.qo_machine.specs.Runs.{closed_where};
 
 use crate::outs::Outs;
-use crate::replying::{EMPTY, changed_text, reply_text};
-use crate::serving::serve_items;
-use qo_causes::{Input, Moment, What};
+use crate::replying::{EMPTY, changed_text, guest_text, reply_text};
+use crate::serving::{serve_items, serve_lines};
+use qo_causes::{Input, Lane, Moment, What};
 use qo_commands::{ask, change, drain, is_change};
 use qo_framing::Item;
 use qo_heap::Steps;
+use qo_lane::{cut_lines, hear};
 use qo_realize::Board;
 use qo_replies::{Event, return_written};
 use qo_requests::Request;
@@ -51,7 +52,7 @@ fn close_where(sessions: &mut Vec<Session>, lost: &[bool; LANES])
     }
 }
 
-/// What a command comes to, but for the events on devices that wait on the board.
+/// What a command or a line of the guest comes to, but for the events on devices that wait on the board.
 #[derive(Drop)]
 pub(crate) struct Replied {
     /// The text of its reply; an error where there was no memory for it when the board was changed.
@@ -88,18 +89,20 @@ impl Model for Machine {
 }
 
 impl Machine {
-    ghost use Rattle.std.specs.Prelude.{true, false, ◌⊎◌, IsErr, OnErr, OnOk};
+    ghost use Rattle.std.specs.Prelude.{true, false, IsErr, OnErr, OnOk};
     ghost use Rattle.qo_model.specs.Board.{Board as Tree};
     ghost use Rattle.qo_model.specs.Sound.{IsSound};
     ghost use Rattle.qo_sessions.specs.Acts.{act};
     ghost use Rattle.qo_sessions.specs.Sessions.{fed};
-    ghost use Rattle.qo_commands.specs.Changes.{attempted, is_change};
+    ghost use Rattle.qo_commands.specs.Changes.{Left, is_change};
     ghost use Rattle.qo_commands.specs.Commands.{event_of, without_events};
     ghost use Rattle.qo_realize.specs.Stands.{Stands};
-    ghost use Rattle.qo_machine.specs.Machine.{Answers, BreaksOff, IsIn, State, behind_command, beside, finished, input_step, mode_of, opening, session_of, state_at, with_session};
+    ghost use Rattle.qo_machine.specs.Machine.{Answers, BreaksOff, IsIn, State, behind_command, beside, finished, input_step, mode_of, opening, session_of, state_at, with_line, with_session};
     ghost use Rattle.qo_machine.specs.Runs.{close_lost};
     ghost use Rattle.qo_machine.specs.Sending.{AreToLanes};
-    ghost use Rattle.qo_machine.specs.Serving.{Came, moved};
+    ghost use Rattle.qo_lane.specs.Hearing.{heard};
+    ghost use Rattle.qo_lane.specs.Lines.{lines_of};
+    ghost use Rattle.qo_machine.specs.Serving.{Came, CameTo, moved};
 
     /// The machine at first: the opening board, and all sessions closed.
     pub fn start(alloc: Global) -> Result<Machine, AllocError>
@@ -136,7 +139,7 @@ impl Machine {
     /// Does what one input does, and gives the messages that it makes.
     ///
     /// A reply may instead be E99, where memory runs out for the defined one; the item has then done
-    /// nothing, but that `object-add` may have made and ended an object. It answers `AllocError` where
+    /// nothing, but that `object-add` and `device_add` may have made and ended objects. It answers `AllocError` where
     /// memory runs out otherwise, and from then on always: the run has then ended, and all sessions
     /// are closed. The board is then one that a front of the input's items leads to; it stays sound.
     pub fn step(&mut self, alloc: Global, input: &Input) -> Result<Outs, AllocError>
@@ -218,7 +221,7 @@ impl Machine {
                 self.finish();
                 Ok(Outs::none(alloc))
             }
-            What::Guest(_) => Ok(Outs::none(alloc)),
+            What::Guest(piece) => self.take_guest(alloc, input.at, piece.as_slice(), steps),
             What::Step(_) => Ok(Outs::none(alloc)),
         }
     }
@@ -235,7 +238,7 @@ impl Machine {
             return Ok(outs);
         }
         let begun = Session::begin(alloc)?;
-        outs.push(session, begun.greet_text(alloc)?)?;
+        outs.push(Lane::Session(session), begun.greet_text(alloc)?)?;
         self.sessions[usize::from(session)] = begun;
         Ok(outs)
     }
@@ -284,6 +287,54 @@ impl Machine {
             Ok(items) => Ok(items),
             Err(_) => Err(AllocError),
         }
+    }
+
+    /// Bytes of the guest come: the lines that end in them are served in turn.
+    fn take_guest<L: Ledger>(
+        &mut self,
+        alloc: Global,
+        at: Moment,
+        bytes: &[u8],
+        steps: &mut Steps<L>,
+    ) -> Result<Outs, AllocError>
+        ensures answered { (s : State) → IsIn s self.old → IfOk result (λ outs. (choices : List Choice) × (t : State) × IsIn t self.new × (input_step s at (What.Guest bytes.now) choices ≡ record { outs = outs; state = t; rest = [] })) }
+        ensures breaks { (s : State) → IsIn s self.old → OnErr result (BreaksOff s (record { at = at; what = What.Guest bytes.now }) self.new) }
+        ensures lanes { IfOk result AreToLanes }
+        ensures lasts { self.new.spent ≡ self.old.spent }
+    {
+        let lines = self.cut(alloc, bytes)?;
+        serve_lines(self, alloc, at, &lines, steps)
+    }
+
+    /// The lines of the guest that end in some bytes; the front of the unfinished one is kept.
+    fn cut(&mut self, alloc: Global, bytes: &[u8]) -> Result<Vec<Chars>, AllocError>
+        ensures lines { IfOk result (λ lines. lines.items ≡ (lines_of self.old.guest_line bytes.now).lines) }
+        ensures state { (b : Tree) → OnOk result (state_at b self.new ≡ with_line (state_at b self.old) (lines_of self.old.guest_line bytes.now).rest) }
+        ensures board { self.new.board ≡ self.old.board }
+        ensures lasts { self.new.spent ≡ self.old.spent }
+    {
+        cut_lines(alloc, &mut self.guest_line, bytes)
+    }
+
+    /// Does what a line of the guest does, and gives its answer. The error is want of memory, and
+    /// leaves the machine as it was.
+    pub(crate) fn hear<L: Ledger>(
+        &mut self,
+        alloc: Global,
+        line: &[u8],
+        steps: &mut Steps<L>,
+    ) -> Result<Replied, AllocError>
+        ensures came { (b : Tree) → Stands b self.old.board → IfOk result (λ r. CameTo (heard b line.now) r self.new.board) }
+        ensures kept { OnErr result (self.new.board ≡ self.old.board) }
+        ensures rest { (b : Tree) → state_at b self.new ≡ state_at b self.old }
+        ensures lasts { self.new.spent ≡ self.old.spent }
+    {
+        let heard = hear(&mut self.board, line, alloc, steps)?;
+        Ok(Replied {
+            text: guest_text(alloc, &heard.answer),
+            event: heard.event,
+            ends: heard.ends,
+        })
     }
 
     /// The mode of a session.
@@ -336,7 +387,7 @@ impl Machine {
 
     /// Does a command that changes the board, and gives the text of its reply. The text that says that
     /// it was done is made first, so that nothing is done that could not be answered. Where memory
-    /// runs out the board is as it was, or an attempt was given up.
+    /// runs out the board is as it was, or an attempt was cut.
     fn change<L: Ledger>(
         &mut self,
         alloc: Global,
@@ -346,7 +397,7 @@ impl Machine {
     ) -> Result<Replied, AllocError>
         requires { is_change request.now ≡ true }
         ensures came { (b : Tree) → Stands b self.old.board → IfOk result (λ r. Came b request.now (option_map (λ id. id.now) id.entry) r self.new.board) }
-        ensures kept { (b : Tree) → Stands b self.old.board → OnErr result (Stands b self.new.board ⊎ Stands (attempted b request.now) self.new.board) }
+        ensures kept { (b : Tree) → Stands b self.old.board → OnErr result (Left b request.now self.new.board) }
         ensures rest { (b : Tree) → state_at b self.new ≡ state_at b self.old }
         ensures lasts { self.new.spent ≡ self.old.spent }
     {
@@ -361,7 +412,8 @@ impl Machine {
     }
 
     /// What a command comes to, and the text of its reply. Where memory runs out the board is as it
-    /// was, or an attempt was given up.
+    /// was, or an attempt was cut.
+    #[inline(always)]
     pub(crate) fn perform<L: Ledger>(
         &mut self,
         alloc: Global,
@@ -370,7 +422,7 @@ impl Machine {
         steps: &mut Steps<L>,
     ) -> Result<Replied, AllocError>
         ensures came { (b : Tree) → Stands b self.old.board → IfOk result (λ r. Came b request.now (option_map (λ id. id.now) id.entry) r self.new.board) }
-        ensures kept { (b : Tree) → Stands b self.old.board → OnErr result (Stands b self.new.board ⊎ Stands (attempted b request.now) self.new.board) }
+        ensures kept { (b : Tree) → Stands b self.old.board → OnErr result (Left b request.now self.new.board) }
         ensures rest { (b : Tree) → state_at b self.new ≡ state_at b self.old }
         ensures lasts { self.new.spent ≡ self.old.spent }
     {

@@ -1,7 +1,6 @@
 //! The messages of one step.
 
 ghost use Rattle.std.specs.Prelude.{◌≡◌, [], ◌∷◌, ◌++◌, OnOk};
-ghost use Rattle.qo_causes.specs.declared.hubs.Lane.TheVariants as Lane;
 
 use qo_causes::Lane;
 use qo_values::Chars;
@@ -47,11 +46,11 @@ impl Outs {
         }
     }
 
-    /// Adds one message to a session.
-    pub(crate) fn push(&mut self, session: u8, text: Chars) -> Result<(), AllocError>
-        ensures { OnOk result (self.new ≡ self.old ++ (Lane.Session session, text) ∷ []) }
+    /// Adds one message to a lane.
+    pub(crate) fn push(&mut self, lane: Lane, text: Chars) -> Result<(), AllocError>
+        ensures { OnOk result (self.new ≡ self.old ++ (lane, text) ∷ []) }
     {
-        self.messages.push((Lane::Session(session), text))?;
+        self.messages.push((lane, text))?;
         Ok(())
     }
 }

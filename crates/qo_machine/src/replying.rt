@@ -4,12 +4,13 @@ ghost use Rattle.std.specs.Prelude.{◌≡◌, false, option_map, IfOk};
 ghost use Rattle.serde_json.specs.Written.{has_float};
 ghost use Rattle.qo_commands.specs.Commands.{empty as nothing};
 ghost use Rattle.qo_commands.specs.Views.{body_data, data_of, has_float_in};
-ghost use Rattle.qo_machine.specs.Machine.{reply};
+ghost use Rattle.qo_machine.specs.Machine.{answer_line, reply};
 ghost use Rattle.qo_model.specs.Board.{Board as Tree};
 ghost use Rattle.qo_realize.specs.Stands.{Stands};
 ghost use Rattle.qo_replies.specs.Replies.{return_reply};
 
-use qo_commands::{Body, listing_text};
+use qo_commands::{Body, answer_value, listing_text};
+use qo_guest::{GuestAnswer, answer_text};
 use qo_heap::Steps;
 use qo_realize::Board;
 use qo_replies::{error_text, return_text, return_written};
@@ -42,6 +43,10 @@ fn done_text<L: Ledger>(
         Body::Listing(birth) => {
             let text = listing_text(alloc, board, *birth, steps)?;
             return_written(alloc, id, text.as_str())
+        }
+        Body::Answer(answer) => {
+            let value = answer_value(alloc, answer)?;
+            return_text(alloc, id, &value)
         }
         Body::Value(value) => return_text(alloc, id, value),
     }
@@ -80,4 +85,17 @@ pub(crate) fn changed_text<L: Ledger>(
         Ok(Body::Empty) => Ok(empty),
         other => reply_text(alloc, board, id, other, steps),
     }
+}
+
+/// A line feed ends each answer to the guest.
+const LINE_FEED: u8 = 10;
+
+/// The text of an answer to the guest, with its line feed.
+pub(crate) fn guest_text(alloc: Global, answer: &GuestAnswer) -> Result<Chars, AllocError>
+    ensures { IfOk result (λ text. text ≡ answer_line answer.now) }
+{
+    let text = answer_text(alloc, answer)?;
+    let mut line = Vec::from_slice(alloc, text.as_slice())?;
+    line.push(LINE_FEED)?;
+    Ok(Chars::from_vec(line))
 }

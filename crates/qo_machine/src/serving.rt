@@ -1,27 +1,30 @@
-//! Serving the items of a session: each makes exactly one reply, behind the events of its command.
+//! Serving the items of a session and the lines of the guest: each makes exactly one reply, behind its events.
 
 ghost use Rattle.std.specs.Prelude.{◌≡◌, ◌<◌, [], ◌∷◌, ◌++◌, List, option_map, option_to_list, IfOk, OnErr, OnOk};
-ghost use Rattle.qo_causes.specs.declared.hubs.Lane.TheVariants as Lane;
+ghost use Rattle.qo_causes.specs.declared.hubs.Lane.TheVariants as LaneView;
+ghost use Rattle.qo_guest.specs.declared.answers.GuestAnswer.TheVariants.{NoMemory};
 ghost use Rattle.qo_replies.specs.Replies.{error_reply};
 ghost use Rattle.qo_values.specs.declared.codes.Code.TheVariants.{E99};
 ghost use Rattle.qo_model.specs.Board.{Board as Tree};
 ghost use Rattle.qo_realize.specs.Stands.{Stands};
 ghost use Rattle.qo_commands.specs.Commands.{without_events};
-ghost use Rattle.qo_machine.specs.Machine.{IsIn, Message, State, beside, commanding, event_outs, state_at, those_commanding, told_of};
+ghost use Rattle.qo_machine.specs.Machine.{IsIn, Message, State, answer_line, beside, commanding, event_outs, state_at, those_commanding, told_of};
 ghost use Rattle.qo_values.specs.declared.limits.TheConstants.{SESSIONS};
-ghost use Rattle.qo_machine.specs.Sending.{AreToLanes};
-ghost use Rattle.qo_machine.specs.Serving.{CommandLeft, CommandServed, ServesFront, ServesTo, Tells};
+ghost use Rattle.qo_machine.specs.Sending.{AreToLanes, IsLane};
+ghost use Rattle.qo_machine.specs.Serving.{CommandLeft, CommandServed, LinesFront, LinesTo, ServesFront, ServesTo, Tells};
 
 use crate::machines::{Machine, Replied};
 use crate::outs::Outs;
-use crate::replying::EMPTY;
-use qo_causes::Moment;
+use crate::replying::{EMPTY, guest_text};
+use qo_causes::{Lane, Moment};
 use qo_framing::Item;
+use qo_guest::GuestAnswer;
 use qo_heap::Steps;
+use qo_lane::without_return;
 use qo_replies::{Event, error_text, event_text, return_written};
 use qo_requests::Request;
 use qo_sessions::{Mode, SessionAct};
-use qo_values::{Code, SESSIONS, Text};
+use qo_values::{Chars, Code, SESSIONS, Text};
 use std::alloc::{AllocError, Global};
 use std::sync::ledger::Ledger;
 
@@ -38,7 +41,7 @@ fn tell_one(
     ensures { OnOk result (outs.new ≡ outs.old ++ told_of event.now at (those_commanding (beside machine.now) (session ∷ []))) }
 {
     if machine.mode(session) == Mode::Commanding {
-        outs.push(session, event_text(alloc, at, event)?)?;
+        outs.push(Lane::Session(session), event_text(alloc, at, event)?)?;
     }
     Ok(())
 }
@@ -98,24 +101,32 @@ fn tell_want(
     id: Option<&Text>,
     outs: &mut Outs,
 ) -> Result<(), AllocError>
-    ensures { OnOk result (outs.new ≡ outs.old ++ (Lane.Session session, error_reply (option_map (λ id. id.now) id.entry) E99) ∷ []) }
+    ensures { OnOk result (outs.new ≡ outs.old ++ (LaneView.Session session, error_reply (option_map (λ id. id.now) id.entry) E99) ∷ []) }
 {
-    outs.push(session, error_text(alloc, id, Code::E99)?)?;
+    outs.push(Lane::Session(session), error_text(alloc, id, Code::E99)?)?;
+    Ok(())
+}
+
+/// The guest is told that memory ran out for its line.
+fn tell_guest_want(alloc: Global, outs: &mut Outs) -> Result<(), AllocError>
+    ensures { OnOk result (outs.new ≡ outs.old ++ (LaneView.Guest, answer_line NoMemory) ∷ []) }
+{
+    outs.push(Lane::Guest, guest_text(alloc, &GuestAnswer::NoMemory)?)?;
     Ok(())
 }
 
 /// Each session that commands is told of the events that wait on the board, which no longer wait then,
-/// and of those of a command; its reply goes to its session.
+/// and of those of a command or a line; its reply goes to its lane.
 fn send_reply(
     machine: &mut Machine,
     alloc: Global,
     at: Moment,
-    session: u8,
+    lane: Lane,
     reply: Replied,
     outs: &mut Outs,
 ) -> Result<(), AllocError>
-    requires { session < SESSIONS }
-    ensures sent { OnOk result ((front : List Message) × (outs.new ≡ outs.old ++ front) × AreToLanes front × Tells at session machine.old reply front) }
+    requires { IsLane lane }
+    ensures sent { OnOk result ((front : List Message) × (outs.new ≡ outs.old ++ front) × AreToLanes front × Tells at lane machine.old reply front) }
     ensures board { (b : Tree) → Stands b machine.old.board → Stands (without_events b) machine.new.board }
     ensures rest { (b : Tree) → state_at b machine.new ≡ state_at b machine.old }
     ensures lasts { machine.new.spent ≡ machine.old.spent }
@@ -123,7 +134,7 @@ fn send_reply(
     let waiting = machine.drain(alloc)?;
     tell_all(machine, alloc, at, &waiting, outs)?;
     tell_own(machine, alloc, at, reply.event.as_ref(), outs)?;
-    outs.push(session, reply.text?)?;
+    outs.push(lane, reply.text?)?;
     Ok(())
 }
 
@@ -146,7 +157,7 @@ fn serve_command<L: Ledger>(
     match machine.perform(alloc, request, id, steps) {
         Ok(reply) => {
             let ends = reply.ends;
-            let sent = send_reply(machine, alloc, at, session, reply, outs);
+            let sent = send_reply(machine, alloc, at, Lane::Session(session), reply, outs);
             machine.conclude(ends);
             sent
         }
@@ -174,10 +185,10 @@ fn serve_item<L: Ledger>(
     }
     match machine.heed(alloc, session, item)? {
         SessionAct::Answer(code, id) => {
-            outs.push(session, error_text(alloc, id.as_ref(), code)?)?;
+            outs.push(Lane::Session(session), error_text(alloc, id.as_ref(), code)?)?;
         }
         SessionAct::Negotiated(id) => {
-            outs.push(session, return_written(alloc, id.as_ref(), EMPTY)?)?;
+            outs.push(Lane::Session(session), return_written(alloc, id.as_ref(), EMPTY)?)?;
         }
         SessionAct::Do(request, id) => {
             serve_command(
@@ -213,6 +224,53 @@ pub(crate) fn serve_items<L: Ledger>(
     let mut outs = Outs::none(alloc);
     for item in items {
         serve_item(machine, alloc, at, session, item, &mut outs, steps)?;
+    }
+    Ok(outs)
+}
+
+/// A line of the guest is served, unless the run has ended.
+fn serve_line<L: Ledger>(
+    machine: &mut Machine,
+    alloc: Global,
+    at: Moment,
+    line: &Chars,
+    outs: &mut Outs,
+    steps: &mut Steps<L>,
+) -> Result<(), AllocError>
+    ensures served { OnOk result ((front : List Message) × (outs.new ≡ outs.old ++ front) × AreToLanes front × ((s : State) → IsIn s machine.old → LinesTo at s (line.now ∷ []) front machine.new)) }
+    ensures left { OnErr result ((s : State) → IsIn s machine.old → LinesFront at s (line.now ∷ []) machine.new) }
+    ensures lasts { machine.new.spent ≡ machine.old.spent }
+{
+    if machine.ended() {
+        return Ok(());
+    }
+    match machine.hear(alloc, without_return(line.as_slice()), steps) {
+        Ok(reply) => {
+            let ends = reply.ends;
+            let sent = send_reply(machine, alloc, at, Lane::Guest, reply, outs);
+            machine.conclude(ends);
+            sent
+        }
+        Err(AllocError) => tell_guest_want(alloc, outs),
+    }
+}
+
+/// Lines of the guest are served in turn.
+pub(crate) fn serve_lines<L: Ledger>(
+    machine: &mut Machine,
+    alloc: Global,
+    at: Moment,
+    lines: &[Chars],
+    steps: &mut Steps<L>,
+) -> Result<Outs, AllocError>
+    ensures served { IfOk result (λ outs. (s : State) → IsIn s machine.old → LinesTo at s lines.now outs machine.new) }
+    ensures left { OnErr result ((s : State) → IsIn s machine.old → LinesFront at s lines.now machine.new) }
+    ensures lanes { IfOk result AreToLanes }
+    ensures lasts { machine.new.spent ≡ machine.old.spent }
+{
+    let mut outs = Outs::none(alloc);
+    for line in lines {
+        serve_line(machine, alloc, at, line, &mut outs, steps)?;
     }
     Ok(outs)
 }

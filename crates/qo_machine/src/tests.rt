@@ -23,6 +23,9 @@ const ROOT: &[u8] =
 const SHUTDOWN: &[u8] =
     b"{\"data\":{\"guest\":false,\"reason\":\"host-qmp-quit\"},\"event\":\"SHUTDOWN\",\"timestamp\":{\"microseconds\":0,\"seconds\":1}}\r\n";
 
+const GUEST_SHUTDOWN: &[u8] =
+    b"{\"data\":{\"guest\":true,\"reason\":\"guest-shutdown\"},\"event\":\"SHUTDOWN\",\"timestamp\":{\"microseconds\":0,\"seconds\":1}}\r\n";
+
 fn input(what: What) -> Input {
     Input {
         at: Moment {
@@ -33,13 +36,22 @@ fn input(what: What) -> Input {
     }
 }
 
-/// Bytes of a session.
-fn bytes(alloc: Global, session: u8, bytes: &[u8]) -> Result<Input, Fail> {
+/// Bytes as one piece.
+fn chunk(alloc: Global, bytes: &[u8]) -> Result<Chunk, Fail> {
     if bytes.is_empty() || bytes.len() > Chunk::MAX {
         return Err("no chunk".into());
     }
-    let chunk = Chunk::from_vec(Vec::from_slice(alloc, bytes)?);
-    Ok(input(What::Bytes(session, chunk)))
+    Ok(Chunk::from_vec(Vec::from_slice(alloc, bytes)?))
+}
+
+/// Bytes of a session.
+fn bytes(alloc: Global, session: u8, bytes: &[u8]) -> Result<Input, Fail> {
+    Ok(input(What::Bytes(session, chunk(alloc, bytes)?)))
+}
+
+/// Bytes of the guest.
+fn guest(alloc: Global, bytes: &[u8]) -> Result<Input, Fail> {
+    Ok(input(What::Guest(chunk(alloc, bytes)?)))
 }
 
 /// The texts of some messages, one after another, each behind its lane.
@@ -74,6 +86,22 @@ fn a_session_is_served(rt: HostRuntime) -> Result<(), Fail> {
     let served = machine.step(alloc, &bytes(alloc, 0, &commands)?)?;
     let replies = [b"0", EMPTY, b"0", ROOT, b"0", SHUTDOWN, b"0", EMPTY];
     assert_eq!(rt; told(alloc, &served)?, joined(alloc, &replies)?);
+    Ok(())
+}
+
+#[test]
+fn the_guest_is_answered_line_by_line(rt: HostRuntime) -> Result<(), Fail> {
+    let alloc = rt.alloc();
+    let mut machine = Machine::start(alloc)?;
+    machine.step(alloc, &input(What::Open(0)))?;
+    machine.step(alloc, &bytes(alloc, 0, NEGOTIATE)?)?;
+    let unfinished = machine.step(alloc, &guest(alloc, b"po")?)?;
+    assert_eq!(rt; told(alloc, &unfinished)?, joined(alloc, &[])?);
+    let lines = guest(alloc, b"ll\r\nbark\nshutdown\npoll\n")?;
+    let served = machine.step(alloc, &lines)?;
+    let answers = [b"gok none\n", b"gno line\n", b"0", GUEST_SHUTDOWN, b"gok\n"];
+    assert_eq!(rt; told(alloc, &served)?, joined(alloc, &answers)?);
+    assert!(rt; machine.ended());
     Ok(())
 }
 

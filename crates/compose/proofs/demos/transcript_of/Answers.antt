@@ -1,6 +1,6 @@
--- The run was over the demo record, and no command of it was refused for want of memory.
+-- The run was over the demo record, and nothing of it was refused for want of memory.
 use Rattle.std.proofs.Common.{◌∙◌, subst, ap, List, ℕ, arith}
-use Rattle.compose.specs.Demo.{Lacks, no_memory}
+use Rattle.compose.specs.Demo.{Lacks, refused_line, refused_reply}
 use Rattle.compose.proofs.DemoLemmas.{demo_done}
 use Rattle.compose.proofs.demos.transcript_of.Goals as goal
 
@@ -10,4 +10,5 @@ returns c =
     let ran = c.replay-ran.ensures.replayed in
     demo_done c.replay-ran.result.0.status c.new-source.result.bytes c.new-2.result.bytes.items kept ran.0 _ c.args.seed c.args.steps _ c.in-Done.is
     (ap (λ s. s.bytes) c.new-source.ensures ∙ c.in_ok-stream.ensures) c.new-2.ensures (omega arith) ran.1
-    (subst (λ (l : List ℕ). Lacks no_memory l) c.deref.ensures.value (c.may_be_refused.ensures c.if-may_be_refused.false))
+    (subst (λ (l : List ℕ). Lacks refused_reply l) c.deref.ensures.value (c.may_have.ensures c.if-may_have.false))
+    (subst (λ (l : List ℕ). Lacks refused_line l) c.deref-2.ensures.value (c.may_have-2.ensures c.if-may_have-2.false))

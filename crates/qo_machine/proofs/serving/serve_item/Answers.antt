@@ -3,14 +3,14 @@ use Rattle.std.proofs.Common.{ℕ, List, [], ◌∷◌, refl, sym, ap, subst, �
 use Rattle.qo_commands.proofs.CommandLemmas.{empty_written}
 use Rattle.qo_commands.specs.Commands.{empty}
 use Rattle.qo_machine.proofs.LeftLemmas.{front_answer, front_command, front_negotiation, front_unheeded}
-use Rattle.qo_machine.proofs.MachineLemmas.{on_err, serves_answer, serves_command, serves_negotiation, serves_over}
-use Rattle.qo_machine.specs.Machine.{state_at}
+use Rattle.qo_machine.proofs.MachineLemmas.{on_err, serves_answer, serves_command, serves_negotiation, serves_over_by}
+use Rattle.qo_machine.specs.Machine.{by_item, state_at}
 use Rattle.qo_machine.specs.Serving.{CommandLeft, CommandServed, moved}
 use Rattle.qo_machine.proofs.serving.serve_item.Goals as goal
 
 pub returns-then-ended-clause-served : goal.returns-then-ended-clause-served
 returns-then-ended-clause-served g c =
-    ([], sym (append-nil _), tt, serves_over c.args.at c.args.session c.args.machine.now c.args.machine.now c.args.item.now (sym c.if-ended.ensures) refl)
+    ([], sym (append-nil _), tt, serves_over_by (by_item c.args.at c.args.session) c.args.machine.now c.args.machine.now c.args.item.now (sym c.if-ended.ensures) refl)
 
 pub returns-in_ok-push-in-Answer-clause-served : goal.returns-in_ok-push-in-Answer-clause-served
 returns-in_ok-push-in-Answer-clause-served g c = (

@@ -2,9 +2,9 @@
 use Rattle.std.proofs.Common.{sym, ◌∙◌, subst, List, [], ◌∷◌, ◌++◌, ◌+◌, take, arith}
 use Rattle.qo_framing.specs.declared.items.Item.{Item}
 use Rattle.qo_machine.proofs.LaneLemmas.{more_lanes}
-use Rattle.qo_machine.proofs.LeftLemmas.{front_of_all, front_on}
-use Rattle.qo_machine.proofs.MachineLemmas.{on_err, serves_on, take_one}
-use Rattle.qo_machine.specs.Machine.{Message}
+use Rattle.qo_machine.proofs.LeftLemmas.{front_of_all_by, front_on_by}
+use Rattle.qo_machine.proofs.MachineLemmas.{on_err, serves_on_by, take_one}
+use Rattle.qo_machine.specs.Machine.{Message, by_item}
 use Rattle.qo_machine.specs.Serving.{ServesFront, ServesTo}
 use Rattle.qo_machine.proofs.serving.serve_items.Goals as goal
 
@@ -15,7 +15,7 @@ loop-item-preserved g c =
       served = λ s here.
           subst (λ (outs : List Message). ServesTo c.args.at c.args.session s (take (c.loop-item.item-index + 1) c.args.items.now) outs c.serve_item.new.machine) (sym one.1)
           (subst (λ (items : List Item). ServesTo c.args.at c.args.session s items (c.loop-item.outs ++ one.0) c.serve_item.new.machine) (sym (take_one c.args.items.now c.loop-item.item-index c.item-item.result (omega arith) c.item-item.is))
-          (serves_on c.args.at c.args.session s c.loop-item.machine c.serve_item.new.machine (take c.loop-item.item-index c.args.items.now) (c.item-item.result ∷ []) c.loop-item.outs one.0 (c.loop-item.invariant.served s here) one.3));
+          (serves_on_by (by_item c.args.at c.args.session) s c.loop-item.machine c.serve_item.new.machine (take c.loop-item.item-index c.args.items.now) (c.item-item.result ∷ []) c.loop-item.outs one.0 (c.loop-item.invariant.served s here) one.3));
       lanes = more_lanes c.loop-item.outs one.0 _ one.1 c.loop-item.invariant.lanes one.2;
       lasts = c.in_ok-serve_item.ensures.lasts ∙ c.loop-item.invariant.lasts;
     }
@@ -27,6 +27,6 @@ pub returns-in_err-serve_item-clause-left : goal.returns-in_err-serve_item-claus
 returns-in_err-serve_item-clause-left g c =
     on_err c.from_residual.result
     (λ s here.
-    front_of_all c.args.at c.args.session s c.serve_item.new.machine c.args.items.now (c.loop-item.item-index + 1)
+    front_of_all_by (by_item c.args.at c.args.session) s c.serve_item.new.machine c.args.items.now (c.loop-item.item-index + 1)
     (subst (λ (items : List Item). ServesFront c.args.at c.args.session s items c.serve_item.new.machine) (sym (take_one c.args.items.now c.loop-item.item-index c.item-item.result (omega arith) c.item-item.is))
-    (front_on c.args.at c.args.session s c.loop-item.machine c.serve_item.new.machine (take c.loop-item.item-index c.args.items.now) (c.item-item.result ∷ []) c.loop-item.outs (c.loop-item.invariant.served s here) c.in_err-serve_item.ensures.left)))
+    (front_on_by (by_item c.args.at c.args.session) s c.loop-item.machine c.serve_item.new.machine (take c.loop-item.item-index c.args.items.now) (c.item-item.result ∷ []) c.loop-item.outs (c.loop-item.invariant.served s here) c.in_err-serve_item.ensures.left)))

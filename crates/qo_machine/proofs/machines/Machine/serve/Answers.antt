@@ -1,6 +1,6 @@
 -- An input does what it does by itself, while the run goes on.
 use Rattle.std.proofs.Common.{[], ◌∙◌, ap, sym, refl, subst, List, OnErr}
-use Rattle.qo_causes.specs.declared.inputs.What.TheVariants.{Bytes}
+use Rattle.qo_causes.specs.declared.inputs.What.TheVariants.{Bytes, Guest}
 use Rattle.qo_causes.specs.declared.inputs.What.{What}
 use Rattle.qo_machine.specs.Machine.{BreaksOff, Message, State, state_at, unchanged}
 use Rattle.qo_machine.proofs.LeftLemmas.{breaks_before}
@@ -31,7 +31,7 @@ returns-in-End-clause-answered g c =
 
 pub returns-in-Guest-clause-answered : goal.returns-in-Guest-clause-answered
 returns-in-Guest-clause-answered g c =
-    answers_still c.args.input.now _ _ c.args.self.now c.args.self.now (sym (seen_ended c.self.view_is) ∙ c.if-self.false) c.in-Guest.is c.none-in-Guest.ensures refl (λ s. refl)
+    served_bytes c.take_guest.result c.args.input.now _ c.args.self.now c.take_guest.new.self (sym (seen_ended c.self.view_is) ∙ c.if-self.false) (c.in-Guest.is ∙ ap Guest (sym c.as_slice-in-Guest.ensures.value)) c.take_guest.ensures.answered
 
 pub returns-in-Step-clause-answered : goal.returns-in-Step-clause-answered
 returns-in-Step-clause-answered g c =
@@ -44,3 +44,7 @@ returns-in-Open-clause-breaks g c = λ s here.
 pub returns-in-Bytes-clause-breaks : goal.returns-in-Bytes-clause-breaks
 returns-in-Bytes-clause-breaks g c = λ s here.
     subst (λ (w : What). OnErr c.take.result (BreaksOff s (record { at = c.args.input.now.at; what = w }) c.take.new.self)) (sym (c.in-Bytes.is ∙ ap (Bytes c.in-Bytes.session) (sym c.as_slice.ensures.value))) (c.take.ensures.breaks s here)
+
+pub returns-in-Guest-clause-breaks : goal.returns-in-Guest-clause-breaks
+returns-in-Guest-clause-breaks g c = λ s here.
+    subst (λ (w : What). OnErr c.take_guest.result (BreaksOff s (record { at = c.args.input.now.at; what = w }) c.take_guest.new.self)) (sym (c.in-Guest.is ∙ ap Guest (sym c.as_slice-in-Guest.ensures.value))) (c.take_guest.ensures.breaks s here)
