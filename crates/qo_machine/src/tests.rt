@@ -23,6 +23,10 @@ const ROOT: &[u8] =
 const SHUTDOWN: &[u8] =
     b"{\"data\":{\"guest\":false,\"reason\":\"host-qmp-quit\"},\"event\":\"SHUTDOWN\",\"timestamp\":{\"microseconds\":0,\"seconds\":1}}\r\n";
 
+const NONE_AND_NO_LINE: &[u8] = b"gok none\ngno line\n";
+
+const FINE: &[u8] = b"gok\n";
+
 const GUEST_SHUTDOWN: &[u8] =
     b"{\"data\":{\"guest\":true,\"reason\":\"guest-shutdown\"},\"event\":\"SHUTDOWN\",\"timestamp\":{\"microseconds\":0,\"seconds\":1}}\r\n";
 
@@ -99,7 +103,7 @@ fn the_guest_is_answered_line_by_line(rt: HostRuntime) -> Result<(), Fail> {
     assert_eq!(rt; told(alloc, &unfinished)?, joined(alloc, &[])?);
     let lines = guest(alloc, b"ll\r\nbark\nshutdown\npoll\n")?;
     let served = machine.step(alloc, &lines)?;
-    let answers = [b"gok none\n", b"gno line\n", b"0", GUEST_SHUTDOWN, b"gok\n"];
+    let answers = [NONE_AND_NO_LINE, b"0", GUEST_SHUTDOWN, FINE];
     assert_eq!(rt; told(alloc, &served)?, joined(alloc, &answers)?);
     assert!(rt; machine.ended());
     Ok(())
