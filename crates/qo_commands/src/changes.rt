@@ -129,11 +129,7 @@ fn plug<L: Ledger>(
 }
 
 /// Asks for the removal of the device that a text is of.
-fn unplug<L: Ledger>(
-    board: &mut Board,
-    id: &str,
-    steps: &mut Steps<L>,
-) -> Result<Done, AllocError>
+fn unplug<L: Ledger>(board: &mut Board, id: &str, steps: &mut Steps<L>) -> Result<Done, AllocError>
     ensures { (b : Tree) → Stands b board.old → Changes b (request.DeviceDel id.now) result board.new }
 {
     outcome_of(board.ask_removal(id, steps))

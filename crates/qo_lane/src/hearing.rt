@@ -143,13 +143,7 @@ fn act_in(line: &[u8]) -> Option<GuestAct>
     ensures { result ≡ act_in (guest_line line.now) }
 {
     match read_line(line) {
-        Ok(act) => {
-            if is_built(&act) {
-                Some(act)
-            } else {
-                None
-            }
-        }
+        Ok(act) => { if is_built(&act) { Some(act) } else { None } }
         Err(_) => None,
     }
 }

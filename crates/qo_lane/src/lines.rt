@@ -37,11 +37,7 @@ fn add_byte(
 /// The lines that end in a piece of bytes, behind the front that was kept of an unfinished one, each
 /// without its line feed. The front behind the piece is kept in its place, and of a line longer than
 /// `GUEST_LINE_MAX` only so much that it is known for one. After an error the kept front is no matter.
-pub fn cut_lines(
-    alloc: Global,
-    kept: &mut Vec<u8>,
-    piece: &[u8],
-) -> Result<Vec<Chars>, AllocError>
+pub fn cut_lines(alloc: Global, kept: &mut Vec<u8>, piece: &[u8]) -> Result<Vec<Chars>, AllocError>
     ensures lines { IfOk result (λ lines. lines.items ≡ (lines_of kept.old.items piece.now).lines) }
     ensures rest { OnOk result (kept.new.items ≡ (lines_of kept.old.items piece.now).rest) }
 {

@@ -185,10 +185,16 @@ fn serve_item<L: Ledger>(
     }
     match machine.heed(alloc, session, item)? {
         SessionAct::Answer(code, id) => {
-            outs.push(Lane::Session(session), error_text(alloc, id.as_ref(), code)?)?;
+            outs.push(
+                Lane::Session(session),
+                error_text(alloc, id.as_ref(), code)?,
+            )?;
         }
         SessionAct::Negotiated(id) => {
-            outs.push(Lane::Session(session), return_written(alloc, id.as_ref(), EMPTY)?)?;
+            outs.push(
+                Lane::Session(session),
+                return_written(alloc, id.as_ref(), EMPTY)?,
+            )?;
         }
         SessionAct::Do(request, id) => {
             serve_command(

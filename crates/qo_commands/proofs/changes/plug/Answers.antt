@@ -18,4 +18,4 @@ returns-in-Err-Refused g c = λ b s.
     let bus = option_map (λ t. t.now) c.args.bus in
     plug-err b c.add.new.self c.args.driver.now id bus c.args.props.now c.in-Err-Refused.field-0-0 c.in-Err-Refused.code c.refused.result
     (refused-as b (wanted c.args.driver.now id bus c.args.props.now) c.in-Err-Refused.field-0 c.in-Err-Refused.field-0-0 c.in-Err-Refused.code c.add.new.self c.in-Err-Refused.field-0-is
-      (plugs-as b c.args.driver.now id bus _ _ c.args.props.now (Err c.in-Err-Refused.field-0) c.add.new.self c.words_of-id.ensures c.words_of-bus.ensures (c.in-Err-Refused.ensures.change b s))) c.refused.ensures
+    (plugs-as b c.args.driver.now id bus _ _ c.args.props.now (Err c.in-Err-Refused.field-0) c.add.new.self c.words_of-id.ensures c.words_of-bus.ensures (c.in-Err-Refused.ensures.change b s))) c.refused.ensures
