@@ -331,7 +331,7 @@ fn entries_of_every_kind_are_taken(rt: HostRuntime) -> Result<(), Fail> {
         "qrec 1\nopen 0.000000 15\nguest 0.000001 5\npoll\n\nstep 2.000000 25\nshut 9223372036854775807.999999 15\nopen 1.000000 15\n";
     let left = call(alloc, &["replay"], record.as_bytes(), &[], &[])?;
     let greeting = GREETING.strip_prefix("0 ").unwrap_or("");
-    let want = joined(alloc, &["15 ", greeting, "15 ", greeting])?;
+    let want = joined(alloc, &["15 ", greeting, "g ok none\n", "15 ", greeting])?;
     assert_eq!(rt; left.status, Status::Done);
     assert_eq!(rt; left.held.as_slice(), want.as_bytes());
     Ok(())
