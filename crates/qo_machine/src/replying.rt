@@ -53,6 +53,7 @@ fn done_text<L: Ledger>(
 }
 
 /// The text of a reply.
+#[inline(always)]
 pub(crate) fn reply_text<L: Ledger>(
     alloc: Global,
     board: &Board,

@@ -117,6 +117,7 @@ fn tell_guest_want(alloc: Global, outs: &mut Outs) -> Result<(), AllocError>
 
 /// Each session that commands is told of the events that wait on the board, which no longer wait then,
 /// and of those of a command or a line; its reply goes to its lane.
+#[inline(always)]
 fn send_reply(
     machine: &mut Machine,
     alloc: Global,
