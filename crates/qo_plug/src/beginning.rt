@@ -4,7 +4,7 @@
 ghost use Rattle.std.specs.Prelude.{◌≡◌, ◌≤◌, ℕ, Err, IfOk, None, OnErr, option_map};
 ghost use Rattle.qo_model.specs.Board.{Board};
 ghost use Rattle.qo_model.specs.Objects.{refusal_of};
-ghost use Rattle.qo_model.specs.Plug.{Wanted};
+ghost use Rattle.qo_model.specs.Plug.{Wanted, plug_attempt};
 ghost use Rattle.qo_sound.specs.Kept.{SoundTree};
 ghost use Rattle.qo_table.specs.Rows.{IsLive};
 ghost use Rattle.qo_heap.specs.Board.{Shows};
@@ -28,7 +28,7 @@ use std::alloc::{AllocError, Global};
 use std::sync::ledger::Ledger;
 
 /// A device that was begun: it is made and held from outside the tree, and stands nowhere. It can't
-/// be let go: it is spent by `place` or, its device given up, taken apart.
+/// be let go: it is spent by `place` or `abandon`.
 pub struct Begun {
     /// Where it is to go.
     pub site: Site,
@@ -114,7 +114,7 @@ pub fn begin<L: Ledger>(
 ) -> Result<Begun, AddRefusal>
     ensures begun { (b : Board) → IsShown b anonymous resets.now.births hotplug.now heap.old → IfOk result (λ d. IsBegun b (wanted driver.now (option_map (λ t. t.now) id.entry) (option_map (λ t. t.now) bus.entry) props.now) d heap.new) }
     ensures held { IfOk result (λ d. IsHeld d heap.new) }
-    ensures refused { (b : Board) → IsShown b anonymous resets.now.births hotplug.now heap.old → IfRefused result (λ stage code. (stage ≤ 4) × IsRefused b (wanted driver.now (option_map (λ t. t.now) id.entry) (option_map (λ t. t.now) bus.entry) props.now) stage code heap.new) }
+    ensures refused { (b : Board) → IsShown b anonymous resets.now.births hotplug.now heap.old → IfRefused result (λ stage code. (1 ≤ stage) × (stage ≤ 4) × IsRefused b (wanted driver.now (option_map (λ t. t.now) id.entry) (option_map (λ t. t.now) bus.entry) props.now) stage code heap.new) }
     ensures memory { (b : Board) → IsShown b anonymous resets.now.births hotplug.now heap.old → result ≡ Err Memory → IsCut b (wanted driver.now (option_map (λ t. t.now) id.entry) (option_map (λ t. t.now) bus.entry) props.now) heap.new }
     ensures book { KeepsBook heap.old heap.new }
 {
@@ -138,4 +138,20 @@ pub fn begin<L: Ledger>(
         Ok(begun) => Ok(begun),
         Err(_) => Err(AddRefusal::Memory),
     }
+}
+
+/// Gives a device up that was begun: it ends, and its births and notes are left. It takes no memory.
+pub fn abandon<L: Ledger>(heap: &mut Heap, begun: Begun, steps: &mut Steps<L>)
+    requires { IsHeld begun heap.old }
+    ensures given_up { (b : Board) (a : Wanted) → IsBegun b a begun heap.old → Shows (plug_attempt b begun.site.kind begun.site.bus.birth 4) heap.new }
+    ensures book { KeepsBook heap.old heap.new }
+{
+    let Begun {
+        site: _site,
+        device,
+        plan: _plan,
+        slot: _slot,
+        out: _out,
+    } = begun;
+    give_up(heap, device, steps);
 }

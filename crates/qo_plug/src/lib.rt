@@ -24,7 +24,7 @@ mod tests;
 pub use adding::{Added, add};
 pub use admitting::{Place, Site, admit};
 pub use barring::{device_kind, open_bus, room, vacant};
-pub use beginning::{Begun, begin};
+pub use beginning::{Begun, abandon, begin};
 pub use drafting::{give_up, make_device};
 pub use finishing::finish;
 pub use placing::{Placed, Way, place};

@@ -5,7 +5,11 @@
 mod board;
 mod guests;
 mod removals;
+mod stages;
+#[cfg(test)]
+mod stage_tests;
 #[cfg(test)]
 mod tests;
 
 pub use board::Board;
+pub use stages::{Draft, NotAdded, Plugged};
