@@ -102,12 +102,13 @@ module _ (b : Board) (bus : ℕ) (props : List Given) where
       alone None = refl
       alone (Some code) = refl
 
+  abbrev LateBy : Bool → TypeId → Type 0
+  LateBy full t =
+      None ≡ refusal_of b t props → None ≡ place_barred b t bus props → nat_le NOTICES_MAX (length b.notices) ≡ full → barred_late b t bus props ≡ at_stage 8 (notice_as full)
+
   pub late-notices : (t : TypeId) → is_built t ≡ true → (full : Bool) → None ≡ refusal_of b t props → None ≡ place_barred b t bus props → nat_le NOTICES_MAX (length b.notices) ≡ full
       → barred_late b t bus props ≡ at_stage 8 (notice_as full)
-  late-notices t built full given place e = subst Comes (built-is t built) (late-bridge full) given place e
-    where
-      abbrev Comes : TypeId → Type 0
-      Comes k = None ≡ refusal_of b k props → None ≡ place_barred b k bus props → nat_le NOTICES_MAX (length b.notices) ≡ full → barred_late b k bus props ≡ at_stage 8 (notice_as full)
+  late-notices t built full given place e = subst (LateBy full) (built-is t built) (late-bridge full) given place e
 
   -- what was learnt of the place of a bridge is so of a device that is built
   pub place-learnt : (t : TypeId) → is_built t ≡ true → (given : List Given) → given ≡ props → (r : Result ℕ Code) → refusal_in r ≡ place_barred b SlotBridge bus props

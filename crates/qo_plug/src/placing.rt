@@ -11,13 +11,14 @@ ghost use Rattle.qo_plug.specs.Added.{IfRefused};
 ghost use Rattle.qo_plug.specs.Adding.{IsCut, IsRefused};
 ghost use Rattle.qo_plug.specs.Stages.{IsBegun, IsHeld, IsReady, IsSettled};
 
+use crate::admitting::{Place, Site};
 use crate::beginning::Begun;
 use crate::drafting::give_up;
 use crate::refusals::AddRefusal;
 use crate::standing::{Seat, stand};
 use qo_heap::{Heap, Oid, Steps};
 use qo_hotplug::Hotplug;
-use qo_values::{NOTICES_MAX, Text};
+use qo_values::{Id, NOTICES_MAX, Text};
 use std::alloc::Global;
 use std::sync::ledger::Ledger;
 
@@ -48,6 +49,29 @@ fn are_full(hotplug: &Hotplug) -> bool
     ensures { result ≡ nat_le NOTICES_MAX (length hotplug.now.notices) }
 {
     hotplug.notices().len() as u64 >= NOTICES_MAX
+}
+
+/// Where a device is to stand in a slot of its bus, and its id, if it has one.
+fn seat_at(site: Site, slot: u8) -> (Seat, Option<Id>)
+    ensures container { result.0.container ≡ site.place.container }
+    ensures name { result.0.name ≡ site.place.name }
+    ensures bus { result.0.bus ≡ site.bus }
+    ensures slot { result.0.slot ≡ slot }
+    ensures id { result.1 ≡ site.place.id }
+{
+    let Site { place, bus, .. } = site;
+    let Place {
+        container,
+        name,
+        id,
+    } = place;
+    let seat = Seat {
+        container,
+        name,
+        bus,
+        slot,
+    };
+    (seat, id)
 }
 
 /// Places a device that was begun: the stages 5 to 7. A refusal is that of its slot or its depth
@@ -85,13 +109,8 @@ pub fn place<L: Ledger>(
         let way = Way::Full { out };
         return Ok(Placed { device, slot, way });
     }
-    let seat = Seat {
-        container: site.place.container,
-        name: site.place.name,
-        bus: site.bus,
-        slot,
-    };
-    match stand(heap, device, seat, site.place.id, plan, alloc, steps) {
+    let (seat, id) = seat_at(site, slot);
+    match stand(heap, device, seat, id, plan, alloc, steps) {
         Ok(path) => Ok(Placed {
             device,
             slot,

@@ -52,7 +52,9 @@ fn bridge<L: Ledger>(
     steps: &mut Steps<L>,
 ) -> Result<Added, AddRefusal> {
     let driver = "slot-bridge";
-    add(heap, resets, hotplug, 0, driver, None, None, props, alloc, steps)
+    add(
+        heap, resets, hotplug, 0, driver, None, None, props, alloc, steps,
+    )
 }
 
 /// The slot behind the last one, as a property.
