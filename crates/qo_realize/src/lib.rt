@@ -5,9 +5,9 @@
 mod board;
 mod guests;
 mod removals;
-mod stages;
 #[cfg(test)]
 mod stage_tests;
+mod stages;
 #[cfg(test)]
 mod tests;
 

@@ -12,6 +12,7 @@ use std::test::Fail;
 
 /// The bridges that fill the root bus, and the buses of all of them but the last.
 const IDS: [&str; 8] = ["a", "b", "c", "d", "e", "f", "g", "h"];
+
 const BUSES: [&str; 7] = [
     "a/bus.0", "b/bus.0", "c/bus.0", "d/bus.0", "e/bus.0", "f/bus.0", "g/bus.0",
 ];
@@ -90,7 +91,11 @@ fn refused_early<L: Ledger>(alloc: Global, steps: &mut Steps<L>) -> Result<Board
 }
 
 /// As many bridges are added as notices may wait, on the root bus and on the buses there.
-fn fill<L: Ledger>(board: &mut Board, alloc: Global, steps: &mut Steps<L>) -> Result<(), AddRefusal> {
+fn fill<L: Ledger>(
+    board: &mut Board,
+    alloc: Global,
+    steps: &mut Steps<L>,
+) -> Result<(), AddRefusal> {
     let props = PropList::new(alloc);
     for id in IDS {
         board.add("slot-bridge", Some(id), None, &props, alloc, steps)?;

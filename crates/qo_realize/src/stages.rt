@@ -159,11 +159,7 @@ impl Draft {
     /// Places the device, by the stages 5 to 7: it stands in a slot of its bus. Refused, as by `add`, by
     /// the first condition of these stages that stands: with `E28`, `E29`, `E30` or `E42` (stage 5), behind
     /// an attempt that is given up. Where memory wants, an attempt was cut.
-    pub fn place<L: Ledger>(
-        self,
-        alloc: Global,
-        steps: &mut Steps<L>,
-    ) -> Result<Plugged, NotAdded>
+    pub fn place<L: Ledger>(self, alloc: Global, steps: &mut Steps<L>) -> Result<Plugged, NotAdded>
         ensures { (b : model.Board) (a : Wanted) → IsDrafted b a self → Places b a result }
     {
         let Draft {
