@@ -29,7 +29,6 @@ use Rattle.qo_plug.specs.declared.adding.Added.{Added}
 use Rattle.qo_plug.specs.declared.admitting.Site.{Site}
 use Rattle.qo_plug.specs.declared.refusals.AddRefusal.{AddRefusal}
 use Rattle.qo_plug.specs.declared.refusals.AddRefusal.TheVariants.{Refused, Memory}
-use Rattle.qo_plug.specs.declared.refusals.Barred.{Barred}
 use Rattle.qo_plug.specs.Added.{IfRefused, IsAdmitted, added, is_built}
 use Rattle.qo_plug.specs.Adding.{IsAdded, IsCut, IsOpen, IsPlugged, IsRefused, turned_down}
 use Rattle.qo_plug.specs.Drafts.{CutShort, held_draft}
@@ -96,6 +95,11 @@ module _ (b : Board) (a : Wanted) where
       (e.0, e.1, record { refusal = ap (λ (q : Plugged). q.refusal) e.2; shown = subst (λ (q : Plugged). Shows q.board w) (sym e.2) s })
   refused-early T U Memory w s e = tt
 
+  pub refused-only : (T U : Type 0) (r : AddRefusal) (w : Objects) → IfRefused {T = T} (Err r) (λ stage code. (1 ≤ stage) × (stage ≤ 4) × IsRefused b a stage code w)
+      → IfRefused {T = U} (Err r) (λ stage code. IsRefused b a stage code w)
+  refused-only T U (Refused stage code) w h = h.2
+  refused-only T U Memory w h = tt
+
   -- or behind one
   module _ (site : Site) (admitted : IsAdmitted b a site) (w : Objects) where
     pub is-refused : (stage : ℕ) (code : Code) → Some (stage, code) ≡ barred_late b site.kind site.bus.birth a.props → Shows (plug_attempt b site.kind site.bus.birth stage) w
@@ -118,7 +122,7 @@ module _ (b : Board) (a : Wanted) where
       turned-refused T (Refused stage told) h =
           let its_stage : stage ≡ 4 = h.0 in
           let its_code : told ≡ code = h.1 in
-          (omega (arith, its_stage), omega (arith, its_stage), rw (its_stage, its_code) (is-refused 4 code (late-given b site.bus.birth site.kind a.props code given) (rw its_stage at h.2)))
+          (omega (arith, its_stage), omega (arith, its_stage), rw (its_stage, its_code) (is-refused 4 code (late-given b site.bus.birth site.kind a.props code given) h.2))
       turned-refused T Memory h = tt
 
       pub turned-cut : (r : AddRefusal) → turned_down b site.kind site.bus.birth (record { stage = 4; code = code }) r w → r ≡ Memory → IsCut b a w

@@ -87,10 +87,11 @@ pub built-is : (t : TypeId) → is_built t ≡ true → SlotBridge ≡ t
 built-is SlotBridge e = refl
 built-is t e = absurd (let clash : false ≡ true = e in cc)
 
-module _ (b : Board) (bus : ℕ) (props : List Given) where
-  abbrev notice_as : Bool → Option Code
-  notice_as full = if full then Some E44 else None
+-- what bars it where the notices are full, or not
+abbrev pub notice_as : Bool → Option Code
+notice_as full = if full then Some E44 else None
 
+module _ (b : Board) (bus : ℕ) (props : List Given) where
   -- of a bridge nothing but the notices is left
   late-bridge : (full : Bool) → None ≡ refusal_of b SlotBridge props → None ≡ place_barred b SlotBridge bus props → nat_le NOTICES_MAX (length b.notices) ≡ full
       → barred_late b SlotBridge bus props ≡ at_stage 8 (notice_as full)

@@ -1,5 +1,5 @@
 -- What is known of a device that was begun, where it is placed.
-use Rattle.std.proofs.Common.{◌≡◌, refl, ap, sym, subst, ◌∙◌, ℕ, ◌+◌, ◌<◌, ◌≤◌, ◌==◌, Bool, true, false, nat_le, List, [], ◌∷◌, length, Option, Some, None, IfSome, Result, Ok, Err, arith}
+use Rattle.std.proofs.Common.{◌≡◌, refl, ap, sym, subst, ◌∙◌, ℕ, ◌<◌, ◌≤◌, ◌==◌, Bool, true, false, nat_le, [], ◌∷◌, length, Option, Some, None, IfSome, Result, Ok, Err, arith}
 use Rattle.std.proofs.lemmas.Bool.Decides.{nat_tests}
 use Rattle.qo_values.specs.declared.codes.Code.{Code}
 use Rattle.qo_values.specs.declared.codes.Code.TheVariants.{E44}
@@ -21,7 +21,7 @@ use Rattle.qo_plug.specs.Stages.{IsBegun, IsHeld, IsSettled, StandsBy}
 use Rattle.qo_plug.specs.Standing.{IsSeat}
 use Rattle.qo_plug.proofs.AddLemmas.{cut-late, is-refused, whole-cut}
 use Rattle.qo_plug.proofs.AdmitLemmas.{added-late}
-use Rattle.qo_plug.proofs.JudgeLemmas.{late-notices, late-place}
+use Rattle.qo_plug.proofs.JudgeLemmas.{late-notices, late-place, notice_as}
 
 pub bus-apart : (d : Begun) (v : Objects) → IsHeld d v → (d.device.birth == d.site.bus.birth) ≡ false
 bus-apart d v held = let older : d.site.bus.birth < d.device.birth = held.older in grind (arith, nat_tests, older)
@@ -35,7 +35,7 @@ module _ (b : Board) (a : Wanted) (d : Begun) (v : Objects) (is : IsBegun b a d 
 
   -- it has a slot there
   module _ (held : IsHeld d v) (slot : ℕ) (has : d.slot ≡ Ok slot) where
-    by-notices : (full : Bool) → nat_le NOTICES_MAX (length b.notices) ≡ full → barred_late b d.site.kind d.site.bus.birth a.props ≡ _
+    by-notices : (full : Bool) → nat_le NOTICES_MAX (length b.notices) ≡ full → barred_late b d.site.kind d.site.bus.birth a.props ≡ at_stage 8 (notice_as full)
     by-notices full = late-notices b d.site.bus.birth a.props d.site.kind held.built full (sym is.given) (ap (λ (r : Result ℕ Code). refusal_in r) (sym has) ∙ is.barred)
 
     pub opened : nat_le NOTICES_MAX (length b.notices) ≡ false → IsOpen b a d.site slot

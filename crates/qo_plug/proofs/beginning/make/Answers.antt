@@ -1,5 +1,5 @@
 -- The device is new, and what was learnt before it was made stays so.
-use Rattle.std.proofs.Common.{◌≡◌, ◌≤◌, ◌<◌, ◌+◌, ap, sym, subst, ◌∙◌, ℕ, List, arith}
+use Rattle.std.proofs.Common.{◌≡◌, ◌≤◌, ◌+◌, ap, sym, subst, ◌∙◌, ℕ, List, arith}
 use Rattle.std.specs.List.{AllZip}
 use Rattle.qo_model.specs.Objects.{Given}
 use Rattle.qo_model.specs.Reset.{count}

@@ -1,6 +1,5 @@
 -- The device starts and is let go, or is refused behind its acts.
-use Rattle.std.proofs.Common.{◌≡◌, ap, sym, ◌∙◌, ℕ, ◌+◌}
-use Rattle.qo_plug.specs.Adding.{IsOpen}
+use Rattle.std.proofs.Common.{ap, sym, ℕ}
 use Rattle.qo_plug.proofs.AddLemmas.{is-added, is-refused, open-place, plugged-in}
 use Rattle.qo_plug.proofs.finishing.finish.Goals as goal
 
@@ -12,9 +11,9 @@ returns-in-Stands-clause-ok g c = λ b a is beside.
     let birth = is.birth in
     is-added b a s c.args.placed.slot stands.0 (record { birth = c.args.placed.device.birth; slot = c.args.placed.slot }) c.start.new.hotplug c.drop_pin.new.heap
     (plugged-in b s.kind is.sound built a s.bus.birth c.args.placed.slot c.args.placed.device.birth birth c.in-Stands.path
-        c.args.resets.now.births c.args.hotplug.now c.start.new.hotplug c.args.heap.now c.start.new.heap c.drop_pin.new.heap beside.holds_are beside.pending beside.notices
-        (open-place b a s c.args.placed.slot stands.0 built) stands.1
-        c.start.ensures.shown c.start.ensures.told c.start.ensures.pending c.drop_pin.ensures.release)
+    c.args.resets.now.births c.args.hotplug.now c.start.new.hotplug c.args.heap.now c.start.new.heap c.drop_pin.new.heap beside.holds_are beside.pending beside.notices
+    (open-place b a s c.args.placed.slot stands.0 built) stands.1
+    c.start.ensures.shown c.start.ensures.told c.start.ensures.pending c.drop_pin.ensures.release)
     (ap (λ (k : ℕ). record { birth = k; slot = c.args.placed.slot }) birth)
 
 pub returns-in-Full-clause-refused : goal.returns-in-Full-clause-refused
