@@ -8,6 +8,8 @@ use Rattle.qo_values.specs.declared.kinds.TypeId.TheVariants.{SlotBridge}
 use Rattle.qo_model.specs.Board.{Board, Record, kind_of}
 use Rattle.qo_slots.specs.declared.keys.Key.{Key}
 use Rattle.qo_table.specs.Rows.{IsLive}
+use Rattle.qo_values.specs.declared.codes.Code.{Code}
+use Rattle.qo_model.specs.Objects.{refusal_of}
 use Rattle.qo_model.specs.Devices.{buses_of}
 use Rattle.qo_model.specs.Paths.{canonical}
 use Rattle.qo_model.specs.Plug.{Plugged, Spot, Wanted, barred_late, bus_births, bus_for, clocked, counted, objects_in, parent_for, plug_attempt, plug_late, source_for, spot_of, started, stood, with_plugged}
@@ -27,13 +29,12 @@ use Rattle.qo_plug.specs.declared.adding.Added.{Added}
 use Rattle.qo_plug.specs.declared.admitting.Site.{Site}
 use Rattle.qo_plug.specs.declared.refusals.AddRefusal.{AddRefusal}
 use Rattle.qo_plug.specs.declared.refusals.AddRefusal.TheVariants.{Refused, Memory}
-use Rattle.qo_plug.specs.declared.refusals.Barred.{Barred}
 use Rattle.qo_plug.specs.Added.{IfRefused, IsAdmitted, added, is_built}
 use Rattle.qo_plug.specs.Adding.{IsAdded, IsCut, IsOpen, IsPlugged, IsRefused, turned_down}
 use Rattle.qo_plug.specs.Drafts.{CutShort, held_draft}
 use Rattle.qo_plug.specs.Standing.{Stood, spot_in}
 use Rattle.qo_plug.proofs.AdmitLemmas.{added-late}
-use Rattle.qo_plug.proofs.JudgeLemmas.{built-is}
+use Rattle.qo_plug.proofs.JudgeLemmas.{built-is, late-given}
 use Rattle.qo_plug.proofs.PlugSteps.{counted-path, cut-whole, let-go, plugged-notices, plugged-pending, seat-holds, seat-notices, seated}
 use Rattle.qo_plug.proofs.StartBuses.{plugged-buses}
 
@@ -87,35 +88,46 @@ module _ (b : Board) (a : Wanted) where
             ∙ ap (λ (m : ℕ). (spot_of b t m a.props).slot) bus_is
 
   -- it is refused before an attempt
-  pub refused-early : (T U : Type 0) (r : AddRefusal) (w : Objects) → Shows b w → IfRefused {T = T} (Err r) (λ stage code. added b a ≡ record { refusal = Some (stage, code); board = b })
-      → IfRefused {T = U} (Err r) (λ stage code. IsRefused b a stage code w)
-  refused-early T U (Refused stage code) w s e = record { refusal = ap (λ (q : Plugged). q.refusal) e; shown = subst (λ (q : Plugged). Shows q.board w) (sym e) s }
+  pub refused-early : (T U : Type 0) (r : AddRefusal) (w : Objects) → Shows b w
+      → IfRefused {T = T} (Err r) (λ stage code. (1 ≤ stage) × (stage ≤ 4) × (added b a ≡ record { refusal = Some (stage, code); board = b }))
+      → IfRefused {T = U} (Err r) (λ stage code. (1 ≤ stage) × (stage ≤ 4) × IsRefused b a stage code w)
+  refused-early T U (Refused stage code) w s e =
+      (e.0, e.1, record { refusal = ap (λ (q : Plugged). q.refusal) e.2; shown = subst (λ (q : Plugged). Shows q.board w) (sym e.2) s })
   refused-early T U Memory w s e = tt
 
+  pub refused-only : (T U : Type 0) (r : AddRefusal) (w : Objects) → IfRefused {T = T} (Err r) (λ stage code. (1 ≤ stage) × (stage ≤ 4) × IsRefused b a stage code w)
+      → IfRefused {T = U} (Err r) (λ stage code. IsRefused b a stage code w)
+  refused-only T U (Refused stage code) w h = h.2
+  refused-only T U Memory w h = tt
+
   -- or behind one
-  module _ (site : Site) (bar : Barred) (admitted : IsAdmitted b a site) (late : Some (bar.stage, bar.code) ≡ barred_late b site.kind site.bus.birth a.props) (w : Objects) where
-    added-refused : added b a ≡ record { refusal = Some (bar.stage, bar.code); board = plug_attempt b site.kind site.bus.birth bar.stage }
-    added-refused =
-        added-late b a site.kind admitted.kind admitted.driver site.bus.birth admitted.early admitted.bus
-        ∙ ap (plug_late b site.kind site.bus.birth a) (sym late)
-
-    pub refused-late : (T : Type 0) (r : AddRefusal) → turned_down b site.kind site.bus.birth bar r w → IfRefused {T = T} (Err r) (λ stage code. IsRefused b a stage code w)
-    refused-late T (Refused stage code) h =
-        record {
-          refusal = ap (λ (q : Plugged). q.refusal) added-refused ∙ (λ i. Some (stage_is i, code_is i));
-          shown = subst (λ (q : Plugged). Shows q.board w) (sym added-refused) h.2;
-        }
+  module _ (site : Site) (admitted : IsAdmitted b a site) (w : Objects) where
+    pub is-refused : (stage : ℕ) (code : Code) → Some (stage, code) ≡ barred_late b site.kind site.bus.birth a.props → Shows (plug_attempt b site.kind site.bus.birth stage) w
+        → IsRefused b a stage code w
+    is-refused stage code late s =
+        record { refusal = ap (λ (q : Plugged). q.refusal) comes; shown = subst (λ (q : Plugged). Shows q.board w) (sym comes) s }
       where
-        stage_is : bar.stage ≡ stage
-        stage_is = sym h.0
+        comes : added b a ≡ record { refusal = Some (stage, code); board = plug_attempt b site.kind site.bus.birth stage }
+        comes =
+            added-late b a site.kind admitted.kind admitted.driver site.bus.birth admitted.early admitted.bus
+            ∙ ap (plug_late b site.kind site.bus.birth a) (sym late)
 
-        code_is : bar.code ≡ code
-        code_is = sym h.1
-    refused-late T Memory h = tt
+    pub cut-late : CutShort b site.kind w → IsCut b a w
+    cut-late cut = inr (site.kind, admitted.kind, admitted.driver, admitted.early, cut)
 
-    pub cut-late : (r : AddRefusal) → turned_down b site.kind site.bus.birth bar r w → r ≡ Memory → IsCut b a w
-    cut-late (Refused stage code) h e = cc
-    cut-late Memory h e = inr (site.kind, admitted.kind, admitted.driver, admitted.early, h)
+    -- as what is given for its properties is refused
+    module _ (code : Code) (given : Some code ≡ refusal_of b site.kind a.props) where
+      pub turned-refused : (T : Type 0) (r : AddRefusal) → turned_down b site.kind site.bus.birth (record { stage = 4; code = code }) r w
+          → IfRefused {T = T} (Err r) (λ stage code. (1 ≤ stage) × (stage ≤ 4) × IsRefused b a stage code w)
+      turned-refused T (Refused stage told) h =
+          let its_stage : stage ≡ 4 = h.0 in
+          let its_code : told ≡ code = h.1 in
+          (omega (arith, its_stage), omega (arith, its_stage), rw (its_stage, its_code) (is-refused 4 code (late-given b site.bus.birth site.kind a.props code given) h.2))
+      turned-refused T Memory h = tt
+
+      pub turned-cut : (r : AddRefusal) → turned_down b site.kind site.bus.birth (record { stage = 4; code = code }) r w → r ≡ Memory → IsCut b a w
+      turned-cut (Refused stage told) h e = cc
+      turned-cut Memory h e = cut-late h
 
 -- what a plan names stays
 pub plan-live : (v w : Objects) → KeepsNames v w → (fs : List Fill) → AllByRecursion (λ (f : Fill). IfSome (target_in f) (IsLive v.rows)) fs → AllByRecursion (λ (f : Fill). IfSome (target_in f) (IsLive w.rows)) fs

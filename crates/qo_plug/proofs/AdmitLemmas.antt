@@ -1,5 +1,5 @@
 -- What bars a device before an attempt, stage by stage.
-use Rattle.std.proofs.Common.{◌≡◌, refl, ap, ap₂, sym, ◌∙◌, ℕ, Bool, true, false, not, List, [], ◌∷◌, Option, Some, None, option_map, Err}
+use Rattle.std.proofs.Common.{◌≡◌, refl, ap, ap₂, sym, ◌∙◌, ℕ, ◌≤◌, Bool, true, false, not, List, [], ◌∷◌, Option, Some, None, option_map, Err, arith}
 use Rattle.std.specs.Prelude.{if◌then◌else◌}
 use Rattle.std.specs.Option.{option_or}
 use Rattle.std.proofs.lemmas.Option.{same_Some}
@@ -132,6 +132,7 @@ module _ (b : Board) (a : Wanted) where
 
     -- what a refusal of its place tells
     pub place-refused : (S T : Type 0) (r : AddRefusal) → IfRefused {T = S} (Err r) (λ stage code. (stage ≡ 2) × (id_barred b a.id ≡ Some code))
-        → IfRefused {T = T} (Err r) (λ stage code. added b a ≡ record { refusal = Some (stage, code); board = b })
-    place-refused S T (Refused stage code) h = added-early (stage, code) (early-id b t a code h.1 ∙ ap (λ (k : ℕ). Some (k, code)) (sym h.0))
+        → IfRefused {T = T} (Err r) (λ stage code. (1 ≤ stage) × (stage ≤ 4) × (added b a ≡ record { refusal = Some (stage, code); board = b }))
+    place-refused S T (Refused stage code) h =
+        (omega (arith, h.0), omega (arith, h.0), added-early (stage, code) (early-id b t a code h.1 ∙ ap (λ (k : ℕ). Some (k, code)) (sym h.0)))
     place-refused S T Memory h = tt

@@ -1,6 +1,6 @@
 -- What bars a device from its properties on, stage by stage.
-use Rattle.std.proofs.Common.{◌≡◌, refl, ap, ap₂, sym, ◌∙◌, ℕ, zero, suc, ◌+◌, Bool, true, false, not, List, [], ◌∷◌, codes, nat_le, nat_lt, length, Option, Some, None, Result, Ok, Err}
-use Rattle.std.specs.Prelude.{if◌then◌else◌}
+use Rattle.std.proofs.Common.{◌≡◌, refl, ap, ap₂, sym, ◌∙◌, ℕ, zero, suc, ◌+◌, Bool, true, false, not, List, [], ◌∷◌, codes, nat_le, nat_lt, length, subst, Option, Some, None, Result, Ok, Err}
+use Rattle.std.specs.Prelude.{IfOk, if◌then◌else◌}
 use Rattle.std.specs.Option.{option_or}
 use Rattle.std.proofs.lemmas.Option.{same_Some}
 use Rattle.qo_values.specs.Placing.{least}
@@ -12,8 +12,10 @@ use Rattle.qo_values.specs.declared.limits.TheConstants.{BUS_SLOTS, NOTICES_MAX}
 use Rattle.qo_model.specs.Board.{Board}
 use Rattle.qo_model.specs.Devices.{kid_name}
 use Rattle.qo_model.specs.Objects.{Given, has_slot, refusal_of}
-use Rattle.qo_model.specs.Plug.{Spot, at_stage, barred_late, first_of, is_free, kind_barred, notice_barred, number_for, place_barred, slot_for, spot_of}
+use Rattle.qo_model.specs.Plug.{Spot, at_stage, barred_late, first_of, is_free, kind_barred, notice_barred, number_for, place_barred, realize_barred, slot_for, spot_of}
+use Rattle.qo_properties.specs.Changes.{refusal_in}
 use Rattle.qo_plug.specs.Added.{is_built}
+use Rattle.qo_plug.specs.Standing.{spot_in}
 
 -- the least number that passes does pass
 least-passes : (test : ℕ → Bool) (first n k : ℕ) → least test first n ≡ Some k → test k ≡ true
@@ -69,30 +71,52 @@ module _ (b : Board) (bus : ℕ) where
     pub spot-is : (slot : ℕ) → slot_for b bus asked ≡ Ok slot → spot_of b SlotBridge bus props ≡ record { bus = bus; slot = slot; range = None }
     spot-is slot e = ap (λ (r : Result ℕ Code). spot_as (elim r as (λ _. ℕ) [ Ok s ↦ s | Err code ↦ 0 ])) e
 
-    -- what bars a bridge
-    abbrev late_as : Option Code → Option Code → Option Code → Option (ℕ × Code)
-    late_as given place notices = first_of (at_stage 4 given ∷ at_stage 5 place ∷ at_stage 6 None ∷ at_stage 8 notices ∷ [])
+  -- what bars a device from its properties on, in order
+  module _ (t : TypeId) (props : List Given) where
+    abbrev late_by : Option Code → Option Code → Option (ℕ × Code)
+    late_by given place = first_of (at_stage 4 given ∷ at_stage 5 place ∷ at_stage 6 (realize_barred b t props) ∷ at_stage 8 (notice_barred b) ∷ [])
 
-    pub late-given : (code : Code) → Some code ≡ refusal_of b SlotBridge props → Some (4, code) ≡ barred_late b SlotBridge bus props
-    late-given code e = ap (λ (o : Option Code). late_as o (place_barred b SlotBridge bus props) (notice_barred b)) e
+    pub late-given : (code : Code) → Some code ≡ refusal_of b t props → Some (4, code) ≡ barred_late b t bus props
+    late-given code e = ap (λ (o : Option Code). late_by o (place_barred b t bus props)) e
 
-    pub late-place : (code : Code) → None ≡ refusal_of b SlotBridge props → Some code ≡ place_barred b SlotBridge bus props → Some (5, code) ≡ barred_late b SlotBridge bus props
-    late-place code given e = ap₂ (λ (o p : Option Code). late_as o p (notice_barred b)) given e
-
-    abbrev notice_as : Bool → Option Code
-    notice_as full = if full then Some E44 else None
-
-    late-notices : (full : Bool) → None ≡ refusal_of b SlotBridge props → None ≡ place_barred b SlotBridge bus props → nat_le NOTICES_MAX (length b.notices) ≡ full
-        → late_as None None (notice_as full) ≡ barred_late b SlotBridge bus props
-    late-notices full given place e = ap₂ (λ (o p : Option Code). late_as o p (notice_as full)) given place ∙ ap (λ (t : Bool). late_as (refusal_of b SlotBridge props) (place_barred b SlotBridge bus props) (notice_as t)) (sym e)
-
-    pub late-full : None ≡ refusal_of b SlotBridge props → None ≡ place_barred b SlotBridge bus props → nat_le NOTICES_MAX (length b.notices) ≡ true → Some (8, E44) ≡ barred_late b SlotBridge bus props
-    late-full given place e = late-notices true given place e
-
-    pub late-open : None ≡ refusal_of b SlotBridge props → None ≡ place_barred b SlotBridge bus props → nat_le NOTICES_MAX (length b.notices) ≡ false → None ≡ barred_late b SlotBridge bus props
-    late-open given place e = late-notices false given place e
+    pub late-place : (code : Code) → None ≡ refusal_of b t props → Some code ≡ place_barred b t bus props → Some (5, code) ≡ barred_late b t bus props
+    late-place code given e = ap₂ late_by given e
 
 -- only bridges are built
 pub built-is : (t : TypeId) → is_built t ≡ true → SlotBridge ≡ t
 built-is SlotBridge e = refl
 built-is t e = absurd (let clash : false ≡ true = e in cc)
+
+-- what bars it where the notices are full, or not
+abbrev pub notice_as : Bool → Option Code
+notice_as full = if full then Some E44 else None
+
+module _ (b : Board) (bus : ℕ) (props : List Given) where
+  -- of a bridge nothing but the notices is left
+  late-bridge : (full : Bool) → None ≡ refusal_of b SlotBridge props → None ≡ place_barred b SlotBridge bus props → nat_le NOTICES_MAX (length b.notices) ≡ full
+      → barred_late b SlotBridge bus props ≡ at_stage 8 (notice_as full)
+  late-bridge full given place e =
+      sym (ap₂ (λ (o p : Option Code). first_of (at_stage 4 o ∷ at_stage 5 p ∷ at_stage 6 None ∷ at_stage 8 (notice_barred b) ∷ [])) given place)
+      ∙ ap (λ (u : Bool). first_of (at_stage 8 (notice_as u) ∷ [])) e ∙ alone (notice_as full)
+    where
+      alone : (o : Option Code) → first_of (at_stage 8 o ∷ []) ≡ at_stage 8 o
+      alone None = refl
+      alone (Some code) = refl
+
+  abbrev LateBy : Bool → TypeId → Type 0
+  LateBy full t =
+      None ≡ refusal_of b t props → None ≡ place_barred b t bus props → nat_le NOTICES_MAX (length b.notices) ≡ full → barred_late b t bus props ≡ at_stage 8 (notice_as full)
+
+  pub late-notices : (t : TypeId) → is_built t ≡ true → (full : Bool) → None ≡ refusal_of b t props → None ≡ place_barred b t bus props → nat_le NOTICES_MAX (length b.notices) ≡ full
+      → barred_late b t bus props ≡ at_stage 8 (notice_as full)
+  late-notices t built full given place e = subst (LateBy full) (built-is t built) (late-bridge full) given place e
+
+  -- what was learnt of the place of a bridge is so of a device that is built
+  pub place-learnt : (t : TypeId) → is_built t ≡ true → (given : List Given) → given ≡ props → (r : Result ℕ Code) → refusal_in r ≡ place_barred b SlotBridge bus props
+      → refusal_in r ≡ place_barred b t bus given
+  place-learnt t built given same r e = e ∙ ap₂ (λ (k : TypeId) (l : List Given). place_barred b k bus l) (built-is t built) (sym same)
+
+  pub spot-learnt : (t : TypeId) → is_built t ≡ true → (given : List Given) → given ≡ props → (r : Result ℕ Code) → IfOk r (λ slot. spot_of b SlotBridge bus props ≡ spot_in bus slot)
+      → IfOk r (λ slot. spot_of b t bus given ≡ spot_in bus slot)
+  spot-learnt t built given same r h =
+      subst (λ (spot : Spot). IfOk r (λ slot. spot ≡ spot_in bus slot)) (ap₂ (λ (k : TypeId) (l : List Given). spot_of b k bus l) (built-is t built) (sym same)) h

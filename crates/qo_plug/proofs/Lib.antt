@@ -9,6 +9,7 @@ pub mod JudgeLemmas
 pub mod PassLemmas
 pub mod PlugSteps
 pub mod SourceLemmas
+pub mod StageLemmas
 pub mod StandBoards
 pub mod StandFills
 pub mod StandLemmas

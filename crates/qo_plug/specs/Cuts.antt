@@ -1,7 +1,6 @@
 -- What an attempt at adding a device leaves that was cut for want of memory.
-use Rattle.std.specs.Prelude.{ℕ, Bool, nat_le, ◌&&◌, if◌then◌else◌, Option, Some, None}
-use Rattle.std.specs.Option.{option_or, option_map_or}
-use Rattle.qo_values.specs.declared.codes.Code.{Code}
+use Rattle.std.specs.Prelude.{ℕ, Bool, nat_le, ◌&&◌, if◌then◌else◌, Some, None}
+use Rattle.std.specs.Option.{option_map_or}
 use Rattle.qo_values.specs.declared.kinds.TypeId.{TypeId}
 use Rattle.qo_model.specs.Board.{Board}
 use Rattle.qo_model.specs.Plug.{Wanted, barred_early, cut_attempt, objects_in}

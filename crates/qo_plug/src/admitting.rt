@@ -1,6 +1,6 @@
 //! Whether a device is admitted: what bars it before anything of it is made, and where it is to go.
 
-ghost use Rattle.std.specs.Prelude.{◌≡◌, ℕ, List, true, false, Some, None, IfOk, OnOk, map, option_map};
+ghost use Rattle.std.specs.Prelude.{◌≡◌, ◌≤◌, ℕ, List, true, false, Some, None, IfOk, OnOk, map, option_map};
 ghost use Rattle.qo_values.specs.declared.births.TheConstants.{ANONYMOUS_BIRTH, PERIPHERAL_BIRTH};
 ghost use Rattle.qo_values.specs.Ids.{is_id};
 ghost use Rattle.qo_model.specs.Board.{Board};
@@ -195,7 +195,7 @@ pub fn admit<L: Ledger>(
     ensures live { IfOk result (λ s. IsLive heap.now.rows s.place.container × IsLive heap.now.rows s.bus) }
     ensures built { IfOk result (λ s. is_built s.kind ≡ true) }
     ensures admitted { (b : Board) (props : List Given) → Shows b heap.now → b.pending ≡ map (λ o. o.birth) pending.now → b.anonymous ≡ anonymous → IfOk result (IsAdmitted b (wanted driver.now (option_map (λ t. t.now) id.entry) (option_map (λ t. t.now) bus.entry) props)) }
-    ensures refused { (b : Board) (props : List Given) → Shows b heap.now → b.pending ≡ map (λ o. o.birth) pending.now → b.anonymous ≡ anonymous → IfRefused result (λ stage code. added b (wanted driver.now (option_map (λ t. t.now) id.entry) (option_map (λ t. t.now) bus.entry) props) ≡ record { refusal = Some (stage, code); board = b }) }
+    ensures refused { (b : Board) (props : List Given) → Shows b heap.now → b.pending ≡ map (λ o. o.birth) pending.now → b.anonymous ≡ anonymous → IfRefused result (λ stage code. (1 ≤ stage) × (stage ≤ 4) × (added b (wanted driver.now (option_map (λ t. t.now) id.entry) (option_map (λ t. t.now) bus.entry) props) ≡ record { refusal = Some (stage, code); board = b })) }
 {
     let kind = match driver_kind(driver) {
         Ok(kind) => kind,

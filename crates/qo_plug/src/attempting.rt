@@ -1,7 +1,7 @@
-//! An attempt at a device that is refused: the device is made, and given up with nothing left but its
-//! births and notes. Where the notices refuse it, it is realized and reset before.
+//! An attempt at a device that the notices refuse: it is realized and reset with its buses, though it
+//! stands nowhere, and given up with nothing left but its births and notes.
 
-ghost use Rattle.std.specs.Prelude.{◌≡◌, ◌+◌, ◌≤◌, ◌<◌, ◌==◌, ℕ, slice_get, IfSome, OnOk, OnErr};
+ghost use Rattle.std.specs.Prelude.{◌≡◌, ◌+◌, ◌≤◌, ◌<◌, ◌==◌, ℕ, slice_get, IfSome};
 ghost use Rattle.std.specs.Option.{option_and_then};
 ghost use Rattle.qo_values.specs.declared.kinds.Act.TheVariants.{Exit};
 ghost use Rattle.qo_values.specs.declared.kinds.TypeId.{TypeId};
@@ -16,19 +16,13 @@ ghost use Rattle.qo_heap.specs.Objects.{pins_of};
 ghost use Rattle.qo_properties.specs.Claims.{KeepsBook};
 ghost use Rattle.qo_reset.specs.Phases.{walked};
 ghost use Rattle.qo_plug.specs.Attempts.{first_acted, last_acted, let_out, new_bus, new_buses, passed_on};
-ghost use Rattle.qo_plug.specs.Drafts.{CutShort, IsQuiet, held_draft};
+ghost use Rattle.qo_plug.specs.Drafts.{IsQuiet, held_draft};
 
-use crate::drafting::{give_up, make_device};
 use qo_heap::{Heap, Oid, Steps};
 use qo_life::drop_pin;
-use qo_reset::Resets;
 use qo_types::TypeTable;
-use qo_values::{Act, TypeId};
-use std::alloc::{AllocError, Global};
+use qo_values::Act;
 use std::sync::ledger::Ledger;
-
-/// The stage at which the notices refuse a device: it was realized before.
-const NOTICES_STAGE: u8 = 8;
 
 /// The bus that the object at a place in the order of births is, if it is one of a new device: of the
 /// device's birth or a later one.
@@ -110,42 +104,15 @@ fn pass<L: Ledger>(heap: &mut Heap, device: Oid, out: bool, steps: &mut Steps<L>
     act_last(heap, device, Act::Unrealize, steps);
 }
 
-/// Gives a new device up that a stage refuses; `out` tells that no hold is on the bus.
-fn refuse<L: Ledger>(heap: &mut Heap, device: Oid, stage: u8, out: bool, steps: &mut Steps<L>)
+/// Gives a new device up that the notices refuse: it is realized and reset, to the last phase only
+/// where no hold is on its bus, as `out` tells, and unrealized; its births and notes are left.
+pub(crate) fn refuse<L: Ledger>(heap: &mut Heap, device: Oid, out: bool, steps: &mut Steps<L>)
     requires live { IsLive heap.old.rows device }
     requires pinned { 0 < pins_of heap.old device.birth }
     requires quiet { (n : ℕ) → device.birth ≤ n → IsQuiet heap.old n }
-    ensures shown { (b : Board) (t : TypeId) (bus : ℕ) → SoundTree b → device.birth ≡ b.born + 1 → out ≡ (count b bus == 0) → Shows (held_draft b t) heap.old → Shows (plug_attempt b t bus stage) heap.new }
+    ensures shown { (b : Board) (t : TypeId) (bus : ℕ) → SoundTree b → device.birth ≡ b.born + 1 → out ≡ (count b bus == 0) → Shows (held_draft b t) heap.old → Shows (plug_attempt b t bus 8) heap.new }
     ensures book { KeepsBook heap.old heap.new }
 {
-    if stage == NOTICES_STAGE {
-        pass(heap, device, out, steps);
-        drop_pin(heap, device, steps);
-    } else {
-        give_up(heap, device, steps);
-    }
-}
-
-/// Makes a device of a type for a bus and gives it up, as a stage refuses it: its births and notes
-/// are left. The stage of the notices refuses it once it is realized and reset, to the last phase
-/// only where no hold is on the bus. Where memory wants, the attempt was cut: what was made has
-/// ended.
-pub fn attempt<L: Ledger>(
-    heap: &mut Heap,
-    holds: &Resets,
-    kind: TypeId,
-    bus: Oid,
-    stage: u8,
-    alloc: Global,
-    steps: &mut Steps<L>,
-) -> Result<(), AllocError>
-    ensures ok { OnOk result ((b : Board) → Shows b heap.old → b.holds ≡ holds.now.births → SoundTree b → Shows (plug_attempt b kind bus.birth stage) heap.new) }
-    ensures err { OnErr result ((b : Board) → Shows b heap.old → SoundTree b → CutShort b kind heap.new) }
-    ensures book { KeepsBook heap.old heap.new }
-{
-    heap.facts();
-    let out = holds.count(heap, bus, steps) == 0;
-    let device = make_device(heap, kind, alloc, steps)?;
-    refuse(heap, device, stage, out, steps);
-    Ok(())
+    pass(heap, device, out, steps);
+    drop_pin(heap, device, steps);
 }

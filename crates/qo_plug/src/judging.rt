@@ -1,25 +1,21 @@
-//! What bars a device once its type, its id and its bus are settled: what is given for its
-//! properties, its slot, the depth of a bridge, and the notices.
+//! What bars a device in its place: its slot, and the depth of a bridge.
 
-ghost use Rattle.std.specs.Prelude.{◌≡◌, ◌<◌, true, false, codes, nat_le, length, None, IfOk, OnOk};
+ghost use Rattle.std.specs.Prelude.{◌≡◌, ◌<◌, List, false, codes, None, Some, IfOk};
 ghost use Rattle.qo_values.specs.declared.kinds.TypeId.TheVariants.{SlotBridge};
-ghost use Rattle.qo_values.specs.declared.limits.TheConstants.{BUS_SLOTS, NOTICES_MAX};
+ghost use Rattle.qo_values.specs.declared.limits.TheConstants.{BUS_SLOTS};
 ghost use Rattle.qo_model.specs.Board.{Board};
 ghost use Rattle.qo_model.specs.Devices.{kid_name};
 ghost use Rattle.qo_model.specs.Objects.{has_slot};
-ghost use Rattle.qo_model.specs.Plug.{barred_late, kind_barred, number_for, place_barred, slot_for, spot_of};
+ghost use Rattle.qo_model.specs.Plug.{kind_barred, number_for, place_barred, slot_for, spot_of};
 ghost use Rattle.qo_model.specs.Objects.{Given};
-ghost use Rattle.std.specs.Prelude.{List};
 ghost use Rattle.qo_table.specs.Rows.{IsLive};
 ghost use Rattle.qo_heap.specs.Board.{Shows};
 ghost use Rattle.qo_properties.specs.Changes.{refusal_in};
-ghost use Rattle.qo_plug.specs.Added.{barred_in, is_built};
 
-use crate::refusals::Barred;
 use qo_buses::{depth, has_kid_slot, least_free};
 use qo_heap::{Heap, Oid, Steps};
-use qo_properties::{check_given, given_val};
-use qo_values::{BUS_DEPTH_MAX, BUS_SLOTS, Code, PropList, TypeId, Val};
+use qo_properties::given_val;
+use qo_values::{BUS_DEPTH_MAX, BUS_SLOTS, Code, PropList, Val};
 use std::sync::ledger::Ledger;
 
 /// The slot of its bus that is given for a device, if one is.
@@ -86,7 +82,7 @@ fn check_depth<L: Ledger>(heap: &Heap, bus: Oid, steps: &mut Steps<L>) -> Result
 
 /// The slot of a bus where a bridge is to go, by the properties given. `E28`, `E29` and `E30` come of
 /// the slot, then `E42` where the bridge would be too deep.
-fn bridge_slot<L: Ledger>(
+pub(crate) fn bridge_slot<L: Ledger>(
     heap: &Heap,
     bus: Oid,
     props: &PropList,
@@ -106,40 +102,4 @@ fn bridge_slot<L: Ledger>(
         Ok(()) => Ok(slot),
         Err(code) => Err(code),
     }
-}
-
-/// The slot of a bus where a device of a type is to go, where nothing bars it. `notices_full` tells
-/// that as many notices wait for the guest as may. A refusal is the first in the order of the stages:
-/// of what is given for its properties (stage 4: the codes of `qo_properties::check_given`), its slot
-/// and its depth (5: `E28`, `E29`, `E30`, `E42`), and the notices (8: `E44`).
-pub fn judge<L: Ledger>(
-    heap: &Heap,
-    kind: TypeId,
-    bus: Oid,
-    props: &PropList,
-    notices_full: bool,
-    steps: &mut Steps<L>,
-) -> Result<u8, Barred>
-    requires live { IsLive heap.now.rows bus }
-    requires built { is_built kind ≡ true }
-    ensures refused { (b : Board) → Shows b heap.now → nat_le NOTICES_MAX (length b.notices) ≡ notices_full → barred_in result ≡ barred_late b kind bus.birth props.now }
-    ensures spot { (b : Board) → Shows b heap.now → IfOk result (λ slot. spot_of b kind bus.birth props.now ≡ record { bus = bus.birth; slot = slot; range = None }) }
-    ensures within { IfOk result (λ slot. slot < BUS_SLOTS) }
-    ensures free { (b : Board) → Shows b heap.now → IfOk result (λ slot. has_slot b bus.birth (kid_name slot) ≡ false) }
-    ensures told { OnOk result (notices_full ≡ false) }
-{
-    if let Err(code) = check_given(heap, kind, props, steps) {
-        return Err(Barred { stage: 4, code });
-    }
-    let slot = match bridge_slot(heap, bus, props, steps) {
-        Ok(slot) => slot,
-        Err(code) => return Err(Barred { stage: 5, code }),
-    };
-    if notices_full {
-        return Err(Barred {
-            stage: 8,
-            code: Code::E44,
-        });
-    }
-    Ok(slot)
 }

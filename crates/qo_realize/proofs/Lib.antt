@@ -5,4 +5,5 @@ pub mod GuestLemmas
 pub mod PlugLemmas
 pub mod RefuseLemmas
 pub mod SoundLemmas
+pub mod StageLemmas
 pub mod StandsLemmas

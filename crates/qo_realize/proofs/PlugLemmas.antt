@@ -127,7 +127,7 @@ came-stands b a anonymous next running holds old new v w d s came count keeps =
       book = keeps [] s.book;
     }
 
-cut-stands : (b c : Board) (anonymous : ℕ) (running : Bool) (holds : HoldList) (asked : Asked) (v w : Objects)
+pub cut-stands : (b c : Board) (anonymous : ℕ) (running : Bool) (holds : HoldList) (asked : Asked) (v w : Objects)
     → Stands b (parts_of anonymous running holds asked v) → Stays b c → Shows c w → KeepsBook v w → Stands c (parts_of anonymous running holds asked w)
 cut-stands b c anonymous running holds asked v w s l shows keeps =
     record {

@@ -15,7 +15,7 @@ use Rattle.qo_model.specs.FinalNotesRuns.{Change, behind_write, changed, wrote}
 use Rattle.qo_model.specs.Hotplug.{refused}
 use Rattle.qo_model.specs.Objects.{attempted_as, barred_by, with_attempt}
 use Rattle.qo_model.specs.Opening.{opening_board}
-use Rattle.qo_model.specs.Plug.{Plugged, Wanted, barred_early, cut_attempt, plug, type_barred}
+use Rattle.qo_model.specs.Plug.{Plugged, Wanted, barred_early, cut_attempt, objects_in, plug, plug_attempt, type_barred}
 use Rattle.qo_model.specs.Properties.{object_at, write}
 use Rattle.qo_model.specs.SoundGraph.{graph_of}
 use Rattle.qo_model.specs.Types.{TypeRow, row_named}
@@ -23,6 +23,7 @@ use Rattle.qo_model.specs.Unplug.{detach}
 use Rattle.qo_model.proofs.OpeningLemmas.{opening_sound}
 use Rattle.qo_plug.specs.Added.{added, driver_barred, is_built, unbuilt}
 use Rattle.qo_plug.specs.Cuts.{cut_as, cut_of, cut_open}
+use Rattle.qo_plug.proofs.PlugSteps.{cut-whole}
 use Rattle.qo_properties.specs.Pinned.{OnlyRootPinned}
 use Rattle.qo_sound.specs.Kept.{SoundTree}
 use Rattle.qo_sound.specs.Timerless.{is_timer, makes_timer}
@@ -164,6 +165,10 @@ cut_as-good b a i joined good = by (driver_barred a.driver) (row_named a.driver)
     by (Some code) row = good
     by None None = good
     by None (Some row) = free row (barred_early b row.id a)
+
+-- or given up
+pub given_up-good : (b : Board) (t : TypeId) (bus : ℕ) → Good b → Good (plug_attempt b t bus 4)
+given_up-good b t bus good = subst Good (sym (cut-whole b t bus)) (cut-good b t (objects_in t) true good)
 
 -- a device that is detached
 pub detached-good : (b : Board) (d : ℕ) → Good b → Good (detach b d)

@@ -3,4 +3,5 @@ pub mod Good
 pub mod Guest
 pub mod Parts
 pub mod Removals
+pub mod Stages
 pub mod Stands

@@ -27,11 +27,11 @@ use std::sync::ledger::Ledger;
 /// holds the objects from outside the tree but the one pin of the root, and the tree is sound.
 #[derive(Drop)]
 pub struct Board {
-    heap: Heap,
-    anonymous: u64,
-    running: bool,
-    resets: Resets,
-    hotplug: Hotplug,
+    pub(crate) heap: Heap,
+    pub(crate) anonymous: u64,
+    pub(crate) running: bool,
+    pub(crate) resets: Resets,
+    pub(crate) hotplug: Hotplug,
 }
 
 impl Model for Board {
@@ -48,7 +48,7 @@ impl Model for Board {
 
 /// How many devices without an id there are behind the add of one, with an id or without; `None` where
 /// that is more than 64 bits hold.
-fn next_anonymous(anonymous: u64, id: Option<&str>) -> Option<u64>
+pub(crate) fn next_anonymous(anonymous: u64, id: Option<&str>) -> Option<u64>
     ensures { IfSome result (λ n. n ≡ counts anonymous (option_map (λ t. t.now) id.entry)) }
 {
     match id {

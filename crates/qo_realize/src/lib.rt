@@ -6,6 +6,10 @@ mod board;
 mod guests;
 mod removals;
 #[cfg(test)]
+mod stage_tests;
+mod stages;
+#[cfg(test)]
 mod tests;
 
 pub use board::Board;
+pub use stages::{Draft, NotAdded, Plugged};

@@ -1,7 +1,5 @@
 -- The pin goes, and nothing holds the device.
-use Rattle.std.proofs.Common.{◌≡◌, ◌==◌, ℕ, false, ap, sym, subst, ◌∙◌, arith}
-use Rattle.std.proofs.lemmas.Bool.Decides.{nat_tests}
-use Rattle.qo_model.specs.Plug.{plug_attempt}
+use Rattle.std.proofs.Common.{◌≡◌, ℕ, ap, subst, ◌∙◌, arith}
 use Rattle.qo_model.specs.Release.{unpin}
 use Rattle.qo_heap.specs.Board.{Shows}
 use Rattle.qo_heap.specs.Objects.{pins_of}
@@ -21,19 +19,13 @@ drop_pin-requires-clause-pinned g c =
     acts-pins_of c.args.heap.now c.pass.new.heap (passed-leaves c.args.out c.args.device.birth c.args.heap.now c.pass.new.heap c.pass.ensures).acts c.args.device.birth in
     omega (arith, same, c.requires.pinned)
 
-pub returns-then-stage-eq-NOTICES_STAGE-clause-shown : goal.returns-then-stage-eq-NOTICES_STAGE-clause-shown
-returns-then-stage-eq-NOTICES_STAGE-clause-shown g c = λ b t bus sound birth is s.
-    subst (λ (stage : ℕ). Shows (plug_attempt b t bus stage) c.drop_pin.new.heap) (sym c.if-stage-eq-NOTICES_STAGE.true)
-    (refused-late b t sound bus c.args.out c.args.heap.now c.pass.new.heap c.drop_pin.new.heap is s
+pub returns-clause-shown : goal.returns-clause-shown
+returns-clause-shown g c = λ b t bus sound birth is s.
+    refused-late b t sound bus c.args.out c.args.heap.now c.pass.new.heap c.drop_pin.new.heap is s
     (c.pass.ensures ∙ ap (λ (n : ℕ). passed_on c.args.out n c.args.heap.now) birth)
-    (λ d shown. subst (λ (n : ℕ). Shows (unpin d n) c.drop_pin.new.heap) birth (c.drop_pin.ensures.release d shown)))
+    (λ d shown. subst (λ (n : ℕ). Shows (unpin d n) c.drop_pin.new.heap) birth (c.drop_pin.ensures.release d shown))
 
-pub returns-then-stage-eq-NOTICES_STAGE-clause-book : goal.returns-then-stage-eq-NOTICES_STAGE-clause-book
-returns-then-stage-eq-NOTICES_STAGE-clause-book g c = λ out h.
+pub returns-clause-book : goal.returns-clause-book
+returns-clause-book g c = λ out h.
     c.drop_pin.ensures.goes.book out
     (acts-book out c.args.heap.now c.pass.new.heap (passed-leaves c.args.out c.args.device.birth c.args.heap.now c.pass.new.heap c.pass.ensures).acts h)
-
-pub returns-else-stage-eq-NOTICES_STAGE-clause-shown : goal.returns-else-stage-eq-NOTICES_STAGE-clause-shown
-returns-else-stage-eq-NOTICES_STAGE-clause-shown g c = λ b t bus sound birth is s.
-    let early : (c.args.stage == 8) ≡ false = grind (arith, nat_tests, c.if-stage-eq-NOTICES_STAGE.false) in
-    c.give_up.ensures.shown b t bus c.args.stage sound birth early s

@@ -1,0 +1,89 @@
+-- What is known of a device that was begun, where it is placed.
+use Rattle.std.proofs.Common.{◌≡◌, refl, ap, sym, subst, ◌∙◌, ℕ, ◌<◌, ◌≤◌, ◌==◌, Bool, true, false, nat_le, [], ◌∷◌, length, Option, Some, None, IfSome, Result, Ok, Err, arith}
+use Rattle.std.proofs.lemmas.Bool.Decides.{nat_tests}
+use Rattle.qo_values.specs.declared.codes.Code.{Code}
+use Rattle.qo_values.specs.declared.codes.Code.TheVariants.{E44}
+use Rattle.qo_values.specs.declared.limits.TheConstants.{NOTICES_MAX}
+use Rattle.qo_model.specs.Board.{Board}
+use Rattle.qo_model.specs.Objects.{refusal_of}
+use Rattle.qo_model.specs.Plug.{Plugged, Wanted, at_stage, barred_late, first_of, notice_barred, place_barred, plug_attempt, plug_late, realize_barred}
+use Rattle.qo_properties.specs.Changes.{refusal_in}
+use Rattle.qo_heap.specs.Board.{Shows}
+use Rattle.qo_heap.specs.Objects.{Objects}
+use Rattle.qo_plug.specs.declared.beginning.Begun.{Begun}
+use Rattle.qo_plug.specs.declared.admitting.Site.{Site}
+use Rattle.qo_plug.specs.declared.placing.Placed.{Placed}
+use Rattle.qo_plug.specs.declared.placing.Way.{Way}
+use Rattle.qo_plug.specs.declared.placing.Way.TheVariants.{Stands, Full}
+use Rattle.qo_plug.specs.Added.{IsAdmitted, added}
+use Rattle.qo_plug.specs.Adding.{IsCut, IsOpen, IsRefused}
+use Rattle.qo_plug.specs.Stages.{IsBegun, IsHeld, IsSettled, StandsBy}
+use Rattle.qo_plug.specs.Standing.{IsSeat}
+use Rattle.qo_plug.proofs.AddLemmas.{cut-late, is-refused, whole-cut}
+use Rattle.qo_plug.proofs.AdmitLemmas.{added-late}
+use Rattle.qo_plug.proofs.JudgeLemmas.{late-notices, late-place, notice_as}
+
+pub bus-apart : (d : Begun) (v : Objects) → IsHeld d v → (d.device.birth == d.site.bus.birth) ≡ false
+bus-apart d v held = let older : d.site.bus.birth < d.device.birth = held.older in grind (arith, nat_tests, older)
+
+module _ (b : Board) (a : Wanted) (d : Begun) (v : Objects) (is : IsBegun b a d v) where
+  pub bus-low : IsHeld d v → d.site.bus.birth ≤ b.born
+  bus-low held = omega (arith, held.older, is.birth)
+
+  pub seat-of : IsSeat b a d.site.place.container.birth d.site.place.name d.site.place.id
+  seat-of = record { id_is = sym is.admitted.place.id; name_is = sym is.admitted.place.name; parent_is = sym is.admitted.place.container }
+
+  -- it has a slot there
+  module _ (held : IsHeld d v) (slot : ℕ) (has : d.slot ≡ Ok slot) where
+    by-notices : (full : Bool) → nat_le NOTICES_MAX (length b.notices) ≡ full → barred_late b d.site.kind d.site.bus.birth a.props ≡ at_stage 8 (notice_as full)
+    by-notices full = late-notices b d.site.bus.birth a.props d.site.kind held.built full (sym is.given) (ap (λ (r : Result ℕ Code). refusal_in r) (sym has) ∙ is.barred)
+
+    pub opened : nat_le NOTICES_MAX (length b.notices) ≡ false → IsOpen b a d.site slot
+    opened room = record { admitted = is.admitted; late = by-notices false room; spot = rw has at is.spot }
+
+    pub full-barred : nat_le NOTICES_MAX (length b.notices) ≡ true → barred_late b d.site.kind d.site.bus.birth a.props ≡ Some (8, E44)
+    full-barred full = by-notices true full
+
+  -- it has none
+  pub slot-refused : (code : Code) → d.slot ≡ Err code → (w : Objects) → Shows (plug_attempt b d.site.kind d.site.bus.birth 5) w → IsRefused b a 5 code w
+  slot-refused code has w s =
+      is-refused b a d.site is.admitted w 5 code
+      (late-place b d.site.bus.birth d.site.kind a.props code (sym is.given) (ap (λ (r : Result ℕ Code). refusal_in r) (sym has) ∙ is.barred)) s
+
+  -- memory wants
+  pub given_up-cut : (w : Objects) → Shows (plug_attempt b d.site.kind d.site.bus.birth 0) w → IsCut b a w
+  given_up-cut w s = cut-late b a d.site is.admitted w (whole-cut b d.site.kind d.site.bus.birth w s)
+
+-- what bars a device is of a later stage than those that it has passed
+module _ (b : Board) (a : Wanted) (s : Site) (admitted : IsAdmitted b a s) where
+  told : (o : Option (ℕ × Code)) → (plug_late b s.kind s.bus.birth a o).refusal ≡ o
+  told None = refl
+  told (Some refusal) = refl
+
+  refusal-late : (added b a).refusal ≡ barred_late b s.kind s.bus.birth a.props
+  refusal-late =
+      ap (λ (q : Plugged). q.refusal) (added-late b a s.kind admitted.kind admitted.driver s.bus.birth admitted.early admitted.bus) ∙ told (barred_late b s.kind s.bus.birth a.props)
+
+  abbrev LaterOf : Option Code → Type 0
+  LaterOf o =
+      IfSome (first_of (at_stage 4 o ∷ at_stage 5 (place_barred b s.kind s.bus.birth a.props) ∷ at_stage 6 (realize_barred b s.kind a.props) ∷ at_stage 8 (notice_barred b) ∷ []))
+      (λ (r : ℕ × Code). 4 < r.0)
+
+  pub passed-making : refusal_of b s.kind a.props ≡ None → IfSome (added b a).refusal (λ (r : ℕ × Code). 4 < r.0)
+  passed-making given = rw refusal-late (subst LaterOf (sym given) (later (place_barred b s.kind s.bus.birth a.props) (realize_barred b s.kind a.props) (notice_barred b)))
+    where
+      later : (p r n : Option Code) → IfSome (first_of (at_stage 4 None ∷ at_stage 5 p ∷ at_stage 6 r ∷ at_stage 8 n ∷ [])) (λ (x : ℕ × Code). 4 < x.0)
+      later (Some code) r n = omega arith
+      later None (Some code) n = omega arith
+      later None None (Some code) = omega arith
+      later None None None = tt
+
+  passed-as : (o : Option (ℕ × Code)) → barred_late b s.kind s.bus.birth a.props ≡ o → IfSome o (λ (r : ℕ × Code). 7 < r.0) → IfSome (added b a).refusal (λ (r : ℕ × Code). 7 < r.0)
+  passed-as o is h = subst (λ (x : Option (ℕ × Code)). IfSome x (λ (r : ℕ × Code). 7 < r.0)) (sym (refusal-late ∙ is)) h
+
+pub passed-placing : (b : Board) (a : Wanted) (p : Placed) (v : Objects) → IsSettled b a p v → IfSome (added b a).refusal (λ (r : ℕ × Code). 7 < r.0)
+passed-placing b a p v is = by p.way is.site.2
+  where
+    by : (w : Way) → StandsBy b a is.site.0 p.device.birth p.slot w v → IfSome (added b a).refusal (λ (r : ℕ × Code). 7 < r.0)
+    by (Stands path) h = passed-as b a is.site.0 h.0.admitted None h.0.late tt
+    by (Full out) h = passed-as b a is.site.0 h.0 (Some (8, E44)) h.1 (omega arith)

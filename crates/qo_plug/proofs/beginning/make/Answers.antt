@@ -1,0 +1,49 @@
+-- The device is new, and what was learnt before it was made stays so.
+use Rattle.std.proofs.Common.{◌≡◌, ◌≤◌, ◌+◌, ap, sym, subst, ◌∙◌, ℕ, List, arith}
+use Rattle.std.specs.List.{AllZip}
+use Rattle.qo_model.specs.Objects.{Given}
+use Rattle.qo_model.specs.Reset.{count}
+use Rattle.qo_object.specs.Slots.{Named}
+use Rattle.qo_properties.specs.Filling.{Fits, IsGiven}
+use Rattle.qo_properties.specs.Fresh.{new_slots}
+use Rattle.qo_plug.proofs.AddLemmas.{plan-live}
+use Rattle.qo_plug.proofs.JudgeLemmas.{place-learnt, spot-learnt}
+use Rattle.qo_plug.proofs.GrowsLemmas.{live-low, unborn-quiet}
+use Rattle.qo_plug.proofs.PassLemmas.{cut-none}
+use Rattle.qo_plug.proofs.beginning.make.Goals as goal
+
+pub returns-clause-held : goal.returns-clause-held
+returns-clause-held g c =
+    let made = c.in_ok-device.ensures.made in
+    let grows = c.in_ok-device.ensures.grows in
+    let born : c.in_ok-device.device.birth ≡ c.args.heap.now.born + 1 = made.birth in
+    let low : c.args.site.bus.birth ≤ c.args.heap.now.born = live-low c.args.heap.now c.facts.ensures c.args.site.bus c.requires.bus in
+    record {
+      built = c.requires.built;
+      live = made.live;
+      container = grows.names c.args.site.place.container c.requires.container;
+      bus = grows.names c.args.site.bus c.requires.bus;
+      older = omega (arith, born, low);
+      slot = c.bridge_slot-slot.ensures.within;
+      pinned = c.in_ok-device.ensures.pinned;
+      rest = made.rest;
+      quiet = λ n le. grows.quiet n (unborn-quiet c.args.heap.now c.facts.ensures n (omega (arith, born, le)));
+      targets = plan-live c.args.heap.now c.make_device.new.heap grows.names c.in_ok-plan.plan.items c.in_ok-plan.ensures.live;
+      fits = subst (λ (slots : List Named). AllZip Fits c.in_ok-plan.plan.items slots) (sym made.own) c.in_ok-plan.ensures.fits;
+    }
+
+pub returns-clause-begun : goal.returns-clause-begun
+returns-clause-begun g c = λ b a s sound holds admitted props given.
+    let made = c.in_ok-device.ensures.made in
+    record {
+      shown = c.in_ok-device.ensures.shown b s;
+      sound = sound;
+      admitted = admitted;
+      given = given;
+      birth = made.birth ∙ sym (ap (λ (k : ℕ). k + 1) s.born);
+      barred = place-learnt b c.args.site.bus.birth c.args.props.now c.args.site.kind c.requires.built a.props props c.bridge_slot-slot.result (c.bridge_slot-slot.ensures.refused b s);
+      spot = spot-learnt b c.args.site.bus.birth c.args.props.now c.args.site.kind c.requires.built a.props props c.bridge_slot-slot.result (c.bridge_slot-slot.ensures.spot b s);
+      out = cut-none c.count-out.result (count b c.args.site.bus.birth) (c.count-out.ensures b (s, holds));
+      plan = subst (λ (slots : List Named). AllZip (IsGiven b a.props) c.in_ok-plan.plan.items slots) (sym made.own)
+          (subst (λ (l : List Given). AllZip (IsGiven b l) c.in_ok-plan.plan.items (new_slots c.args.site.kind)) (sym props) (c.in_ok-plan.ensures.told b s));
+    }

@@ -1,0 +1,26 @@
+-- The device starts and is let go, or is refused behind its acts.
+use Rattle.std.proofs.Common.{ap, sym, ℕ}
+use Rattle.qo_plug.proofs.AddLemmas.{is-added, is-refused, open-place, plugged-in}
+use Rattle.qo_plug.proofs.finishing.finish.Goals as goal
+
+pub returns-in-Stands-clause-ok : goal.returns-in-Stands-clause-ok
+returns-in-Stands-clause-ok g c = λ b a is beside.
+    let s = is.site.0 in
+    let built = is.site.1 in
+    let stands = rw c.in-Stands.is at is.site.2 in
+    let birth = is.birth in
+    is-added b a s c.args.placed.slot stands.0 (record { birth = c.args.placed.device.birth; slot = c.args.placed.slot }) c.start.new.hotplug c.drop_pin.new.heap
+    (plugged-in b s.kind is.sound built a s.bus.birth c.args.placed.slot c.args.placed.device.birth birth c.in-Stands.path
+    c.args.resets.now.births c.args.hotplug.now c.start.new.hotplug c.args.heap.now c.start.new.heap c.drop_pin.new.heap beside.holds_are beside.pending beside.notices
+    (open-place b a s c.args.placed.slot stands.0 built) stands.1
+    c.start.ensures.shown c.start.ensures.told c.start.ensures.pending c.drop_pin.ensures.release)
+    (ap (λ (k : ℕ). record { birth = k; slot = c.args.placed.slot }) birth)
+
+pub returns-in-Full-clause-refused : goal.returns-in-Full-clause-refused
+returns-in-Full-clause-refused g c = λ b a is.
+    let s = is.site.0 in
+    let full = rw c.in-Full.is at is.site.2 in
+    is-refused b a s full.0 c.refuse.new.heap 8 _ (sym full.1) (c.refuse.ensures.shown b s.kind s.bus.birth is.sound is.birth full.2 full.3)
+
+pub returns-in-Stands-clause-book : goal.returns-in-Stands-clause-book
+returns-in-Stands-clause-book g c = λ out h. c.drop_pin.ensures.goes.book out (c.start.ensures.book out h)

@@ -1,0 +1,44 @@
+-- The device is judged already: it takes its place, or is given up.
+use Rattle.std.proofs.Common.{◌≡◌, refl, ap, sym, ◌∙◌, List, length, nat_le}
+use Rattle.qo_values.specs.declared.limits.TheConstants.{NOTICES_MAX}
+use Rattle.qo_model.specs.Board.{Notice}
+use Rattle.qo_model.specs.Plug.{source_for}
+use Rattle.qo_slots.specs.declared.keys.Key.{Key}
+use Rattle.qo_plug.specs.Drafts.{held_draft}
+use Rattle.qo_plug.specs.Standing.{IsSeat}
+use Rattle.qo_plug.proofs.SourceLemmas.{source-same}
+use Rattle.qo_plug.proofs.StageLemmas.{bus-low, given_up-cut, opened, seat-of, slot-refused}
+use Rattle.qo_plug.proofs.placing.place.Goals as goal
+
+pub returns-in-Err-clause-refused : goal.returns-in-Err-clause-refused
+returns-in-Err-clause-refused g c = λ b a is. (
+  refl,
+  slot-refused b a c.args.begun c.args.heap.now is c.in-Err.code c.in-Err.is c.give_up.new.heap
+      (c.give_up.ensures.shown b c.args.begun.site.kind c.args.begun.site.bus.birth 5 is.sound is.birth refl is.shown),
+)
+
+pub returns-in-Ok-stand-clause-settled : goal.returns-in-Ok-stand-clause-settled
+returns-in-Ok-stand-clause-settled g c = λ b a is notices.
+    let d = c.args.begun in
+    let ens = c.seat_at-seat.ensures in
+    let of = seat-of b a d c.args.heap.now is in
+    let room = ap (λ (l : List Notice). nat_le NOTICES_MAX (length l)) notices ∙ sym c.are_full.ensures ∙ c.if-are_full.false in
+    let seat : IsSeat b a c.seat_at-seat.result.0.container.birth c.seat_at-seat.result.0.name c.seat_at-seat.result.1 =
+    record { id_is = of.id_is ∙ sym ens.id; name_is = of.name_is ∙ sym ens.name; parent_is = of.parent_is ∙ ap (λ (k : Key). k.birth) (sym ens.container) } in
+    let source : source_for b c.seat_at-seat.result.0.bus.birth ≡ source_for (held_draft b d.site.kind) c.seat_at-seat.result.0.bus.birth =
+    rw ens.bus (source-same b d.site.kind is.sound d.site.bus.birth (bus-low b a d c.args.heap.now is c.requires)) in
+    let stood = c.in-Ok-stand.ensures.stood b (held_draft b d.site.kind) a is.shown seat source is.plan in
+    record {
+      sound = is.sound;
+      birth = is.birth;
+      site = (d.site, c.requires.built, (opened b a d c.args.heap.now is c.requires c.in-Ok.slot c.in-Ok.is room, rw (ens.bus, ens.slot) at stood));
+    }
+
+pub returns-in-Err-stand-clause-memory : goal.returns-in-Err-stand-clause-memory
+returns-in-Err-stand-clause-memory g c = λ b a is e.
+    let d = c.args.begun in
+    given_up-cut b a d c.args.heap.now is c.give_up-in-Err-stand.new.heap
+    (c.give_up-in-Err-stand.ensures.shown b d.site.kind d.site.bus.birth 0 is.sound is.birth refl (c.in-Err-stand.ensures.err (held_draft b d.site.kind) is.shown))
+
+pub returns-in-Err-stand-clause-book : goal.returns-in-Err-stand-clause-book
+returns-in-Err-stand-clause-book g c = λ out h. c.give_up-in-Err-stand.ensures.book out (c.stand.ensures.book out h)

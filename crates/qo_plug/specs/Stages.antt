@@ -1,0 +1,79 @@
+-- Adding a device in stages: how it is begun, which is made and stands nowhere, and how it is placed.
+use Rattle.std.specs.Prelude.{◌≡◌, ℕ, ◌+◌, ◌<◌, ◌≤◌, ◌==◌, List, true, Some, None, IfOk, IfSome, length, option_and_then, option_map}
+use Rattle.std.specs.List.{AllByRecursion, AllZip}
+use Rattle.qo_values.specs.declared.codes.Code.TheVariants.{E44}
+use Rattle.qo_values.specs.declared.limits.TheConstants.{BUS_SLOTS, NOTICES_MAX}
+use Rattle.qo_model.specs.Board.{Board}
+use Rattle.qo_model.specs.Objects.{refusal_of}
+use Rattle.qo_model.specs.Plug.{Wanted, barred_late, place_barred, spot_of}
+use Rattle.qo_model.specs.Reset.{count}
+use Rattle.qo_sound.specs.Kept.{SoundTree}
+use Rattle.qo_table.specs.Rows.{IsLive}
+use Rattle.qo_object.specs.Content.{fresh}
+use Rattle.qo_heap.specs.Board.{Shows}
+use Rattle.qo_heap.specs.Objects.{Objects, content_of, pins_of}
+use Rattle.qo_hotplug.specs.Asked.{Asked}
+use Rattle.qo_properties.specs.Changes.{refusal_in}
+use Rattle.qo_properties.specs.Filling.{Fits, IsGiven, target_in}
+use Rattle.qo_plug.specs.declared.admitting.Site.{Site}
+use Rattle.qo_plug.specs.declared.beginning.Begun.{Begun}
+use Rattle.qo_plug.specs.declared.placing.Placed.{Placed}
+use Rattle.qo_plug.specs.declared.placing.Way.{Way}
+use Rattle.qo_plug.specs.declared.placing.Way.TheVariants.{Stands, Full}
+use Rattle.qo_plug.specs.Added.{IsAdmitted, is_built}
+use Rattle.qo_plug.specs.Adding.{IsOpen}
+use Rattle.qo_plug.specs.Drafts.{IsQuiet, bare, held_draft, own_slots_of}
+use Rattle.qo_plug.specs.Standing.{Stood, spot_in}
+
+-- a heap has a device that was begun, as it was made and held once, with its container, its older bus, and what its plan names
+pub record IsHeld (d : Begun) (v : Objects) : Type 0 where
+  pub built : is_built d.site.kind ≡ true
+  pub live : IsLive v.rows d.device
+  pub container : IsLive v.rows d.site.place.container
+  pub bus : IsLive v.rows d.site.bus
+  pub older : d.site.bus.birth < d.device.birth
+  pub slot : IfOk d.slot (λ slot. slot < BUS_SLOTS)
+  pub pinned : 0 < pins_of v d.device.birth
+  pub rest : option_map bare (content_of v d.device.birth) ≡ Some (bare (fresh d.site.kind))
+  pub quiet : (n : ℕ) → d.device.birth ≤ n → IsQuiet v n
+  pub targets : AllByRecursion (λ f. IfSome (target_in f) (IsLive v.rows)) d.plan.items
+  pub fits : AllZip Fits d.plan.items (own_slots_of v d.device.birth)
+
+-- the stages 1 to 4 are done on a board: nothing of them bars the device, and it is made; what is judged of its place is known
+pub record IsBegun (b : Board) (a : Wanted) (d : Begun) (v : Objects) : Type 0 where
+  pub shown : Shows (held_draft b d.site.kind) v
+  pub sound : SoundTree b
+  pub admitted : IsAdmitted b a d.site
+  pub given : refusal_of b d.site.kind a.props ≡ None
+  pub birth : d.device.birth ≡ b.born + 1
+  pub barred : refusal_in d.slot ≡ place_barred b d.site.kind d.site.bus.birth a.props
+  pub spot : IfOk d.slot (λ slot. spot_of b d.site.kind d.site.bus.birth a.props ≡ spot_in d.site.bus.birth slot)
+  pub out : d.out ≡ (count b d.site.bus.birth == 0)
+  pub plan : AllZip (IsGiven b a.props) d.plan.items (own_slots_of v d.device.birth)
+
+-- these holds, and what is asked for, are a board's
+pub record IsBeside (b : Board) (holds : List ℕ) (h : Asked) : Type 0 where
+  pub holds_are : b.holds ≡ holds
+  pub pending : b.pending ≡ h.pending
+  pub notices : b.notices ≡ h.notices
+
+-- a placed device can be finished: it has no path yet, and there is room for the event of its end and for a notice; or it is as quiet as it was made
+abbrev pub MayFinish : ℕ → Way → Asked → Objects → Type 0
+MayFinish n (Stands path) h v = (option_and_then (λ c. c.kept_path) (content_of v n) ≡ None) × (1 ≤ v.events.spare) × (length h.notices < NOTICES_MAX)
+MayFinish n (Full out) h v = (m : ℕ) → n ≤ m → IsQuiet v m
+
+pub record IsReady (p : Placed) (h : Asked) (v : Objects) : Type 0 where
+  pub live : IsLive v.rows p.device
+  pub pinned : 0 < pins_of v p.device.birth
+  pub way : MayFinish p.device.birth p.way h v
+
+-- the stages 5 to 7 are done: nothing bars the device and it stands in its spot; or the notices alone bar it, and it stands nowhere
+abbrev pub StandsBy : Board → Wanted → Site → ℕ → ℕ → Way → Objects → Type 0
+StandsBy b a s n slot (Stands path) v = IsOpen b a s slot × Stood b (held_draft b s.kind) n a (spot_in s.bus.birth slot) path v
+StandsBy b a s n slot (Full out) v =
+    IsAdmitted b a s × (barred_late b s.kind s.bus.birth a.props ≡ Some (8, E44)) × (out ≡ (count b s.bus.birth == 0)) × Shows (held_draft b s.kind) v
+
+pub record IsSettled (b : Board) (a : Wanted) (p : Placed) (v : Objects) : Type 0 where
+  pub sound : SoundTree b
+  pub birth : p.device.birth ≡ b.born + 1
+  pub site : (s : Site) × (is_built s.kind ≡ true) × StandsBy b a s p.device.birth p.slot p.way v

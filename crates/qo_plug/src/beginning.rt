@@ -1,0 +1,157 @@
+//! Beginning a device, the stages 1 to 4 of adding: it is admitted, what is given for its properties
+//! is looked at, and it is made; or an attempt at it is given up. It stands nowhere yet.
+
+ghost use Rattle.std.specs.Prelude.{◌≡◌, ◌≤◌, ℕ, true, Err, IfOk, None, OnErr, option_map};
+ghost use Rattle.qo_model.specs.Board.{Board};
+ghost use Rattle.qo_model.specs.Objects.{refusal_of};
+ghost use Rattle.qo_model.specs.Plug.{Wanted, plug_attempt};
+ghost use Rattle.qo_sound.specs.Kept.{SoundTree};
+ghost use Rattle.qo_table.specs.Rows.{IsLive};
+ghost use Rattle.qo_heap.specs.Board.{Shows};
+ghost use Rattle.qo_properties.specs.Claims.{KeepsBook};
+ghost use Rattle.qo_plug.specs.declared.refusals.AddRefusal.TheVariants.{Memory};
+ghost use Rattle.qo_plug.specs.Added.{IfRefused, IsAdmitted, is_built, wanted};
+ghost use Rattle.qo_plug.specs.Adding.{IsCut, IsRefused, IsShown, turned_down};
+ghost use Rattle.qo_plug.specs.Drafts.{CutShort};
+ghost use Rattle.qo_plug.specs.Stages.{IsBegun, IsHeld};
+
+use crate::admitting::{Site, admit};
+use crate::drafting::{give_up, make_device};
+use crate::judging::bridge_slot;
+use crate::refusals::AddRefusal;
+use qo_heap::{Heap, Oid, Steps};
+use qo_hotplug::Hotplug;
+use qo_properties::{Fill, check_given, plan_of};
+use qo_reset::Resets;
+use qo_values::{Code, PropList, TypeId};
+use std::alloc::{AllocError, Global};
+use std::sync::ledger::Ledger;
+
+/// A device that was begun: it is made and held from outside the tree, and stands nowhere. It can't
+/// be let go: it is spent by `place` or `abandon`.
+pub struct Begun {
+    /// Where it is to go.
+    pub site: Site,
+    /// The device.
+    pub device: Oid,
+    /// What its own slots are to be filled with.
+    pub plan: Vec<Fill>,
+    /// Its slot of its bus, or why it has none there.
+    pub slot: Result<u8, Code>,
+    /// Whether no hold is on its bus.
+    pub out: bool,
+}
+
+/// Makes a device of a type and gives it up, as what is given for a property is refused: this is the
+/// refusal, but for want of memory.
+fn turn_down<L: Ledger>(
+    heap: &mut Heap,
+    kind: TypeId,
+    code: Code,
+    alloc: Global,
+    steps: &mut Steps<L>,
+) -> AddRefusal
+    ensures down { (b : Board) (bus : ℕ) → Shows b heap.old → SoundTree b → turned_down b kind bus (record { stage = 4; code = code }) result heap.new }
+    ensures book { KeepsBook heap.old heap.new }
+{
+    match make_device(heap, kind, alloc, steps) {
+        Ok(device) => {
+            give_up(heap, device, steps);
+            AddRefusal::Refused { stage: 4, code }
+        }
+        Err(_) => AddRefusal::Memory,
+    }
+}
+
+/// Makes an admitted device. What its slots are to be filled with, and what is judged of its bus, is
+/// learnt before. The error is want of memory: an attempt was cut.
+fn make<L: Ledger>(
+    heap: &mut Heap,
+    resets: &Resets,
+    site: Site,
+    props: &PropList,
+    alloc: Global,
+    steps: &mut Steps<L>,
+) -> Result<Begun, AllocError>
+    requires built { is_built site.kind ≡ true }
+    requires container { IsLive heap.old.rows site.place.container }
+    requires bus { IsLive heap.old.rows site.bus }
+    ensures begun { (b : Board) (a : Wanted) → Shows b heap.old → SoundTree b → b.holds ≡ resets.now.births → IsAdmitted b a site → a.props ≡ props.now → refusal_of b site.kind a.props ≡ None → IfOk result (λ d. IsBegun b a d heap.new) }
+    ensures held { IfOk result (λ d. IsHeld d heap.new) }
+    ensures err { OnErr result ((b : Board) → Shows b heap.old → SoundTree b → CutShort b site.kind heap.new) }
+    ensures book { KeepsBook heap.old heap.new }
+{
+    heap.facts();
+    let slot = bridge_slot(heap, site.bus, props, steps);
+    let out = resets.count(heap, site.bus, steps) == 0;
+    let plan = plan_of(heap, site.kind, props, alloc, steps)?;
+    let device = make_device(heap, site.kind, alloc, steps)?;
+    Ok(Begun {
+        site,
+        device,
+        plan,
+        slot,
+        out,
+    })
+}
+
+/// Begins a device of a type's name, with an id, the path of its bus and properties, where these are
+/// given: the stages 1 to 4. `anonymous` is how many devices without an id were added before. A
+/// refusal is the first in the order of the stages: those of `admit`, before which nothing of the
+/// device is made, and then those of `check_given` (stage 4), behind which its births and notes are
+/// left. Want of memory leaves all as it was, or an attempt that was cut.
+pub fn begin<L: Ledger>(
+    heap: &mut Heap,
+    resets: &Resets,
+    hotplug: &Hotplug,
+    anonymous: u64,
+    driver: &str,
+    id: Option<&str>,
+    bus: Option<&str>,
+    props: &PropList,
+    alloc: Global,
+    steps: &mut Steps<L>,
+) -> Result<Begun, AddRefusal>
+    ensures begun { (b : Board) → IsShown b anonymous resets.now.births hotplug.now heap.old → IfOk result (λ d. IsBegun b (wanted driver.now (option_map (λ t. t.now) id.entry) (option_map (λ t. t.now) bus.entry) props.now) d heap.new) }
+    ensures held { IfOk result (λ d. IsHeld d heap.new) }
+    ensures refused { (b : Board) → IsShown b anonymous resets.now.births hotplug.now heap.old → IfRefused result (λ stage code. (1 ≤ stage) × (stage ≤ 4) × IsRefused b (wanted driver.now (option_map (λ t. t.now) id.entry) (option_map (λ t. t.now) bus.entry) props.now) stage code heap.new) }
+    ensures memory { (b : Board) → IsShown b anonymous resets.now.births hotplug.now heap.old → result ≡ Err Memory → IsCut b (wanted driver.now (option_map (λ t. t.now) id.entry) (option_map (λ t. t.now) bus.entry) props.now) heap.new }
+    ensures book { KeepsBook heap.old heap.new }
+{
+    let site = match admit(
+        heap,
+        hotplug.pending(),
+        anonymous,
+        driver,
+        id,
+        bus,
+        alloc,
+        steps,
+    ) {
+        Ok(site) => site,
+        Err(refusal) => return Err(refusal),
+    };
+    if let Err(code) = check_given(heap, site.kind, props, steps) {
+        return Err(turn_down(heap, site.kind, code, alloc, steps));
+    }
+    match make(heap, resets, site, props, alloc, steps) {
+        Ok(begun) => Ok(begun),
+        Err(_) => Err(AddRefusal::Memory),
+    }
+}
+
+/// Gives a device up that was begun: it ends, and its births and notes are left. It takes no memory.
+pub fn abandon<L: Ledger>(heap: &mut Heap, begun: Begun, steps: &mut Steps<L>)
+    requires { IsHeld begun heap.old }
+    ensures given_up { (b : Board) (a : Wanted) → IsBegun b a begun heap.old → Shows (plug_attempt b begun.site.kind begun.site.bus.birth 4) heap.new }
+    ensures book { KeepsBook heap.old heap.new }
+{
+    let Begun {
+        site: _site,
+        device,
+        plan: _plan,
+        slot: _slot,
+        out: _out,
+    } = begun;
+    give_up(heap, device, steps);
+}

@@ -1,0 +1,60 @@
+//! Finishing a device that was placed, the last stage of adding: it starts and the guest is told; or
+//! the notices refuse it, and it is given up. No call here takes memory.
+
+ghost use Rattle.std.specs.Prelude.{◌≡◌, IfOk, OnErr, Some};
+ghost use Rattle.qo_values.specs.declared.codes.Code.TheVariants.{E44};
+ghost use Rattle.qo_model.specs.Board.{Board};
+ghost use Rattle.qo_model.specs.Plug.{Wanted};
+ghost use Rattle.qo_properties.specs.Claims.{KeepsBook};
+ghost use Rattle.qo_plug.specs.Added.{barred_in};
+ghost use Rattle.qo_plug.specs.Adding.{IsAdded, IsRefused};
+ghost use Rattle.qo_plug.specs.Stages.{IsBeside, IsReady, IsSettled};
+
+use crate::adding::Added;
+use crate::attempting::refuse;
+use crate::placing::{Placed, Way};
+use crate::refusals::Barred;
+use crate::starting::start;
+use qo_heap::{Heap, Steps};
+use qo_hotplug::Hotplug;
+use qo_life::drop_pin;
+use qo_reset::Resets;
+use qo_values::Code;
+use std::sync::ledger::Ledger;
+
+/// Finishes a device that was placed: the stage of the notices. It starts, and the guest is told; or,
+/// where as many notices waited as may, it is refused with `E44`, once it is realized and reset, and
+/// its births and notes are left. It takes no memory.
+pub fn finish<L: Ledger>(
+    heap: &mut Heap,
+    resets: &Resets,
+    hotplug: &mut Hotplug,
+    placed: Placed,
+    steps: &mut Steps<L>,
+) -> Result<Added, Barred>
+    requires { IsReady placed hotplug.old heap.old }
+    ensures ok { (b : Board) (a : Wanted) → IsSettled b a placed heap.old → IsBeside b resets.now.births hotplug.old → IfOk result (λ x. IsAdded b a x hotplug.new heap.new) }
+    ensures refused { (b : Board) (a : Wanted) → IsSettled b a placed heap.old → OnErr result (IsRefused b a 8 E44 heap.new) }
+    ensures code { OnErr result (barred_in result ≡ Some (8, E44)) }
+    ensures asked { OnErr result (hotplug.new ≡ hotplug.old) }
+    ensures book { KeepsBook heap.old heap.new }
+{
+    let Placed { device, slot, way } = placed;
+    match way {
+        Way::Stands(path) => {
+            start(heap, resets, hotplug, device, path, steps);
+            drop_pin(heap, device, steps);
+            Ok(Added {
+                birth: device.birth,
+                slot,
+            })
+        }
+        Way::Full { out } => {
+            refuse(heap, device, out, steps);
+            Err(Barred {
+                stage: 8,
+                code: Code::E44,
+            })
+        }
+    }
+}

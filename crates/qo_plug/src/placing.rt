@@ -1,0 +1,124 @@
+//! Placing a device that was begun, the stages 5 to 7 of adding: it takes its place in a slot of its
+//! bus, or is given up. Where the notices will refuse it, it stands nowhere.
+
+ghost use Rattle.std.specs.Prelude.{◌≡◌, ◌<◌, Err, IfOk, OnErr, length, nat_le};
+ghost use Rattle.qo_values.specs.declared.limits.TheConstants.{BUS_SLOTS, NOTICES_MAX};
+ghost use Rattle.qo_model.specs.Board.{Board};
+ghost use Rattle.qo_model.specs.Plug.{Wanted};
+ghost use Rattle.qo_properties.specs.Claims.{KeepsBook};
+ghost use Rattle.qo_plug.specs.declared.refusals.AddRefusal.TheVariants.{Memory};
+ghost use Rattle.qo_plug.specs.Added.{IfRefused};
+ghost use Rattle.qo_plug.specs.Adding.{IsCut, IsRefused};
+ghost use Rattle.qo_plug.specs.Stages.{IsBegun, IsHeld, IsReady, IsSettled};
+
+use crate::admitting::{Place, Site};
+use crate::beginning::Begun;
+use crate::drafting::give_up;
+use crate::refusals::AddRefusal;
+use crate::standing::{Seat, stand};
+use qo_heap::{Heap, Oid, Steps};
+use qo_hotplug::Hotplug;
+use qo_values::{Id, NOTICES_MAX, Text};
+use std::alloc::Global;
+use std::sync::ledger::Ledger;
+
+/// How a device was placed.
+pub enum Way {
+    /// It stands in its place; its canonical path.
+    Stands(Text),
+    /// It stands nowhere, since as many notices wait as may; whether no hold is on its bus.
+    Full {
+        /// Whether no hold is on its bus.
+        out: bool,
+    },
+}
+
+/// A device that was placed, and is held from outside the tree. It can't be let go: it is spent by
+/// `finish`.
+pub struct Placed {
+    /// The device.
+    pub device: Oid,
+    /// Its slot of its bus.
+    pub slot: u8,
+    /// How it was placed.
+    pub way: Way,
+}
+
+/// Whether as many notices wait for the guest as may.
+fn are_full(hotplug: &Hotplug) -> bool
+    ensures { result ≡ nat_le NOTICES_MAX (length hotplug.now.notices) }
+{
+    hotplug.notices().len() as u64 >= NOTICES_MAX
+}
+
+/// Where a device is to stand in a slot of its bus, and its id, if it has one.
+fn seat_at(site: Site, slot: u8) -> (Seat, Option<Id>)
+    ensures container { result.0.container ≡ site.place.container }
+    ensures name { result.0.name ≡ site.place.name }
+    ensures bus { result.0.bus ≡ site.bus }
+    ensures slot { result.0.slot ≡ slot }
+    ensures id { result.1 ≡ site.place.id }
+{
+    let Site { place, bus, .. } = site;
+    let Place {
+        container,
+        name,
+        id,
+    } = place;
+    let seat = Seat {
+        container,
+        name,
+        bus,
+        slot,
+    };
+    (seat, id)
+}
+
+/// Places a device that was begun: the stages 5 to 7. A refusal is that of its slot or its depth
+/// (stage 5: `E28`, `E29`, `E30`, `E42`). An error gives the device up: its births and notes are left.
+/// Where as many notices wait as may, the device takes no place, since `finish` refuses it then.
+pub fn place<L: Ledger>(
+    heap: &mut Heap,
+    hotplug: &Hotplug,
+    begun: Begun,
+    alloc: Global,
+    steps: &mut Steps<L>,
+) -> Result<Placed, AddRefusal>
+    requires { IsHeld begun heap.old }
+    ensures settled { (b : Board) (a : Wanted) → IsBegun b a begun heap.old → b.notices ≡ hotplug.now.notices → IfOk result (λ p. IsSettled b a p heap.new) }
+    ensures ready { IfOk result (λ p. IsReady p hotplug.now heap.new) }
+    ensures refused { (b : Board) (a : Wanted) → IsBegun b a begun heap.old → IfRefused result (λ stage code. (stage ≡ 5) × IsRefused b a stage code heap.new) }
+    ensures memory { (b : Board) (a : Wanted) → IsBegun b a begun heap.old → result ≡ Err Memory → IsCut b a heap.new }
+    ensures book { KeepsBook heap.old heap.new }
+{
+    let Begun {
+        site,
+        device,
+        plan,
+        slot,
+        out,
+    } = begun;
+    let slot = match slot {
+        Ok(slot) => slot,
+        Err(code) => {
+            give_up(heap, device, steps);
+            return Err(AddRefusal::Refused { stage: 5, code });
+        }
+    };
+    if are_full(hotplug) {
+        let way = Way::Full { out };
+        return Ok(Placed { device, slot, way });
+    }
+    let (seat, id) = seat_at(site, slot);
+    match stand(heap, device, seat, id, plan, alloc, steps) {
+        Ok(path) => Ok(Placed {
+            device,
+            slot,
+            way: Way::Stands(path),
+        }),
+        Err(_) => {
+            give_up(heap, device, steps);
+            Err(AddRefusal::Memory)
+        }
+    }
+}
