@@ -1,5 +1,6 @@
 -- What stands behind each stage of an add.
-use Rattle.std.proofs.Common.{◌≡◌, refl, ap, sym, subst, ◌∙◌, ℕ, Bool, true, Ok, Err, Result}
+use Rattle.std.proofs.Common.{◌≡◌, refl, ap, sym, subst, ◌∙◌, ℕ, ◌≤◌, Bool, true, Option, Some, Ok, Err, Result, arith}
+use Rattle.std.proofs.lemmas.Option.{same_Some}
 use Rattle.qo_hotplug.specs.Asked.{Asked}
 use Rattle.qo_model.specs.Board.{Board}
 use Rattle.qo_model.specs.Plug.{Wanted, objects_in, plug_attempt}
@@ -8,19 +9,24 @@ use Rattle.qo_heap.specs.Board.{Shows}
 use Rattle.qo_heap.specs.Objects.{Objects}
 use Rattle.qo_plug.specs.Added.{IfRefused}
 use Rattle.qo_plug.specs.Adding.{IsAdded, IsCut, IsRefused}
-use Rattle.qo_plug.specs.Stages.{IsBeside}
+use Rattle.qo_plug.specs.Stages.{IsBegun, IsBeside, IsSettled}
 use Rattle.qo_plug.specs.declared.adding.Added as device
+use Rattle.qo_plug.specs.declared.beginning.Begun.{Begun}
+use Rattle.qo_plug.specs.declared.placing.Placed.{Placed}
 use Rattle.qo_plug.specs.declared.refusals.AddRefusal.{AddRefusal}
-use Rattle.qo_plug.specs.declared.refusals.AddRefusal.TheVariants.{Memory}
+use Rattle.qo_plug.specs.declared.refusals.AddRefusal.TheVariants.{Refused, Memory}
 use Rattle.qo_plug.proofs.PlugSteps.{cut-whole}
+use Rattle.qo_plug.proofs.StageLemmas.{passed-making, passed-placing}
 use Rattle.qo_properties.specs.Claims.{KeepsBook}
 use Rattle.qo_reset.specs.HoldList.{HoldList}
 use Rattle.qo_sound.proofs.DevicesStayLemmas.{devices_stay_lem}
+use Rattle.qo_values.specs.declared.codes.Code.{Code}
+use Rattle.qo_values.specs.declared.codes.Code.TheVariants.{E44}
 use Rattle.qo_values.specs.declared.kinds.TypeId.{TypeId}
 use Rattle.qo_realize.specs.Answers.{Plugs}
 use Rattle.qo_realize.specs.Good.{Good}
 use Rattle.qo_realize.specs.Parts.{Parts, counts, parts_of}
-use Rattle.qo_realize.specs.Stages.{Since}
+use Rattle.qo_realize.specs.Stages.{IsDrafted, IsPlugged, IsWithin, Since}
 use Rattle.qo_realize.specs.Stands.{Stands, StandsForGood}
 use Rattle.qo_realize.proofs.PlugLemmas.{added-stands, barred-stands, cut-stands, the}
 use Rattle.qo_realize.proofs.SoundLemmas.{given_up-good}
@@ -43,13 +49,34 @@ module _ (b : Board) (a : Wanted) (anonymous next : ℕ) (running : Bool) (holds
 
     module _ (w : Objects) (keeps : KeepsBook v w) where
       pub since-then : Since b a (at w) next
-      since-then = record since { book = books since.before v w since.book keeps }
+      since-then = record { before = since.before; stood = since.stood; book = books since.before v w since.book keeps; good = since.good; counted = since.counted }
 
       -- it is refused, or an attempt is cut
-      pub since-barred : (e : AddRefusal) → IfRefused (the (Result device.Added AddRefusal) (Err e)) (λ stage code. IsRefused b a stage code w) → (e ≡ Memory → IsCut b a w)
-          → Plugs b a (Err e) (at w)
-      since-barred e refused memory =
-          barred-stands b a anonymous running holds old old since.before w e since.stood refused (λ is. memory (cc is)) refl (books since.before v w since.book keeps)
+      since-barred : (new : Asked) → new ≡ old → (e : AddRefusal) → IfRefused (the (Result device.Added AddRefusal) (Err e)) (λ stage code. IsRefused b a stage code w)
+          → (e ≡ Memory → IsCut b a w) → Plugs b a (Err e) (parts_of anonymous running holds new w)
+      since-barred new same e refused memory =
+          barred-stands b a anonymous running holds old new since.before w e since.stood refused (λ is. memory (cc is)) same (books since.before v w since.book keeps)
+
+      pub begin-barred : (e : AddRefusal) → IfRefused (the (Result device.Added AddRefusal) (Err e)) (λ stage code. (1 ≤ stage) × (stage ≤ 4) × IsRefused b a stage code w)
+          → (e ≡ Memory → IsCut b a w) → IsWithin 1 4 e × Plugs b a (Err e) (at w)
+      begin-barred (Refused stage code) h memory = ((h.0, h.1), since-barred old refl (Refused stage code) h.2 memory)
+      begin-barred Memory h memory = (tt, since-barred old refl Memory tt memory)
+
+      pub place-barred : (e : AddRefusal) → IfRefused (the (Result device.Added AddRefusal) (Err e)) (λ stage code. (stage ≡ 5) × IsRefused b a stage code w)
+          → (e ≡ Memory → IsCut b a w) → IsWithin 5 7 e × Plugs b a (Err e) (at w)
+      place-barred (Refused stage code) h memory = ((omega (arith, h.0), omega (arith, h.0)), since-barred old refl (Refused stage code) h.1 memory)
+      place-barred Memory h memory = (tt, since-barred old refl Memory tt memory)
+
+      pub finish-barred : (new : Asked) → new ≡ old → (stage : ℕ) (code : Code) → ◌≡◌ {A = Option (ℕ × Code)} (Some (stage, code)) (Some (8, E44)) → IsRefused b a 8 E44 w
+          → (Refused stage code ≡ Refused 8 E44) × Plugs b a (Err (Refused stage code)) (parts_of anonymous running holds new w)
+      finish-barred new same stage code is refused = (
+        ap (λ (r : ℕ × Code). Refused r.0 r.1) pair,
+        subst (λ (r : ℕ × Code). Plugs b a (Err (Refused r.0 r.1)) (parts_of anonymous running holds new w)) (sym pair)
+            (since-barred new same (Refused 8 E44) refused (λ clash. cc)),
+      )
+        where
+          pair : ◌≡◌ {A = ℕ × Code} (stage, code) (8, E44)
+          pair = same_Some (stage, code) (8, E44) is
 
       -- it is added
       pub since-added : (new : Asked) (d : device.Added) → IsAdded b a d new w → Plugs b a (Ok d) (parts_of next running holds new w)
@@ -67,3 +94,12 @@ module _ (b : Board) (a : Wanted) (anonymous next : ℕ) (running : Bool) (holds
 
       pub given_up-stands : (t : TypeId) (bus : ℕ) → Shows (plug_attempt b t bus 4) w → StandsForGood (at w)
       given_up-stands t bus s = (plug_attempt b t bus 4, since-given_up t bus s, given_up-good b t bus since.good)
+
+  -- a draft, and what is plugged of it
+  pub drafted-is : (v w : Objects) (d : Begun) → Stands b (at v) → Good b → next ≡ counts anonymous a.id → KeepsBook v w → IsBegun b a d w
+      → IsDrafted b a (record { parts = at w; next = next; begun = d })
+  drafted-is v w d s good is keeps begun =
+      record { since = since-begun v w s good is keeps; begun = begun; passed = passed-making b a d.site begun.admitted begun.given }
+
+  pub plugged-is : (v w : Objects) (p : Placed) → Since b a (at v) next → KeepsBook v w → IsSettled b a p w → IsPlugged b a (record { parts = at w; next = next; placed = p })
+  plugged-is v w p since keeps settled = record { since = since-then v since w keeps; settled = settled; passed = passed-placing b a p w settled }

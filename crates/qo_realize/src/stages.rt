@@ -80,6 +80,27 @@ impl Model for Plugged {
     ghost invariant = { λ p. IsReady p.placed p.beside.hotplug p.heap × PluggedOnGood (record { parts = parts_of p.beside.anonymous p.beside.running p.beside.resets p.beside.hotplug p.heap; next = p.next; placed = p.placed }) };
 }
 
+/// The objects of a board, and what stands beside them.
+fn parts(board: Board) -> (Heap, Beside)
+    ensures whole { parts_of result.1.anonymous result.1.running result.1.resets result.1.hotplug result.0 ≡ board }
+    ensures good { StandsForGood board }
+{
+    let Board {
+        heap,
+        anonymous,
+        running,
+        resets,
+        hotplug,
+    } = board;
+    let beside = Beside {
+        anonymous,
+        running,
+        resets,
+        hotplug,
+    };
+    (heap, beside)
+}
+
 /// The board of its objects, and of what stands beside them.
 fn board_of(heap: Heap, beside: Beside) -> Board
     requires { StandsForGood (parts_of beside.anonymous beside.running beside.resets beside.hotplug heap) }
@@ -117,30 +138,25 @@ impl Board {
     ) -> Result<Draft, NotAdded>
         ensures { (b : model.Board) → Stands b self → Begins b (wanted driver.now (option_map (λ t. t.now) id.entry) (option_map (λ t. t.now) bus.entry) props.now) result }
     {
-        let Some(next) = next_anonymous(self.anonymous, id) else {
-            let refusal = AddRefusal::Memory;
+        let (mut heap, beside) = parts(self);
+        let Some(next) = next_anonymous(beside.anonymous, id) else {
             return Err(NotAdded {
-                board: self,
-                refusal,
+                board: board_of(heap, beside),
+                refusal: AddRefusal::Memory,
             });
         };
-        let Board {
-            mut heap,
-            anonymous,
-            running,
-            resets,
-            hotplug,
-        } = self;
-        let result = begin(
-            &mut heap, &resets, &hotplug, anonymous, driver, id, bus, props, alloc, steps,
-        );
-        let beside = Beside {
-            anonymous,
-            running,
-            resets,
-            hotplug,
-        };
-        match result {
+        match begin(
+            &mut heap,
+            &beside.resets,
+            &beside.hotplug,
+            beside.anonymous,
+            driver,
+            id,
+            bus,
+            props,
+            alloc,
+            steps,
+        ) {
             Ok(begun) => Ok(Draft {
                 heap,
                 beside,

@@ -1,0 +1,22 @@
+-- Births and notes are left.
+use Rattle.std.proofs.Common.{sym, subst}
+use Rattle.qo_realize.specs.Stages.{Drafting, IsDrafted}
+use Rattle.qo_realize.proofs.StageLemmas.{given_up-stands, since-given_up}
+use Rattle.qo_realize.proofs.stages.Draft.abandon.Goals as goal
+
+pub board_of-requires : goal.board_of-requires
+board_of-requires g c =
+    let (b, a, is) = c.self.invariant.1 in
+    let i = c.self.inside in
+    let x = i.beside in
+    given_up-stands b a x.anonymous i.next x.running x.resets x.hotplug i.heap is.since c.abandon.new.heap c.abandon.ensures.book i.begun.site.kind i.begun.site.bus.birth
+    (c.abandon.ensures.given_up b a is.begun)
+
+pub returns : goal.returns
+returns g c = λ b a given.
+    let is = subst (λ (d : Drafting). IsDrafted b a d) (sym c.self.view_is) given in
+    let i = c.self.inside in
+    let x = i.beside in
+    rw (c.board_of.ensures, sym c.self.view_is)
+    (since-given_up b a x.anonymous i.next x.running x.resets x.hotplug i.heap is.since c.abandon.new.heap c.abandon.ensures.book i.begun.site.kind i.begun.site.bus.birth
+    (c.abandon.ensures.given_up b a is.begun))

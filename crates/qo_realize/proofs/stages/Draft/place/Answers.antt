@@ -1,0 +1,41 @@
+-- What was begun is placed, or what refuses it is told.
+use Rattle.std.proofs.Common.{sym, subst, Err}
+use Rattle.qo_realize.specs.Stages.{Drafting, IsDrafted}
+use Rattle.qo_realize.proofs.PlugLemmas.{plugs-good}
+use Rattle.qo_realize.proofs.StageLemmas.{place-barred, plugged-is}
+use Rattle.qo_realize.proofs.stages.Draft.place.Goals as goal
+
+pub invariant_of-result : goal.invariant_of-result
+invariant_of-result g c =
+    let (b, a, is) = c.self.invariant.1 in
+    let i = c.self.inside in
+    let x = i.beside in
+    let settled = c.in-Ok.ensures.settled b a is.begun is.since.stood.notices in
+    (c.in-Ok.ensures.ready, (b, a, plugged-is b a x.anonymous i.next x.running x.resets x.hotplug i.heap c.place.new.heap c.in-Ok.placed is.since c.in-Ok.ensures.book settled))
+
+pub board_of-requires : goal.board_of-requires
+board_of-requires g c =
+    let (b, a, is) = c.self.invariant.1 in
+    let i = c.self.inside in
+    let x = i.beside in
+    let barred =
+    place-barred b a x.anonymous i.next x.running x.resets x.hotplug i.heap is.since c.place.new.heap c.in-Err.ensures.book c.in-Err.refusal
+    (c.in-Err.ensures.refused b a is.begun) (λ m. c.in-Err.ensures.memory b a is.begun (cc m)) in
+    plugs-good b a (Err c.in-Err.refusal) _ is.since.good barred.1
+
+pub returns-in-Ok : goal.returns-in-Ok
+returns-in-Ok g c = λ b a given.
+    let is = subst (λ (d : Drafting). IsDrafted b a d) (sym c.self.view_is) given in
+    let i = c.self.inside in
+    let x = i.beside in
+    plugged-is b a x.anonymous i.next x.running x.resets x.hotplug i.heap c.place.new.heap c.in-Ok.placed is.since c.in-Ok.ensures.book
+    (c.in-Ok.ensures.settled b a is.begun is.since.stood.notices)
+
+pub returns-in-Err : goal.returns-in-Err
+returns-in-Err g c = λ b a given.
+    let is = subst (λ (d : Drafting). IsDrafted b a d) (sym c.self.view_is) given in
+    let i = c.self.inside in
+    let x = i.beside in
+    rw c.board_of.ensures
+    (place-barred b a x.anonymous i.next x.running x.resets x.hotplug i.heap is.since c.place.new.heap c.in-Err.ensures.book c.in-Err.refusal
+    (c.in-Err.ensures.refused b a is.begun) (λ m. c.in-Err.ensures.memory b a is.begun (cc m)))

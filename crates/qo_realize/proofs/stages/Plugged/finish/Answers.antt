@@ -1,0 +1,48 @@
+-- The device is added, or refused by the notices.
+use Rattle.std.proofs.Common.{sym, subst, Ok, Err}
+use Rattle.qo_plug.specs.declared.refusals.AddRefusal.TheVariants.{Refused}
+use Rattle.qo_realize.specs.Stages.{IsPlugged, Plugging}
+use Rattle.qo_realize.proofs.PlugLemmas.{plugs-good}
+use Rattle.qo_realize.proofs.StageLemmas.{finish-barred, since-added, since-beside}
+use Rattle.qo_realize.proofs.stages.Plugged.finish.Goals as goal
+
+pub board_of-requires : goal.board_of-requires
+board_of-requires g c =
+    let (b, a, is) = c.self.invariant.1 in
+    let i = c.self.inside in
+    let x = i.beside in
+    let beside = since-beside b a x.anonymous i.next x.running x.resets x.hotplug i.heap is.since in
+    let added = c.in-Ok.ensures.ok b a is.settled beside in
+    plugs-good b a (Ok c.in-Ok.added) _ is.since.good
+    (since-added b a x.anonymous i.next x.running x.resets x.hotplug i.heap is.since c.finish.new.heap c.in-Ok.ensures.book c.finish.new.hotplug c.in-Ok.added added)
+
+pub board_of-requires-in-Err : goal.board_of-requires-in-Err
+board_of-requires-in-Err g c =
+    let (b, a, is) = c.self.invariant.1 in
+    let i = c.self.inside in
+    let x = i.beside in
+    let bar = c.in-Err.field-0 in
+    let barred =
+    finish-barred b a x.anonymous i.next x.running x.resets x.hotplug i.heap is.since c.finish.new.heap c.in-Err.ensures.book c.finish.new.hotplug c.in-Err.ensures.asked
+    bar.stage bar.code c.in-Err.ensures.code (c.in-Err.ensures.refused b a is.settled) in
+    plugs-good b a (Err (Refused bar.stage bar.code)) _ is.since.good barred.1
+
+pub returns-in-Ok : goal.returns-in-Ok
+returns-in-Ok g c = λ b a given.
+    let is = subst (λ (p : Plugging). IsPlugged b a p) (sym c.self.view_is) given in
+    let i = c.self.inside in
+    let x = i.beside in
+    let beside = since-beside b a x.anonymous i.next x.running x.resets x.hotplug i.heap is.since in
+    let added = c.in-Ok.ensures.ok b a is.settled beside in
+    rw c.board_of.ensures
+    (since-added b a x.anonymous i.next x.running x.resets x.hotplug i.heap is.since c.finish.new.heap c.in-Ok.ensures.book c.finish.new.hotplug c.in-Ok.added added)
+
+pub returns-in-Err : goal.returns-in-Err
+returns-in-Err g c = λ b a given.
+    let is = subst (λ (p : Plugging). IsPlugged b a p) (sym c.self.view_is) given in
+    let i = c.self.inside in
+    let x = i.beside in
+    let bar = c.in-Err.field-0 in
+    rw c.board_of-in-Err.ensures
+    (finish-barred b a x.anonymous i.next x.running x.resets x.hotplug i.heap is.since c.finish.new.heap c.in-Err.ensures.book c.finish.new.hotplug c.in-Err.ensures.asked
+    bar.stage bar.code c.in-Err.ensures.code (c.in-Err.ensures.refused b a is.settled))
