@@ -61,7 +61,7 @@ pub record KeepsBoard (P : Board → Type 0) : Type 0 where
   pub cut : (b : Board) (t : TypeId) (i : ℕ) (joined : Bool) → P b → P (cut_attempt b t i joined)
   -- a removal is asked for, comes, or is refused, and the guest takes a notice
   pub asked : (b : Board) (id : List ℕ) → P b → P (asked b id).board
-  pub completed : (b : Board) (at : Addr) (d : ℕ) → addressed b at ≡ Some d → P b → P (completed b d)
+  pub completed : (b : Board) (at : Addr) (d : ℕ) → addressed b at ≡ Some d → among b.pending d ≡ true → P b → P (completed b d)
   pub refused : (b : Board) (d : ℕ) → P b → P (refused_removal b d)
   pub polled : (b : Board) → P b → P (polled b)
 
@@ -122,24 +122,24 @@ added_keeps P k b a p = by (driver_barred a.driver)
     by None = k.plugged b a p
 
 -- a line of the guest
-pending_keeps : (P : Board → Type 0) (b c : Board) (d : ℕ) → P b → P c → P (if_pending b d c).board
-pending_keeps P b c d p q = by (among b.pending d)
+pending_keeps : (P : Board → Type 0) (b c : Board) (d : ℕ) → P b → (among b.pending d ≡ true → P c) → P (if_pending b d c).board
+pending_keeps P b c d p q = by (among b.pending d) refl
   where
-    by : (t : Bool) → P (if t then fine c else hearing.answered b NoPending).board
-    by true = q
-    by false = p
+    by : (t : Bool) → among b.pending d ≡ t → P (if t then fine c else hearing.answered b NoPending).board
+    by true is = q is
+    by false is = p
 
 acted_keeps : (P : Board → Type 0) → KeepsBoard P → (b : Board) (act : GuestAct) → P b → P (acted b act).board
 acted_keeps P k b (Ack at) p = by (addressed b at) refl
   where
     by : (o : Option ℕ) → addressed b at ≡ o → P (acked b o).board
     by None is = p
-    by (Some d) is = pending_keeps P b (completed b d) d p (k.completed b at d is p)
+    by (Some d) is = pending_keeps P b (completed b d) d p (λ pending. k.completed b at d is pending p)
 acted_keeps P k b (Nack at) p = by (addressed b at)
   where
     by : (o : Option ℕ) → P (nacked b o).board
     by None = p
-    by (Some d) = pending_keeps P b (refused_removal b d) d p (k.refused b d p)
+    by (Some d) = pending_keeps P b (refused_removal b d) d p (λ pending. k.refused b d p)
 acted_keeps P k b Poll p = k.polled b p
 acted_keeps P k b (Read at register) p = p
 acted_keeps P k b (Write at register value) p = p

@@ -28,7 +28,7 @@ notes_kept =
       plugged = λ b a o. (tree_kept.plugged b a o.0, notes_kept_lem.plugged b a o.0 o.1);
       cut = λ b t i joined o. (tree_kept.cut b t i joined o.0, notes_kept_lem.cut b t i joined o.1);
       asked = λ b id o. (tree_kept.asked b id o.0, notes_kept_lem.asked_for b id o.1);
-      completed = λ b at d is o. (tree_kept.completed b at d is o.0, notes_kept_lem.detached b d o.0 (address-there b o.0 at d is) o.1);
+      completed = λ b at d is pending o. (tree_kept.completed b at d is pending o.0, notes_kept_lem.detached b d o.0 (address-there b o.0 at d is) o.1);
       refused = λ b d o. (tree_kept.refused b d o.0, notes_kept_lem.refused_by b d o.1);
       polled = λ b o. (tree_kept.polled b o.0, notes_kept_lem.beside b (polled b) refl refl refl o.1);
     }

@@ -10,7 +10,10 @@ use Rattle.qo_commands.proofs.AttemptLemmas.{attempted-all}
 use Rattle.qo_commands.specs.Commands.{without_events}
 use Rattle.qo_sound.proofs.KeptLemmas.{sound_kept_lem}
 use Rattle.qo_sound.specs.Kept.{SoundTree}
+use Rattle.qo_sound_devices.specs.SoundDevices.{SoundDevices}
+use Rattle.qo_sound_devices.proofs.DevicesLawLemmas.{devices_kept_lem}
 use Rattle.qo_machine.proofs.AddressLemmas.{asked-tree, polled-tree, refused-tree}
+use Rattle.qo_machine.proofs.DevicesLemmas.{devices_commands}
 use Rattle.qo_machine.proofs.KeepLemmas.{KeepsBoard, KeepsCommands, broken_keeps, keeps_commands, run_keeps, step_keeps}
 use Rattle.qo_machine.proofs.MachineLemmas.{in_at}
 use Rattle.qo_machine.proofs.SoundLemmas.{sound_by}
@@ -26,7 +29,7 @@ tree_kept =
       plugged = λ b a h. sound_kept_lem.plugged b a h;
       cut = λ b t i joined h. sound_kept_lem.cut b t i joined h;
       asked = λ b id h. asked-tree b id h;
-      completed = λ b at d is h. sound_kept_lem.detached b d h;
+      completed = λ b at d is pending h. sound_kept_lem.detached b d h;
       refused = λ b d h. refused-tree b d h;
       polled = λ b h. polled-tree b h;
     }
@@ -55,6 +58,8 @@ sound_in_runs =
     record {
       step = λ s i cs h. step_keeps SoundTree tree_commands s i cs h;
       run = λ turns. run_keeps SoundTree tree_commands opening turns (opening_sound.graph, opening_sound.aliases);
+      devices_step = λ s i cs h. step_keeps SoundDevices devices_commands s i cs h;
+      devices_run = λ turns. run_keeps SoundDevices devices_commands opening turns devices_kept_lem.opening;
     }
 
 -- a step of a machine

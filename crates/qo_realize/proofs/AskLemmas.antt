@@ -16,7 +16,6 @@ use Rattle.qo_reset.specs.HoldList.{HoldList}
 use Rattle.qo_realize.specs.Good.{Good}
 use Rattle.qo_realize.specs.Answers.{Changes}
 use Rattle.qo_realize.specs.Guest.{polled}
-use Rattle.qo_realize.proofs.SoundLemmas.{asked-good}
 use Rattle.qo_realize.specs.Parts.{Parts, parts_of}
 use Rattle.qo_realize.specs.Removals.{Asks, IsAsked, with_asked}
 use Rattle.qo_realize.specs.Stands.{Stands, StandsForGood}
@@ -65,10 +64,11 @@ asks-stands b anonymous running holds old new v change (Err (Refused code)) s is
 asks-stands b anonymous running holds old new v change (Err Memory) s is same = subst (λ (h : Asked). Stands b (parts_of anonymous running holds h v)) (sym same) s
 
 pub asks-sound : (b : Board) (anonymous : ℕ) (running : Bool) (holds : HoldList) (old new : Asked) (v : Objects) (change : Changed) (result : Result Unit Refusal)
-    → Stands b (parts_of anonymous running holds old v) → Good b → Asks b change result new → OnErr result (new ≡ old)
+    → Stands b (parts_of anonymous running holds old v) → Good b → Good change.board → Asks b change result new → OnErr result (new ≡ old)
     → StandsForGood (parts_of anonymous running holds new v)
-asks-sound b anonymous running holds old new v change (Ok u) s sound is same = (with_asked b new, with_asked-stands b anonymous running holds old new v s, asked-good b new sound)
-asks-sound b anonymous running holds old new v change (Err e) s sound is same = (b, subst (λ (h : Asked). Stands b (parts_of anonymous running holds h v)) (sym same) s, sound)
+asks-sound b anonymous running holds old new v change (Ok u) s sound behind is same =
+    (with_asked b new, with_asked-stands b anonymous running holds old new v s, subst Good (ap (λ (c : Changed). c.board) is) behind)
+asks-sound b anonymous running holds old new v change (Err e) s sound behind is same = (b, subst (λ (h : Asked). Stands b (parts_of anonymous running holds h v)) (sym same) s, sound)
 
 pub asks-err : {T E : Type 0} (r : Result T E) (anonymous : ℕ) (running : Bool) (holds : HoldList) (old new : Asked) (v : Objects) (p : Parts)
     → parts_of anonymous running holds old v ≡ p → OnErr r (new ≡ old) → OnErr r (parts_of anonymous running holds new v ≡ p)

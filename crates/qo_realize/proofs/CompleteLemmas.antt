@@ -9,6 +9,7 @@ use Rattle.qo_table.specs.Rows.{object_at}
 use Rattle.qo_object.specs.Content.{Content}
 use Rattle.qo_hotplug.specs.Asked.{Asked}
 use Rattle.qo_model.specs.Board.{Board, Record}
+use Rattle.qo_model.specs.Depth.{among}
 use Rattle.qo_model.specs.Hotplug.{completed}
 use Rattle.qo_model.specs.Unplug.{detach}
 use Rattle.qo_heap.specs.Board.{pins_in}
@@ -22,9 +23,10 @@ use Rattle.qo_sound.proofs.DevicesStayLemmas.{devices_stay_lem}
 use Rattle.qo_unplug.specs.Beside.{Beside}
 use Rattle.qo_unplug.specs.Timerless.{Timerless}
 use Rattle.qo_unplug.proofs.TimerLemmas.{timed, timer_in, untimed-shows}
+use Rattle.qo_realize.specs.Good.{Good}
 use Rattle.qo_realize.specs.Parts.{Parts, parts_of}
 use Rattle.qo_realize.specs.Stands.{Stands, StandsForGood}
-use Rattle.qo_realize.proofs.SoundLemmas.{detached-good, root-pinned}
+use Rattle.qo_realize.proofs.SoundLemmas.{completed-good, root-pinned}
 
 -- no timer on the board is none on the heap
 same-timer : (r : Registers) → boards.is_timer r ≡ timer_in r
@@ -81,9 +83,10 @@ completed-stands b n anonymous running held holds old new v w s beside keeps =
       book = keeps [] s.book;
     }
 
-pub completed-good : (n anonymous : ℕ) (running : Bool) (held holds : HoldList) (old new : Asked) (v w : Objects)
-    → StandsForGood (parts_of anonymous running held old v) → ((b : Board) → Beside b v held.births old → Beside (detach b n) w holds.births new) → KeepsBook v w
+pub completed-sound : (n anonymous : ℕ) (running : Bool) (held holds : HoldList) (old new : Asked) (v w : Objects)
+    → among old.pending n ≡ true → StandsForGood (parts_of anonymous running held old v) → ((b : Board) → Beside b v held.births old → Beside (detach b n) w holds.births new) → KeepsBook v w
     → OnlyRootPinned w × StandsForGood (parts_of anonymous running holds new w)
-completed-good n anonymous running held holds old new v w (b, s, good) detaches keeps =
+completed-sound n anonymous running held holds old new v w pending (b, s, good) detaches keeps =
+    let behind : Good (completed b n) = completed-good b n (ap (λ (ns : List ℕ). among ns n) s.pending ∙ pending) good in
     let stands : Stands (completed b n) (parts_of anonymous running holds new w) = completed-stands b n anonymous running held holds old new v w s (detaches b (is_beside b anonymous running held old v s)) keeps in
-    (root-pinned (completed b n) (parts_of anonymous running holds new w) stands (detached-good b n good), (completed b n, stands, detached-good b n good))
+    (root-pinned (completed b n) (parts_of anonymous running holds new w) stands behind, (completed b n, stands, behind))

@@ -41,7 +41,7 @@ the T x = x
 pub is_shown : (b : Board) (anonymous : ℕ) (running : Bool) (holds : HoldList) (asked : Asked) (v : Objects)
     → Stands b (parts_of anonymous running holds asked v) → Good b → IsShown b anonymous holds.births asked v
 is_shown b anonymous running holds asked v s good =
-    record { shown = s.shows; anonymous_is = s.anonymous; holds_are = s.holds; pending = s.pending; notices = s.notices; sound = good.tree }
+    record { shown = s.shows; anonymous_is = s.anonymous; holds_are = s.holds; pending = s.pending; notices = s.notices; sound = good.devices.tree }
 
 -- of an add all stays but objects, births, notes, notices and the number of accepted adds; of one that is refused the last two stay too
 pub record Leaves (b c : Board) : Type 0 where

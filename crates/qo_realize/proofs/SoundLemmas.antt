@@ -1,5 +1,5 @@
 -- The board that stands is good behind each call.
-use Rattle.std.proofs.Common.{◌≡◌, refl, ap, sym, subst, ◌∙◌, ℕ, Bool, true, false, List, [], Option, None, Some, Result, Ok, Err, if◌then◌else◌}
+use Rattle.std.proofs.Common.{◌≡◌, refl, ap, sym, subst, ◌∙◌, ℕ, Bool, true, false, List, [], ◌∷◌, drop, Option, None, Some, Result, Ok, Err, if◌then◌else◌}
 use Rattle.std.specs.Option.{option_map_or}
 use Rattle.std.proofs.lemmas.Bool.{true≢false}
 use Rattle.qo_values.specs.Registers.{fresh_registers}
@@ -8,36 +8,35 @@ use Rattle.qo_values.specs.declared.codes.Code.TheVariants.{E22}
 use Rattle.qo_values.specs.declared.kinds.TypeId.{TypeId}
 use Rattle.qo_values.specs.declared.kinds.TypeId.TheVariants as type
 use Rattle.qo_values.specs.declared.properties.Val.{Val}
-use Rattle.qo_hotplug.specs.Asked.{Asked}
 use Rattle.qo_model.specs.Access.{write_at}
-use Rattle.qo_model.specs.Board.{Board}
+use Rattle.qo_model.specs.Board.{Board, Notice}
+use Rattle.qo_model.specs.Depth.{among}
 use Rattle.qo_model.specs.FinalNotesRuns.{Change, behind_write, changed, wrote}
-use Rattle.qo_model.specs.Hotplug.{refused}
+use Rattle.qo_model.specs.Hotplug.{asked, completed, refused}
 use Rattle.qo_model.specs.Objects.{attempted_as, barred_by, with_attempt}
 use Rattle.qo_model.specs.Opening.{opening_board}
 use Rattle.qo_model.specs.Plug.{Plugged, Wanted, barred_early, cut_attempt, objects_in, plug, plug_attempt, type_barred}
 use Rattle.qo_model.specs.Properties.{object_at, write}
 use Rattle.qo_model.specs.SoundGraph.{graph_of}
 use Rattle.qo_model.specs.Types.{TypeRow, row_named}
-use Rattle.qo_model.specs.Unplug.{detach}
-use Rattle.qo_model.proofs.OpeningLemmas.{opening_sound}
 use Rattle.qo_plug.specs.Added.{added, driver_barred, is_built, unbuilt}
 use Rattle.qo_plug.specs.Cuts.{cut_as, cut_of, cut_open}
 use Rattle.qo_plug.proofs.PlugSteps.{cut-whole}
 use Rattle.qo_properties.specs.Pinned.{OnlyRootPinned}
-use Rattle.qo_sound.specs.Kept.{SoundTree}
 use Rattle.qo_sound.specs.Timerless.{is_timer, makes_timer}
-use Rattle.qo_sound.proofs.KeptLemmas.{changed-sound, sound_kept_lem}
 use Rattle.qo_sound.proofs.TimerlessLemmas.{timerless_kept_lem}
+use Rattle.qo_sound_devices.specs.SoundDevices.{SoundDevices}
+use Rattle.qo_sound_devices.specs.SoundLists.{IsOn}
+use Rattle.qo_sound_devices.proofs.DevicesLawLemmas.{devices_kept_lem}
+use Rattle.qo_sound_devices.proofs.PlugLemmas.{among-all}
 use Rattle.qo_realize.specs.Good.{Good}
 use Rattle.qo_realize.specs.Guest.{polled}
 use Rattle.qo_realize.specs.Parts.{Parts}
-use Rattle.qo_realize.specs.Removals.{with_asked}
 use Rattle.qo_realize.specs.Stands.{Stands, StandsForGood}
 
 -- each change by command on objects
 pub changed-good : (b : Board) (change : Change) → Good b → Good (changed b change)
-changed-good b change h = record { tree = changed-sound b change h.tree; timerless = timerless_kept_lem.change b change h.timerless }
+changed-good b change h = record { devices = devices_kept_lem.change b change h.devices; timerless = timerless_kept_lem.change b change h.timerless }
 
 -- a value that was written
 pub wrote-good : (b c : Board) (path name : List ℕ) (val : Val) → write_at b path name val ≡ Ok c → Good b → Good c
@@ -51,11 +50,7 @@ wrote-good b c path name val is good = go (object_at b path) refl
 
 -- an attempt to make a user's object
 attempt-good : (b : Board) (t : TypeId) → Good b → Good (with_attempt b t)
-attempt-good b t h =
-    record {
-      tree = (sound_kept_lem.attempt b t h.tree.0, sound_kept_lem.attempt_aliases b t h.tree.1);
-      timerless = timerless_kept_lem.attempt b t h.timerless;
-    }
+attempt-good b t h = record { devices = devices_kept_lem.attempt b t h.devices; timerless = timerless_kept_lem.attempt b t h.timerless }
 
 pub attempted-good : (b : Board) (driver id : List ℕ) → Good b → Good (attempted_as b driver id)
 attempted-good b driver id good = by (barred_by b driver id) (row_named driver)
@@ -65,40 +60,40 @@ attempted-good b driver id good = by (barred_by b driver id) (row_named driver)
     by None None = good
     by None (Some row) = attempt-good b row.id good
 
--- boards with the same objects, births and pins are good alike
-sound-alike : (b c : Board) → c.records ≡ b.records → c.born ≡ b.born → c.pins ≡ b.pins → SoundTree b → SoundTree c
-unfolding graph_of
-sound-alike b c records born pins sound = subst SoundTree same sound'
-  where
-    behind : Board
-    behind = record c { records = b.records; born = b.born; pins = b.pins }
+-- boards with the same objects, births, accepted adds, pins, pending removals and notices are good alike
+good-alike : (b c : Board) → c.records ≡ b.records → c.born ≡ b.born → c.anonymous ≡ b.anonymous → c.pins ≡ b.pins → c.pending ≡ b.pending
+    → c.notices ≡ b.notices → Good b → Good c
+good-alike b c records born anonymous pins pending notices h =
+    record {
+      devices = devices_kept_lem.beside b c records born anonymous pins pending notices h.devices;
+      timerless = timerless_kept_lem.same b c records h.timerless;
+    }
 
-    sound' : SoundTree behind
-    sound' = sound
-
-    same : behind ≡ c
-    same = rw (sym records, sym born, sym pins) refl
-
-good-alike : (b c : Board) → c.records ≡ b.records → c.born ≡ b.born → c.pins ≡ b.pins → Good b → Good c
-good-alike b c records born pins h =
-    record { tree = sound-alike b c records born pins h.tree; timerless = timerless_kept_lem.same b c records h.timerless }
-
--- what stands beside the objects is no matter to it
+-- the events are no matter to it
 pub cleared-good : (b : Board) → Good b → Good (record b { events = [] })
-cleared-good b = good-alike b (record b { events = [] }) refl refl refl
+cleared-good b = good-alike b (record b { events = [] }) refl refl refl refl refl refl
 
-pub asked-good : (b : Board) (h : Asked) → Good b → Good (with_asked b h)
-asked-good b h = good-alike b (with_asked b h) refl refl refl
-
-pub polled-good : (b : Board) → Good b → Good (polled b)
-polled-good b = good-alike b (polled b) refl refl refl
+-- a removal that is asked for, or refused, and a notice that is taken
+pub asked-good : (b : Board) (id : List ℕ) → Good b → Good (asked b id).board
+asked-good b id h = record { devices = devices_kept_lem.asked_for b id h.devices; timerless = timerless_kept_lem.asked_for b id h.timerless }
 
 pub refused-good : (b : Board) (n : ℕ) → Good b → Good (refused b n)
-refused-good b n = good-alike b (refused b n) refl refl refl
+refused-good b n h = record { devices = devices_kept_lem.refused_by b n h.devices; timerless = timerless_kept_lem.refused_by b n h.timerless }
+
+pub polled-devices : (b : Board) → SoundDevices b → SoundDevices (polled b)
+polled-devices b h = go b.notices refl
+  where
+    go : (notices : List Notice) → b.notices ≡ notices → SoundDevices (polled b)
+    go [] is = devices_kept_lem.beside b (polled b) refl refl refl refl refl (ap (drop 1) is ∙ sym is) h
+    go (notice ∷ others) is =
+        subst (λ (notices : List Notice). SoundDevices (record b { notices = notices })) (sym (ap (drop 1) is)) (devices_kept_lem.read b notice others is h)
+
+pub polled-good : (b : Board) → Good b → Good (polled b)
+polled-good b h = record { devices = polled-devices b h.devices; timerless = timerless_kept_lem.same b (polled b) refl h.timerless }
 
 -- the beginning
 pub opening-good : Good opening_board
-opening-good = record { tree = (opening_sound.graph, opening_sound.aliases); timerless = timerless_kept_lem.opening }
+opening-good = record { devices = devices_kept_lem.opening; timerless = timerless_kept_lem.opening }
 
 -- a device that is built is no timer
 built-timerless : (t : TypeId) → is_built t ≡ true → is_timer (fresh_registers t) ≡ false
@@ -143,11 +138,11 @@ added-good b a good = by (driver_barred a.driver) refl
   where
     by : (bar : Option Code) → driver_barred a.driver ≡ bar → Good (elim bar as (λ o. Plugged) [ Some code ↦ record { refusal = Some (1, code); board = b } | None ↦ plug b a ]).board
     by (Some code) is = good
-    by None is = record { tree = sound_kept_lem.plugged b a good.tree; timerless = timerless_kept_lem.plugged b a (no-timer a.driver is) good.timerless }
+    by None is = record { devices = devices_kept_lem.plugged b a good.devices; timerless = timerless_kept_lem.plugged b a (no-timer a.driver is) good.timerless }
 
 -- an attempt at one is cut
 cut-good : (b : Board) (t : TypeId) (i : ℕ) (joined : Bool) → Good b → Good (cut_attempt b t i joined)
-cut-good b t i joined good = record { tree = sound_kept_lem.cut b t i joined good.tree; timerless = timerless_kept_lem.cut b t i joined good.timerless }
+cut-good b t i joined good = record { devices = devices_kept_lem.cut b t i joined good.devices; timerless = timerless_kept_lem.cut b t i joined good.timerless }
 
 pub cut_as-good : (b : Board) (a : Wanted) (i : ℕ) (joined : Bool) → Good b → Good (cut_as b a i joined)
 unfolding cut_as
@@ -170,16 +165,21 @@ cut_as-good b a i joined good = by (driver_barred a.driver) (row_named a.driver)
 pub given_up-good : (b : Board) (t : TypeId) (bus : ℕ) → Good b → Good (plug_attempt b t bus 4)
 given_up-good b t bus good = subst Good (sym (cut-whole b t bus)) (cut-good b t (objects_in t) true good)
 
--- a device that is detached
-pub detached-good : (b : Board) (d : ℕ) → Good b → Good (detach b d)
-detached-good b d good = record { tree = sound_kept_lem.detached b d good.tree; timerless = timerless_kept_lem.detached b d good.timerless }
+-- whose removal is pending stands in its place, so it may be detached
+pub completed-devices : (b : Board) (d : ℕ) → among b.pending d ≡ true → SoundDevices b → SoundDevices (completed b d)
+completed-devices b d pending h = devices_kept_lem.detached b d h (among-all (IsOn b) b.pending h.lists.pending d pending).0
+
+pub completed-good : (b : Board) (d : ℕ) → among b.pending d ≡ true → Good b → Good (completed b d)
+completed-good b d pending good =
+    record { devices = completed-devices b d pending good.devices; timerless = timerless_kept_lem.detached b d good.timerless }
 
 -- each board that stands at the same parts as a good one is good
 pub good-of : (p : Parts) → StandsForGood p → (b : Board) → Stands b p → Good b
 good-of p (c, s, good) b t =
-    good-alike c b (t.shows.records ∙ sym s.shows.records) (t.shows.born ∙ sym s.shows.born) (t.shows.pins ∙ sym s.shows.pins) good
+    good-alike c b (t.shows.records ∙ sym s.shows.records) (t.shows.born ∙ sym s.shows.born) (t.anonymous ∙ sym s.anonymous) (t.shows.pins ∙ sym s.shows.pins)
+    (t.pending ∙ sym s.pending) (t.notices ∙ sym s.notices) good
 
 -- and the root alone is pinned
 pub root-pinned : (b : Board) (p : Parts) → Stands b p → Good b → OnlyRootPinned p.objects
 unfolding graph_of
-root-pinned b p s good = sym s.shows.pins ∙ good.tree.0.pinned
+root-pinned b p s good = sym s.shows.pins ∙ good.devices.tree.0.pinned

@@ -24,7 +24,8 @@ use std::marker::Model;
 use std::sync::ledger::Ledger;
 
 /// The board: the objects of the machine, and what stands beside them. Between two calls nothing
-/// holds the objects from outside the tree but the one pin of the root, and the tree is sound.
+/// holds the objects from outside the tree but the one pin of the root, the tree is sound, devices
+/// stand in their places, and the lists that name devices name those that do.
 #[derive(Drop)]
 pub struct Board {
     pub(crate) heap: Heap,
@@ -365,7 +366,8 @@ impl Board {
     /// The guest lets a device go, whose removal is pending (include/hw/hotplug.h): it is unrealized and
     /// taken out, with all that is below it. It takes no memory, and always succeeds.
     pub fn complete<L: Ledger>(&mut self, dev: Oid, steps: &mut Steps<L>)
-        requires { IsLive self.old.objects.rows dev }
+        requires live { IsLive self.old.objects.rows dev }
+        requires pending { among self.old.pending dev.birth ≡ true }
         ensures { (b : model.Board) → Stands b self.old → Stands (completed b dev.birth) self.new }
     {
         detach(

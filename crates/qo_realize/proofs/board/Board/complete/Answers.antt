@@ -1,8 +1,9 @@
 -- The device is let go.
-use Rattle.std.proofs.Common.{sym, subst}
+use Rattle.std.proofs.Common.{ap, sym, subst, ◌∙◌}
+use Rattle.qo_model.specs.Depth.{among}
 use Rattle.qo_realize.specs.Parts.{Parts, parts_of}
 use Rattle.qo_realize.specs.Stands.{Stands}
-use Rattle.qo_realize.proofs.CompleteLemmas.{completed-good, completed-stands, is_beside, pinned-once, timerless-heap}
+use Rattle.qo_realize.proofs.CompleteLemmas.{completed-sound, completed-stands, is_beside, pinned-once, timerless-heap}
 use Rattle.qo_realize.proofs.board.Board.complete.Goals as goal
 
 pub detach-requires-clause-still : goal.detach-requires-clause-still
@@ -15,8 +16,8 @@ detach-requires-clause-pins g c = pinned-once c.self.inside.heap c.self.invarian
 pub invariant_of-self : goal.invariant_of-self
 invariant_of-self g c =
     let inside = c.self.inside in
-    completed-good c.args.dev.birth inside.anonymous inside.running inside.resets c.detach.new.resets inside.hotplug c.detach.new.hotplug inside.heap c.detach.new.heap
-    c.self.invariant.1 c.detach.ensures.shown c.detach.ensures.book
+    completed-sound c.args.dev.birth inside.anonymous inside.running inside.resets c.detach.new.resets inside.hotplug c.detach.new.hotplug inside.heap c.detach.new.heap
+    (ap (λ (p : Parts). among p.pending c.args.dev.birth) c.self.view_is ∙ c.requires.pending) c.self.invariant.1 c.detach.ensures.shown c.detach.ensures.book
 
 pub returns : goal.returns
 returns g c = λ b s.
