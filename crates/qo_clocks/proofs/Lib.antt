@@ -1,3 +1,10 @@
+pub mod AnswerLemmas
+pub mod BelowLemmas
 pub mod LinkLemmas
+pub mod NumberLemmas
 pub mod PeriodLemmas
 pub mod ReadLemmas
+pub mod RoundLemmas
+pub mod SetLemmas
+pub mod SpreadLemmas
+pub mod WrittenLemmas

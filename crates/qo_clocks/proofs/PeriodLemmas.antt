@@ -49,7 +49,7 @@ one-less (suc n) not_zero = omega arith
 
 -- 0 is scaled to 0
 
-scaled-zero : (mul div : ℕ) → scaled_by mul div 0 ≡ 0
+pub scaled-zero : (mul div : ℕ) → scaled_by mul div 0 ≡ 0
 scaled-zero mul div = go (eqb div 0)
   where
     go : (t : Bool) → cond t 0 (0 * mul / div) ≡ 0
@@ -115,7 +115,7 @@ module _ (b : Board) where
 
 -- the heap's recursion is the board's
 
-cut-low : (n m : ℕ) → n ≡ m → m < 2 ^ 64 → min n (2 ^ 64 - 1) ≡ m
+pub cut-low : (n m : ℕ) → n ≡ m → m < 2 ^ 64 → min n (2 ^ 64 - 1) ≡ m
 cut-low n m same low = omega arith
 
 source-same : (b : Board) (v : Objects) → Shows b v → ClocksFit b → (d k : ℕ) → d ≤ suc (length (paths.births b))

@@ -30,7 +30,7 @@ fn scaled_by(mul: u64, div: u64, period: u64) -> u64
 }
 
 /// A period as the clocks that go by a clock have it.
-fn scaled<L: Ledger>(heap: &Heap, c: Oid, period: u64, steps: &mut Steps<L>) -> u64
+pub fn scaled<L: Ledger>(heap: &Heap, c: Oid, period: u64, steps: &mut Steps<L>) -> u64
     requires { IsLive heap.now.rows c }
     ensures { result ≡ min (scaled_by (mul_on heap.now c.birth) (div_on heap.now c.birth) period) (2 ^ 64 - 1) }
 {

@@ -1,0 +1,19 @@
+use Rattle.qo_clocks.proofs.writes.set.Goals as goal
+
+pub returns-then-is_some-clause-answer : goal.returns-then-is_some-clause-answer
+returns-then-is_some-clause-answer g c = ?
+
+pub returns-in_default-clause-answer : goal.returns-in_default-clause-answer
+returns-in_default-clause-answer g c = ?
+
+pub spread-requires : goal.spread-requires
+spread-requires g c = ?
+
+pub returns-clause-answer : goal.returns-clause-answer
+returns-clause-answer g c = ?
+
+pub returns-clause-acts : goal.returns-clause-acts
+returns-clause-acts g c = ?
+
+pub returns-clause-timely : goal.returns-clause-timely
+returns-clause-timely g c = ?
