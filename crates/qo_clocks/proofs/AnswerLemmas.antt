@@ -12,18 +12,56 @@ use Rattle.qo_model.specs.ClockChanges.{clock_scaled, clock_set}
 use Rattle.qo_model.specs.Clocks.{ClocksFit, clock_written, period, scaled_by, source_of}
 use Rattle.qo_model.specs.Unplug.{set_named}
 use Rattle.qo_object.specs.Shown.{birth_of}
+use Rattle.qo_object.specs.Slots.{with_val}
+use Rattle.qo_heap.specs.Acts.{Acts}
 use Rattle.qo_heap.specs.Board.{Shows}
 use Rattle.qo_heap.specs.Objects.{Objects}
+use Rattle.qo_heap.specs.Timely.{Timely}
 use Rattle.qo_clocks.specs.declared.errors.ClockError.{ClockError}
 use Rattle.qo_clocks.specs.declared.errors.ClockError.TheVariants.{HasSource, DividerZero, Overflow}
 use Rattle.qo_clocks.specs.Below.{fitting, wide_on}
+use Rattle.qo_clocks.specs.Links.{changed_named}
 use Rattle.qo_clocks.specs.Periods.{scaled_on}
 use Rattle.qo_clocks.specs.Reads.{own_on, source_on}
 use Rattle.qo_clocks.specs.Spread.{spread_on}
 use Rattle.qo_clocks.specs.Writes.{Answers, all_fit, with_period, with_scale, written_on}
-use Rattle.qo_clocks.proofs.NumberLemmas.{both-child, both-written, child-before, full-depth, own-before, own-child, own-written, shows-both, shows-own_written}
+use Rattle.qo_clocks.proofs.NumberLemmas.{both-child, both-written, child-before, full-depth, own-before, own-child, own-written, shows-both, shows-own_written, timely-changed}
 use Rattle.qo_clocks.proofs.ReadLemmas.{shows-source}
 use Rattle.qo_clocks.proofs.WrittenLemmas.{answer-done, answer-over}
+
+-- the heap with a number written, and what is called back behind it
+
+pub acts-behind : (v w x : Objects) → w ≡ v → Acts w x → Acts v x
+acts-behind v w x e acts = subst (λ (y : Objects). Acts y x) e acts
+
+pub spread-alike : (v w : Objects) (levels c p q a : ℕ) → v ≡ w → p ≡ q → spread_on v levels c p a ≡ spread_on w levels c q a
+spread-alike v w levels c p q a e f = ap₂ (λ (y : Objects) (k : ℕ). spread_on y levels c k a) e f
+
+pub scaled-heap : (v w x : Objects) (c m d k l : ℕ) → w ≡ changed_named c (codes "mul") (with_val (val.Uint k)) v
+    → x ≡ changed_named c (codes "div") (with_val (val.Uint l)) w → k ≡ m → l ≡ d → x ≡ with_scale c m d v
+scaled-heap v w x c m d k l first next e f =
+    next
+    ∙ ap₂ (λ (n : ℕ) (y : Objects). changed_named c (codes "div") (with_val (val.Uint n)) y) f
+    (first ∙ ap (λ (n : ℕ). changed_named c (codes "mul") (with_val (val.Uint n)) v) e)
+
+pub scale-timely : (v : Objects) (c m d : ℕ) → Timely v → Timely (with_scale c m d v)
+scale-timely v c m d all =
+    timely-changed c (codes "div") (with_val (val.Uint d)) (changed_named c (codes "mul") (with_val (val.Uint m)) v)
+    (timely-changed c (codes "mul") (with_val (val.Uint m)) v all)
+
+pub period-timely : (v : Objects) (c p : ℕ) → Timely v → Timely (with_period c p v)
+period-timely v c p all = timely-changed c (codes "period") (with_val (val.Uint p)) v all
+
+-- what is decided
+
+pub fits-scaled : (v : Objects) (levels c own m d k l x y : ℕ) (o : Option ℕ) → k ≡ m → l ≡ d → x ≡ written_on v c (codes "mul") k 1
+    → y ≡ written_on v c (codes "div") l 1 → o ≡ fitting (scaled_by x y own)
+    → all_fit v levels c o ≡ all_fit v levels c (fitting (scaled_by (written_on v c (codes "mul") m 1) (written_on v c (codes "div") d 1) own))
+fits-scaled v levels c own m d k l x y o e f mul div is =
+    ap (all_fit v levels c)
+    (is
+    ∙ ap₂ (λ (i j : ℕ). fitting (scaled_by i j own)) (mul ∙ ap (λ (n : ℕ). written_on v c (codes "mul") n 1) e)
+    (div ∙ ap (λ (n : ℕ). written_on v c (codes "div") n 1) f))
 
 abbrev Done : Type 0
 Done = Unit {0}

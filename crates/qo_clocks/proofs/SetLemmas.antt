@@ -127,6 +127,7 @@ module _ (b : Board) (n : ℕ) (own : List ℕ) (v : Val) where
 
   -- of another name
   pub slot-other : (m : ℕ) (name : List ℕ) → bytes_eq own name ≡ false → slot_named new m name ≡ slot_named b m name
+  unfolding set
   slot-other m name apart = by (eqb m n) refl
     where
       here : slot_named new n name ≡ slot_named b n name
