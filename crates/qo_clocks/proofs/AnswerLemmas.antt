@@ -16,7 +16,6 @@ use Rattle.qo_object.specs.Slots.{with_val}
 use Rattle.qo_heap.specs.Acts.{Acts}
 use Rattle.qo_heap.specs.Board.{Shows}
 use Rattle.qo_heap.specs.Objects.{Objects}
-use Rattle.qo_heap.specs.Timely.{Timely}
 use Rattle.qo_clocks.specs.declared.errors.ClockError.{ClockError}
 use Rattle.qo_clocks.specs.declared.errors.ClockError.TheVariants.{HasSource, DividerZero, Overflow}
 use Rattle.qo_clocks.specs.Below.{fitting, wide_on}
@@ -25,7 +24,7 @@ use Rattle.qo_clocks.specs.Periods.{scaled_on}
 use Rattle.qo_clocks.specs.Reads.{own_on, source_on}
 use Rattle.qo_clocks.specs.Spread.{spread_on}
 use Rattle.qo_clocks.specs.Writes.{Answers, all_fit, with_period, with_scale, written_on}
-use Rattle.qo_clocks.proofs.NumberLemmas.{both-child, both-written, child-before, full-depth, own-before, own-child, own-written, shows-both, shows-own_written, timely-changed}
+use Rattle.qo_clocks.proofs.NumberLemmas.{both-child, both-written, child-before, full-depth, own-before, own-child, own-written, shows-both, shows-own_written}
 use Rattle.qo_clocks.proofs.ReadLemmas.{shows-source}
 use Rattle.qo_clocks.proofs.WrittenLemmas.{answer-done, answer-over}
 
@@ -43,14 +42,6 @@ scaled-heap v w x c m d k l first next e f =
     next
     ∙ ap₂ (λ (n : ℕ) (y : Objects). changed_named c (codes "div") (with_val (val.Uint n)) y) f
     (first ∙ ap (λ (n : ℕ). changed_named c (codes "mul") (with_val (val.Uint n)) v) e)
-
-pub scale-timely : (v : Objects) (c m d : ℕ) → Timely v → Timely (with_scale c m d v)
-scale-timely v c m d all =
-    timely-changed c (codes "div") (with_val (val.Uint d)) (changed_named c (codes "mul") (with_val (val.Uint m)) v)
-    (timely-changed c (codes "mul") (with_val (val.Uint m)) v all)
-
-pub period-timely : (v : Objects) (c p : ℕ) → Timely v → Timely (with_period c p v)
-period-timely v c p all = timely-changed c (codes "period") (with_val (val.Uint p)) v all
 
 -- what is decided
 

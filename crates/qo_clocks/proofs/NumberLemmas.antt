@@ -5,9 +5,7 @@ use Rattle.std.specs.Option.{option_map_or}
 use Rattle.std.proofs.lemmas.List.{length-map}
 use Rattle.qo_values.specs.declared.properties.Val.{Val}
 use Rattle.qo_values.specs.declared.properties.Val.TheVariants as val
-use Rattle.qo_kinds.specs.Bodies.{IsTimely}
 use Rattle.qo_slots.specs.declared.keys.Key.{Key}
-use Rattle.qo_table.specs.Rows.{edit}
 use Rattle.qo_model.specs.Board as board
 use Rattle.qo_model.specs.Board.{Board, slot_named}
 use Rattle.qo_model.specs.Changes.{with_val}
@@ -18,15 +16,13 @@ use Rattle.qo_model.specs.Unplug.{set_named}
 use Rattle.qo_model.proofs.PeriodLemmas.{period-own}
 use Rattle.qo_object.specs.declared.slots.Slot.{Slot}
 use Rattle.qo_object.specs.declared.slots.Slot.TheVariants.{Plain, Child, Link, Alias}
-use Rattle.qo_object.specs.Content.{Content}
 use Rattle.qo_object.specs.Shown.{birth_of, shown_slot}
 use Rattle.qo_object.specs.Slots as slots
 use Rattle.qo_heap.specs.Board.{Shows}
-use Rattle.qo_heap.specs.Objects.{Objects, with_edit}
-use Rattle.qo_heap.specs.Timely.{AllTimely, Timely}
+use Rattle.qo_heap.specs.Objects.{Objects}
 use Rattle.qo_heap.proofs.ShowsReads.{shows-births, shows-slot_named}
 use Rattle.qo_clocks.specs.Below.{wide_on}
-use Rattle.qo_clocks.specs.Links.{changed_named, place_on, with_slot_changed}
+use Rattle.qo_clocks.specs.Links.{changed_named}
 use Rattle.qo_clocks.specs.Periods.{scaled_on}
 use Rattle.qo_clocks.specs.Reads.{own_on, slot_on, source_on}
 use Rattle.qo_clocks.specs.Writes.{is_plain, with_period, with_scale, written_on}
@@ -159,20 +155,3 @@ module _ (b : Board) (v : Objects) (s : Shows b v) (c m d : ℕ) where
       ∙ ap (option_map (with_val (val.Uint d))) (slot-other b c (codes "mul") (val.Uint m) c (codes "div") refl)) in
       let same : own ≡ period with_both c = e ∙ sym (period-kept b with_both c both-written both-own) in
       ap₂ (λ (x y : ℕ). scaled_by x y own) (sym mul) (sym div) ∙ ap (scaled with_both c) same
-
--- a number that is written is no timer's moment
-
-edit-timely : (n : ℕ) (f : Slot → Slot) (i now : ℕ) (rows : List (Key × Content)) → AllTimely now rows → AllTimely now (edit n (with_slot_changed f i) rows)
-edit-timely n f i now [] all = tt
-edit-timely n f i now (row ∷ rows) all = (go (eqb row.0.birth n), edit-timely n f i now rows all.1)
-  where
-    go : (t : Bool) → IsTimely now (cond t (row.0, with_slot_changed f i row.1) row).1.body
-    go true = all.0
-    go false = all.0
-
-pub timely-changed : (n : ℕ) (name : List ℕ) (f : Slot → Slot) (v : Objects) → Timely v → Timely (changed_named n name f v)
-timely-changed n name f v all = go (place_on v n name)
-  where
-    go : (o : Option ℕ) → Timely (elim o as (λ _. Objects) [ None ↦ v | Some i ↦ with_edit n (with_slot_changed f i) v ])
-    go None = all
-    go (Some i) = edit-timely n f i v.time v.rows all

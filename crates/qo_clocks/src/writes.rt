@@ -2,13 +2,16 @@
 //! multiplier and divider settings"). Each is refused or decided before anything is written, and no
 //! call takes memory.
 
-ghost use Rattle.std.specs.Prelude.{◌≡◌, OnOk, OnErr};
+ghost use Rattle.std.specs.Prelude.{◌≡◌, List, OnOk, OnErr};
+ghost use Rattle.qo_claims.specs.declared.claims.Claimed.{Claimed};
+ghost use Rattle.qo_slots.specs.declared.keys.Key.{Key};
 ghost use Rattle.qo_model.specs.Board.{Board};
 ghost use Rattle.qo_model.specs.ClockChanges.{clock_scaled, clock_set};
 ghost use Rattle.qo_model.specs.Clocks.{ClocksFit};
 ghost use Rattle.qo_table.specs.Rows.{IsLive};
 ghost use Rattle.qo_heap.specs.Acts.{Acts};
 ghost use Rattle.qo_heap.specs.Board.{Shows};
+ghost use Rattle.qo_heap.specs.Book.{IsBook};
 ghost use Rattle.qo_heap.specs.Timely.{Timely};
 ghost use Rattle.qo_clocks.specs.Writes.{Answers, all_fit, with_period, with_scale, written_on};
 
@@ -75,6 +78,8 @@ pub fn set<L: Ledger>(
     ensures answer { (b : Board) → Shows b heap.old → ClocksFit b → Answers heap.new result (clock_set b c.birth period) }
     ensures acts { OnOk result (Acts (with_period c.birth period heap.old) heap.new) }
     ensures err { OnErr result (heap.new ≡ heap.old) }
+    ensures names { (key : Key) → IsLive heap.old.rows key → IsLive heap.new.rows key }
+    ensures book { (out : List Claimed) → IsBook out heap.old → IsBook out heap.new }
     ensures timely { Timely heap.new }
 {
     if source_of(heap, c, steps).is_some() {
@@ -111,6 +116,8 @@ pub fn set_mul_div<L: Ledger>(
     ensures answer { (b : Board) → Shows b heap.old → ClocksFit b → Answers heap.new result (clock_scaled b c.birth mul div) }
     ensures acts { OnOk result (Acts (with_scale c.birth mul div heap.old) heap.new) }
     ensures err { OnErr result (heap.new ≡ heap.old) }
+    ensures names { (key : Key) → IsLive heap.old.rows key → IsLive heap.new.rows key }
+    ensures book { (out : List Claimed) → IsBook out heap.old → IsBook out heap.new }
     ensures timely { Timely heap.new }
 {
     if div == 0 {

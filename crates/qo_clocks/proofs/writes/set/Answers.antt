@@ -6,7 +6,8 @@ use Rattle.qo_clocks.specs.Below.{fitting, wide_on}
 use Rattle.qo_clocks.specs.Periods.{scaled_on}
 use Rattle.qo_clocks.specs.Reads.{own_on, source_on}
 use Rattle.qo_clocks.specs.Writes.{all_fit, with_period}
-use Rattle.qo_clocks.proofs.AnswerLemmas.{acts-behind, period-timely, set-done, set-over, set-sourced, spread-alike}
+use Rattle.qo_clocks.proofs.AnswerLemmas.{acts-behind, set-done, set-over, set-sourced, spread-alike}
+use Rattle.qo_clocks.proofs.KeepLemmas.{period-book, period-names, period-timely}
 use Rattle.qo_clocks.proofs.SpreadLemmas.{spread-acts, spread-timely}
 use Rattle.qo_clocks.proofs.writes.set.Goals as goal
 
@@ -41,11 +42,23 @@ returns-clause-answer g c = λ b s fit.
     c.scaled-before.result (scaled_on c.args.heap.now c.args.c.birth (own_on c.args.heap.now c.args.c.birth)) c.in-Some.after c.set_number.ensures
     (c.scaled-before.ensures ∙ ap (scaled_on c.args.heap.now c.args.c.birth) c.own_period.ensures))
 
-pub returns-clause-acts : goal.returns-clause-acts
-returns-clause-acts g c =
+-- beside the number that is written only bodies act
+
+behind : (g : _) (c : goal.After-spread g) → Acts (with_period c.args.c.birth c.args.period c.args.heap.now) c.spread.new.heap
+behind g c =
     let acts : Acts c.set_number.new.heap c.spread.new.heap =
     rw c.spread.ensures (spread-acts c.set_number.new.heap (c.live-levels.result + 1) c.args.c.birth c.scaled-before.result c.in-Some.after) in
-    acts-behind (with_period c.args.c.birth c.args.period c.args.heap.now) c.set_number.new.heap c.spread.new.heap c.set_number.ensures acts
+    acts-behind (with_period c.args.c.birth c.args.period c.args.heap.now) c.set_number.new.heap c.spread.new.heap
+    c.set_number.ensures acts
+
+pub returns-clause-acts : goal.returns-clause-acts
+returns-clause-acts g c = behind g c
+
+pub returns-clause-names : goal.returns-clause-names
+returns-clause-names g c = period-names c.args.heap.now c.spread.new.heap c.args.c.birth c.args.period (behind g c)
+
+pub returns-clause-book : goal.returns-clause-book
+returns-clause-book g c = period-book c.args.heap.now c.spread.new.heap c.args.c.birth c.args.period (behind g c)
 
 pub returns-clause-timely : goal.returns-clause-timely
 returns-clause-timely g c =

@@ -5,7 +5,8 @@ use Rattle.qo_heap.specs.Acts.{Acts}
 use Rattle.qo_heap.specs.Timely.{Timely}
 use Rattle.qo_clocks.specs.Periods.{scaled_on}
 use Rattle.qo_clocks.specs.Writes.{with_scale}
-use Rattle.qo_clocks.proofs.AnswerLemmas.{acts-behind, fits-scaled, scale-done, scale-over, scale-timely, scaled-heap, spread-alike}
+use Rattle.qo_clocks.proofs.AnswerLemmas.{acts-behind, fits-scaled, scale-done, scale-over, scaled-heap, spread-alike}
+use Rattle.qo_clocks.proofs.KeepLemmas.{scale-book, scale-names, scale-timely}
 use Rattle.qo_clocks.proofs.LinkLemmas.{live-changed}
 use Rattle.qo_clocks.proofs.SpreadLemmas.{spread-acts, spread-timely}
 use Rattle.qo_clocks.proofs.writes.set_mul_div.Goals as goal
@@ -47,14 +48,24 @@ returns-clause-answer g c = λ b s fit.
     c.set_number.ensures c.set_number-2.ensures c.from-mul.ensures c.from-div.ensures)
     c.scaled-before.ensures)
 
-pub returns-clause-acts : goal.returns-clause-acts
-returns-clause-acts g c =
+-- beside the number that is written only bodies act
+
+behind : (g : _) (c : goal.After-spread g) → Acts (with_scale c.args.c.birth c.args.mul c.args.div c.args.heap.now) c.spread.new.heap
+behind g c =
     let acts : Acts c.set_number-2.new.heap c.spread.new.heap =
     rw c.spread.ensures (spread-acts c.set_number-2.new.heap (c.live-levels.result + 1) c.args.c.birth c.scaled-before.result c.in-Some.after) in
     acts-behind (with_scale c.args.c.birth c.args.mul c.args.div c.args.heap.now) c.set_number-2.new.heap c.spread.new.heap
     (scaled-heap c.args.heap.now c.set_number.new.heap c.set_number-2.new.heap c.args.c.birth c.args.mul c.args.div c.from-mul.result c.from-div.result
-    c.set_number.ensures c.set_number-2.ensures c.from-mul.ensures c.from-div.ensures)
-    acts
+    c.set_number.ensures c.set_number-2.ensures c.from-mul.ensures c.from-div.ensures) acts
+
+pub returns-clause-acts : goal.returns-clause-acts
+returns-clause-acts g c = behind g c
+
+pub returns-clause-names : goal.returns-clause-names
+returns-clause-names g c = scale-names c.args.heap.now c.spread.new.heap c.args.c.birth c.args.mul c.args.div (behind g c)
+
+pub returns-clause-book : goal.returns-clause-book
+returns-clause-book g c = scale-book c.args.heap.now c.spread.new.heap c.args.c.birth c.args.mul c.args.div (behind g c)
 
 pub returns-clause-timely : goal.returns-clause-timely
 returns-clause-timely g c =
