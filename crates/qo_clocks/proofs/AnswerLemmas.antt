@@ -1,6 +1,7 @@
 -- The answers of the writes are those of the definitions.
 use Rattle.std.proofs.Common.{◌≡◌, refl, ap, ap₂, subst, sym, ◌∙◌, ℕ, suc, ◌+◌, Bool, true, false, cond, eqb, length, Option, Some, None, is_some, codes, arith}
 use Rattle.std.specs.Prelude.{Result, Ok, Err}
+use Rattle.std.specs.List.{list_any}
 use Rattle.std.proofs.lemmas.Bool.{eq-eqb}
 use Rattle.std.proofs.lemmas.Bool.Decides.{nat_tests}
 use Rattle.qo_values.specs.declared.codes.Code.{Code}
@@ -9,7 +10,7 @@ use Rattle.qo_values.specs.declared.properties.Val.TheVariants as val
 use Rattle.qo_slots.specs.declared.keys.Key.{Key}
 use Rattle.qo_model.specs.Board.{Board}
 use Rattle.qo_model.specs.ClockChanges.{clock_scaled, clock_set}
-use Rattle.qo_model.specs.Clocks.{ClocksFit, clock_written, period, scaled_by, source_of}
+use Rattle.qo_model.specs.Clocks.{ClocksFit, clock_written, clocks_below, overflows, period, scaled_by, source_of}
 use Rattle.qo_model.specs.Unplug.{set_named}
 use Rattle.qo_object.specs.Shown.{birth_of}
 use Rattle.qo_object.specs.Slots.{with_val}
@@ -24,9 +25,10 @@ use Rattle.qo_clocks.specs.Periods.{scaled_on}
 use Rattle.qo_clocks.specs.Reads.{own_on, source_on}
 use Rattle.qo_clocks.specs.Spread.{spread_on}
 use Rattle.qo_clocks.specs.Writes.{Answers, all_fit, with_period, with_scale, written_on}
-use Rattle.qo_clocks.proofs.NumberLemmas.{both-child, both-written, child-before, full-depth, own-before, own-child, own-written, shows-both, shows-own_written}
+use Rattle.qo_clocks.proofs.FitLemmas.{fits-acts, fits-new}
+use Rattle.qo_clocks.proofs.NumberLemmas.{both-child, both-divides, both-written, child-before, full-depth, own-before, own-child, own-div, own-written, shows-both, shows-own_written}
 use Rattle.qo_clocks.proofs.ReadLemmas.{shows-source}
-use Rattle.qo_clocks.proofs.WrittenLemmas.{answer-done, answer-over}
+use Rattle.qo_clocks.proofs.WrittenLemmas.{answer-done, answer-over, none-over}
 
 -- the heap with a number written, and what is called back behind it
 
@@ -98,6 +100,19 @@ module _ (b : Board) (v x : Objects) (s : Shows b v) (c : ℕ) where
       (wide_on v c (written_on v c (codes "period") p 0)) a (scaled_on v c (own_on v c)) (full-depth b v s levels full) (own-child b v s c p gone)
       (own-before b v s fit c gone) fits now)
 
+  -- all fit afterwards
+  pub set-fits : ClocksFit b → (p levels a : ℕ) → is_some (source_on v c) ≡ false → levels ≡ length v.rows + 1
+      → Some a ≡ all_fit v levels c (fitting (wide_on v c (written_on v c (codes "period") p 0)))
+      → Acts (with_period c p v) x → (y : Board) → Shows y x → ClocksFit y
+  set-fits fit p levels a e full fits acts y t =
+      let gone : source_of b c ≡ None = none-of (source_of b c) (sourced b v s c ∙ e) in
+      let new : Board = set_named c (codes "period") (val.Uint p) b in
+      let none : (overflows new c ≡ false) × (list_any (overflows new) (clocks_below b c) ≡ false) =
+      none-over b new c (own-written b v s c p) v s levels (wide_on v c (written_on v c (codes "period") p 0)) a (full-depth b v s levels full)
+      (own-child b v s c p gone) fits in
+      fits-acts new y (with_period c p v) x (shows-own_written b v s c p) t acts
+      (fits-new b new c (own-written b v s c p) fit (λ z. fit.divides c (sym (own-div b v s c p c) ∙ z)) none.0 none.1)
+
   scale-if : (m d : ℕ) (t : Bool) → eqb d 0 ≡ t → (result : Result Done ClockError)
       → Answers x result
       (cond t (Err E46) (clock_written b (set_named c (codes "div") (val.Uint d) (set_named c (codes "mul") (val.Uint m) b)) c))
@@ -130,3 +145,14 @@ module _ (b : Board) (v x : Objects) (s : Shows b v) (c : ℕ) where
       (answer-done b (set_named c (codes "div") (val.Uint d) (set_named c (codes "mul") (val.Uint m) b)) c (both-written b v s c m d) v (with_scale c m d v) x s
       (shows-both b v s c m d) fit levels (scaled_by (written_on v c (codes "mul") m 1) (written_on v c (codes "div") d 1) own) a (scaled_on v c own)
       (full-depth b v s levels full) (both-child b v s c m d own is) (child-before b v s fit c own is) fits now)
+
+  pub scale-fits : ClocksFit b → (m d own levels a : ℕ) → (d ≡ 0 → ⊥) → levels ≡ length v.rows + 1 → own ≡ period b c
+      → Some a ≡ all_fit v levels c (fitting (scaled_by (written_on v c (codes "mul") m 1) (written_on v c (codes "div") d 1) own))
+      → Acts (with_scale c m d v) x → (y : Board) → Shows y x → ClocksFit y
+  scale-fits fit m d own levels a not_zero full is fits acts y t =
+      let new : Board = set_named c (codes "div") (val.Uint d) (set_named c (codes "mul") (val.Uint m) b) in
+      let none : (overflows new c ≡ false) × (list_any (overflows new) (clocks_below b c) ≡ false) =
+      none-over b new c (both-written b v s c m d) v s levels (scaled_by (written_on v c (codes "mul") m 1) (written_on v c (codes "div") d 1) own) a
+      (full-depth b v s levels full) (both-child b v s c m d own is) fits in
+      fits-acts new y (with_scale c m d v) x (shows-both b v s c m d) t acts
+      (fits-new b new c (both-written b v s c m d) fit (both-divides b v s c m d not_zero) none.0 none.1)

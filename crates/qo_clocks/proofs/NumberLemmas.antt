@@ -75,7 +75,7 @@ module _ (b : Board) (v : Objects) (s : Shows b v) (c p : ℕ) where
   own-mul : (n : ℕ) → mul_of with_own n ≡ mul_of b n
   own-mul n = ap (read 1) (slot-other b c (codes "period") (val.Uint p) n (codes "mul") refl)
 
-  own-div : (n : ℕ) → div_of with_own n ≡ div_of b n
+  pub own-div : (n : ℕ) → div_of with_own n ≡ div_of b n
   own-div n = ap (read 1) (slot-other b c (codes "period") (val.Uint p) n (codes "div") refl)
 
   pub own-written : IsWritten b with_own c
@@ -85,6 +85,7 @@ module _ (b : Board) (v : Objects) (s : Shows b v) (c p : ℕ) where
         sources = λ n. ap (option_and_then weak_in) (slot-other b c (codes "period") (val.Uint p) n (codes "source") refl);
         mul = λ n e. own-mul n;
         div = λ n e. own-div n;
+        own = λ n e. ap (read 0) (slot-elsewhere b c (codes "period") (val.Uint p) n (codes "period") e);
       }
 
   pub own-child : source_of b c ≡ None → wide_on v c (written_on v c (codes "period") p 0) ≡ child_period with_own c
@@ -141,7 +142,21 @@ module _ (b : Board) (v : Objects) (s : Shows b v) (c m d : ℕ) where
             λ n e.
                 ap (read 1)
                 (slot-elsewhere with_mul c (codes "div") (val.Uint d) n (codes "div") e ∙ slot-elsewhere b c (codes "mul") (val.Uint m) n (codes "div") e);
+        own = λ n e. both-own n;
       }
+
+  both-div : div_of with_both c ≡ written_on v c (codes "div") d 1
+  both-div =
+      written-is b v s c d 1 (codes "div") (slot_named with_both c (codes "div"))
+      (slot-own with_mul c (codes "div") (val.Uint d)
+      ∙ ap (option_map (with_val (val.Uint d))) (slot-other b c (codes "mul") (val.Uint m) c (codes "div") refl))
+
+  pub both-divides : (d ≡ 0 → ⊥) → div_of with_both c ≡ 0 → ⊥
+  both-divides not_zero z = go (option_map_or is_plain (slot_on v c (codes "div")) false) (sym both-div ∙ z)
+    where
+      go : (t : Bool) → cond t d 1 ≡ 0 → ⊥
+      go true e = not_zero e
+      go false e = let no : ⊥ = omega arith in no
 
   pub both-child : (own : ℕ) → own ≡ period b c
       → scaled_by (written_on v c (codes "mul") m 1) (written_on v c (codes "div") d 1) own ≡ child_period with_both c
@@ -149,9 +164,5 @@ module _ (b : Board) (v : Objects) (s : Shows b v) (c m d : ℕ) where
       let mul : mul_of with_both c ≡ written_on v c (codes "mul") m 1 =
       written-is b v s c m 1 (codes "mul") (slot_named with_both c (codes "mul"))
       (slot-other with_mul c (codes "div") (val.Uint d) c (codes "mul") refl ∙ slot-own b c (codes "mul") (val.Uint m)) in
-      let div : div_of with_both c ≡ written_on v c (codes "div") d 1 =
-      written-is b v s c d 1 (codes "div") (slot_named with_both c (codes "div"))
-      (slot-own with_mul c (codes "div") (val.Uint d)
-      ∙ ap (option_map (with_val (val.Uint d))) (slot-other b c (codes "mul") (val.Uint m) c (codes "div") refl)) in
       let same : own ≡ period with_both c = e ∙ sym (period-kept b with_both c both-written both-own) in
-      ap₂ (λ (x y : ℕ). scaled_by x y own) (sym mul) (sym div) ∙ ap (scaled with_both c) same
+      ap₂ (λ (x y : ℕ). scaled_by x y own) (sym mul) (sym both-div) ∙ ap (scaled with_both c) same

@@ -61,6 +61,7 @@ pub record IsWritten (b new : Board) (c : ℕ) : Type 0 where
   pub sources : (n : ℕ) → source_of new n ≡ source_of b n
   pub mul : (n : ℕ) → eqb n c ≡ false → mul_of new n ≡ mul_of b n
   pub div : (n : ℕ) → eqb n c ≡ false → div_of new n ≡ div_of b n
+  pub own : (n : ℕ) → eqb n c ≡ false → own_period new n ≡ own_period b n
 
 pub under-new : (b new : Board) (c : ℕ) → IsWritten b new c → {n : ℕ} → Under b c n → Under new c n
 under-new b new c w (one {n} q) = one (w.sources n ∙ q)

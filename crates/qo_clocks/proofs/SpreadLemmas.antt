@@ -75,7 +75,7 @@ module _ (v w : Objects) (acts : Acts v w) where
   births-still [] = refl
   births-still (row ∷ rows) = ap (λ (l : List ℕ). row.0.birth ∷ l) (births-still rows)
 
-  acts-births : births w.rows ≡ births v.rows
+  pub acts-births : births w.rows ≡ births v.rows
   acts-births =
       sym (births-still w.rows) ∙ ap (map (λ (x : Key × (Content × KeptSet)). x.0.birth)) acts.rows ∙ births-still v.rows
 

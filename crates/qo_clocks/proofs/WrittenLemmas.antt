@@ -273,18 +273,22 @@ module _ (b new : Board) (c : ℕ) (w : IsWritten b new c) where
       ∙ fit-none v levels p e in
       subst (λ (t : Bool). Answers {A = Unit {0}} x (Err Overflow) (cond t (Err E47) (Ok (spread b new c)))) (sym over) refl
 
+  pub none-over : (v : Objects) → Shows b v → (levels p a : ℕ) → levels ≡ suc (length (births b)) → p ≡ child_period new c
+      → Some a ≡ all_fit v levels c (fitting p) → (overflows new c ≡ false) × (list_any (overflows new) (clocks_below b c) ≡ false)
+  none-over v s levels p a full is e =
+      or-none (overflows new c) (list_any (overflows new) (clocks_below b c))
+      (sym (over-below v s levels full)
+      ∙ ap (λ (k : ℕ). nat_le (2 ^ 64) k || overflows_on v levels c k) (sym is)
+      ∙ (fit-some v levels p a e).0)
+
   pub answer-done : (v v₁ x : Objects) → Shows b v → Shows new v₁ → ClocksFit b → (levels p a before : ℕ) → levels ≡ suc (length (births b))
       → p ≡ child_period new c → before ≡ child_period b c → Some a ≡ all_fit v levels c (fitting p) → x ≡ spread_on v₁ levels c before a
       → Answers {A = Unit {0}} x (Ok tt) (clock_written b new c)
   answer-done v v₁ x s t fit levels p a before full is was e now =
-      let both : ((nat_le (2 ^ 64) p || overflows_on v levels c p) ≡ false) × (a ≡ p) = fit-some v levels p a e in
-      let fits : list_any (overflows new) (c ∷ clocks_below b c) ≡ false =
-      sym (over-below v s levels full)
-      ∙ ap (λ (k : ℕ). nat_le (2 ^ 64) k || overflows_on v levels c k) (sym is)
-      ∙ both.0 in
-      let parts : (overflows new c ≡ false) × (list_any (overflows new) (clocks_below b c) ≡ false) =
-      or-none (overflows new c) (list_any (overflows new) (clocks_below b c)) fits in
+      let parts : (overflows new c ≡ false) × (list_any (overflows new) (clocks_below b c) ≡ false) = none-over v s levels p a full is e in
+      let fits : list_any (overflows new) (c ∷ clocks_below b c) ≡ false = ap₂ (λ (t u : Bool). t || u) parts.0 parts.1 in
+      let same : a ≡ p = (fit-some v levels p a e).1 in
       let there : x ≡ spread_on v₁ levels c (child_period b c) (child_period new c) =
-      now ∙ ap₂ (λ (k l : ℕ). spread_on v₁ levels c k l) was (both.1 ∙ is) in
+      now ∙ ap₂ (λ (k l : ℕ). spread_on v₁ levels c k l) was (same ∙ is) in
       let shown : Shows (spread b new c) x = rw there (shows-spread v₁ t fit levels full parts.1) in
       subst (λ (u : Bool). Answers {A = Unit {0}} x (Ok tt) (cond u (Err E47) (Ok (spread b new c)))) (sym fits) shown

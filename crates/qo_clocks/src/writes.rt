@@ -80,6 +80,7 @@ pub fn set<L: Ledger>(
     ensures err { OnErr result (heap.new ≡ heap.old) }
     ensures names { (key : Key) → IsLive heap.old.rows key → IsLive heap.new.rows key }
     ensures book { (out : List Claimed) → IsBook out heap.old → IsBook out heap.new }
+    ensures fits { (b : Board) → Shows b heap.old → ClocksFit b → (x : Board) → Shows x heap.new → ClocksFit x }
     ensures timely { Timely heap.new }
 {
     if source_of(heap, c, steps).is_some() {
@@ -118,6 +119,7 @@ pub fn set_mul_div<L: Ledger>(
     ensures err { OnErr result (heap.new ≡ heap.old) }
     ensures names { (key : Key) → IsLive heap.old.rows key → IsLive heap.new.rows key }
     ensures book { (out : List Claimed) → IsBook out heap.old → IsBook out heap.new }
+    ensures fits { (b : Board) → Shows b heap.old → ClocksFit b → (x : Board) → Shows x heap.new → ClocksFit x }
     ensures timely { Timely heap.new }
 {
     if div == 0 {

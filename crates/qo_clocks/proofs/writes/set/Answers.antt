@@ -2,11 +2,13 @@ use Rattle.std.proofs.Common.{◌≡◌, ◌∙◌, ◌+◌, ℕ, false, ap, is_
 use Rattle.qo_values.specs.declared.properties.Val.TheVariants as val
 use Rattle.qo_heap.specs.Acts.{Acts}
 use Rattle.qo_heap.specs.Timely.{Timely}
+use Rattle.qo_heap.proofs.ActsLemmas.{acts-none}
 use Rattle.qo_clocks.specs.Below.{fitting, wide_on}
 use Rattle.qo_clocks.specs.Periods.{scaled_on}
 use Rattle.qo_clocks.specs.Reads.{own_on, source_on}
 use Rattle.qo_clocks.specs.Writes.{all_fit, with_period}
-use Rattle.qo_clocks.proofs.AnswerLemmas.{acts-behind, set-done, set-over, set-sourced, spread-alike}
+use Rattle.qo_clocks.proofs.AnswerLemmas.{acts-behind, set-done, set-fits, set-over, set-sourced, spread-alike}
+use Rattle.qo_clocks.proofs.FitLemmas.{fits-acts}
 use Rattle.qo_clocks.proofs.KeepLemmas.{period-book, period-names, period-timely}
 use Rattle.qo_clocks.proofs.SpreadLemmas.{spread-acts, spread-timely}
 use Rattle.qo_clocks.proofs.writes.set.Goals as goal
@@ -65,3 +67,19 @@ returns-clause-timely g c =
     let all : Timely c.set_number.new.heap =
     rw c.set_number.ensures (period-timely c.args.heap.now c.args.c.birth c.args.period c.requires.timely) in
     rw c.spread.ensures (spread-timely c.set_number.new.heap (c.live-levels.result + 1) c.args.c.birth c.scaled-before.result c.in-Some.after all)
+
+pub returns-then-is_some-clause-fits : goal.returns-then-is_some-clause-fits
+returns-then-is_some-clause-fits g c = λ b s fit x t. fits-acts b x c.args.heap.now c.args.heap.now s t (acts-none c.args.heap.now) fit
+
+pub returns-in_default-clause-fits : goal.returns-in_default-clause-fits
+returns-in_default-clause-fits g c = λ b s fit x t. fits-acts b x c.args.heap.now c.args.heap.now s t (acts-none c.args.heap.now) fit
+
+pub returns-clause-fits : goal.returns-clause-fits
+returns-clause-fits g c = λ b s fit x t.
+    set-fits b c.args.heap.now c.spread.new.heap s c.args.c.birth fit c.args.period (c.live-levels.result + 1) c.in-Some.after
+    (sym (ap is_some c.source_of.ensures.source) ∙ sym c.is_some.ensures ∙ c.if-is_some.false)
+    (ap (λ (k : ℕ). k + 1) c.live-levels.ensures)
+    (c.in-Some.ensures
+    ∙ ap (all_fit c.args.heap.now (c.live-levels.result + 1) c.args.c.birth)
+    (c.child_period-child.ensures ∙ ap (λ (k : ℕ). fitting (wide_on c.args.heap.now c.args.c.birth k)) c.written-own.ensures))
+    (behind g c) x t
