@@ -21,8 +21,9 @@ use Rattle.qo_heap.proofs.ShowsReads.{shows-births}
 use Rattle.qo_table.specs.Rows as table
 use Rattle.qo_clocks.specs.Reads.{div_on, mul_on, own_on, source_on}
 use Rattle.qo_clocks.proofs.ReadLemmas.{shows-div, shows-mul, shows-own, shows-source}
-use Rattle.qo_clocks.proofs.RoundLemmas.{IsWritten}
+use Rattle.qo_clocks.proofs.RoundLemmas.{IsWritten, to_depth, turn_by}
 use Rattle.qo_clocks.proofs.SpreadLemmas.{acts-births}
+use Rattle.qo_clocks.proofs.WrittenLemmas.{with_below}
 
 -- what has a source is there
 
@@ -53,9 +54,6 @@ with-source b n s q = go (among (births b) n) refl
         cc
 
 -- a clock is among those below what it goes by
-
-abbrev with_below : (ℕ → List ℕ) → ℕ → List ℕ
-with_below g n = n ∷ g n
 
 or-right : (s t : Bool) → t ≡ true → (s || t) ≡ true
 or-right true t e = refl
@@ -121,12 +119,6 @@ module _ (b : Board) where
 
 -- the period of another clock is as it was, or the clock is below
 
-abbrev to_depth : Board → ℕ → ℕ → ℕ
-to_depth b d n = by_depth (period_turn b) (λ _. 0) d n
-
-abbrev turn_by : Board → (ℕ → ℕ) → ℕ → Option ℕ → ℕ
-turn_by b f n o = elim o [ None ↦ own_period b n | Some s ↦ scaled b s (f s) ]
-
 module _ (b new : Board) (c : ℕ) (w : IsWritten b new c) where
   abbrev Either : ℕ → ℕ → Type 0
   Either d n = (to_depth new d n ≡ to_depth b d n) ⊎ Goes b d c n
@@ -188,7 +180,8 @@ module _ (b new : Board) (c : ℕ) (w : IsWritten b new c) where
 
 pub fits-acts : (b x : Board) (v y : Objects) → Shows b v → Shows x y → Acts v y → ClocksFit b → ClocksFit x
 unfolding period
-fits-acts b x v y s t acts fit = record { fits = λ n. subst (λ (k : ℕ). k < 2 ^ 64) (sym (child n)) (fit.fits n); divides = λ n z. fit.divides n (sym (divs n) ∙ z) }
+fits-acts b x v y s t acts fit =
+    record { fits = λ n. subst (λ (k : ℕ). k < 2 ^ 64) (sym (child n)) (fit.fits n); divides = λ n z. fit.divides n (sym (divs n) ∙ z) }
   where
     sources : (n : ℕ) → source_of x n ≡ source_of b n
     sources n =

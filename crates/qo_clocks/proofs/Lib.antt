@@ -1,5 +1,6 @@
 pub mod AnswerLemmas
 pub mod BelowLemmas
+pub mod ClockRows
 pub mod FitLemmas
 pub mod KeepLemmas
 pub mod LinkLemmas

@@ -130,7 +130,8 @@ unseen-shown (Link ty true target) = refl
 unseen-shown (Link ty false target) = refl
 unseen-shown (Alias k name) = refl
 
-pub shows-set_named : (b : board.Board) (v : Objects) → Shows b v → (n : ℕ) (name : List ℕ) (value : Val) → Shows (set_named n name value b) (changed_named n name (with_val value) v)
+pub shows-set_named : (b : board.Board) (v : Objects) → Shows b v → (n : ℕ) (name : List ℕ) (value : Val)
+    → Shows (set_named n name value b) (changed_named n name (with_val value) v)
 shows-set_named b v s n name value =
     shows-named n name (with_val value) b v s (λ (i : ℕ). changes.set n i value b) (λ (i : ℕ). shows-set b v s n i value)
 

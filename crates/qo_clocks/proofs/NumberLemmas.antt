@@ -38,7 +38,8 @@ use Rattle.qo_clocks.proofs.WrittenLemmas.{shows-wide}
 abbrev read : ℕ → Option board.Slot → ℕ
 read none o = unwrap_or (option_and_then number_in (option_and_then plain_in o)) none
 
-read-written : (n none : ℕ) (o : Option Slot) → read none (option_map (with_val (val.Uint n)) (option_map shown_slot o)) ≡ cond (option_map_or is_plain o false) n none
+read-written : (n none : ℕ) (o : Option Slot)
+    → read none (option_map (with_val (val.Uint n)) (option_map shown_slot o)) ≡ cond (option_map_or is_plain o false) n none
 read-written n none None = refl
 read-written n none (Some (Plain v)) = refl
 read-written n none (Some (Child k)) = refl

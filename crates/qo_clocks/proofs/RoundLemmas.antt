@@ -34,10 +34,10 @@ around b c (more {n} {s = t} q u) same s r =
     let turned : source_of b c ≡ Some t = subst (λ (k : ℕ). source_of b k ≡ Some t) (sym same) q in
     subst (λ (k : ℕ). Under b k k) to (further b c u t turned)
 
-abbrev to_depth : Board → ℕ → ℕ → ℕ
+abbrev pub to_depth : Board → ℕ → ℕ → ℕ
 to_depth b d n = by_depth (period_turn b) (λ _. 0) d n
 
-abbrev turn_by : Board → (ℕ → ℕ) → ℕ → Option ℕ → ℕ
+abbrev pub turn_by : Board → (ℕ → ℕ) → ℕ → Option ℕ → ℕ
 turn_by b f n o = elim o [ None ↦ own_period b n | Some s ↦ scaled b s (f s) ]
 
 round-zero : (b : Board) (k n : ℕ) → Under b n n → to_depth b k n ≡ 0

@@ -42,7 +42,8 @@ found-live v good p (Some row) e key q =
     subst (λ (k : Key). IsLive v.rows k) same here
 
 pub parent-live : (v : Objects) → IsHeap v → (n : ℕ) (key : Key) → parent_of v n ≡ Some key → IsLive v.rows key
-parent-live v good n key e = found-live v good (λ (row : Key × Content). is_parent n row.1) (find (λ (row : Key × Content). is_parent n row.1) v.rows) refl key e
+parent-live v good n key e =
+    found-live v good (λ (row : Key × Content). is_parent n row.1) (find (λ (row : Key × Content). is_parent n row.1) v.rows) refl key e
 
 may-act-in : (act : Act) (time n : ℕ) (rows : List (Key × Content)) → AllTimely time rows → IfSome (object_at rows n) (λ c. MayAct act time c.body)
 may-act-in act time n [] all = tt
@@ -59,9 +60,6 @@ may-act act v n all = may-act-in act v.time n v.rows all
 -- acts leave what is read of clocks
 
 module _ (v w : Objects) (acts : Acts v w) where
-  acts-slot : (n : ℕ) (name : List ℕ) → slot_on w n name ≡ slot_on v n name
-  acts-slot n name = rw (acts-slots v w acts n) refl
-
   acts-source : (n : ℕ) → source_on w n ≡ source_on v n
   acts-source n = rw (acts-slots v w acts n) refl
 
@@ -85,9 +83,11 @@ module _ (v w : Objects) (acts : Acts v w) where
   pub acts-changes : (levels : ℕ) → changes_on w levels ≡ changes_on v levels
   unfolding changes_on
   acts-changes levels =
-      ap₂ (λ (scale : ℕ → ℕ → ℕ) (fed : ℕ → List ℕ). by_depth
-      (λ (f : ℕ → ℕ → ℕ → List Change) (c before after : ℕ). flat_map
-      (λ (n : ℕ). record { clock = n; before = before; after = after } ∷ f n (scale n before) (scale n after)) (fed c)) (λ _ _ _. []) levels) acts-scaled (fun_ext acts-fed)
+      ap₂ (λ (scale : ℕ → ℕ → ℕ) (fed : ℕ → List ℕ). by_depth (turn scale fed) (λ _ _ _. []) levels) acts-scaled (fun_ext acts-fed)
+    where
+      turn : (ℕ → ℕ → ℕ) → (ℕ → List ℕ) → (ℕ → ℕ → ℕ → List Change) → ℕ → ℕ → ℕ → List Change
+      turn scale fed f c before after =
+          flat_map (λ (n : ℕ). record { clock = n; before = before; after = after } ∷ f n (scale n before) (scale n after)) (fed c)
 
   keys-still : (rows : List (Key × Content)) (i : ℕ)
       → option_map (λ (x : Key × (Content × KeptSet)). x.0) (slice_get (map stilled rows) i) ≡ option_map (λ (row : Key × Content). row.0) (slice_get rows i)

@@ -39,7 +39,7 @@ use Rattle.qo_clocks.proofs.SpreadLemmas.{acts-parent, called-acts}
 
 -- lists of clocks with those below each
 
-abbrev with_below : (ℕ → List ℕ) → ℕ → List ℕ
+abbrev pub with_below : (ℕ → List ℕ) → ℕ → List ℕ
 with_below g n = n ∷ g n
 
 or-assoc : (s t u : Bool) → ((s || t) || u) ≡ (s || (t || u))
@@ -190,7 +190,8 @@ module _ (b new : Board) (c : ℕ) (w : IsWritten b new c) where
       ap (flat_map (change_at v (changes_within v d) (child_period b n) (child_period new n))) (shows-fed new v s n ∙ new-fed_by n)
       ∙ map-below (change_at v (changes_within v d) (child_period b n) (child_period new n)) changed (overflows new) (below d) (is_source b n) (births b)
       (λ m e clear.
-      let parts : (overflows new m ≡ false) × (list_any (overflows new) (below d m) ≡ false) = or-none (overflows new m) (list_any (overflows new) (below d m)) clear in
+      let parts : (overflows new m ≡ false) × (list_any (overflows new) (below d m) ≡ false) =
+      or-none (overflows new m) (list_any (overflows new) (below d m)) clear in
       change-one v s fit d n m (way m (fed-source b n m e)) (fed-source b n m e) parts.0
       (changes-are v s fit d m (way-more n m way (fed-source b n m e)) parts.1))
       none

@@ -61,12 +61,18 @@ fn all_fit<L: Ledger>(
     Some(period)
 }
 
-/// Gives a clock a period, in units of 2^-32 ns, and calls back the device of each clock below whose
-/// period changes: before the change with the old period, and behind it with the new one
-/// (docs/devel/clocks.rst, "Changing a clock period"). `HasSource` exactly where the clock goes by
-/// another; else `Overflow` exactly where the period for the clocks that go by it, or by one below
-/// it, would be more than 2^64 - 1. An error leaves all as it was. It takes no memory. What is called
-/// back may be a timer, which reads the time: no timer may have had a moment after the heap's time.
+/// Gives a clock a period, in units of 2^-32 ns (docs/devel/clocks.rst, "Changing a clock period").
+/// The clocks below are gone through, each before those that go by it, and those that go by one clock
+/// in the order of births: where a clock's period changes, the object that is its parent is called
+/// back, with the old period before the change and with the new one behind it.
+///
+/// `HasSource` exactly where the clock goes by another; else `Overflow` exactly where the period for
+/// the clocks that go by it, or by one below it, would be more than 2^64 - 1. An error leaves all as
+/// it was. All this where every such period fits so far and no clock divides by 0, which is then so
+/// behind the call too. It takes no memory.
+///
+/// What is called back may be a timer, which reads the time, so no timer may have had a moment after
+/// the heap's time.
 pub fn set<L: Ledger>(
     heap: &mut Heap,
     c: Oid,
@@ -99,12 +105,14 @@ pub fn set<L: Ledger>(
     Ok(())
 }
 
-/// Gives a clock a multiplier and a divider, by which the clocks that go by it have its period, and
-/// calls back the device of each clock below whose period changes, as `set` does (docs/devel/clocks.rst,
-/// "Clock multiplier and divider settings"). `DividerZero` exactly where the divider is 0; else
-/// `Overflow` exactly where the period for the clocks that go by it, or by one below it, would be more
-/// than 2^64 - 1. An error leaves all as it was. It takes no memory. No timer may have had a moment
-/// after the heap's time.
+/// Gives a clock a multiplier and a divider: the clocks that go by it have its period times the one by
+/// the other, rounded down (docs/devel/clocks.rst, "Clock multiplier and divider settings"). The
+/// clocks below are called back as by `set`; the clock's own period stays.
+///
+/// `DividerZero` exactly where the divider is 0; else `Overflow` exactly where the period for the
+/// clocks that go by it, or by one below it, would be more than 2^64 - 1. An error leaves all as it
+/// was. As with `set`, every such period fits before and behind the call, and no timer may have had a
+/// moment after the heap's time. It takes no memory.
 pub fn set_mul_div<L: Ledger>(
     heap: &mut Heap,
     c: Oid,
