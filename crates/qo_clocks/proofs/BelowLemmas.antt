@@ -1,11 +1,9 @@
 -- The clocks that go by a clock, place by place, and whether a period below overflows.
-use Rattle.std.proofs.Common.{◌≡◌, refl, ap, sym, subst, ◌∙◌, ℕ, zero, suc, ◌+◌, ◌-◌, ◌*◌, ◌/◌, ◌^◌, ◌<◌, ◌≤◌, Bool, true, false, ◌||◌, nat_le, cond, List, [], ◌∷◌, ◌++◌, take, length, filter, slice_get, Option, Some, None, option_map, option_and_then, IfSome, arith}
+use Rattle.std.proofs.Common.{◌≡◌, refl, ap, sym, ◌∙◌, ℕ, zero, suc, ◌+◌, ◌^◌, ◌≤◌, Bool, true, false, ◌||◌, nat_le, cond, List, [], ◌∷◌, ◌++◌, take, length, slice_get, Option, Some, None, option_map, option_and_then, arith}
 use Rattle.std.specs.List.{cons_option, list_any}
-use Rattle.std.proofs.lemmas.Bool.Decides.{nat_tests}
 use Rattle.std.proofs.lemmas.List.Folds.{list_any-append}
 use Rattle.std.proofs.lemmas.Option.{same_Some}
 use Rattle.qo_slots.specs.declared.keys.Key.{Key}
-use Rattle.qo_table.specs.Rows.{births}
 use Rattle.qo_object.specs.Content.{Content}
 use Rattle.qo_object.specs.Shown.{birth_of}
 use Rattle.qo_heap.specs.Objects.{Objects}

@@ -5,7 +5,7 @@ use Rattle.qo_values.specs.declared.codes.Code.{Code}
 use Rattle.qo_values.specs.declared.codes.Code.TheVariants.{E45, E46, E47}
 use Rattle.qo_model.specs.declared.notes.Note.{Note}
 use Rattle.qo_model.specs.Board.{Board}
-use Rattle.qo_model.specs.Changes.{add, cut, set}
+use Rattle.qo_model.specs.Changes.{add, set}
 use Rattle.qo_model.specs.ClockChanges.{clock_scaled, clock_set}
 use Rattle.qo_model.specs.Clocks.{acted, clocks_below, period}
 use Rattle.qo_model.specs.Devices.{depth_of, is_going}
@@ -13,8 +13,8 @@ use Rattle.qo_model.specs.Notes.{deed_word}
 use Rattle.qo_model.specs.Opening.{opening_board}
 use Rattle.qo_model.specs.Paths.{attached, steps_to}
 use Rattle.qo_model.specs.Plug.{Wanted, plug, with_source}
-use Rattle.qo_model.specs.Release.{drop_slot, finish, finalise, let_go, pin, unpin}
-use Rattle.qo_model.specs.Reset.{held, plugged, post, pulse, released}
+use Rattle.qo_model.specs.Release.{drop_slot, finish, let_go, pin, unpin}
+use Rattle.qo_model.specs.Reset.{plugged, post}
 use Rattle.qo_model.specs.Types.{types}
 use Rattle.qo_model.specs.Unplug.{unseen_named}
 

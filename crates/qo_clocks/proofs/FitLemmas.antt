@@ -1,15 +1,14 @@
 -- Where a write of a clock is not refused, all periods fit afterwards.
-use Rattle.std.proofs.Common.{◌≡◌, ◌⊎◌, inl, inr, refl, ap, ap₂, subst, sym, ◌∙◌, ℕ, zero, suc, ◌^◌, ◌<◌, ◌||◌, Bool, true, false, cond, eqb, nat_eq, nat_le, List, [], ◌∷◌, ◌++◌, map, length, filter, find, Option, Some, None, option_map, unwrap_or, codes, arith}
+use Rattle.std.proofs.Common.{◌≡◌, ◌⊎◌, inl, inr, refl, ap, ap₂, subst, sym, ◌∙◌, ℕ, zero, suc, ◌^◌, ◌<◌, ◌||◌, Bool, true, false, cond, eqb, List, [], ◌∷◌, map, length, filter, find, Option, Some, None, option_map, codes, arith}
 use Rattle.std.specs.Prelude.{option_and_then}
 use Rattle.std.specs.List.{flat_map, list_any}
 use Rattle.std.specs.Option.{option_map_or}
 use Rattle.std.specs.Str.{bytes_eq}
-use Rattle.std.proofs.Math.Path.{fun_ext}
 use Rattle.std.proofs.lemmas.Bool.{eqb-true, eq-eqb}
 use Rattle.std.proofs.lemmas.Bool.Decides.{nat_tests}
 use Rattle.std.proofs.lemmas.List.Folds.{list_any-append}
 use Rattle.qo_model.specs.Board.{Board, Record, Slot}
-use Rattle.qo_model.specs.Clocks.{ClocksFit, child_period, clocks_below, div_of, fed_by, fed_turn, is_source, mul_of, overflows, own_period, period, period_turn, scaled, scaled_by, source_of, weak_in}
+use Rattle.qo_model.specs.Clocks.{ClocksFit, child_period, clocks_below, div_of, fed_turn, is_source, mul_of, overflows, own_period, period, scaled, scaled_by, source_of, weak_in}
 use Rattle.qo_model.specs.Depth.{among, by_depth}
 use Rattle.qo_model.specs.Paths.{births}
 use Rattle.qo_object.specs.Shown.{birth_of}
@@ -18,7 +17,6 @@ use Rattle.qo_heap.specs.Board.{Shows}
 use Rattle.qo_heap.specs.Objects.{Objects}
 use Rattle.qo_heap.proofs.ActsReads.{acts-slots}
 use Rattle.qo_heap.proofs.ShowsReads.{shows-births}
-use Rattle.qo_table.specs.Rows as table
 use Rattle.qo_clocks.specs.Reads.{div_on, mul_on, own_on, source_on}
 use Rattle.qo_clocks.proofs.ReadLemmas.{shows-div, shows-mul, shows-own, shows-source}
 use Rattle.qo_clocks.proofs.RoundLemmas.{IsWritten, to_depth, turn_by}

@@ -1,5 +1,5 @@
 -- A slot of a name changed on the heap is changed on the boards that it shows.
-use Rattle.std.proofs.Common.{◌≡◌, refl, ap, ap₂, eqb, sym, ◌∙◌, ℕ, zero, suc, ◌+◌, Bool, true, false, not, cond, nat_lt, List, [], ◌∷◌, length, slice_get, position, Option, Some, None, option_map, codes, arith}
+use Rattle.std.proofs.Common.{◌≡◌, refl, ap, ap₂, eqb, sym, ◌∙◌, ℕ, zero, suc, ◌+◌, Bool, true, false, not, cond, nat_lt, List, [], ◌∷◌, length, slice_get, Option, Some, None, option_map, codes, arith}
 use Rattle.std.specs.List.{position_or_len}
 use Rattle.std.specs.Option.{option_map_or}
 use Rattle.std.specs.Str.{bytes_eq}
@@ -15,7 +15,7 @@ use Rattle.qo_table.specs.Rows.{IsLive, edit}
 use Rattle.qo_model.specs.Board as board
 use Rattle.qo_model.specs.Changes as changes
 use Rattle.qo_model.specs.Objects.{place_from}
-use Rattle.qo_model.specs.Paths.{is_of, only_of}
+use Rattle.qo_model.specs.Paths.{is_of}
 use Rattle.qo_model.specs.Plug.{fitted, link_named}
 use Rattle.qo_model.specs.Release as release
 use Rattle.qo_model.specs.Types.{is_a}
@@ -24,7 +24,7 @@ use Rattle.qo_object.specs.declared.slots.Slot.{Slot}
 use Rattle.qo_object.specs.declared.slots.Slot.TheVariants.{Plain, Child, Link, Alias}
 use Rattle.qo_object.specs.Content.{Content, dropped_at, empty_link_at, pointed_at}
 use Rattle.qo_object.specs.Shown.{shown, shown_slot, shown_slots}
-use Rattle.qo_object.specs.Slots.{Named, changed_at, is_empty_link, let_go_at, pointed, slot_in, with_val}
+use Rattle.qo_object.specs.Slots.{Named, changed_at, is_empty_link, let_go_at, pointed, with_val}
 use Rattle.qo_heap.specs.Board.{Shows}
 use Rattle.qo_heap.specs.Objects.{IsHeap, Objects, content_of, slots_of, with_edit}
 use Rattle.qo_heap.proofs.HeapLemmas.{edit-is, live-edit}

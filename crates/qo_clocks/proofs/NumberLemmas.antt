@@ -1,9 +1,8 @@
 -- What the numbers of a clock read once they are written, and what else reads as before.
-use Rattle.std.proofs.Common.{◌≡◌, refl, ap, ap₂, sym, ◌∙◌, ℕ, suc, ◌+◌, ◌*◌, ◌/◌, ◌-◌, ◌^◌, min, Bool, true, false, cond, eqb, List, [], ◌∷◌, length, Option, Some, None, option_map, unwrap_or, codes, arith}
+use Rattle.std.proofs.Common.{◌≡◌, refl, ap, ap₂, sym, ◌∙◌, ℕ, suc, ◌+◌, Bool, true, false, cond, List, length, Option, Some, None, option_map, unwrap_or, codes, arith}
 use Rattle.std.specs.Prelude.{option_and_then}
 use Rattle.std.specs.Option.{option_map_or}
 use Rattle.std.proofs.lemmas.List.{length-map}
-use Rattle.qo_values.specs.declared.properties.Val.{Val}
 use Rattle.qo_values.specs.declared.properties.Val.TheVariants as val
 use Rattle.qo_slots.specs.declared.keys.Key.{Key}
 use Rattle.qo_model.specs.Board as board
@@ -137,12 +136,12 @@ module _ (b : Board) (v : Objects) (s : Shows b v) (c m d : ℕ) where
         sources = both-source;
         mul =
             λ n e.
-                ap (read 1)
-                (slot-elsewhere with_mul c (codes "div") (val.Uint d) n (codes "mul") e ∙ slot-elsewhere b c (codes "mul") (val.Uint m) n (codes "mul") e);
+            ap (read 1)
+            (slot-elsewhere with_mul c (codes "div") (val.Uint d) n (codes "mul") e ∙ slot-elsewhere b c (codes "mul") (val.Uint m) n (codes "mul") e);
         div =
             λ n e.
-                ap (read 1)
-                (slot-elsewhere with_mul c (codes "div") (val.Uint d) n (codes "div") e ∙ slot-elsewhere b c (codes "mul") (val.Uint m) n (codes "div") e);
+            ap (read 1)
+            (slot-elsewhere with_mul c (codes "div") (val.Uint d) n (codes "div") e ∙ slot-elsewhere b c (codes "mul") (val.Uint m) n (codes "div") e);
         own = λ n e. both-own n;
       }
 

@@ -1,13 +1,13 @@
 -- Calls of devices leave who goes by whom, and a change spreads place by place.
-use Rattle.std.proofs.Common.{◌≡◌, refl, ap, ap₂, sym, subst, ◌∙◌, ℕ, zero, suc, ◌+◌, ◌*◌, ◌/◌, ◌≤◌, Bool, true, false, eqb, List, [], ◌∷◌, ◌++◌, map, take, length, filter, find, cond, slice_get, append-nil, Option, Some, None, option_map, option_and_then, IfSome, arith}
-use Rattle.std.specs.List.{cons_option, flat_map, list_any, position_or_len}
+use Rattle.std.proofs.Common.{◌≡◌, refl, ap, ap₂, sym, subst, ◌∙◌, ℕ, zero, suc, ◌+◌, ◌≤◌, Bool, true, false, eqb, List, [], ◌∷◌, ◌++◌, map, take, length, filter, find, cond, slice_get, append-nil, Option, Some, None, option_map, option_and_then, IfSome, arith}
+use Rattle.std.specs.List.{cons_option, flat_map, position_or_len}
 use Rattle.std.specs.Option.{option_map_or}
 use Rattle.std.proofs.Math.Path.{fun_ext}
 use Rattle.std.proofs.lemmas.List.Concat.{flat_map-append}
 use Rattle.std.proofs.lemmas.List.Folds.{find_at}
 use Rattle.qo_values.specs.declared.kinds.Act.{Act}
 use Rattle.qo_values.specs.declared.kinds.Act.TheVariants.{Pre, Update}
-use Rattle.qo_kinds.specs.Bodies.{IsTimely, MayAct}
+use Rattle.qo_kinds.specs.Bodies.{MayAct}
 use Rattle.qo_kinds.specs.declared.kept.KeptSet.{KeptSet}
 use Rattle.qo_slots.specs.declared.keys.Key.{Key}
 use Rattle.qo_table.specs.Rows.{IsLive, births, object_at, row_at}
@@ -15,9 +15,8 @@ use Rattle.qo_model.specs.declared.notes.Deed.TheVariants.{Did}
 use Rattle.qo_model.specs.Depth.{by_depth}
 use Rattle.qo_object.specs.Content.{Content, is_parent}
 use Rattle.qo_object.specs.Shown.{birth_of}
-use Rattle.qo_object.specs.Slots.{Named}
 use Rattle.qo_heap.specs.Acts.{Acts, stilled}
-use Rattle.qo_heap.specs.Objects.{IsHeap, Objects, content_of, parent_of, slots_of}
+use Rattle.qo_heap.specs.Objects.{IsHeap, Objects, content_of, parent_of}
 use Rattle.qo_heap.specs.Timely.{AllTimely, Timely}
 use Rattle.qo_heap.proofs.ActsLemmas.{acts-act, acts-live, acts-none, acts-then}
 use Rattle.qo_heap.proofs.ActsReads.{acts-slots}
@@ -25,7 +24,7 @@ use Rattle.qo_heap.proofs.PlacesLemmas.{row-at-place}
 use Rattle.qo_heap.proofs.TimelyLemmas.{acts-timely}
 use Rattle.qo_clocks.specs.Below.{fed_in, goes_by}
 use Rattle.qo_clocks.specs.Periods.{scaled_on}
-use Rattle.qo_clocks.specs.Reads.{div_on, mul_on, slot_on, source_on}
+use Rattle.qo_clocks.specs.Reads.{source_on}
 use Rattle.qo_clocks.specs.Spread.{Change, acted_on, all_called_on, called_on, change_at, changes_on, spread_on, spread_to}
 use Rattle.qo_clocks.proofs.BelowLemmas.{at_place, fed-more, take-all}
 

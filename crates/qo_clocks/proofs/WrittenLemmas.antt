@@ -1,5 +1,5 @@
 -- A clock is written: the periods below it, before and after, are those that the recursion on the heap carries down.
-use Rattle.std.proofs.Common.{◌≡◌, refl, ap, ap₂, subst, sym, ◌∙◌, ℕ, zero, suc, ◌-◌, ◌*◌, ◌/◌, ◌^◌, ◌<◌, min, Bool, true, false, ◌||◌, nat_le, cond, eqb, List, [], ◌∷◌, ◌++◌, map, length, filter, Option, Some, None, arith}
+use Rattle.std.proofs.Common.{◌≡◌, refl, ap, ap₂, subst, sym, ◌∙◌, ℕ, zero, suc, ◌^◌, ◌<◌, Bool, true, false, ◌||◌, nat_le, cond, eqb, List, [], ◌∷◌, ◌++◌, map, length, filter, Option, Some, None, arith}
 use Rattle.std.specs.Prelude.{Ok, Err}
 use Rattle.std.specs.List.{flat_map, list_any}
 use Rattle.std.specs.Option.{option_map_or}
@@ -18,7 +18,6 @@ use Rattle.qo_model.specs.Depth.{by_depth}
 use Rattle.qo_model.specs.Paths as paths
 use Rattle.qo_model.specs.Paths.{births}
 use Rattle.qo_model.proofs.PeriodLemmas.{period-fed}
-use Rattle.qo_table.specs.Rows as table
 use Rattle.qo_object.specs.Shown.{birth_of}
 use Rattle.qo_heap.specs.Acts.{Acts}
 use Rattle.qo_heap.specs.Board.{Shows}

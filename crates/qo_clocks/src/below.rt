@@ -11,12 +11,7 @@ use qo_heap::{Heap, Oid, Steps};
 use std::sync::ledger::Ledger;
 
 /// The object at a place in the order of births, if it is a clock that goes by a clock.
-pub fn fed_at<L: Ledger>(
-    heap: &Heap,
-    place: usize,
-    c: Oid,
-    steps: &mut Steps<L>,
-) -> Option<Oid>
+pub fn fed_at<L: Ledger>(heap: &Heap, place: usize, c: Oid, steps: &mut Steps<L>) -> Option<Oid>
     ensures fed { result ≡ option_and_then (fed_at heap.now c.birth) (option_map (λ row. row.0) (slice_get heap.now.rows place)) }
     ensures live { IfSome result (IsLive heap.now.rows) }
 {
@@ -46,7 +41,12 @@ pub fn fitting(mul: u64, div: u64, period: u64) -> Option<u64>
 }
 
 /// A period as the clocks that go by a clock have it; `None` exactly where it does not fit.
-pub fn child_period<L: Ledger>(heap: &Heap, c: Oid, period: u64, steps: &mut Steps<L>) -> Option<u64>
+pub fn child_period<L: Ledger>(
+    heap: &Heap,
+    c: Oid,
+    period: u64,
+    steps: &mut Steps<L>,
+) -> Option<u64>
     requires { IsLive heap.now.rows c }
     ensures { result ≡ fitting (wide_on heap.now c.birth period) }
 {

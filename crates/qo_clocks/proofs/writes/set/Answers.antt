@@ -1,11 +1,10 @@
-use Rattle.std.proofs.Common.{◌≡◌, ◌∙◌, ◌+◌, ℕ, false, ap, is_some, sym, codes}
-use Rattle.qo_values.specs.declared.properties.Val.TheVariants as val
+use Rattle.std.proofs.Common.{◌∙◌, ◌+◌, ℕ, ap, is_some, sym}
 use Rattle.qo_heap.specs.Acts.{Acts}
 use Rattle.qo_heap.specs.Timely.{Timely}
 use Rattle.qo_heap.proofs.ActsLemmas.{acts-none}
 use Rattle.qo_clocks.specs.Below.{fitting, wide_on}
 use Rattle.qo_clocks.specs.Periods.{scaled_on}
-use Rattle.qo_clocks.specs.Reads.{own_on, source_on}
+use Rattle.qo_clocks.specs.Reads.{own_on}
 use Rattle.qo_clocks.specs.Writes.{all_fit, with_period}
 use Rattle.qo_clocks.proofs.AnswerLemmas.{acts-behind, set-done, set-fits, set-over, set-sourced, spread-alike}
 use Rattle.qo_clocks.proofs.FitLemmas.{fits-acts}

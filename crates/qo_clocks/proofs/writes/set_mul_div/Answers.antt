@@ -1,4 +1,4 @@
-use Rattle.std.proofs.Common.{◌≡◌, ◌∙◌, ◌+◌, ℕ, ap, sym, refl, codes}
+use Rattle.std.proofs.Common.{◌∙◌, ◌+◌, ℕ, ap, sym, codes}
 use Rattle.qo_values.specs.declared.properties.Val.TheVariants as val
 use Rattle.qo_object.specs.Slots.{with_val}
 use Rattle.qo_heap.specs.Acts.{Acts}
