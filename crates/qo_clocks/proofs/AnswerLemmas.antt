@@ -18,9 +18,8 @@ use Rattle.qo_heap.specs.Board.{Shows}
 use Rattle.qo_heap.specs.Objects.{Objects}
 use Rattle.qo_clocks.specs.declared.errors.ClockError.{ClockError}
 use Rattle.qo_clocks.specs.declared.errors.ClockError.TheVariants.{HasSource, DividerZero, Overflow}
-use Rattle.qo_clocks.specs.Below.{fitting, wide_on}
 use Rattle.qo_clocks.specs.Links.{changed_named}
-use Rattle.qo_clocks.specs.Periods.{scaled_on}
+use Rattle.qo_clocks.specs.Periods.{fitting, scaled_on, wide_on}
 use Rattle.qo_clocks.specs.Reads.{own_on, source_on}
 use Rattle.qo_clocks.specs.Spread.{spread_on}
 use Rattle.qo_clocks.specs.Writes.{Answers, all_fit, with_period, with_scale, written_on}

@@ -7,7 +7,8 @@ use Rattle.qo_slots.specs.declared.keys.Key.{Key}
 use Rattle.qo_object.specs.Content.{Content}
 use Rattle.qo_object.specs.Shown.{birth_of}
 use Rattle.qo_heap.specs.Objects.{Objects}
-use Rattle.qo_clocks.specs.Below.{fed_at, fed_in, fitting, goes_by, over_at, overflows_on, wide_on}
+use Rattle.qo_clocks.specs.Below.{fed_at, fed_in, goes_by, over_at, overflows_on}
+use Rattle.qo_clocks.specs.Periods.{fitting, wide_on}
 
 abbrev Rows : Type 0
 Rows = List (Key × Content)

@@ -20,9 +20,8 @@ use Rattle.qo_object.specs.Slots as slots
 use Rattle.qo_heap.specs.Board.{Shows}
 use Rattle.qo_heap.specs.Objects.{Objects}
 use Rattle.qo_heap.proofs.ShowsReads.{shows-births, shows-slot_named}
-use Rattle.qo_clocks.specs.Below.{wide_on}
 use Rattle.qo_clocks.specs.Links.{changed_named}
-use Rattle.qo_clocks.specs.Periods.{scaled_on}
+use Rattle.qo_clocks.specs.Periods.{scaled_on, wide_on}
 use Rattle.qo_clocks.specs.Reads.{own_on, slot_on, source_on}
 use Rattle.qo_clocks.specs.Writes.{is_plain, with_period, with_scale, written_on}
 use Rattle.qo_clocks.proofs.LinkLemmas.{shows-set_named}

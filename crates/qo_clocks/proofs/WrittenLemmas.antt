@@ -26,8 +26,8 @@ use Rattle.qo_heap.proofs.ActsLemmas.{acts-none, acts-then}
 use Rattle.qo_heap.proofs.ShowsActs.{shows-acted}
 use Rattle.qo_heap.proofs.ShowsReads.{shows-births, shows-parent}
 use Rattle.qo_clocks.specs.declared.errors.ClockError.TheVariants.{Overflow}
-use Rattle.qo_clocks.specs.Below.{fed_in, fitting, goes_by, over_at, over_turn, overflows_on, wide_on}
-use Rattle.qo_clocks.specs.Periods.{scaled_on}
+use Rattle.qo_clocks.specs.Below.{fed_in, goes_by, over_at, over_turn, overflows_on}
+use Rattle.qo_clocks.specs.Periods.{fitting, scaled_on, wide_on}
 use Rattle.qo_clocks.specs.Reads.{source_on}
 use Rattle.qo_clocks.specs.Spread.{Change, acted_on, all_called_on, called_on, change_at, changes_on, changes_turn, spread_on}
 use Rattle.qo_clocks.specs.Writes.{Answers, all_fit}

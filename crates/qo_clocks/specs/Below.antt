@@ -5,10 +5,10 @@ use Rattle.std.specs.Option.{option_map_or}
 use Rattle.qo_slots.specs.declared.keys.Key.{Key}
 use Rattle.qo_table.specs.Rows.{births}
 use Rattle.qo_object.specs.Content.{Content}
-use Rattle.qo_model.specs.Clocks.{scaled_by}
 use Rattle.qo_model.specs.Depth.{by_depth}
 use Rattle.qo_heap.specs.Objects.{Objects}
-use Rattle.qo_clocks.specs.Reads.{div_on, mul_on, source_on}
+use Rattle.qo_clocks.specs.Periods.{wide_on}
+use Rattle.qo_clocks.specs.Reads.{source_on}
 
 -- whether a clock goes by a clock
 abbrev pub goes_by : Objects → ℕ → ℕ → Bool
@@ -20,13 +20,6 @@ fed_at v c key = if goes_by v c key.birth then Some key else None
 
 abbrev pub fed_in : Objects → ℕ → List (Key × Content) → List ℕ
 fed_in v c rows = filter (goes_by v c) (births rows)
-
--- a period as the clocks that go by a clock would have it, and what fits in 64 bits
-abbrev pub wide_on : Objects → ℕ → ℕ → ℕ
-wide_on v n period = scaled_by (mul_on v n) (div_on v n) period
-
-abbrev pub fitting : ℕ → Option ℕ
-fitting n = if nat_le (2 ^ 64) n then None else Some n
 
 -- whether that of a clock below a clock does not fit, to a depth, where those that go by the clock have a period
 abbrev pub over_at : Objects → (ℕ → ℕ → Bool) → ℕ → ℕ → Bool

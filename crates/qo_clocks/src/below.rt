@@ -2,11 +2,11 @@
 //! "Connecting two clocks together"). No call takes memory.
 
 ghost use Rattle.std.specs.Prelude.{◌≡◌, option_and_then, option_map, slice_get, IfSome};
-ghost use Rattle.qo_model.specs.Clocks.{scaled_by};
 ghost use Rattle.qo_table.specs.Rows.{IsLive};
-ghost use Rattle.qo_clocks.specs.Below.{fed_at, fitting, overflows_on, wide_on};
+ghost use Rattle.qo_clocks.specs.Below.{fed_at, overflows_on};
 
-use crate::reads::{div, mul, source_of};
+use crate::periods::child_period;
+use crate::reads::source_of;
 use qo_heap::{Heap, Oid, Steps};
 use std::sync::ledger::Ledger;
 
@@ -22,36 +22,6 @@ pub fn fed_at<L: Ledger>(heap: &Heap, place: usize, c: Oid, steps: &mut Steps<L>
         return Some(n);
     }
     None
-}
-
-/// A period times `mul` by `div`, rounded down, and 0 by a `div` of 0; `None` exactly where it is more
-/// than 64 bits hold.
-pub fn fitting(mul: u64, div: u64, period: u64) -> Option<u64>
-    ensures { result ≡ fitting (scaled_by mul div period) }
-{
-    if div == 0 {
-        return Some(0);
-    }
-    let wide = u128::from(period) * u128::from(mul) / u128::from(div);
-    if wide <= u128::from(u64::MAX) {
-        Some(wide as u64)
-    } else {
-        None
-    }
-}
-
-/// A period as the clocks that go by a clock have it; `None` exactly where it does not fit.
-pub fn child_period<L: Ledger>(
-    heap: &Heap,
-    c: Oid,
-    period: u64,
-    steps: &mut Steps<L>,
-) -> Option<u64>
-    requires { IsLive heap.now.rows c }
-    ensures { result ≡ fitting (wide_on heap.now c.birth period) }
-{
-    let mul = mul(heap, c, steps);
-    fitting(mul, div(heap, c, steps), period)
 }
 
 /// Whether the period for the clocks that go by a clock below another would not fit, to a depth,

@@ -15,10 +15,10 @@ ghost use Rattle.qo_heap.specs.Book.{IsBook};
 ghost use Rattle.qo_heap.specs.Timely.{Timely};
 ghost use Rattle.qo_clocks.specs.Writes.{Answers, all_fit, with_period, with_scale, written_on};
 
-use crate::below::{child_period, fitting, overflows};
+use crate::below::overflows;
 use crate::errors::ClockError;
 use crate::links::set_number;
-use crate::periods::{period, scaled};
+use crate::periods::{child_period, fitting, period, scaled};
 use crate::reads::{own_period, slot_of, source_of};
 use crate::spread::spread;
 use qo_heap::{Heap, Oid, Slot, Steps};

@@ -2,8 +2,7 @@ use Rattle.std.proofs.Common.{◌∙◌, ◌+◌, ℕ, ap, is_some, sym}
 use Rattle.qo_heap.specs.Acts.{Acts}
 use Rattle.qo_heap.specs.Timely.{Timely}
 use Rattle.qo_heap.proofs.ActsLemmas.{acts-none}
-use Rattle.qo_clocks.specs.Below.{fitting, wide_on}
-use Rattle.qo_clocks.specs.Periods.{scaled_on}
+use Rattle.qo_clocks.specs.Periods.{fitting, scaled_on, wide_on}
 use Rattle.qo_clocks.specs.Reads.{own_on}
 use Rattle.qo_clocks.specs.Writes.{all_fit, with_period}
 use Rattle.qo_clocks.proofs.AnswerLemmas.{acts-behind, set-done, set-fits, set-over, set-sourced, spread-alike}
