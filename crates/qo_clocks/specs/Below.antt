@@ -1,4 +1,4 @@
--- The clocks below a clock on the heap, and the periods that they would have.
+-- The clocks below a clock on the heap, and whether the periods that they would have fit.
 use Rattle.std.specs.Prelude.{ℕ, ◌^◌, Bool, false, ◌||◌, ◌==◌, nat_le, if◌then◌else◌, List, filter, Option, None, Some}
 use Rattle.std.specs.List.{list_any}
 use Rattle.std.specs.Option.{option_map_or}
@@ -14,14 +14,14 @@ use Rattle.qo_clocks.specs.Reads.{source_on}
 abbrev pub goes_by : Objects → ℕ → ℕ → Bool
 goes_by v c n = option_map_or (λ (s : Key). s.birth == c) (source_on v n) false
 
--- the clocks among some objects that go by a clock
+-- an object that does; the clocks among some objects that do, in the order of births
 abbrev pub fed_at : Objects → ℕ → Key → Option Key
 fed_at v c key = if goes_by v c key.birth then Some key else None
 
 abbrev pub fed_in : Objects → ℕ → List (Key × Content) → List ℕ
 fed_in v c rows = filter (goes_by v c) (births rows)
 
--- whether that of a clock below a clock does not fit, to a depth, where those that go by the clock have a period
+-- whether a clock below a clock would have a child period that does not fit, to a depth, where those that go by the clock have a period
 abbrev pub over_at : Objects → (ℕ → ℕ → Bool) → ℕ → ℕ → Bool
 over_at v f period n = nat_le (2 ^ 64) (wide_on v n period) || f n (wide_on v n period)
 

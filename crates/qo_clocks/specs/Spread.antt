@@ -1,4 +1,4 @@
--- A change of a period spreads on the heap: the devices of the clocks below are called back.
+-- A change of a period spreads on the heap: the parents of the clocks below are called back.
 use Rattle.std.specs.Prelude.{ℕ, true, false, ◌==◌, List, [], ◌∷◌, take, None, Some}
 use Rattle.std.specs.List.{flat_map}
 use Rattle.qo_values.specs.declared.kinds.Act.{Act}
@@ -20,7 +20,7 @@ pub record Change : Type 0 where
   pub before : ℕ
   pub after : ℕ
 
--- the device of a clock is called back, where the period changes
+-- the parent of a clock is called back, where the period changes
 abbrev pub called_on : Change → Objects → Objects
 called_on x v =
     elim (x.before == x.after) [
