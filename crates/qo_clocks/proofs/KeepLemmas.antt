@@ -1,8 +1,9 @@
 -- What the writes leave: who is there, the book of claims, and that no timer had a later moment.
-use Rattle.std.proofs.Common.{refl, ℕ, Bool, true, false, cond, eqb, List, [], ◌∷◌, Option, Some, None, codes}
+use Rattle.std.proofs.Common.{◌≡◌, subst, sym, refl, ℕ, Bool, true, false, cond, eqb, List, [], ◌∷◌, Option, Some, None, codes}
 use Rattle.qo_values.specs.declared.properties.Val.TheVariants as val
 use Rattle.qo_claims.specs.declared.claims.Claimed.{Claimed}
 use Rattle.qo_kinds.specs.Bodies.{IsTimely}
+use Rattle.qo_kinds.specs.declared.bodies.Body.{Body}
 use Rattle.qo_slots.specs.declared.keys.Key.{Key}
 use Rattle.qo_table.specs.Rows.{IsLive, edit}
 use Rattle.qo_object.specs.declared.slots.Slot.{Slot}
@@ -20,23 +21,24 @@ use Rattle.qo_clocks.proofs.LinkLemmas.{live-changed}
 
 -- one number
 
-edit-timely : (n : ℕ) (f : Slot → Slot) (i now : ℕ) (rows : List (Key × Content)) → AllTimely now rows → AllTimely now (edit n (with_slot_changed f i) rows)
-edit-timely n f i now [] all = tt
-edit-timely n f i now (row ∷ rows) all = (go (eqb row.0.birth n), edit-timely n f i now rows all.1)
+pub edit-timely : (n : ℕ) (f : Content → Content) → ((c : Content) → (f c).body ≡ c.body) → (now : ℕ) (rows : List (Key × Content)) → AllTimely now rows
+    → AllTimely now (edit n f rows)
+edit-timely n f same now [] all = tt
+edit-timely n f same now (row ∷ rows) all = (go (eqb row.0.birth n), edit-timely n f same now rows all.1)
   where
-    go : (t : Bool) → IsTimely now (cond t (row.0, with_slot_changed f i row.1) row).1.body
-    go true = all.0
+    go : (t : Bool) → IsTimely now (cond t (row.0, f row.1) row).1.body
+    go true = subst (λ (b : Body). IsTimely now b) (sym (same row.1)) all.0
     go false = all.0
 
 abbrev changed_where : ℕ → (Slot → Slot) → Objects → Option ℕ → Objects
 changed_where n f v o = elim o as (λ _. Objects) [ None ↦ v | Some i ↦ with_edit n (with_slot_changed f i) v ]
 
-timely-changed : (n : ℕ) (name : List ℕ) (f : Slot → Slot) (v : Objects) → Timely v → Timely (changed_named n name f v)
+pub timely-changed : (n : ℕ) (name : List ℕ) (f : Slot → Slot) (v : Objects) → Timely v → Timely (changed_named n name f v)
 timely-changed n name f v all = go (place_on v n name)
   where
     go : (o : Option ℕ) → Timely (changed_where n f v o)
     go None = all
-    go (Some i) = edit-timely n f i v.time v.rows all
+    go (Some i) = edit-timely n (with_slot_changed f i) (λ c. refl) v.time v.rows all
 
 book-changed : (out : List Claimed) (n : ℕ) (name : List ℕ) (f : Slot → Slot) (v : Objects) → IsBook out v → IsBook out (changed_named n name f v)
 book-changed out n name f v book = go (place_on v n name)

@@ -10,4 +10,5 @@ pub mod ReadLemmas
 pub mod RoundLemmas
 pub mod SetLemmas
 pub mod SpreadLemmas
+pub mod TestLemmas
 pub mod WrittenLemmas
