@@ -1,3 +1,14 @@
+pub mod AnswerLemmas
+pub mod BelowLemmas
+pub mod ClockRows
+pub mod FitLemmas
+pub mod KeepLemmas
 pub mod LinkLemmas
+pub mod NumberLemmas
 pub mod PeriodLemmas
 pub mod ReadLemmas
+pub mod RoundLemmas
+pub mod SetLemmas
+pub mod SpreadLemmas
+pub mod TestLemmas
+pub mod WrittenLemmas

@@ -1,5 +1,5 @@
 -- A slot of a name changed on the heap is changed on the boards that it shows.
-use Rattle.std.proofs.Common.{◌≡◌, refl, ap, ap₂, eqb, sym, ◌∙◌, ℕ, zero, suc, ◌+◌, Bool, true, false, not, cond, nat_lt, List, [], ◌∷◌, length, slice_get, position, Option, Some, None, option_map, codes, arith}
+use Rattle.std.proofs.Common.{◌≡◌, refl, ap, ap₂, eqb, sym, ◌∙◌, ℕ, zero, suc, ◌+◌, Bool, true, false, not, cond, nat_lt, List, [], ◌∷◌, length, slice_get, Option, Some, None, option_map, codes, arith}
 use Rattle.std.specs.List.{position_or_len}
 use Rattle.std.specs.Option.{option_map_or}
 use Rattle.std.specs.Str.{bytes_eq}
@@ -8,13 +8,14 @@ use Rattle.std.proofs.lemmas.Cmp.{nat_list_eq_equiv}
 use Rattle.std.proofs.lemmas.Option.{same_Some}
 use Rattle.qo_values.specs.Kinds.{type_name}
 use Rattle.qo_values.specs.declared.kinds.TypeId.{TypeId}
+use Rattle.qo_values.specs.declared.properties.Val.{Val}
 use Rattle.qo_values.specs.declared.properties.Val.TheVariants as val
 use Rattle.qo_slots.specs.declared.keys.Key.{Key}
 use Rattle.qo_table.specs.Rows.{IsLive, edit}
 use Rattle.qo_model.specs.Board as board
 use Rattle.qo_model.specs.Changes as changes
 use Rattle.qo_model.specs.Objects.{place_from}
-use Rattle.qo_model.specs.Paths.{is_of, only_of}
+use Rattle.qo_model.specs.Paths.{is_of}
 use Rattle.qo_model.specs.Plug.{fitted, link_named}
 use Rattle.qo_model.specs.Release as release
 use Rattle.qo_model.specs.Types.{is_a}
@@ -23,7 +24,7 @@ use Rattle.qo_object.specs.declared.slots.Slot.{Slot}
 use Rattle.qo_object.specs.declared.slots.Slot.TheVariants.{Plain, Child, Link, Alias}
 use Rattle.qo_object.specs.Content.{Content, dropped_at, empty_link_at, pointed_at}
 use Rattle.qo_object.specs.Shown.{shown, shown_slot, shown_slots}
-use Rattle.qo_object.specs.Slots.{Named, changed_at, is_empty_link, let_go_at, pointed, slot_in, with_val}
+use Rattle.qo_object.specs.Slots.{Named, changed_at, is_empty_link, let_go_at, pointed, with_val}
 use Rattle.qo_heap.specs.Board.{Shows}
 use Rattle.qo_heap.specs.Objects.{IsHeap, Objects, content_of, slots_of, with_edit}
 use Rattle.qo_heap.proofs.HeapLemmas.{edit-is, live-edit}
@@ -129,6 +130,11 @@ unseen-shown (Link ty true target) = refl
 unseen-shown (Link ty false target) = refl
 unseen-shown (Alias k name) = refl
 
+pub shows-set_named : (b : board.Board) (v : Objects) → Shows b v → (n : ℕ) (name : List ℕ) (value : Val)
+    → Shows (set_named n name value b) (changed_named n name (with_val value) v)
+shows-set_named b v s n name value =
+    shows-named n name (with_val value) b v s (λ (i : ℕ). changes.set n i value b) (λ (i : ℕ). shows-set b v s n i value)
+
 pub shows-disconnected : (b : board.Board) (v : Objects) → Shows b v → (n : ℕ)
     → Shows (disconnected (Some n) b) (changed_named n (codes "period") (with_val (val.Uint 0)) (changed_named n (codes "source") unseen_on v))
 shows-disconnected b v s n =
@@ -137,8 +143,7 @@ shows-disconnected b v s n =
     let unlinked : Shows c w =
     shows-named n (codes "source") unseen_on b v s (λ (i : ℕ). release.edit n (changes.with_changed unseen i) b)
     (shows-changed unseen_on unseen unseen-shown b v s n) in
-    shows-named n (codes "period") (with_val (val.Uint 0)) c w unlinked (λ (i : ℕ). changes.set n i (val.Uint 0) c)
-    (λ (i : ℕ). shows-set c w unlinked n i (val.Uint 0))
+    shows-set_named c w unlinked n (codes "period") (val.Uint 0)
 
 pub live-changed : (n : ℕ) (name : List ℕ) (f : Slot → Slot) (v : Objects) (key : Key) → IsLive v.rows key → IsLive (changed_named n name f v).rows key
 live-changed n name f v key live = go (place_on v n name)

@@ -1,7 +1,8 @@
 -- Periods on the heap are those of the boards that it shows, where all fit in 64 bits.
-use Rattle.std.proofs.Common.{◌≡◌, ◌⊎◌, inl, inr, refl, ap, eqb, sym, ◌∙◌, ℕ, zero, suc, ◌+◌, ◌*◌, ◌/◌, ◌-◌, ◌^◌, ◌<◌, ◌≤◌, min, Bool, true, false, cond, List, length, Option, Some, None, arith}
+use Rattle.std.proofs.Common.{◌≡◌, ◌⊎◌, inl, inr, refl, ap, eqb, sym, ◌∙◌, ℕ, zero, suc, ◌+◌, ◌*◌, ◌/◌, ◌-◌, ◌^◌, ◌<◌, ◌≤◌, min, Bool, true, false, cond, List, length, nat_le, unwrap_or, Option, Some, None, arith}
 use Rattle.std.specs.Option.{option_map_or}
 use Rattle.std.proofs.Math.Nat.{zero-div}
+use Rattle.std.proofs.lemmas.Bool.Decides.{nat_tests}
 use Rattle.std.proofs.lemmas.List.{length-map}
 use Rattle.qo_slots.specs.declared.keys.Key.{Key}
 use Rattle.qo_model.specs.Board.{Board}
@@ -12,9 +13,18 @@ use Rattle.qo_object.specs.Shown.{birth_of}
 use Rattle.qo_heap.specs.Board.{Shows}
 use Rattle.qo_heap.specs.Objects.{Objects}
 use Rattle.qo_heap.proofs.ShowsReads.{shows-births}
-use Rattle.qo_clocks.specs.Periods.{period_on, period_turn_on, scaled_on}
+use Rattle.qo_clocks.specs.Periods.{fitting, period_on, period_turn_on, scaled_on}
 use Rattle.qo_clocks.specs.Reads.{clock_on, div_on, mul_on, own_on, source_on}
 use Rattle.qo_clocks.proofs.ReadLemmas.{shows-clock, shows-div, shows-mul, shows-own, shows-source}
+
+-- what fits, or else the greatest number
+
+pub fitting-cut : (n : ℕ) → unwrap_or (fitting n) (2 ^ 64 - 1) ≡ min n (2 ^ 64 - 1)
+fitting-cut n = go (nat_le (2 ^ 64) n) refl
+  where
+    go : (t : Bool) → nat_le (2 ^ 64) n ≡ t → unwrap_or (cond t None (Some n)) (2 ^ 64 - 1) ≡ min n (2 ^ 64 - 1)
+    go true e = let high : 2 ^ 64 ≤ n = grind (arith, nat_tests, e) in omega arith
+    go false e = let low : n < 2 ^ 64 = grind (arith, nat_tests, e) in omega arith
 
 -- the recursion of the code
 
@@ -49,7 +59,7 @@ one-less (suc n) not_zero = omega arith
 
 -- 0 is scaled to 0
 
-scaled-zero : (mul div : ℕ) → scaled_by mul div 0 ≡ 0
+pub scaled-zero : (mul div : ℕ) → scaled_by mul div 0 ≡ 0
 scaled-zero mul div = go (eqb div 0)
   where
     go : (t : Bool) → cond t 0 (0 * mul / div) ≡ 0
@@ -115,7 +125,7 @@ module _ (b : Board) where
 
 -- the heap's recursion is the board's
 
-cut-low : (n m : ℕ) → n ≡ m → m < 2 ^ 64 → min n (2 ^ 64 - 1) ≡ m
+pub cut-low : (n m : ℕ) → n ≡ m → m < 2 ^ 64 → min n (2 ^ 64 - 1) ≡ m
 cut-low n m same low = omega arith
 
 source-same : (b : Board) (v : Objects) → Shows b v → ClocksFit b → (d k : ℕ) → d ≤ suc (length (paths.births b))

@@ -5,12 +5,10 @@ use Rattle.std.specs.List.{AllByRecursion, cons_option}
 use Rattle.std.specs.Option.{option_map_or}
 use Rattle.std.specs.Str.{bytes_eq}
 use Rattle.std.proofs.lemmas.Option.{same_Some}
-use Rattle.qo_values.specs.declared.properties.Val.{Val}
 use Rattle.qo_values.specs.declared.properties.Val.TheVariants as val
 use Rattle.qo_slots.specs.declared.keys.Key.{Key}
 use Rattle.qo_table.specs.Rows.{IsLive}
 use Rattle.qo_model.specs.Board as board
-use Rattle.qo_model.specs.Clocks as clocks
 use Rattle.qo_model.specs.Clocks.{div_of, mul_of, own_period, source_of, weak_in}
 use Rattle.qo_model.specs.Devices.{child_named, clock_of, number_at, number_in, plain_in}
 use Rattle.qo_object.specs.declared.slots.Slot.{Slot}
@@ -19,7 +17,7 @@ use Rattle.qo_object.specs.Content.{Content}
 use Rattle.qo_object.specs.Shown.{birth_of, shown_slot}
 use Rattle.qo_object.specs.Slots.{Named, target_of}
 use Rattle.qo_heap.specs.Board.{Shows}
-use Rattle.qo_heap.specs.Objects.{IsHeap, Objects, content_of, slots_of}
+use Rattle.qo_heap.specs.Objects.{IsHeap, Objects, content_of}
 use Rattle.qo_heap.proofs.HeapLemmas.{linked-at, targets_in}
 use Rattle.qo_heap.proofs.ShowsReads.{shows-slot_named}
 use Rattle.qo_clocks.specs.Reads.{child_in, clock_on, div_on, mul_on, number_in_slot, number_on, own_on, slot_on, source_on, weak_target}

@@ -1,3 +1,6 @@
+pub mod Below
 pub mod Links
 pub mod Periods
 pub mod Reads
+pub mod Spread
+pub mod Writes

@@ -80,7 +80,7 @@ fn unlink<L: Ledger>(heap: &mut Heap, c: Oid, name: &str, steps: &mut Steps<L>)
 }
 
 /// A plain slot of a name of an object is given a number.
-fn set_number<L: Ledger>(heap: &mut Heap, c: Oid, name: &str, number: u64, steps: &mut Steps<L>)
+pub fn set_number<L: Ledger>(heap: &mut Heap, c: Oid, name: &str, number: u64, steps: &mut Steps<L>)
     requires { IsLive heap.old.rows c }
     ensures { heap.new ≡ changed_named c.birth name.now (with_val (val.Uint number)) heap.old }
 {

@@ -1,13 +1,12 @@
 //! The periods of clocks (docs/devel/clocks.rst, "The clock state" and "Clock multiplier and divider
 //! settings").
 
-ghost use Rattle.std.specs.Prelude.{◌≡◌, ◌^◌, ◌-◌, min};
+ghost use Rattle.std.specs.Prelude.{◌≡◌};
 ghost use Rattle.qo_table.specs.Rows.{IsLive};
 ghost use Rattle.qo_model.specs.Board.{Board};
 ghost use Rattle.qo_model.specs.Clocks.{ClocksFit, device_period, of_hz, period, scaled_by};
 ghost use Rattle.qo_heap.specs.Board.{Shows};
-ghost use Rattle.qo_clocks.specs.Reads.{div_on, mul_on};
-ghost use Rattle.qo_clocks.specs.Periods.{period_on};
+ghost use Rattle.qo_clocks.specs.Periods.{fitting, period_on, scaled_on, wide_on};
 
 use crate::reads::{clock_of, div, mul, own_period, source_of};
 use qo_heap::{Heap, Oid, Steps};
@@ -17,25 +16,44 @@ use std::sync::ledger::Ledger;
 /// Nanoseconds in a second.
 const NS_PER_SECOND: u64 = 1_000_000_000;
 
-/// A period times `mul` by `div`, rounded down, and 0 by a `div` of 0; more than 64 bits hold is
-/// told as the greatest number that they hold.
-fn scaled_by(mul: u64, div: u64, period: u64) -> u64
-    ensures { result ≡ min (scaled_by mul div period) (2 ^ 64 - 1) }
+/// A period times `mul` by `div`, rounded down, and 0 by a `div` of 0; `None` exactly where it is more
+/// than 64 bits hold.
+pub fn fitting(mul: u64, div: u64, period: u64) -> Option<u64>
+    ensures { result ≡ fitting (scaled_by mul div period) }
 {
     if div == 0 {
-        return 0;
+        return Some(0);
     }
     let wide = u128::from(period) * u128::from(mul) / u128::from(div);
-    wide.min(u128::from(u64::MAX)) as u64
+    if wide <= u128::from(u64::MAX) {
+        Some(wide as u64)
+    } else {
+        None
+    }
 }
 
-/// A period as the clocks that go by a clock have it.
-fn scaled<L: Ledger>(heap: &Heap, c: Oid, period: u64, steps: &mut Steps<L>) -> u64
+/// A period as the clocks that go by a clock have it; `None` exactly where it is more than 64 bits
+/// hold.
+pub fn child_period<L: Ledger>(
+    heap: &Heap,
+    c: Oid,
+    period: u64,
+    steps: &mut Steps<L>,
+) -> Option<u64>
     requires { IsLive heap.now.rows c }
-    ensures { result ≡ min (scaled_by (mul_on heap.now c.birth) (div_on heap.now c.birth) period) (2 ^ 64 - 1) }
+    ensures { result ≡ fitting (wide_on heap.now c.birth period) }
 {
     let mul = mul(heap, c, steps);
-    scaled_by(mul, div(heap, c, steps), period)
+    fitting(mul, div(heap, c, steps), period)
+}
+
+/// A period as the clocks that go by a clock have it; more than 64 bits hold is told as the greatest
+/// number that they hold.
+pub fn scaled<L: Ledger>(heap: &Heap, c: Oid, period: u64, steps: &mut Steps<L>) -> u64
+    requires { IsLive heap.now.rows c }
+    ensures { result ≡ scaled_on heap.now c.birth period }
+{
+    child_period(heap, c, period, steps).unwrap_or(u64::MAX)
 }
 
 /// The period of a clock, where its sources are gone up to a depth; 0 beyond it.

@@ -9,7 +9,7 @@ use qo_values::Val;
 use std::sync::ledger::Ledger;
 
 /// What stands in the slot of a name of an object; `None` exactly where it has none.
-fn slot_of<'a, L: Ledger>(
+pub fn slot_of<'a, L: Ledger>(
     heap: &'a Heap,
     o: Oid,
     name: &str,

@@ -1,6 +1,4 @@
-use Rattle.std.proofs.Common.{◌≡◌, ◌∙◌, codes}
-use Rattle.qo_values.specs.declared.properties.Val.TheVariants as val
-use Rattle.qo_object.specs.Slots.{with_val}
+use Rattle.std.proofs.Common.{codes}
 use Rattle.qo_clocks.specs.Links.{unseen_on}
 use Rattle.qo_clocks.proofs.LinkLemmas.{live-changed, shows-disconnected}
 use Rattle.qo_clocks.proofs.links.disconnect.Goals as goal

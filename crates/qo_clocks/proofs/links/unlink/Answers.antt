@@ -1,9 +1,9 @@
-use Rattle.std.proofs.Common.{◌≡◌, ◌∙◌, List, ℕ, Option, Some, true, false, sym, codes, slice_get, rules}
+use Rattle.std.proofs.Common.{◌≡◌, ◌∙◌, Some, true, false, sym, slice_get}
 use Rattle.std.specs.Str.{bytes_eq}
 use Rattle.qo_object.specs.Slots.{Named}
 use Rattle.qo_heap.specs.Objects.{slots_of}
 use Rattle.qo_heap.proofs.PlacesLemmas.{position-find}
-use Rattle.qo_clocks.specs.Links.{accepts, fitted_on, is_weak, place_on}
+use Rattle.qo_clocks.specs.Links.{is_weak, place_on}
 use Rattle.qo_clocks.proofs.LinkLemmas.{unlinks, unlinks-not}
 use Rattle.qo_clocks.proofs.links.unlink.Goals as goal
 
