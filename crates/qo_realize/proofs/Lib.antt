@@ -6,3 +6,4 @@ pub mod PlugLemmas
 pub mod RefuseLemmas
 pub mod SoundLemmas
 pub mod StandsLemmas
+pub mod TimeLemmas

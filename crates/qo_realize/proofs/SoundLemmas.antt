@@ -33,6 +33,7 @@ use Rattle.qo_realize.specs.Guest.{polled}
 use Rattle.qo_realize.specs.Parts.{Parts}
 use Rattle.qo_realize.specs.Removals.{with_asked}
 use Rattle.qo_realize.specs.Stands.{Stands, StandsForGood}
+use Rattle.qo_realize.specs.Time.{at_time, with_running}
 
 -- each change by command on objects
 pub changed-good : (b : Board) (change : Change) → Good b → Good (changed b change)
@@ -88,6 +89,12 @@ cleared-good b = good-alike b (record b { events = [] }) refl refl refl
 
 pub asked-good : (b : Board) (h : Asked) → Good b → Good (with_asked b h)
 asked-good b h = good-alike b (with_asked b h) refl refl refl
+
+pub timed-good : (b : Board) (now : ℕ) → Good b → Good (at_time now b)
+timed-good b now = good-alike b (at_time now b) refl refl refl
+
+pub switched-good : (b : Board) (on : Bool) → Good b → Good (with_running on b)
+switched-good b on = good-alike b (with_running on b) refl refl refl
 
 pub polled-good : (b : Board) → Good b → Good (polled b)
 polled-good b = good-alike b (polled b) refl refl refl

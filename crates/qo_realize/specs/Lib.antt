@@ -4,3 +4,4 @@ pub mod Guest
 pub mod Parts
 pub mod Removals
 pub mod Stands
+pub mod Time
