@@ -1,15 +1,12 @@
 -- Another moment, and a machine that stands still or runs again: the board of that stands, and it is good.
-use Rattle.std.proofs.Common.{◌≡◌, ◌<◌, ◌+◌, ℕ, Bool, true, false, not, refl, sym, ap, subst, ◌∙◌, Option, Some, None, if◌then◌else◌, nat_lt}
-use Rattle.qo_values.specs.declared.codes.Code.TheVariants.{E53}
-use Rattle.qo_values.specs.declared.limits.TheConstants.{TIME_MAX}
+use Rattle.std.proofs.Common.{ℕ, Bool, refl}
 use Rattle.qo_model.specs.Board.{Board}
-use Rattle.qo_model.specs.Objects.{Changed}
 use Rattle.qo_heap.specs.Objects.{Objects}
 use Rattle.qo_hotplug.specs.Asked.{Asked}
 use Rattle.qo_reset.specs.HoldList.{HoldList}
 use Rattle.qo_realize.specs.Parts.{parts_of}
 use Rattle.qo_realize.specs.Stands.{Stands, StandsForGood}
-use Rattle.qo_realize.specs.Time.{Advances, advanced, at_time, with_running}
+use Rattle.qo_realize.specs.Time.{at_time, with_running}
 use Rattle.qo_realize.proofs.SoundLemmas.{switched-good, timed-good}
 
 -- the heap's time is the board's
@@ -49,13 +46,3 @@ switched-stands b anonymous was on holds asked v s =
 pub switched-for-good : (anonymous : ℕ) (was on : Bool) (holds : HoldList) (asked : Asked) (v : Objects)
     → StandsForGood (parts_of anonymous was holds asked v) → StandsForGood (parts_of anonymous on holds asked v)
 switched-for-good anonymous was on holds asked v (b, s, good) = (with_running on b, switched-stands b anonymous was on holds asked v s, switched-good b on good)
-
--- what a step of the time comes to
-pub stands-still : (b : Board) (ns : ℕ) → b.running ≡ false → advanced b ns ≡ record { refusal = None; board = b }
-stands-still b ns is = rw (advanced, is) refl
-
-pub goes-past : (b : Board) (ns : ℕ) → b.running ≡ true → nat_lt TIME_MAX (b.now + ns) ≡ true → advanced b ns ≡ record { refusal = Some E53; board = b }
-goes-past b ns runs is = rw (advanced, runs, is) refl
-
-pub goes-on : (b : Board) (ns : ℕ) → b.running ≡ true → nat_lt TIME_MAX (b.now + ns) ≡ false → advanced b ns ≡ record { refusal = None; board = at_time (b.now + ns) b }
-goes-on b ns runs is = rw (advanced, runs, is) refl
