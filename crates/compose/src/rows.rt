@@ -206,22 +206,26 @@ fn length_has_its_limit(rt: HostRuntime) -> Result<(), Fail> {
 }
 
 /// Commands, and the lines that answer them.
-const ANSWERED: [(&str, &str); 5] = [
+const ANSWERED: [(&str, &str); 6] = [
     (
         "{\"execute\":\"query-status\",\"id\":\"é😀\"}\n",
         "0 {\"id\":\"\\u00e9\\ud83d\\ude00\",\"return\":{\"running\":true,\"status\":\"running\"}}\r\n",
     ),
     (
         "{\"execute\":\"query-commands\"}",
-        "0 {\"return\":[{\"name\":\"device-list-properties\"},{\"name\":\"device_add\"},{\"name\":\"device_del\"},{\"name\":\"object-add\"},{\"name\":\"object-del\"},{\"name\":\"qmp_capabilities\"},{\"name\":\"qom-get\"},{\"name\":\"qom-list\"},{\"name\":\"qom-list-types\"},{\"name\":\"qom-set\"},{\"name\":\"query-commands\"},{\"name\":\"query-status\"},{\"name\":\"query-version\"},{\"name\":\"quit\"},{\"name\":\"x-guest\"},{\"name\":\"x-query-detached\"},{\"name\":\"x-query-notes\"},{\"name\":\"x-sever\"}]}\r\n",
+        "0 {\"return\":[{\"name\":\"cont\"},{\"name\":\"device-list-properties\"},{\"name\":\"device_add\"},{\"name\":\"device_del\"},{\"name\":\"object-add\"},{\"name\":\"object-del\"},{\"name\":\"qmp_capabilities\"},{\"name\":\"qom-get\"},{\"name\":\"qom-list\"},{\"name\":\"qom-list-types\"},{\"name\":\"qom-set\"},{\"name\":\"query-commands\"},{\"name\":\"query-status\"},{\"name\":\"query-version\"},{\"name\":\"quit\"},{\"name\":\"stop\"},{\"name\":\"x-guest\"},{\"name\":\"x-query-detached\"},{\"name\":\"x-query-notes\"},{\"name\":\"x-sever\"},{\"name\":\"x-step\"}]}\r\n",
     ),
     (
         "{\"execute\":\"query-version\"}",
         "0 {\"return\":{\"package\":\"compose\",\"qemu\":{\"major\":1,\"micro\":0,\"minor\":0}}}\r\n",
     ),
     (
-        "{\"execute\":\"stop\"}",
+        "{\"execute\":\"system_reset\"}",
         "0 {\"error\":{\"class\":\"CommandNotFound\",\"desc\":\"E10 unknown command\"}}\r\n",
+    ),
+    (
+        "{\"execute\":\"x-step\",\"arguments\":{\"ns\":9223372036854775807}}",
+        "0 {\"return\":{\"now\":9223372036854775807}}\r\n",
     ),
     (
         "{\"execute\":\"qom-list\",\"arguments\":{\"path\":\"nowhere\"},\"id\":[1,null,{\"b\":-2,\"a\":true}]}",

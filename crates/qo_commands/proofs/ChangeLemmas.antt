@@ -135,32 +135,33 @@ told-came b line h d p (now, is) so = (now, so (heard b line).board ∙ ap told 
 
 -- there is no other change
 pub no-other : (r : Request) → is_change r ≡ true → ((path name : List ℕ) (val : Val) → r ≡ QomSet path name val → ⊥) → ((driver id : List ℕ) (props : List Given) → r ≡ ObjectAdd driver id props → ⊥) → ((id : List ℕ) → r ≡ ObjectDel id → ⊥) → ((birth : ℕ) → r ≡ XSever birth → ⊥)
-    → ((driver : List ℕ) (id bus : Option (List ℕ)) (props : List Given) → r ≡ DeviceAdd driver id bus props → ⊥) → ((id : List ℕ) → r ≡ DeviceDel id → ⊥) → ((line : List ℕ) → r ≡ XGuest line → ⊥) → ⊥
-no-other (QmpCapabilities enable) is set add del sever plug ask guest = cc
-no-other QueryVersion is set add del sever plug ask guest = cc
-no-other QueryCommands is set add del sever plug ask guest = cc
-no-other QueryStatus is set add del sever plug ask guest = cc
-no-other Stop is set add del sever plug ask guest = cc
-no-other Cont is set add del sever plug ask guest = cc
-no-other SystemReset is set add del sever plug ask guest = cc
-no-other Quit is set add del sever plug ask guest = cc
-no-other (QomList path) is set add del sever plug ask guest = cc
-no-other (QomGet path property) is set add del sever plug ask guest = cc
-no-other (QomSet path property value) is set add del sever plug ask guest = absurd (set path property value refl)
-no-other (QomListTypes implements with_abstract) is set add del sever plug ask guest = cc
-no-other (DeviceListProperties typename) is set add del sever plug ask guest = cc
-no-other (ObjectAdd driver id props) is set add del sever plug ask guest = absurd (add driver id props refl)
-no-other (ObjectDel id) is set add del sever plug ask guest = absurd (del id refl)
-no-other (DeviceAdd driver id bus props) is set add del sever plug ask guest = absurd (plug driver id bus props refl)
-no-other (DeviceDel id) is set add del sever plug ask guest = absurd (ask id refl)
-no-other (ChardevAdd id kind size) is set add del sever plug ask guest = cc
-no-other (ChardevRemove id) is set add del sever plug ask guest = cc
-no-other (RingbufRead device size format) is set add del sever plug ask guest = cc
-no-other (RingbufWrite device payload format) is set add del sever plug ask guest = cc
-no-other (XResetHold path) is set add del sever plug ask guest = cc
-no-other (XResetRelease path) is set add del sever plug ask guest = cc
-no-other (XSever birth) is set add del sever plug ask guest = absurd (sever birth refl)
-no-other (XQueryNotes start) is set add del sever plug ask guest = cc
-no-other XQueryDetached is set add del sever plug ask guest = cc
-no-other (XGuest line) is set add del sever plug ask guest = absurd (guest line refl)
-no-other (XStep ns) is set add del sever plug ask guest = cc
+    → ((driver : List ℕ) (id bus : Option (List ℕ)) (props : List Given) → r ≡ DeviceAdd driver id bus props → ⊥) → ((id : List ℕ) → r ≡ DeviceDel id → ⊥) → ((line : List ℕ) → r ≡ XGuest line → ⊥)
+    → (r ≡ Stop → ⊥) → (r ≡ Cont → ⊥) → ((ns : ℕ) → r ≡ XStep ns → ⊥) → ⊥
+no-other (QmpCapabilities enable) is set add del sever plug ask guest stop cont step = cc
+no-other QueryVersion is set add del sever plug ask guest stop cont step = cc
+no-other QueryCommands is set add del sever plug ask guest stop cont step = cc
+no-other QueryStatus is set add del sever plug ask guest stop cont step = cc
+no-other Stop is set add del sever plug ask guest stop cont step = absurd (stop refl)
+no-other Cont is set add del sever plug ask guest stop cont step = absurd (cont refl)
+no-other SystemReset is set add del sever plug ask guest stop cont step = cc
+no-other Quit is set add del sever plug ask guest stop cont step = cc
+no-other (QomList path) is set add del sever plug ask guest stop cont step = cc
+no-other (QomGet path property) is set add del sever plug ask guest stop cont step = cc
+no-other (QomSet path property value) is set add del sever plug ask guest stop cont step = absurd (set path property value refl)
+no-other (QomListTypes implements with_abstract) is set add del sever plug ask guest stop cont step = cc
+no-other (DeviceListProperties typename) is set add del sever plug ask guest stop cont step = cc
+no-other (ObjectAdd driver id props) is set add del sever plug ask guest stop cont step = absurd (add driver id props refl)
+no-other (ObjectDel id) is set add del sever plug ask guest stop cont step = absurd (del id refl)
+no-other (DeviceAdd driver id bus props) is set add del sever plug ask guest stop cont step = absurd (plug driver id bus props refl)
+no-other (DeviceDel id) is set add del sever plug ask guest stop cont step = absurd (ask id refl)
+no-other (ChardevAdd id kind size) is set add del sever plug ask guest stop cont step = cc
+no-other (ChardevRemove id) is set add del sever plug ask guest stop cont step = cc
+no-other (RingbufRead device size format) is set add del sever plug ask guest stop cont step = cc
+no-other (RingbufWrite device payload format) is set add del sever plug ask guest stop cont step = cc
+no-other (XResetHold path) is set add del sever plug ask guest stop cont step = cc
+no-other (XResetRelease path) is set add del sever plug ask guest stop cont step = cc
+no-other (XSever birth) is set add del sever plug ask guest stop cont step = absurd (sever birth refl)
+no-other (XQueryNotes start) is set add del sever plug ask guest stop cont step = cc
+no-other XQueryDetached is set add del sever plug ask guest stop cont step = cc
+no-other (XGuest line) is set add del sever plug ask guest stop cont step = absurd (guest line refl)
+no-other (XStep ns) is set add del sever plug ask guest stop cont step = absurd (step ns refl)

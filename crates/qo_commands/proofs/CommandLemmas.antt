@@ -19,6 +19,7 @@ use Rattle.qo_model.specs.Hotplug.{asked}
 use Rattle.qo_model.specs.Objects.{Changed, object_add, object_del, sever}
 use Rattle.qo_model.specs.Plug.{Plugged}
 use Rattle.qo_plug.specs.Added.{added, wanted}
+use Rattle.qo_realize.specs.Time.{advanced}
 use Rattle.qo_values.specs.declared.kinds.TypeId.{TypeId}
 use Rattle.qo_model.specs.Types.{TypeRow, is_a, row_named}
 use Rattle.qo_model.specs.NoteReplies.{given_from}
@@ -30,7 +31,7 @@ use Rattle.qo_requests.specs.declared.requests.Request.TheVariants.{QmpCapabilit
 use Rattle.std.specs.Str.{chars}
 use Rattle.serde_json.proofs.OnLiterals.{serde_json_on_literals}
 use Rattle.qo_replies.specs.Json.{ascii, json}
-use Rattle.qo_commands.specs.Commands.{adding_properties, answer_told, answered, changed, detached_data, device_properties, empty, note_data, performed, plugged, properties_data, property_data, refused_with, returned, status_data, type_data, types_of, wrote}
+use Rattle.qo_commands.specs.Commands.{adding_properties, answer_told, answered, changed, detached_data, device_properties, empty, note_data, performed, plugged, properties_data, property_data, refused_with, returned, status_data, timed, type_data, types_of, wrote}
 use Rattle.qo_commands.specs.Changes.{is_change}
 use Rattle.qo_commands.specs.Views.{has_float_in}
 
@@ -58,6 +59,13 @@ changed_no_float : (c : Changed) → has_float_in (changed c).result ≡ false
 changed_no_float c = by c.refusal
   where
     by : (r : Option Code) → has_float_in (changed (record { refusal = r; board = c.board })).result ≡ false
+    by None = refl
+    by (Some code) = refl
+
+timed_no_float : (c : Changed) → has_float_in (timed c).result ≡ false
+timed_no_float c = by c.refusal
+  where
+    by : (r : Option Code) → has_float_in (timed (record { refusal = r; board = c.board })).result ≡ false
     by None = refl
     by (Some code) = refl
 
@@ -137,7 +145,7 @@ no_float b (XSever birth) = changed_no_float (sever b birth)
 no_float b (XQueryNotes start) = rw (notes_no_float (given_from start b.notes)) refl
 no_float b XQueryDetached = detached_no_float (detached_told b)
 no_float b (XGuest line) = told_no_float (heard b line).answer
-no_float b (XStep ns) = refl
+no_float b (XStep ns) = timed_no_float (advanced b ns)
 
 -- The texts that are written already.
 
@@ -160,8 +168,8 @@ unbuilt b (QmpCapabilities enable) stays list get types declared told detached v
 unbuilt b QueryVersion stays list get types declared told detached version commands status quit = absurd (version refl)
 unbuilt b QueryCommands stays list get types declared told detached version commands status quit = absurd (commands refl)
 unbuilt b QueryStatus stays list get types declared told detached version commands status quit = absurd (status refl)
-unbuilt b Stop stays list get types declared told detached version commands status quit = refl
-unbuilt b Cont stays list get types declared told detached version commands status quit = refl
+unbuilt b Stop stays list get types declared told detached version commands status quit = cc
+unbuilt b Cont stays list get types declared told detached version commands status quit = cc
 unbuilt b SystemReset stays list get types declared told detached version commands status quit = refl
 unbuilt b Quit stays list get types declared told detached version commands status quit = absurd (quit refl)
 unbuilt b (QomList path) stays list get types declared told detached version commands status quit = absurd (list path refl)
@@ -183,4 +191,4 @@ unbuilt b (XSever birth) stays list get types declared told detached version com
 unbuilt b (XQueryNotes start) stays list get types declared told detached version commands status quit = absurd (told start refl)
 unbuilt b XQueryDetached stays list get types declared told detached version commands status quit = absurd (detached refl)
 unbuilt b (XGuest line) stays list get types declared told detached version commands status quit = cc
-unbuilt b (XStep ns) stays list get types declared told detached version commands status quit = refl
+unbuilt b (XStep ns) stays list get types declared told detached version commands status quit = cc

@@ -30,11 +30,12 @@ use Rattle.qo_model.specs.declared.properties.RowKind.{RowKind}
 use Rattle.qo_model.specs.declared.properties.RowKind.TheVariants as row
 use Rattle.qo_types.specs.Rows.{listed as listed_types}
 pub use Rattle.qo_replies.specs.Properties.{properties_data, property_data}
+use Rattle.qo_realize.specs.Time.{advanced, switches, with_running}
 use Rattle.qo_replies.specs.Replies.{version_data}
 use Rattle.qo_replies.specs.declared.events.Event.{Event}
-use Rattle.qo_replies.specs.declared.events.Event.TheVariants.{DeviceDeleted, DeviceUnplugGuestError, Shutdown}
+use Rattle.qo_replies.specs.declared.events.Event.TheVariants.{DeviceDeleted, DeviceUnplugGuestError, Resume, Shutdown, Stop as Stopped}
 use Rattle.qo_requests.specs.declared.requests.Request.{Request}
-use Rattle.qo_requests.specs.declared.requests.Request.TheVariants.{DeviceAdd, DeviceDel, DeviceListProperties, ObjectAdd, ObjectDel, QomGet, QomList, QomListTypes, QomSet, QueryCommands, QueryStatus, QueryVersion, Quit, XGuest, XQueryDetached, XQueryNotes, XSever}
+use Rattle.qo_requests.specs.declared.requests.Request.TheVariants.{Cont, DeviceAdd, DeviceDel, DeviceListProperties, ObjectAdd, ObjectDel, QomGet, QomList, QomListTypes, QomSet, QueryCommands, QueryStatus, QueryVersion, Quit, Stop, XGuest, XQueryDetached, XQueryNotes, XSever, XStep}
 
 -- what a command comes to: what it returns or the code that refuses it, the board behind it, its events, and whether it ends the run
 pub record Done : Type 0 where
@@ -83,6 +84,18 @@ answer_told answer = Ok (answer_data answer)
 abbrev pub told : Outcome → Done
 told line = record { result = answer_told line.answer; board = line.board; events = line.events; ends = line.ends }
 
+-- the machine runs, or stands still; it is told of where that is a change
+abbrev pub switched : Board → Bool → Event → Done
+switched b on event = record { result = Ok empty; board = with_running on b; events = if switches b on then event ∷ [] else []; ends = false }
+
+-- the virtual time, in ns, as it is told
+abbrev pub time_data : ℕ → Data
+time_data now = object (member (codes "now") (number (unsigned now)) no_members)
+
+-- the time went on, and it is told; or a code refuses that
+abbrev pub timed : Changed → Done
+timed change = elim change.refusal [ None ↦ returned change.board (time_data change.board.now) | Some code ↦ refused_with change.board code ]
+
 -- notes from a number on, as they are told: the number of the first, the texts of at most 256, and how many there were
 abbrev pub note_data : Note → Data
 note_data note = string (note_text note)
@@ -112,7 +125,8 @@ command_data name = object (member (codes "name") (string name) no_members)
 -- the commands that are built, in byte order of their names
 abbrev pub built : List (List ℕ)
 built =
-    codes "device-list-properties"
+    codes "cont"
+    ∷ codes "device-list-properties"
     ∷ codes "device_add"
     ∷ codes "device_del"
     ∷ codes "object-add"
@@ -126,10 +140,12 @@ built =
     ∷ codes "query-status"
     ∷ codes "query-version"
     ∷ codes "quit"
+    ∷ codes "stop"
     ∷ codes "x-guest"
     ∷ codes "x-query-detached"
     ∷ codes "x-query-notes"
     ∷ codes "x-sever"
+    ∷ codes "x-step"
     ∷ []
 
 -- a type: that it is abstract is said only where it is, and its parent only where it has one
@@ -201,6 +217,9 @@ performed b (XSever birth) = changed (sever b birth)
 performed b (DeviceAdd driver id bus props) = plugged (added b (wanted driver id bus props))
 performed b (DeviceDel id) = changed (asked b id)
 performed b (XGuest line) = told (heard b line)
+performed b Stop = switched b false Stopped
+performed b Cont = switched b true Resume
+performed b (XStep ns) = timed (advanced b ns)
 performed b (XQueryNotes from) = returned b (notes_data from b.notes)
 performed b XQueryDetached = returned b (array (items_of (map detached_data (detached_told b))))
 performed b QueryVersion = returned b version_data

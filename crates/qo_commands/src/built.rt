@@ -13,6 +13,7 @@ fn built() -> &'static [&'static str]
     ensures { map (λ name. name.now) result.now ≡ built }
 {
     &[
+        "cont",
         "device-list-properties",
         "device_add",
         "device_del",
@@ -27,10 +28,12 @@ fn built() -> &'static [&'static str]
         "query-status",
         "query-version",
         "quit",
+        "stop",
         "x-guest",
         "x-query-detached",
         "x-query-notes",
         "x-sever",
+        "x-step",
     ]
 }
 

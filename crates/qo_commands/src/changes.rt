@@ -1,10 +1,10 @@
 //! Commands that change the board, or are refused.
 
-ghost use Rattle.std.specs.Prelude.{◌≡◌, true, option_map};
+ghost use Rattle.std.specs.Prelude.{◌≡◌, [], ◌∷◌, false, true, if◌then◌else◌, Ok, option_map};
 ghost use Rattle.qo_model.specs.Board.{Board as Tree};
 ghost use Rattle.qo_requests.specs.declared.requests.Request.TheVariants as request;
 ghost use Rattle.qo_commands.specs.Changes.{Came, Changes, ComesTo, is_change};
-ghost use Rattle.qo_commands.specs.Commands.{told};
+ghost use Rattle.qo_commands.specs.Commands.{empty, told};
 ghost use Rattle.qo_commands.specs.Views.{done_of};
 ghost use Rattle.qo_lane.specs.Hearing.{outcome_of};
 ghost use Rattle.qo_realize.specs.Stands.{Stands};
@@ -16,6 +16,7 @@ use qo_lane::{Heard, hear};
 use qo_plug::AddRefusal;
 use qo_properties::Refusal;
 use qo_realize::Board;
+use qo_replies::Event;
 use qo_requests::Request;
 use qo_values::{Code, PropList, Text, Val};
 use std::alloc::{AllocError, Global};
@@ -33,6 +34,9 @@ pub fn is_change(request: &Request) -> bool
         Request::DeviceAdd { .. } => true,
         Request::DeviceDel { .. } => true,
         Request::XGuest { .. } => true,
+        Request::Stop => true,
+        Request::Cont => true,
+        Request::XStep { .. } => true,
         _ => false,
     }
 }
@@ -163,6 +167,41 @@ fn guest<L: Ledger>(
     Ok(told(heard))
 }
 
+/// The machine runs, or stands still: it is told of where that is a change.
+fn switched(changes: bool, event: Event) -> Done
+    ensures { (b : Tree) → done_of b result ≡ record { result = Ok empty; board = b; events = if changes then event ∷ [] else []; ends = false } }
+{
+    Done {
+        result: Ok(Body::Empty),
+        event: if changes { Some(event) } else { None },
+        ends: false,
+    }
+}
+
+/// The machine stops.
+fn stop(board: &mut Board) -> Done
+    ensures { (b : Tree) → Stands b board.old → Came b request.Stop result board.new }
+{
+    switched(board.set_running(false), Event::Stop)
+}
+
+/// The machine runs again.
+fn cont(board: &mut Board) -> Done
+    ensures { (b : Tree) → Stands b board.old → Came b request.Cont result board.new }
+{
+    switched(board.set_running(true), Event::Resume)
+}
+
+/// The virtual time goes on by so many ns, where the machine runs.
+fn step(board: &mut Board, ns: u64) -> Done
+    ensures { (b : Tree) → Stands b board.old → Came b (request.XStep ns) result board.new }
+{
+    match board.advance(ns) {
+        Ok(now) => returned(Body::Time(now)),
+        Err(code) => refused(code),
+    }
+}
+
 /// A command that changes the board, or is refused. Events on devices wait on the board behind it.
 /// Where it is refused the board is as it was, but for an attempt of `object-add` or `device_add` that
 /// was given up. The error is want of memory; the board is then as it was, or behind an attempt that
@@ -203,6 +242,9 @@ pub fn change<L: Ledger>(
         ),
         Request::DeviceDel { id } => unplug(board, id.as_str(), steps),
         Request::XGuest { line } => guest(alloc, board, line.as_str(), steps),
+        Request::Stop => Ok(stop(board)),
+        Request::Cont => Ok(cont(board)),
+        Request::XStep { ns } => Ok(step(board, *ns)),
         _ => unreachable!(),
     }
 }

@@ -35,6 +35,8 @@ pub enum Body {
     Listing(u64),
     /// What a line of the guest is answered.
     Answer(GuestAnswer),
+    /// The virtual time, in ns.
+    Time(u64),
     /// A value of its own.
     Value(Value),
 }

@@ -4,6 +4,7 @@ use Rattle.qo_causes.specs.declared.inputs.Input.{Input}
 use Rattle.qo_model.specs.Board.{Board}
 use Rattle.qo_commands.specs.Commands.{without_events}
 use Rattle.qo_realize.specs.Stands.{StandsForGood}
+use Rattle.qo_realize.specs.Time.{at_time, with_running}
 use Rattle.qo_realize.proofs.SoundLemmas.{completed-devices, polled-devices}
 use Rattle.qo_sound_devices.specs.SoundDevices.{SoundDevices}
 use Rattle.qo_sound_devices.proofs.DevicesLawLemmas.{devices_kept_lem}
@@ -23,6 +24,8 @@ devices_kept =
       completed = λ b at d is pending h. completed-devices b d pending h;
       refused = λ b d h. devices_kept_lem.refused_by b d h;
       polled = λ b h. polled-devices b h;
+      timed = λ b now h. devices_kept_lem.beside b (at_time now b) refl refl refl refl refl refl h;
+      switched = λ b on h. devices_kept_lem.beside b (with_running on b) refl refl refl refl refl refl h;
     }
 
 -- the events are no matter to them

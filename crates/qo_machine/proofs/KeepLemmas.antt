@@ -1,5 +1,5 @@
 -- What each command keeps of the board, and each attempt that is given up, a step and a run keep.
-use Rattle.std.proofs.Common.{◌≡◌, ℕ, nat_lt, ◌==◌, Bool, true, false, if◌then◌else◌, List, [], ◌∷◌, map, refl, subst, sym, Option, None, Some, Result, Ok, Err, codes}
+use Rattle.std.proofs.Common.{◌≡◌, ℕ, ◌+◌, nat_lt, not, ◌==◌, Bool, true, false, if◌then◌else◌, List, [], ◌∷◌, map, refl, subst, sym, Option, None, Some, Result, Ok, Err, codes}
 use Rattle.std.specs.Option.{option_map_or}
 use Rattle.qo_causes.specs.declared.inputs.Input.{Input}
 use Rattle.qo_causes.specs.declared.inputs.Moment.{Moment}
@@ -10,10 +10,10 @@ use Rattle.serde_json.specs.Data.{Data, array}
 use Rattle.serde_json.specs.View.{items_of}
 use Rattle.qo_values.specs.Plain.{data_of}
 use Rattle.qo_values.specs.declared.codes.Code.{Code}
-use Rattle.qo_values.specs.declared.codes.Code.TheVariants.{E22}
+use Rattle.qo_values.specs.declared.codes.Code.TheVariants.{E22, E53}
 use Rattle.qo_values.specs.declared.kinds.TypeId.{TypeId}
 use Rattle.qo_values.specs.declared.properties.Val.{Val}
-use Rattle.qo_values.specs.declared.limits.TheConstants.{SESSIONS}
+use Rattle.qo_values.specs.declared.limits.TheConstants.{SESSIONS, TIME_MAX}
 use Rattle.qo_model.specs.Board.{Board}
 use Rattle.qo_model.specs.FinalNotesRuns.{Change, added as object_added, deleted, wrote, severed, changed}
 use Rattle.qo_model.specs.Objects.{Changed, barred_by, object_add, object_del, sever, with_attempt}
@@ -35,6 +35,7 @@ use Rattle.qo_lane.specs.Lines.{lines_of, without_return}
 use Rattle.qo_plug.specs.Added.{added, driver_barred, wanted}
 use Rattle.qo_realize.specs.Guest.{polled}
 use Rattle.qo_realize.specs.Stands.{Stands}
+use Rattle.qo_realize.specs.Time.{advanced, at_time, with_running}
 use Rattle.qo_model.specs.Access.{listing_at, read, write_at}
 use Rattle.qo_requests.specs.declared.requests.Request.{Request}
 use Rattle.qo_requests.specs.declared.requests.Request.TheVariants.{QmpCapabilities, QueryVersion, QueryCommands, QueryStatus, Stop, Cont, SystemReset, Quit, QomList, QomGet, QomSet, QomListTypes, DeviceListProperties, ObjectAdd, ObjectDel, DeviceAdd, DeviceDel, ChardevAdd, ChardevRemove, RingbufRead, RingbufWrite, XResetHold, XResetRelease, XSever, XQueryNotes, XQueryDetached, XGuest, XStep}
@@ -64,11 +65,16 @@ pub record KeepsBoard (P : Board → Type 0) : Type 0 where
   pub completed : (b : Board) (at : Addr) (d : ℕ) → addressed b at ≡ Some d → among b.pending d ≡ true → P b → P (completed b d)
   pub refused : (b : Board) (d : ℕ) → P b → P (refused_removal b d)
   pub polled : (b : Board) → P b → P (polled b)
+  -- it comes to another moment, and runs or stands still
+  pub timed : (b : Board) (now : ℕ) → P b → P (at_time now b)
+  pub switched : (b : Board) (on : Bool) → P b → P (with_running on b)
 
 -- what each command keeps of the board, and each attempt
 pub record KeepsCommands (P : Board → Type 0) : Type 0 where
   pub command : (b : Board) (r : Request) → P b → P (perform b r).board
   pub attempt : (b : Board) (r : Request) (i : ℕ) (joined : Bool) → P b → P (attempted b r i joined)
+  -- a step of the time
+  pub advance : (b : Board) (ns : ℕ) → P b → P (advanced b ns).board
 
 -- Commands.
 
@@ -158,14 +164,36 @@ heard_keeps P k b line p = by (act_in (guest_line line))
     by None = p
     by (Some act) = runs act b.running
 
+-- the virtual time
+timed_board : (P : Board → Type 0) (c : Changed) → P c.board → P (commands.timed c).board
+timed_board P c p = by c.refusal
+  where
+    by : (r : Option Code) → P (commands.timed (record { refusal = r; board = c.board })).board
+    by None = p
+    by (Some code) = p
+
+pub advanced-all : (P : Board → Type 0) (b : Board) (ns : ℕ) → P b → P (at_time (b.now + ns) b) → P (advanced b ns).board
+advanced-all P b ns p q = by b.running (nat_lt TIME_MAX (b.now + ns))
+  where
+    come : Bool → Bool → Changed
+    come runs over =
+        if not runs then record { refusal = None; board = b }
+        else if over then record { refusal = Some E53; board = b }
+        else record { refusal = None; board = at_time (b.now + ns) b }
+
+    by : (runs over : Bool) → P (come runs over).board
+    by false over = p
+    by true true = p
+    by true false = q
+
 performed_keeps : (P : Board → Type 0) → KeepsBoard P → (b : Board) (r : Request) → P b → P (performed b r).board
 unfolding performed
 performed_keeps P k b (QmpCapabilities enable) p = p
 performed_keeps P k b QueryVersion p = p
 performed_keeps P k b QueryCommands p = p
 performed_keeps P k b QueryStatus p = p
-performed_keeps P k b Stop p = p
-performed_keeps P k b Cont p = p
+performed_keeps P k b Stop p = k.switched b false p
+performed_keeps P k b Cont p = k.switched b true p
 performed_keeps P k b SystemReset p = p
 performed_keeps P k b Quit p = p
 performed_keeps P k b (QomList path) p = answered_board P b commands.properties_data (listing_at b path) p
@@ -187,7 +215,7 @@ performed_keeps P k b (XSever birth) p = changed_board P (sever b birth) (k.chan
 performed_keeps P k b (XQueryNotes start) p = p
 performed_keeps P k b XQueryDetached p = p
 performed_keeps P k b (XGuest line) p = heard_keeps P k b line p
-performed_keeps P k b (XStep ns) p = p
+performed_keeps P k b (XStep ns) p = timed_board P (advanced b ns) (advanced-all P b ns p (k.timed b (b.now + ns) p))
 
 -- so does each command, where the events that wait are no matter
 pub keeps_commands : (P : Board → Type 0) → KeepsBoard P → ((b : Board) → P b → P (without_events b)) → KeepsCommands P
@@ -195,6 +223,7 @@ keeps_commands P k free =
     record {
       command = λ b r p. free (performed b r).board (performed_keeps P k b r p);
       attempt = λ b r i joined p. attempted-all P b r i joined p (λ t. k.attempt b t p) (λ t. k.cut b t i joined p);
+      advance = λ b ns p. advanced-all P b ns p (k.timed b (b.now + ns) p);
     }
 
 -- Items, steps and runs.
@@ -274,7 +303,7 @@ step_keeps P k s i cs p = unless_board P s.ended (unchanged s cs) (input_step s 
     by (Bytes n bytes) = takes n bytes (nat_lt n SESSIONS)
     by (Shut n) = shuts n (nat_lt n SESSIONS)
     by (GuestLine bytes) = lines_board P k (lines_of s.guest_line bytes).lines i.at (with_line s (lines_of s.guest_line bytes).rest) cs p
-    by (Step ns) = p
+    by (Step ns) = k.advance s.board ns p
     by End = p
 
 pub run_keeps : (P : Board → Type 0) → KeepsCommands P → (s : State) (turns : List Turn) → P s.board → P (state_after s turns).board

@@ -8,7 +8,7 @@ use Rattle.qo_causes.specs.declared.hubs.Lane.TheVariants.{Session as to_session
 use Rattle.qo_causes.specs.declared.inputs.Input.{Input}
 use Rattle.qo_causes.specs.declared.inputs.Moment.{Moment}
 use Rattle.qo_causes.specs.declared.inputs.What.{What}
-use Rattle.qo_causes.specs.declared.inputs.What.TheVariants.{Bytes}
+use Rattle.qo_causes.specs.declared.inputs.What.TheVariants.{Bytes, Step}
 use Rattle.qo_framing.specs.declared.items.Item.{Item}
 use Rattle.qo_replies.specs.Replies.{error_reply, return_reply}
 use Rattle.qo_replies.specs.declared.events.Event.{Event}
@@ -29,6 +29,7 @@ use Rattle.qo_commands.specs.Commands.{Done, empty, event_of, perform, performed
 use Rattle.qo_machine.specs.declared.machines.Replied.{Replied}
 use Rattle.qo_realize.specs.Parts.{Parts}
 use Rattle.qo_realize.specs.Stands.{Stands}
+use Rattle.qo_realize.specs.Time.{advanced}
 use Rattle.qo_machine.specs.Machine.{Choice, IsIn, Made, Message, Seen, State, Stepped, Answers, opening, behind, by_item, behind_command, commanding, defined, refused, event_outs, first, input_step, item_step, made_by, mode_of, others, reply, serve_by, serve_unless, session_of, state_at, step, those_commanding, told_of, unchanged, with_board, with_session}
 use Rattle.qo_machine.specs.Serving.{Came, CommandLeft, CommandServed, Serves, ServesBy, ServesTo, ServesToBy, Tells, moved}
 
@@ -219,10 +220,16 @@ answers_moved i w outs m to going what is same s at =
     by_board (λ (x : State). Answers x i outs to) m
     (λ b stands. answers_on (state_at b m) (state_at b to) i w outs to [] [] going what (is b) (in_at b to (subst (Stands b) (sym same) stands))) s at
 
--- an input that changes nothing
-pub answers_still : (i : Input) (w : What) (outs : List Message) (m to : Seen) → m.ended ≡ false → i.what ≡ w → outs ≡ [] → to ≡ m → ((s : State) → input_step s i.at w [] ≡ unchanged s []) → (s : State) → IsIn s m → Answers s i outs to
-answers_still i w outs m to going what none same is s at =
-    answers_on s s i w outs to [] [] (ap (λ (x : State). x.ended) at.rest ∙ going) what (is s ∙ leaves s outs none) (in_still m to same s at)
+-- a step of the time
+pub answers_timed : (i : Input) (outs : List Message) (ns : ℕ) (m to : Seen) → m.ended ≡ false → i.what ≡ Step ns → outs ≡ []
+    → ((b : Board) → Stands b m.board → Stands (advanced b ns).board to.board) → ((b : Board) → state_at b to ≡ state_at b m) → (s : State) → IsIn s m → Answers s i outs to
+answers_timed i outs ns m to going what none keeps same s at =
+    by_board (λ (x : State). Answers x i outs to) m
+    (λ b stands.
+    let c = (advanced b ns).board in
+    answers_on (state_at b m) (state_at c to) i (Step ns) outs to [] [] going what
+        (ap (λ (t : State). unchanged t []) (sym (same c)) ∙ leaves (state_at c to) outs none)
+        (in_at c to (keeps b stands))) s at
 
 -- bytes of a session, as the machine answers them
 pub answers_taken : (i : Input) (w : What) (outs : List Message) (m to : Seen) → m.ended ≡ false → i.what ≡ w → (s : State) → IsIn s m → (choices : List Choice) × (t : State) × IsIn t to × (input_step s i.at w choices ≡ record { outs = outs; state = t; rest = [] }) → Answers s i outs to

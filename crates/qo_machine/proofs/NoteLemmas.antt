@@ -6,6 +6,7 @@ use Rattle.qo_model.proofs.FinalNotesGrowthLemmas.{attempt-grows, grown-keeps}
 use Rattle.qo_model.proofs.FinalNotesRunsLemmas.{final_once_lem, once, opening_notes}
 use Rattle.qo_model.proofs.OpeningLemmas.{opening_sound}
 use Rattle.qo_realize.specs.Guest.{polled}
+use Rattle.qo_realize.specs.Time.{at_time, with_running}
 use Rattle.qo_sound.proofs.NotesKeptLemmas.{notes_kept_lem}
 use Rattle.qo_sound.specs.Kept.{SoundTree}
 use Rattle.qo_machine.proofs.AddressLemmas.{address-there}
@@ -31,6 +32,8 @@ notes_kept =
       completed = λ b at d is pending o. (tree_kept.completed b at d is pending o.0, notes_kept_lem.detached b d o.0 (address-there b o.0 at d is) o.1);
       refused = λ b d o. (tree_kept.refused b d o.0, notes_kept_lem.refused_by b d o.1);
       polled = λ b o. (tree_kept.polled b o.0, notes_kept_lem.beside b (polled b) refl refl refl o.1);
+      timed = λ b now o. (tree_kept.timed b now o.0, notes_kept_lem.beside b (at_time now b) refl refl refl o.1);
+      switched = λ b on o. (tree_kept.switched b on o.0, notes_kept_lem.beside b (with_running on b) refl refl refl o.1);
     }
 
 -- events are no matter to them

@@ -1,5 +1,5 @@
 -- Steps keep the tree of the board sound.
-use Rattle.std.proofs.Common.{◌≡◌, List, [], refl}
+use Rattle.std.proofs.Common.{◌≡◌, ℕ, Bool, List, [], refl}
 use Rattle.qo_causes.specs.declared.inputs.Input.{Input}
 use Rattle.qo_model.proofs.OpeningLemmas.{opening_sound}
 use Rattle.qo_model.proofs.TreeLemmas.{frame_lem}
@@ -8,17 +8,27 @@ use Rattle.qo_model.specs.Sound.{IsSound}
 use Rattle.qo_model.specs.SoundGraph.{graph_of}
 use Rattle.qo_commands.proofs.AttemptLemmas.{attempted-all}
 use Rattle.qo_commands.specs.Commands.{without_events}
+use Rattle.qo_realize.specs.Time.{at_time, with_running}
 use Rattle.qo_sound.proofs.KeptLemmas.{sound_kept_lem}
 use Rattle.qo_sound.specs.Kept.{SoundTree}
 use Rattle.qo_sound_devices.specs.SoundDevices.{SoundDevices}
 use Rattle.qo_sound_devices.proofs.DevicesLawLemmas.{devices_kept_lem}
 use Rattle.qo_machine.proofs.AddressLemmas.{asked-tree, polled-tree, refused-tree}
 use Rattle.qo_machine.proofs.DevicesLemmas.{devices_commands}
-use Rattle.qo_machine.proofs.KeepLemmas.{KeepsBoard, KeepsCommands, broken_keeps, keeps_commands, run_keeps, step_keeps}
+use Rattle.qo_machine.proofs.KeepLemmas.{KeepsBoard, KeepsCommands, advanced-all, broken_keeps, keeps_commands, run_keeps, step_keeps}
 use Rattle.qo_machine.proofs.MachineLemmas.{in_at}
 use Rattle.qo_machine.proofs.SoundLemmas.{sound_by}
 use Rattle.qo_machine.specs.Laws.{SoundInRuns}
 use Rattle.qo_machine.specs.Machine.{Answers, BreaksOff, IsIn, Message, Seen, State, opening, state_at, step}
+
+-- the time and whether it goes on are no matter to the tree
+timed-tree : (b : Board) (now : ℕ) → SoundTree b → SoundTree (at_time now b)
+unfolding graph_of
+timed-tree b now h = (frame_lem.graph b (at_time now b) refl h.0, frame_lem.aliases b (at_time now b) refl h.1)
+
+switched-tree : (b : Board) (on : Bool) → SoundTree b → SoundTree (with_running on b)
+unfolding graph_of
+switched-tree b on h = (frame_lem.graph b (with_running on b) refl h.0, frame_lem.aliases b (with_running on b) refl h.1)
 
 -- changes and attempts keep the tree sound
 pub tree_kept : KeepsBoard SoundTree
@@ -32,6 +42,8 @@ tree_kept =
       completed = λ b at d is pending h. sound_kept_lem.detached b d h;
       refused = λ b d h. refused-tree b d h;
       polled = λ b h. polled-tree b h;
+      timed = λ b now h. timed-tree b now h;
+      switched = λ b on h. switched-tree b on h;
     }
 
 -- the tree has no part in the events
@@ -47,7 +59,12 @@ abbrev IsDrained : Board → Type 0
 IsDrained b = b.events ≡ []
 
 drained_commands : KeepsCommands IsDrained
-drained_commands = record { command = λ b r p. refl; attempt = λ b r i joined p. attempted-all IsDrained b r i joined p (λ t. p) (λ t. p) }
+drained_commands =
+    record {
+      command = λ b r p. refl;
+      attempt = λ b r i joined p. attempted-all IsDrained b r i joined p (λ t. p) (λ t. p);
+      advance = λ b ns p. advanced-all IsDrained b ns p p;
+    }
 
 -- the groups of a sound board
 sound_of : (b : Board) → SoundTree b → IsDrained b → IsSound b
@@ -78,6 +95,7 @@ whole_commands =
     record {
       command = λ b r p. (tree_commands.command b r p.0, drained_commands.command b r p.1);
       attempt = λ b r i joined p. (tree_commands.attempt b r i joined p.0, drained_commands.attempt b r i joined p.1);
+      advance = λ b ns p. (tree_commands.advance b ns p.0, drained_commands.advance b ns p.1);
     }
 
 pub broken_sound : (s : State) (i : Input) (m : Seen) → IsSound s.board → BreaksOff s i m → (t : State) → IsIn t m → IsSound t.board

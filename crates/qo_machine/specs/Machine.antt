@@ -10,7 +10,7 @@ use Rattle.qo_causes.specs.declared.hubs.Lane.TheVariants.{Session as to_session
 use Rattle.qo_causes.specs.declared.inputs.Input.{Input}
 use Rattle.qo_causes.specs.declared.inputs.Moment.{Moment}
 use Rattle.qo_causes.specs.declared.inputs.What.{What}
-use Rattle.qo_causes.specs.declared.inputs.What.TheVariants.{Open, Bytes, Shut, Guest, End}
+use Rattle.qo_causes.specs.declared.inputs.What.TheVariants.{Open, Bytes, Shut, Guest, Step, End}
 use Rattle.qo_framing.specs.declared.items.Item.{Item}
 use Rattle.qo_guest.specs.Answers.{text_of}
 use Rattle.qo_guest.specs.declared.answers.GuestAnswer.{GuestAnswer}
@@ -32,6 +32,7 @@ use Rattle.qo_sessions.specs.declared.modes.Mode.{Mode}
 use Rattle.qo_sessions.specs.declared.modes.Mode.TheVariants.{Commanding, Closed}
 use Rattle.qo_realize.specs.Parts.{Parts}
 use Rattle.qo_realize.specs.Stands.{Stands}
+use Rattle.qo_realize.specs.Time.{advanced}
 use Rattle.qo_commands.specs.Changes.{attempted}
 use Rattle.qo_commands.specs.Commands.{Done, empty, event_of, perform, without_events}
 
@@ -222,14 +223,14 @@ guest_taken at s bytes choices =
     let l = lines_of s.guest_line bytes in
     serve_lines at l.lines (with_line s l.rest) choices
 
--- one input; a session number above 15 changes nothing
+-- one input; a session number above 15 changes nothing, nor does a step of the time that is refused
 abbrev pub input_step : State → Moment → What → List Choice → Stepped
 input_step s at (Open n) choices = if nat_lt n SESSIONS then opened s n (mode_of s n) choices else unchanged s choices
 input_step s at (Bytes n bytes) choices = if nat_lt n SESSIONS then taken at s n bytes choices else unchanged s choices
 input_step s at (Shut n) choices = if nat_lt n SESSIONS then unchanged (with_session s n closed) choices else unchanged s choices
 input_step s at (Guest bytes) choices = guest_taken at s bytes choices
+input_step s at (Step ns) choices = unchanged (with_board s (advanced s.board ns).board) choices
 input_step s at End choices = unchanged (finished s) choices
-input_step s at what choices = unchanged s choices
 
 -- one step of the machine; behind the end of the run nothing is served
 unfoldable pub step : State → Input → List Choice → Stepped

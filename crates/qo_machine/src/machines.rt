@@ -98,6 +98,7 @@ impl Machine {
     ghost use Rattle.qo_commands.specs.Changes.{Left, is_change};
     ghost use Rattle.qo_commands.specs.Commands.{event_of, without_events};
     ghost use Rattle.qo_realize.specs.Stands.{Stands};
+    ghost use Rattle.qo_realize.specs.Time.{advanced};
     ghost use Rattle.qo_machine.specs.Machine.{Answers, BreaksOff, IsIn, State, behind_command, beside, finished, input_step, mode_of, opening, session_of, state_at, with_line, with_session};
     ghost use Rattle.qo_machine.specs.Runs.{close_lost};
     ghost use Rattle.qo_machine.specs.Sending.{AreToLanes};
@@ -227,7 +228,10 @@ impl Machine {
                 Ok(Outs::none(alloc))
             }
             What::Guest(piece) => self.take_guest(alloc, input.at, piece.as_slice(), steps),
-            What::Step(_) => Ok(Outs::none(alloc)),
+            What::Step(ns) => {
+                self.go_on(*ns);
+                Ok(Outs::none(alloc))
+            }
         }
     }
 
@@ -340,6 +344,16 @@ impl Machine {
             event: heard.event,
             ends: heard.ends,
         })
+    }
+
+    /// The virtual time goes on, where the machine runs; a step that is refused changes nothing. It
+    /// takes no memory.
+    fn go_on(&mut self, ns: u64)
+        ensures board { (b : Tree) → Stands b self.old.board → Stands (advanced b ns).board self.new.board }
+        ensures rest { (b : Tree) → state_at b self.new ≡ state_at b self.old }
+        ensures lasts { self.new.spent ≡ self.old.spent }
+    {
+        let _time = self.board.advance(ns);
     }
 
     /// The mode of a session.

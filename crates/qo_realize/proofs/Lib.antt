@@ -7,3 +7,4 @@ pub mod RefuseLemmas
 pub mod SoundLemmas
 pub mod StageLemmas
 pub mod StandsLemmas
+pub mod TimeLemmas

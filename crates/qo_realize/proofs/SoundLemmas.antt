@@ -33,6 +33,7 @@ use Rattle.qo_realize.specs.Good.{Good}
 use Rattle.qo_realize.specs.Guest.{polled}
 use Rattle.qo_realize.specs.Parts.{Parts}
 use Rattle.qo_realize.specs.Stands.{Stands, StandsForGood}
+use Rattle.qo_realize.specs.Time.{at_time, with_running}
 
 -- each change by command on objects
 pub changed-good : (b : Board) (change : Change) → Good b → Good (changed b change)
@@ -76,6 +77,12 @@ cleared-good b = good-alike b (record b { events = [] }) refl refl refl refl ref
 -- a removal that is asked for, or refused, and a notice that is taken
 pub asked-good : (b : Board) (id : List ℕ) → Good b → Good (asked b id).board
 asked-good b id h = record { devices = devices_kept_lem.asked_for b id h.devices; timerless = timerless_kept_lem.asked_for b id h.timerless }
+
+pub timed-good : (b : Board) (now : ℕ) → Good b → Good (at_time now b)
+timed-good b now = good-alike b (at_time now b) refl refl refl refl refl refl
+
+pub switched-good : (b : Board) (on : Bool) → Good b → Good (with_running on b)
+switched-good b on = good-alike b (with_running on b) refl refl refl refl refl refl
 
 pub refused-good : (b : Board) (n : ℕ) → Good b → Good (refused b n)
 refused-good b n h = record { devices = devices_kept_lem.refused_by b n h.devices; timerless = timerless_kept_lem.refused_by b n h.timerless }

@@ -5,3 +5,4 @@ pub mod Parts
 pub mod Removals
 pub mod Stages
 pub mod Stands
+pub mod Time

@@ -1,6 +1,7 @@
 //! The board.
 
-ghost use Rattle.std.specs.Prelude.{◌≡◌, IfSome, option_map};
+ghost use Rattle.std.specs.Prelude.{◌≡◌, ◌+◌, None, Some, IfSome, if◌then◌else◌, nat_lt, option_map};
+ghost use Rattle.qo_values.specs.declared.limits.TheConstants.{TIME_MAX};
 ghost use Rattle.qo_realize.specs.Parts.{counts};
 
 use crate::guests::address_of;
@@ -18,7 +19,7 @@ use qo_properties::{
 };
 use qo_reset::Resets;
 use qo_unplug::detach;
-use qo_values::{Code, PropList, TypeText, Val};
+use qo_values::{Code, PropList, TIME_MAX, TypeText, Val};
 use std::alloc::{AllocError, Global};
 use std::marker::Model;
 use std::sync::ledger::Ledger;
@@ -58,6 +59,16 @@ pub(crate) fn next_anonymous(anonymous: u64, id: Option<&str>) -> Option<u64>
     }
 }
 
+/// The moment so many ns behind another; `None` exactly past the greatest one.
+fn later(now: u64, ns: u64) -> Option<u64>
+    ensures { result ≡ (if nat_lt TIME_MAX (now + ns) then None else Some (now + ns)) }
+{
+    match now.checked_add(ns) {
+        Some(time) if time <= TIME_MAX => Some(time),
+        _ => None,
+    }
+}
+
 impl Board {
     ghost use Rattle.std.specs.Prelude.{◌≡◌, ◌<◌, ◌^◌, [], true, IfNone, IfOk, IfSome, OnErr, OnOk, length, option_map, slice_get};
     ghost use Rattle.qo_model.specs.Access.{read, write_at};
@@ -82,6 +93,7 @@ impl Board {
     ghost use Rattle.qo_realize.specs.Answers.{Adds, Changes, IsAnswered, Plugs, Writes};
     ghost use Rattle.qo_realize.specs.Guest.{address_of, first_notice, polled};
     ghost use Rattle.qo_realize.specs.Stands.{Stands, StandsForGood};
+    ghost use Rattle.qo_realize.specs.Time.{Advances, advanced, switches, with_running};
 
     /// The opening board: the eight objects that every machine begins with; it runs. The error is
     /// want of memory.
@@ -111,6 +123,37 @@ impl Board {
         ensures { (b : model.Board) → Stands b self.now → result ≡ b.running }
     {
         self.running
+    }
+
+    /// Has the machine run or stand still, and answers whether that is a change (QEMU's QAPI, `stop`
+    /// and `cont`). It takes no memory.
+    pub fn set_running(&mut self, on: bool) -> bool
+        ensures changes { (b : model.Board) → Stands b self.old → result ≡ switches b on }
+        ensures stands { (b : model.Board) → Stands b self.old → Stands (with_running on b) self.new }
+    {
+        let was = self.running;
+        self.running = on;
+        was != on
+    }
+
+    /// Lets the virtual time go on by so many ns, where the machine runs, and answers the time then, in
+    /// ns (the profile's `x-step`). `E53` comes exactly where it runs and the time would pass
+    /// `TIME_MAX`; the board is then as it was. It takes no memory.
+    pub fn advance(&mut self, ns: u64) -> Result<u64, Code>
+        ensures advanced { (b : model.Board) → Stands b self.old → Advances (advanced b ns) result self.new }
+        ensures err { OnErr result (self.new ≡ self.old) }
+    {
+        let now = self.heap.time();
+        if !self.running {
+            return Ok(now);
+        }
+        match later(now, ns) {
+            Some(time) => {
+                self.heap.set_time(time);
+                Ok(time)
+            }
+            None => Err(Code::E53),
+        }
     }
 
     /// The object at a path, whose slots `qom-list` lists, by its birth. Refused with E15 where the

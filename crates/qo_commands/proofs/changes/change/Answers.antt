@@ -6,3 +6,4 @@ pub unreachable-requires : goal.unreachable-requires
 unreachable-requires g c =
     no-other c.args.request.now c.requires c.in_default.not-QomSet c.in_default.not-ObjectAdd c.in_default.not-ObjectDel c.in_default.not-XSever
     c.in_default.not-DeviceAdd c.in_default.not-DeviceDel c.in_default.not-XGuest
+    c.in_default.not-Stop c.in_default.not-Cont c.in_default.not-XStep

@@ -4,7 +4,7 @@ use Rattle.qo_causes.specs.declared.inputs.What.TheVariants.{Bytes, Guest}
 use Rattle.qo_causes.specs.declared.inputs.What.{What}
 use Rattle.qo_machine.specs.Machine.{BreaksOff, Message, State, state_at, unchanged}
 use Rattle.qo_machine.proofs.LeftLemmas.{breaks_before}
-use Rattle.qo_machine.proofs.MachineLemmas.{answers_ended, answers_moved, answers_still, leaves, on_err, seen_ended, served_beside, served_bytes}
+use Rattle.qo_machine.proofs.MachineLemmas.{answers_ended, answers_moved, answers_timed, leaves, on_err, seen_ended, served_beside, served_bytes}
 use Rattle.qo_machine.proofs.machines.Machine.serve.Goals as goal
 
 pub returns-then-self-clause-answered : goal.returns-then-self-clause-answered
@@ -35,7 +35,8 @@ returns-in-Guest-clause-answered g c =
 
 pub returns-in-Step-clause-answered : goal.returns-in-Step-clause-answered
 returns-in-Step-clause-answered g c =
-    answers_still c.args.input.now _ _ c.args.self.now c.args.self.now (sym (seen_ended c.self.view_is) ∙ c.if-self.false) c.in-Step.is c.none-in-Step.ensures refl (λ s. refl)
+    answers_timed c.args.input.now _ c.in-Step.field c.args.self.now c.go_on.new.self (sym (seen_ended c.self.view_is) ∙ c.if-self.false) c.in-Step.is c.none-in-Step.ensures
+    c.go_on.ensures.board c.go_on.ensures.rest
 
 pub returns-in-Open-clause-breaks : goal.returns-in-Open-clause-breaks
 returns-in-Open-clause-breaks g c = λ s here.
