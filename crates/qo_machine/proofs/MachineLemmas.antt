@@ -228,8 +228,8 @@ answers_timed i outs ns m to going what none keeps same s at =
     (λ b stands.
     let c = (advanced b ns).board in
     answers_on (state_at b m) (state_at c to) i (Step ns) outs to [] [] going what
-        (ap (λ (t : State). unchanged t []) (sym (same c)) ∙ leaves (state_at c to) outs none)
-        (in_at c to (keeps b stands))) s at
+    (ap (λ (t : State). unchanged t []) (sym (same c)) ∙ leaves (state_at c to) outs none)
+    (in_at c to (keeps b stands))) s at
 
 -- bytes of a session, as the machine answers them
 pub answers_taken : (i : Input) (w : What) (outs : List Message) (m to : Seen) → m.ended ≡ false → i.what ≡ w → (s : State) → IsIn s m → (choices : List Choice) × (t : State) × IsIn t to × (input_step s i.at w choices ≡ record { outs = outs; state = t; rest = [] }) → Answers s i outs to
