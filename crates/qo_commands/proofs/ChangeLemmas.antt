@@ -1,5 +1,6 @@
 -- What the board's calls leave is what the commands define.
-use Rattle.std.proofs.Common.{◌≡◌, refl, ap, sym, subst, ◌∙◌, ℕ, List, true, false, Some, None, Option, Result, Ok, Err, OnErr, inl, inr}
+use Rattle.std.proofs.Common.{◌≡◌, refl, ap, sym, subst, ◌∙◌, ℕ, Bool, if◌then◌else◌, List, [], ◌∷◌, true, false, Some, None, Option, Result, Ok, Err, OnErr, inl, inr}
+use Rattle.serde_json.specs.Data.{Data}
 use Rattle.qo_values.specs.declared.codes.Code.{Code}
 use Rattle.qo_values.specs.declared.properties.Val.{Val}
 use Rattle.qo_model.specs.Board.{Board}
@@ -20,18 +21,25 @@ use Rattle.qo_realize.specs.Answers.{Adds, IsAnswered, Plugs, Writes}
 use Rattle.qo_realize.specs.Answers as board
 use Rattle.qo_realize.specs.Parts.{Parts}
 use Rattle.qo_realize.specs.Stands.{Stands}
+use Rattle.qo_realize.specs.Time.{Advances, advanced, switches, with_running}
+use Rattle.qo_replies.specs.declared.events.Event.{Event}
+use Rattle.qo_replies.specs.declared.events.Event.TheVariants.{Resume, Stop as Stopped}
 use Rattle.qo_requests.specs.declared.requests.Request.{Request}
 use Rattle.qo_requests.specs.declared.requests.Request.TheVariants.{QmpCapabilities, QueryVersion, QueryCommands, QueryStatus, Stop, Cont, SystemReset, Quit, QomList, QomGet, QomSet, QomListTypes, DeviceListProperties, ObjectAdd, ObjectDel, DeviceAdd, DeviceDel, ChardevAdd, ChardevRemove, RingbufRead, RingbufWrite, XResetHold, XResetRelease, XSever, XQueryNotes, XQueryDetached, XGuest, XStep}
 use Rattle.qo_commands.specs.Changes.{Came, Changes, ComesTo, is_change}
 use Rattle.qo_commands.specs.Views.{done_of}
 use Rattle.qo_commands.specs.declared.commands.Done as outcome
-use Rattle.qo_commands.specs.Commands.{Done, changed, empty, performed, plugged, refused_with, returned, told, wrote}
+use Rattle.qo_commands.specs.Commands.{Done, changed, empty, performed, plugged, refused_with, returned, switched, time_data, timed, told, wrote}
 
 -- a command that came to something, by what it came to
-came-ok : (b c : Board) (r : Request) (d : outcome.Done) (p : Parts) → performed b r ≡ returned c empty → Stands c p → ((x : Board) → done_of x d ≡ returned x empty) → Came b r d p
-came-ok b c r d p is now so =
+came-value : (b c : Board) (r : Request) (value : Data) (d : outcome.Done) (p : Parts) → performed b r ≡ returned c value → Stands c p
+    → ((x : Board) → done_of x d ≡ returned x value) → Came b r d p
+came-value b c r value d p is now so =
     let board : (performed b r).board ≡ c = ap (λ (d : Done). d.board) is in
-    (subst (λ (x : Board). Stands x p) (sym board) now, so (performed b r).board ∙ ap (λ (x : Board). returned x empty) board ∙ sym is)
+    (subst (λ (x : Board). Stands x p) (sym board) now, so (performed b r).board ∙ ap (λ (x : Board). returned x value) board ∙ sym is)
+
+came-ok : (b c : Board) (r : Request) (d : outcome.Done) (p : Parts) → performed b r ≡ returned c empty → Stands c p → ((x : Board) → done_of x d ≡ returned x empty) → Came b r d p
+came-ok b c r d p is now so = came-value b c r empty d p is now so
 
 came-err : (b c : Board) (r : Request) (code : Code) (d : outcome.Done) (p : Parts) → performed b r ≡ refused_with c code → Stands c p → ((x : Board) → done_of x d ≡ refused_with x code) → Came b r d p
 came-err b c r code d p is now so =
@@ -132,6 +140,51 @@ ask-changes b p id (Err Memory) (Err e) now so = inl now
 pub told-came : (b : Board) (line : List ℕ) (h : Heard) (d : outcome.Done) (p : Parts) → hearing.Came (heard b line) h p → ((x : Board) → done_of x d ≡ told (outcome_of x h)) → Came b (XGuest line) d p
 unfolding performed
 told-came b line h d p (now, is) so = (now, so (heard b line).board ∙ ap told is)
+
+-- the time went on, or it may not
+timed-came : (b : Board) (r : Request) (change : Changed) (time : ℕ) (d : outcome.Done) (p : Parts) → performed b r ≡ timed change → change.refusal ≡ None
+    → Stands change.board p → time ≡ change.board.now → ((x : Board) → done_of x d ≡ returned x (time_data time)) → Came b r d p
+timed-came b r change time d p is none now at so =
+    came-value b change.board r (time_data change.board.now) d p (is ∙ rw (timed, none) refl) now (λ x. so x ∙ ap (λ (t : ℕ). returned x (time_data t)) at)
+
+timed-refused : (b : Board) (r : Request) (change : Changed) (code : Code) (d : outcome.Done) (p : Parts) → performed b r ≡ timed change → change.refusal ≡ Some code
+    → Stands change.board p → ((x : Board) → done_of x d ≡ refused_with x code) → Came b r d p
+timed-refused b r change code d p is some now so = came-err b change.board r code d p (is ∙ rw (timed, some) refl) now so
+
+pub step-ok : (b : Board) (p : Parts) (ns time : ℕ) (d : outcome.Done) → Advances (advanced b ns) (Ok time) p → ((x : Board) → done_of x d ≡ returned x (time_data time))
+    → Came b (XStep ns) d p
+unfolding performed
+step-ok b p ns time d (none, now, at) so = timed-came b (XStep ns) (advanced b ns) time d p refl none now at so
+
+pub step-err : (b : Board) (p : Parts) (ns : ℕ) (code : Code) (d : outcome.Done) → Advances (advanced b ns) (Err code) p → ((x : Board) → done_of x d ≡ refused_with x code)
+    → Came b (XStep ns) d p
+unfolding performed
+step-err b p ns code d (some, now) so = timed-refused b (XStep ns) (advanced b ns) code d p refl some now so
+
+-- the machine runs, or stands still
+abbrev told_where : Event → Bool → Board → Done
+told_where event changes x = record { result = Ok empty; board = x; events = if changes then event ∷ [] else []; ends = false }
+
+switched-came : (b : Board) (on : Bool) (event : Event) (r : Request) (changes : Bool) (d : outcome.Done) (p : Parts) → performed b r ≡ switched b on event
+    → Stands (with_running on b) p → changes ≡ switches b on → ((x : Board) → done_of x d ≡ told_where event changes x) → Came b r d p
+switched-came b on event r changes d p is now same so =
+    let board : (performed b r).board ≡ with_running on b = ap (λ (d : Done). d.board) is in (
+      subst (λ (x : Board). Stands x p) (sym board) now,
+      so (performed b r).board
+          ∙ ap (λ (x : Board). told_where event changes x) board
+          ∙ ap (λ (t : Bool). told_where event t (with_running on b)) same
+          ∙ sym is,
+    )
+
+pub stop-came : (b : Board) (changes : Bool) (d : outcome.Done) (p : Parts) → Stands (with_running false b) p → changes ≡ switches b false
+    → ((x : Board) → done_of x d ≡ told_where Stopped changes x) → Came b Stop d p
+unfolding performed
+stop-came b changes d p now same so = switched-came b false Stopped Stop changes d p refl now same so
+
+pub cont-came : (b : Board) (changes : Bool) (d : outcome.Done) (p : Parts) → Stands (with_running true b) p → changes ≡ switches b true
+    → ((x : Board) → done_of x d ≡ told_where Resume changes x) → Came b Cont d p
+unfolding performed
+cont-came b changes d p now same so = switched-came b true Resume Cont changes d p refl now same so
 
 -- there is no other change
 pub no-other : (r : Request) → is_change r ≡ true → ((path name : List ℕ) (val : Val) → r ≡ QomSet path name val → ⊥) → ((driver id : List ℕ) (props : List Given) → r ≡ ObjectAdd driver id props → ⊥) → ((id : List ℕ) → r ≡ ObjectDel id → ⊥) → ((birth : ℕ) → r ≡ XSever birth → ⊥)
