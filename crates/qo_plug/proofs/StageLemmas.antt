@@ -1,6 +1,5 @@
 -- What is known of a device that was begun, where it is placed.
-use Rattle.std.proofs.Common.{◌≡◌, refl, ap, sym, subst, ◌∙◌, ℕ, ◌<◌, ◌≤◌, ◌==◌, Bool, true, false, nat_le, [], ◌∷◌, length, Option, Some, None, IfSome, Result, Ok, Err, arith}
-use Rattle.std.proofs.lemmas.Bool.Decides.{nat_tests}
+use Rattle.std.proofs.Common.{◌≡◌, refl, ap, sym, subst, ◌∙◌, ℕ, ◌<◌, ◌≤◌, Bool, true, false, nat_le, [], ◌∷◌, length, Option, Some, None, IfSome, Result, Ok, Err, arith}
 use Rattle.qo_values.specs.declared.codes.Code.{Code}
 use Rattle.qo_values.specs.declared.codes.Code.TheVariants.{E44}
 use Rattle.qo_values.specs.declared.limits.TheConstants.{NOTICES_MAX}
