@@ -95,14 +95,16 @@ module _ (b : Board) (a : Wanted) where
       (e.0, e.1, record { refusal = ap (λ (q : Plugged). q.refusal) e.2; shown = subst (λ (q : Plugged). Shows q.board w) (sym e.2) s })
   refused-early T U Memory w s e = tt
 
-  pub refused-only : (T U : Type 0) (r : AddRefusal) (w : Objects) → IfRefused {T = T} (Err r) (λ stage code. (1 ≤ stage) × (stage ≤ 4) × IsRefused b a stage code w)
+  pub refused-only : (T U : Type 0) (r : AddRefusal) (w : Objects)
+      → IfRefused {T = T} (Err r) (λ stage code. (1 ≤ stage) × (stage ≤ 4) × IsRefused b a stage code w)
       → IfRefused {T = U} (Err r) (λ stage code. IsRefused b a stage code w)
   refused-only T U (Refused stage code) w h = h.2
   refused-only T U Memory w h = tt
 
   -- or behind one
   module _ (site : Site) (admitted : IsAdmitted b a site) (w : Objects) where
-    pub is-refused : (stage : ℕ) (code : Code) → Some (stage, code) ≡ barred_late b site.kind site.bus.birth a.props → Shows (plug_attempt b site.kind site.bus.birth stage) w
+    pub is-refused : (stage : ℕ) (code : Code) → Some (stage, code) ≡ barred_late b site.kind site.bus.birth a.props
+        → Shows (plug_attempt b site.kind site.bus.birth stage) w
         → IsRefused b a stage code w
     is-refused stage code late s =
         record { refusal = ap (λ (q : Plugged). q.refusal) comes; shown = subst (λ (q : Plugged). Shows q.board w) (sym comes) s }
@@ -122,7 +124,8 @@ module _ (b : Board) (a : Wanted) where
       turned-refused T (Refused stage told) h =
           let its_stage : stage ≡ 4 = h.0 in
           let its_code : told ≡ code = h.1 in
-          (omega (arith, its_stage), omega (arith, its_stage), rw (its_stage, its_code) (is-refused 4 code (late-given b site.bus.birth site.kind a.props code given) h.2))
+          let late : Some (4, code) ≡ barred_late b site.kind site.bus.birth a.props = late-given b site.bus.birth site.kind a.props code given in
+          (omega (arith, its_stage), omega (arith, its_stage), rw (its_stage, its_code) (is-refused 4 code late h.2))
       turned-refused T Memory h = tt
 
       pub turned-cut : (r : AddRefusal) → turned_down b site.kind site.bus.birth (record { stage = 4; code = code }) r w → r ≡ Memory → IsCut b a w

@@ -105,18 +105,21 @@ module _ (b : Board) (bus : ℕ) (props : List Given) where
 
   abbrev LateBy : Bool → TypeId → Type 0
   LateBy full t =
-      None ≡ refusal_of b t props → None ≡ place_barred b t bus props → nat_le NOTICES_MAX (length b.notices) ≡ full → barred_late b t bus props ≡ at_stage 8 (notice_as full)
-
-  pub late-notices : (t : TypeId) → is_built t ≡ true → (full : Bool) → None ≡ refusal_of b t props → None ≡ place_barred b t bus props → nat_le NOTICES_MAX (length b.notices) ≡ full
+      None ≡ refusal_of b t props → None ≡ place_barred b t bus props → nat_le NOTICES_MAX (length b.notices) ≡ full
       → barred_late b t bus props ≡ at_stage 8 (notice_as full)
+
+  pub late-notices : (t : TypeId) → is_built t ≡ true → (full : Bool) → LateBy full t
   late-notices t built full given place e = subst (LateBy full) (built-is t built) (late-bridge full) given place e
 
   -- what was learnt of the place of a bridge is so of a device that is built
-  pub place-learnt : (t : TypeId) → is_built t ≡ true → (given : List Given) → given ≡ props → (r : Result ℕ Code) → refusal_in r ≡ place_barred b SlotBridge bus props
+  pub place-learnt : (t : TypeId) → is_built t ≡ true → (given : List Given) → given ≡ props → (r : Result ℕ Code)
+      → refusal_in r ≡ place_barred b SlotBridge bus props
       → refusal_in r ≡ place_barred b t bus given
   place-learnt t built given same r e = e ∙ ap₂ (λ (k : TypeId) (l : List Given). place_barred b k bus l) (built-is t built) (sym same)
 
-  pub spot-learnt : (t : TypeId) → is_built t ≡ true → (given : List Given) → given ≡ props → (r : Result ℕ Code) → IfOk r (λ slot. spot_of b SlotBridge bus props ≡ spot_in bus slot)
+  pub spot-learnt : (t : TypeId) → is_built t ≡ true → (given : List Given) → given ≡ props → (r : Result ℕ Code)
+      → IfOk r (λ slot. spot_of b SlotBridge bus props ≡ spot_in bus slot)
       → IfOk r (λ slot. spot_of b t bus given ≡ spot_in bus slot)
   spot-learnt t built given same r h =
-      subst (λ (spot : Spot). IfOk r (λ slot. spot ≡ spot_in bus slot)) (ap₂ (λ (k : TypeId) (l : List Given). spot_of b k bus l) (built-is t built) (sym same)) h
+      let its : spot_of b SlotBridge bus props ≡ spot_of b t bus given = ap₂ (λ (k : TypeId) (l : List Given). spot_of b k bus l) (built-is t built) (sym same) in
+      subst (λ (spot : Spot). IfOk r (λ slot. spot ≡ spot_in bus slot)) its h

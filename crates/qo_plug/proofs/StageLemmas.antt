@@ -1,6 +1,5 @@
 -- What is known of a device that was begun, where it is placed.
-use Rattle.std.proofs.Common.{◌≡◌, refl, ap, sym, subst, ◌∙◌, ℕ, ◌<◌, ◌≤◌, ◌==◌, Bool, true, false, nat_le, [], ◌∷◌, length, Option, Some, None, IfSome, Result, Ok, Err, arith}
-use Rattle.std.proofs.lemmas.Bool.Decides.{nat_tests}
+use Rattle.std.proofs.Common.{◌≡◌, refl, ap, sym, subst, ◌∙◌, ℕ, ◌<◌, ◌≤◌, Bool, true, false, nat_le, [], ◌∷◌, length, Option, Some, None, IfSome, Result, Ok, Err, arith}
 use Rattle.qo_values.specs.declared.codes.Code.{Code}
 use Rattle.qo_values.specs.declared.codes.Code.TheVariants.{E44}
 use Rattle.qo_values.specs.declared.limits.TheConstants.{NOTICES_MAX}
@@ -23,9 +22,6 @@ use Rattle.qo_plug.proofs.AddLemmas.{cut-late, is-refused, whole-cut}
 use Rattle.qo_plug.proofs.AdmitLemmas.{added-late}
 use Rattle.qo_plug.proofs.JudgeLemmas.{late-notices, late-place, notice_as}
 
-pub bus-apart : (d : Begun) (v : Objects) → IsHeld d v → (d.device.birth == d.site.bus.birth) ≡ false
-bus-apart d v held = let older : d.site.bus.birth < d.device.birth = held.older in grind (arith, nat_tests, older)
-
 module _ (b : Board) (a : Wanted) (d : Begun) (v : Objects) (is : IsBegun b a d v) where
   pub bus-low : IsHeld d v → d.site.bus.birth ≤ b.born
   bus-low held = omega (arith, held.older, is.birth)
@@ -36,7 +32,9 @@ module _ (b : Board) (a : Wanted) (d : Begun) (v : Objects) (is : IsBegun b a d 
   -- it has a slot there
   module _ (held : IsHeld d v) (slot : ℕ) (has : d.slot ≡ Ok slot) where
     by-notices : (full : Bool) → nat_le NOTICES_MAX (length b.notices) ≡ full → barred_late b d.site.kind d.site.bus.birth a.props ≡ at_stage 8 (notice_as full)
-    by-notices full = late-notices b d.site.bus.birth a.props d.site.kind held.built full (sym is.given) (ap (λ (r : Result ℕ Code). refusal_in r) (sym has) ∙ is.barred)
+    by-notices full =
+        late-notices b d.site.bus.birth a.props d.site.kind held.built full (sym is.given)
+        (ap (λ (r : Result ℕ Code). refusal_in r) (sym has) ∙ is.barred)
 
     pub opened : nat_le NOTICES_MAX (length b.notices) ≡ false → IsOpen b a d.site slot
     opened room = record { admitted = is.admitted; late = by-notices false room; spot = rw has at is.spot }
@@ -62,23 +60,32 @@ module _ (b : Board) (a : Wanted) (s : Site) (admitted : IsAdmitted b a s) where
 
   refusal-late : (added b a).refusal ≡ barred_late b s.kind s.bus.birth a.props
   refusal-late =
-      ap (λ (q : Plugged). q.refusal) (added-late b a s.kind admitted.kind admitted.driver s.bus.birth admitted.early admitted.bus) ∙ told (barred_late b s.kind s.bus.birth a.props)
+      ap (λ (q : Plugged). q.refusal) (added-late b a s.kind admitted.kind admitted.driver s.bus.birth admitted.early admitted.bus)
+      ∙ told (barred_late b s.kind s.bus.birth a.props)
+
+  abbrev first_by : Option Code → Option Code → Option Code → Option Code → Option (ℕ × Code)
+  first_by given place reset notices = first_of (at_stage 4 given ∷ at_stage 5 place ∷ at_stage 6 reset ∷ at_stage 8 notices ∷ [])
+
+  abbrev place_bar : Option Code
+  place_bar = place_barred b s.kind s.bus.birth a.props
+
+  abbrev reset_bar : Option Code
+  reset_bar = realize_barred b s.kind a.props
 
   abbrev LaterOf : Option Code → Type 0
-  LaterOf o =
-      IfSome (first_of (at_stage 4 o ∷ at_stage 5 (place_barred b s.kind s.bus.birth a.props) ∷ at_stage 6 (realize_barred b s.kind a.props) ∷ at_stage 8 (notice_barred b) ∷ []))
-      (λ (r : ℕ × Code). 4 < r.0)
+  LaterOf o = IfSome (first_by o place_bar reset_bar (notice_barred b)) (λ (r : ℕ × Code). 4 < r.0)
 
   pub passed-making : refusal_of b s.kind a.props ≡ None → IfSome (added b a).refusal (λ (r : ℕ × Code). 4 < r.0)
-  passed-making given = rw refusal-late (subst LaterOf (sym given) (later (place_barred b s.kind s.bus.birth a.props) (realize_barred b s.kind a.props) (notice_barred b)))
+  passed-making given = rw refusal-late (subst LaterOf (sym given) (later place_bar reset_bar (notice_barred b)))
     where
-      later : (p r n : Option Code) → IfSome (first_of (at_stage 4 None ∷ at_stage 5 p ∷ at_stage 6 r ∷ at_stage 8 n ∷ [])) (λ (x : ℕ × Code). 4 < x.0)
+      later : (p r n : Option Code) → IfSome (first_by None p r n) (λ (x : ℕ × Code). 4 < x.0)
       later (Some code) r n = omega arith
       later None (Some code) n = omega arith
       later None None (Some code) = omega arith
       later None None None = tt
 
-  passed-as : (o : Option (ℕ × Code)) → barred_late b s.kind s.bus.birth a.props ≡ o → IfSome o (λ (r : ℕ × Code). 7 < r.0) → IfSome (added b a).refusal (λ (r : ℕ × Code). 7 < r.0)
+  passed-as : (o : Option (ℕ × Code)) → barred_late b s.kind s.bus.birth a.props ≡ o → IfSome o (λ (r : ℕ × Code). 7 < r.0)
+      → IfSome (added b a).refusal (λ (r : ℕ × Code). 7 < r.0)
   passed-as o is h = subst (λ (x : Option (ℕ × Code)). IfSome x (λ (r : ℕ × Code). 7 < r.0)) (sym (refusal-late ∙ is)) h
 
 pub passed-placing : (b : Board) (a : Wanted) (p : Placed) (v : Objects) → IsSettled b a p v → IfSome (added b a).refusal (λ (r : ℕ × Code). 7 < r.0)

@@ -48,27 +48,34 @@ module _ (b : Board) (a : Wanted) (anonymous next : ℕ) (running : Bool) (holds
     since-beside = record { holds_are = since.stood.holds; pending = since.stood.pending; notices = since.stood.notices }
 
     module _ (w : Objects) (keeps : KeepsBook v w) where
+      kept : KeepsBook since.before w
+      kept = books since.before v w since.book keeps
+
       pub since-then : Since b a (at w) next
-      since-then = record { before = since.before; stood = since.stood; book = books since.before v w since.book keeps; good = since.good; counted = since.counted }
+      since-then =
+          record { before = since.before; stood = since.stood; book = kept; good = since.good; counted = since.counted }
 
       -- it is refused, or an attempt is cut
-      since-barred : (new : Asked) → new ≡ old → (e : AddRefusal) → IfRefused (the (Result device.Added AddRefusal) (Err e)) (λ stage code. IsRefused b a stage code w)
+      since-barred : (new : Asked) → new ≡ old → (e : AddRefusal)
+          → IfRefused (the (Result device.Added AddRefusal) (Err e)) (λ stage code. IsRefused b a stage code w)
           → (e ≡ Memory → IsCut b a w) → Plugs b a (Err e) (parts_of anonymous running holds new w)
       since-barred new same e refused memory =
-          barred-stands b a anonymous running holds old new since.before w e since.stood refused (λ is. memory (cc is)) same (books since.before v w since.book keeps)
+          barred-stands b a anonymous running holds old new since.before w e since.stood refused (λ is. memory (cc is)) same kept
 
-      pub begin-barred : (e : AddRefusal) → IfRefused (the (Result device.Added AddRefusal) (Err e)) (λ stage code. (1 ≤ stage) × (stage ≤ 4) × IsRefused b a stage code w)
+      pub begin-barred : (e : AddRefusal)
+          → IfRefused (the (Result device.Added AddRefusal) (Err e)) (λ stage code. (1 ≤ stage) × (stage ≤ 4) × IsRefused b a stage code w)
           → (e ≡ Memory → IsCut b a w) → IsWithin 1 4 e × Plugs b a (Err e) (at w)
       begin-barred (Refused stage code) h memory = ((h.0, h.1), since-barred old refl (Refused stage code) h.2 memory)
       begin-barred Memory h memory = (tt, since-barred old refl Memory tt memory)
 
-      pub place-barred : (e : AddRefusal) → IfRefused (the (Result device.Added AddRefusal) (Err e)) (λ stage code. (stage ≡ 5) × IsRefused b a stage code w)
+      pub place-barred : (e : AddRefusal)
+          → IfRefused (the (Result device.Added AddRefusal) (Err e)) (λ stage code. (stage ≡ 5) × IsRefused b a stage code w)
           → (e ≡ Memory → IsCut b a w) → IsWithin 5 7 e × Plugs b a (Err e) (at w)
       place-barred (Refused stage code) h memory = ((omega (arith, h.0), omega (arith, h.0)), since-barred old refl (Refused stage code) h.1 memory)
       place-barred Memory h memory = (tt, since-barred old refl Memory tt memory)
 
-      pub finish-barred : (new : Asked) → new ≡ old → (stage : ℕ) (code : Code) → ◌≡◌ {A = Option (ℕ × Code)} (Some (stage, code)) (Some (8, E44)) → IsRefused b a 8 E44 w
-          → (Refused stage code ≡ Refused 8 E44) × Plugs b a (Err (Refused stage code)) (parts_of anonymous running holds new w)
+      pub finish-barred : (new : Asked) → new ≡ old → (stage : ℕ) (code : Code) → ◌≡◌ {A = Option (ℕ × Code)} (Some (stage, code)) (Some (8, E44))
+          → IsRefused b a 8 E44 w → (Refused stage code ≡ Refused 8 E44) × Plugs b a (Err (Refused stage code)) (parts_of anonymous running holds new w)
       finish-barred new same stage code is refused = (
         ap (λ (r : ℕ × Code). Refused r.0 r.1) pair,
         subst (λ (r : ℕ × Code). Plugs b a (Err (Refused r.0 r.1)) (parts_of anonymous running holds new w)) (sym pair)
@@ -82,12 +89,12 @@ module _ (b : Board) (a : Wanted) (anonymous next : ℕ) (running : Bool) (holds
       pub since-added : (new : Asked) (d : device.Added) → IsAdded b a d new w → Plugs b a (Ok d) (parts_of next running holds new w)
       since-added new d added =
           added-stands b a anonymous next running holds old new since.before w d since.stood added
-          (since.counted ∙ ap (λ (n : ℕ). counts n a.id) since.stood.anonymous) (books since.before v w since.book keeps)
+          (since.counted ∙ ap (λ (n : ℕ). counts n a.id) since.stood.anonymous) kept
 
       -- it is given up
       pub since-given_up : (t : TypeId) (bus : ℕ) → Shows (plug_attempt b t bus 4) w → Stands (plug_attempt b t bus 4) (at w)
       since-given_up t bus s =
-          cut-stands b (plug_attempt b t bus 4) anonymous running holds old since.before w since.stood given_up-stays s (books since.before v w since.book keeps)
+          cut-stands b (plug_attempt b t bus 4) anonymous running holds old since.before w since.stood given_up-stays s kept
         where
           given_up-stays : Stays b (plug_attempt b t bus 4)
           given_up-stays = subst (Stays b) (sym (cut-whole b t bus)) (devices_stay_lem.cut b t (objects_in t) true).stays
@@ -101,5 +108,6 @@ module _ (b : Board) (a : Wanted) (anonymous next : ℕ) (running : Bool) (holds
   drafted-is v w d s good is keeps begun =
       record { since = since-begun v w s good is keeps; begun = begun; passed = passed-making b a d.site begun.admitted begun.given }
 
-  pub plugged-is : (v w : Objects) (p : Placed) → Since b a (at v) next → KeepsBook v w → IsSettled b a p w → IsPlugged b a (record { parts = at w; next = next; placed = p })
+  pub plugged-is : (v w : Objects) (p : Placed) → Since b a (at v) next → KeepsBook v w → IsSettled b a p w
+      → IsPlugged b a (record { parts = at w; next = next; placed = p })
   plugged-is v w p since keeps settled = record { since = since-then v since w keeps; settled = settled; passed = passed-placing b a p w settled }

@@ -8,13 +8,15 @@ returns-in-Stands-clause-ok g c = λ b a is beside.
     let s = is.site.0 in
     let built = is.site.1 in
     let stands = rw c.in-Stands.is at is.site.2 in
-    let birth = is.birth in
-    is-added b a s c.args.placed.slot stands.0 (record { birth = c.args.placed.device.birth; slot = c.args.placed.slot }) c.start.new.hotplug c.drop_pin.new.heap
-    (plugged-in b s.kind is.sound built a s.bus.birth c.args.placed.slot c.args.placed.device.birth birth c.in-Stands.path
-    c.args.resets.now.births c.args.hotplug.now c.start.new.hotplug c.args.heap.now c.start.new.heap c.drop_pin.new.heap beside.holds_are beside.pending beside.notices
-    (open-place b a s c.args.placed.slot stands.0 built) stands.1
-    c.start.ensures.shown c.start.ensures.told c.start.ensures.pending c.drop_pin.ensures.release)
-    (ap (λ (k : ℕ). record { birth = k; slot = c.args.placed.slot }) birth)
+    let p = c.args.placed in
+    let n = p.device.birth in
+    let place = open-place b a s p.slot stands.0 built in
+    let plugged =
+    plugged-in b s.kind is.sound built a s.bus.birth p.slot n is.birth c.in-Stands.path c.args.resets.now.births c.args.hotplug.now c.start.new.hotplug
+    c.args.heap.now c.start.new.heap c.drop_pin.new.heap beside.holds_are beside.pending beside.notices place stands.1
+    c.start.ensures.shown c.start.ensures.told c.start.ensures.pending c.drop_pin.ensures.release in
+    is-added b a s p.slot stands.0 (record { birth = n; slot = p.slot }) c.start.new.hotplug c.drop_pin.new.heap plugged
+    (ap (λ (k : ℕ). record { birth = k; slot = p.slot }) is.birth)
 
 pub returns-in-Full-clause-refused : goal.returns-in-Full-clause-refused
 returns-in-Full-clause-refused g c = λ b a is.

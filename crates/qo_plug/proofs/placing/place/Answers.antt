@@ -37,8 +37,9 @@ returns-in-Ok-stand-clause-settled g c = λ b a is notices.
 pub returns-in-Err-stand-clause-memory : goal.returns-in-Err-stand-clause-memory
 returns-in-Err-stand-clause-memory g c = λ b a is e.
     let d = c.args.begun in
+    let left = c.in-Err-stand.ensures.err (held_draft b d.site.kind) is.shown in
     given_up-cut b a d c.args.heap.now is c.give_up-in-Err-stand.new.heap
-    (c.give_up-in-Err-stand.ensures.shown b d.site.kind d.site.bus.birth 0 is.sound is.birth refl (c.in-Err-stand.ensures.err (held_draft b d.site.kind) is.shown))
+    (c.give_up-in-Err-stand.ensures.shown b d.site.kind d.site.bus.birth 0 is.sound is.birth refl left)
 
 pub returns-in-Err-stand-clause-book : goal.returns-in-Err-stand-clause-book
 returns-in-Err-stand-clause-book g c = λ out h. c.give_up-in-Err-stand.ensures.book out (c.stand.ensures.book out h)

@@ -11,7 +11,9 @@ invariant_of-result g c =
     let i = c.self.inside in
     let x = i.beside in
     let settled = c.in-Ok.ensures.settled b a is.begun is.since.stood.notices in
-    (c.in-Ok.ensures.ready, (b, a, plugged-is b a x.anonymous i.next x.running x.resets x.hotplug i.heap c.place.new.heap c.in-Ok.placed is.since c.in-Ok.ensures.book settled))
+    let placed =
+    plugged-is b a x.anonymous i.next x.running x.resets x.hotplug i.heap c.place.new.heap c.in-Ok.placed is.since c.in-Ok.ensures.book settled in
+    (c.in-Ok.ensures.ready, (b, a, placed))
 
 pub board_of-requires : goal.board_of-requires
 board_of-requires g c =
@@ -19,7 +21,8 @@ board_of-requires g c =
     let i = c.self.inside in
     let x = i.beside in
     let barred =
-    place-barred b a x.anonymous i.next x.running x.resets x.hotplug i.heap is.since c.place.new.heap c.in-Err.ensures.book c.in-Err.refusal
+    place-barred b a x.anonymous i.next x.running x.resets x.hotplug i.heap is.since
+    c.place.new.heap c.in-Err.ensures.book c.in-Err.refusal
     (c.in-Err.ensures.refused b a is.begun) (λ m. c.in-Err.ensures.memory b a is.begun (cc m)) in
     plugs-good b a (Err c.in-Err.refusal) _ is.since.good barred.1
 
@@ -37,5 +40,6 @@ returns-in-Err g c = λ b a given.
     let i = c.self.inside in
     let x = i.beside in
     rw c.board_of.ensures
-    (place-barred b a x.anonymous i.next x.running x.resets x.hotplug i.heap is.since c.place.new.heap c.in-Err.ensures.book c.in-Err.refusal
+    (place-barred b a x.anonymous i.next x.running x.resets x.hotplug i.heap is.since
+    c.place.new.heap c.in-Err.ensures.book c.in-Err.refusal
     (c.in-Err.ensures.refused b a is.begun) (λ m. c.in-Err.ensures.memory b a is.begun (cc m)))
