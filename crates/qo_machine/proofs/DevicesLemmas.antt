@@ -1,7 +1,6 @@
 -- Steps keep devices in their places, and the lists that name devices.
 use Rattle.std.proofs.Common.{refl, sym, ◌∙◌, List, Result, Ok, Err, IfOk, ◌≡◌, false}
 use Rattle.qo_causes.specs.declared.inputs.Input.{Input}
-use Rattle.qo_model.specs.Board.{Board}
 use Rattle.qo_commands.specs.Commands.{without_events}
 use Rattle.qo_realize.specs.Stands.{StandsForGood}
 use Rattle.qo_realize.specs.Time.{at_time, with_running}
