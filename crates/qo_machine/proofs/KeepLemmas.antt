@@ -175,8 +175,13 @@ timed_board P c p = by c.refusal
 pub advanced-all : (P : Board → Type 0) (b : Board) (ns : ℕ) → P b → P (at_time (b.now + ns) b) → P (advanced b ns).board
 advanced-all P b ns p q = by b.running (nat_lt TIME_MAX (b.now + ns))
   where
-    by : (runs over : Bool)
-        → P (the Changed (if not runs then record { refusal = None; board = b } else if over then record { refusal = Some E53; board = b } else record { refusal = None; board = at_time (b.now + ns) b })).board
+    come : Bool → Bool → Changed
+    come runs over =
+        if not runs then record { refusal = None; board = b }
+        else if over then record { refusal = Some E53; board = b }
+        else record { refusal = None; board = at_time (b.now + ns) b }
+
+    by : (runs over : Bool) → P (come runs over).board
     by false over = p
     by true true = p
     by true false = q
