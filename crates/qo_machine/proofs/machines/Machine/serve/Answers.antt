@@ -35,7 +35,7 @@ returns-in-Guest-clause-answered g c =
 
 pub returns-in-Step-clause-answered : goal.returns-in-Step-clause-answered
 returns-in-Step-clause-answered g c =
-    answers_timed c.args.input.now _ c.in-Step.field c.args.self.now c.go_on.new.self (sym (seen_ended c.self.view_is) ∙ c.if-self.false) c.in-Step.is c.none-in-Step.ensures
+    answers_timed c.args.input.now _ c.in-Step.ns c.args.self.now c.go_on.new.self (sym (seen_ended c.self.view_is) ∙ c.if-self.false) c.in-Step.is c.none-in-Step.ensures
     c.go_on.ensures.board c.go_on.ensures.rest
 
 pub returns-in-Open-clause-breaks : goal.returns-in-Open-clause-breaks
