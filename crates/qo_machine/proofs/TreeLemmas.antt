@@ -18,7 +18,7 @@ use Rattle.qo_machine.proofs.DevicesLemmas.{devices_commands}
 use Rattle.qo_machine.proofs.KeepLemmas.{KeepsBoard, KeepsCommands, advanced-all, broken_keeps, keeps_commands, run_keeps, step_keeps}
 use Rattle.qo_machine.proofs.MachineLemmas.{in_at}
 use Rattle.qo_machine.proofs.SoundLemmas.{sound_by}
-use Rattle.qo_machine.specs.Laws.{SoundInRuns}
+use Rattle.qo_machine.specs.Laws.{KeptInRuns, SoundInRuns}
 use Rattle.qo_machine.specs.Machine.{Answers, BreaksOff, IsIn, Message, Seen, State, opening, state_at, step}
 
 -- the time and whether it goes on are no matter to the tree
@@ -70,13 +70,14 @@ drained_commands =
 sound_of : (b : Board) → SoundTree b → IsDrained b → IsSound b
 sound_of b tree none = record { graph = tree.0; aliases = tree.1; events = record { none = none } }
 
+kept_in_runs : (P : Board → Type 0) → KeepsCommands P → P opening.board → KeptInRuns P
+kept_in_runs P k first = record { step = λ s i cs h. step_keeps P k s i cs h; run = λ turns. run_keeps P k opening turns first }
+
 pub sound_in_runs : SoundInRuns
 sound_in_runs =
     record {
-      step = λ s i cs h. step_keeps SoundTree tree_commands s i cs h;
-      run = λ turns. run_keeps SoundTree tree_commands opening turns (opening_sound.graph, opening_sound.aliases);
-      devices_step = λ s i cs h. step_keeps SoundDevices devices_commands s i cs h;
-      devices_run = λ turns. run_keeps SoundDevices devices_commands opening turns devices_kept_lem.opening;
+      tree = kept_in_runs SoundTree tree_commands (opening_sound.graph, opening_sound.aliases);
+      devices = kept_in_runs SoundDevices devices_commands devices_kept_lem.opening;
     }
 
 -- a step of a machine

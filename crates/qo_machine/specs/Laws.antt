@@ -7,6 +7,7 @@ use Rattle.qo_causes.specs.declared.inputs.Moment.{Moment}
 use Rattle.qo_causes.specs.declared.inputs.What.{What}
 use Rattle.qo_causes.specs.declared.inputs.What.TheVariants.{Open, Bytes, Shut, Guest}
 use Rattle.qo_framing.specs.declared.items.Item.{Item}
+use Rattle.qo_model.specs.Board.{Board}
 use Rattle.qo_model.specs.FinalNotes.{FinalOnce, NotesInOrder}
 use Rattle.qo_sound.specs.Kept.{SoundTree}
 use Rattle.qo_sound_devices.specs.SoundDevices.{SoundDevices}
@@ -77,9 +78,12 @@ abbrev pub FinalOnceInRuns : Type 0
 FinalOnceInRuns =
     (turns : List Turn) → NotesInOrder (state_after opening turns).board × ((n : ℕ) → FinalOnce n (state_after opening turns).board.notes)
 
--- each step keeps the board sound, and so it is over every run: its tree; and with that the places of devices and the lists that name devices
+-- each step keeps a fact on the board, and so it is a fact over every run
+pub record KeptInRuns (P : Board → Type 0) : Type 0 where
+  pub step : (s : State) (input : Input) (choices : List Choice) → P s.board → P (step s input choices).state.board
+  pub run : (turns : List Turn) → P (state_after opening turns).board
+
+-- that the tree of the board is sound; and with it the places of devices and the lists that name devices
 pub record SoundInRuns : Type 0 where
-  pub step : (s : State) (input : Input) (choices : List Choice) → SoundTree s.board → SoundTree (step s input choices).state.board
-  pub run : (turns : List Turn) → SoundTree (state_after opening turns).board
-  pub devices_step : (s : State) (input : Input) (choices : List Choice) → SoundDevices s.board → SoundDevices (step s input choices).state.board
-  pub devices_run : (turns : List Turn) → SoundDevices (state_after opening turns).board
+  pub tree : KeptInRuns SoundTree
+  pub devices : KeptInRuns SoundDevices
