@@ -1,6 +1,6 @@
 -- Turn by turn.
 use Rattle.std.proofs.Common.{refl, sym, ◌∙◌, arith}
-use Rattle.qo_machine.proofs.RunLemmas.{cut_none, done, going_on, gone_none}
+use Rattle.qo_machine.proofs.RunLemmas.{cut_none, done, going_on, gone_none, stopped_by}
 use Rattle.qo_machine.proofs.running.run.Goals as goal
 
 pub returns-in_default-clause-meets : goal.returns-in_default-clause-meets
@@ -20,6 +20,10 @@ loop-init g c =
 pub returns-then-ended-clause-meets : goal.returns-then-ended-clause-meets
 returns-then-ended-clause-meets g c =
     done _ _ _ c.loop.machine c.turn.new.machine c.loop.counter c.args.limit (g.H.Hub.bad c.loop.hub) (g.H.Hub.bad c.args.hub.now) c.loop.invariant.bad (omega arith) c.loop.invariant.gone c.in_default-turn.ensures.meets (sym c.if-ended.ensures)
+
+pub returns-in-Err-clause-meets : goal.returns-in-Err-clause-meets
+returns-in-Err-clause-meets g c =
+    rw (← c.loop.invariant.bad) (stopped_by _ _ _ c.loop.machine c.turn.new.machine c.loop.counter c.args.limit (g.H.Hub.bad c.loop.hub) c.in-Err.ending (omega arith) c.loop.invariant.gone c.in-Err.ensures.meets)
 
 pub loop-preserved : goal.loop-preserved
 loop-preserved g c =
