@@ -4,6 +4,7 @@ pub mod BookLemmas
 pub mod EndLemmas
 pub mod FoundLemmas
 pub mod HeapLemmas
+mod HeldLemmas
 pub mod PlacesLemmas
 pub mod ShowsActs
 pub mod ShowsChanges

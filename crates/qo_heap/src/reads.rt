@@ -3,7 +3,8 @@
 ghost use Rattle.std.specs.Prelude.{◌≡◌, ◌≤◌, ◌^◌, false, length, find, slice_get, sum_by};
 ghost use Rattle.std.specs.Option.{option_map_or};
 ghost use Rattle.qo_values.specs.declared.limits.TheConstants.{LIVE_OBJECTS_MAX};
-ghost use Rattle.qo_object.specs.Content.{holding, is_parent};
+ghost use Rattle.std.specs.List.{list_any};
+ghost use Rattle.qo_object.specs.Content.{holding, is_holder, is_parent};
 
 use crate::heap::Heap;
 use qo_model::Note;
@@ -47,6 +48,34 @@ fn holding_in<L: Ledger>(table: &ObjectTable<Object>, birth: u64, steps: &mut St
     count
 }
 
+/// Whether the object at a place holds the object of a birth; not past the last.
+fn is_holder_at<L: Ledger>(
+    table: &ObjectTable<Object>,
+    place: usize,
+    birth: u64,
+    steps: &mut Steps<L>,
+) -> bool
+    ensures { result ≡ option_map_or (λ row. is_holder birth row.1) (slice_get table.now.rows place) false }
+{
+    table.facts();
+    match table.key_at(place) {
+        Some(key) => table.look(key, steps).is_holder(birth),
+        None => false,
+    }
+}
+
+/// Whether an object holds the object of a birth; no further one is looked at behind the first that does.
+fn is_held_in<L: Ledger>(table: &ObjectTable<Object>, birth: u64, steps: &mut Steps<L>) -> bool
+    ensures { result ≡ list_any (λ row. is_holder birth row.1) table.now.rows }
+{
+    for place in 0..table.len() {
+        if is_holder_at(table, place, birth, steps) {
+            return true;
+        }
+    }
+    false
+}
+
 /// Whether the object at a place has the object of a birth as a child; not past the last.
 fn is_parent_at<L: Ledger>(
     table: &ObjectTable<Object>,
@@ -77,7 +106,7 @@ fn parent_place<L: Ledger>(table: &ObjectTable<Object>, birth: u64, steps: &mut 
 }
 
 impl Heap {
-    ghost use Rattle.std.specs.Prelude.{◌<◌, ◌+◌, Some, option_map, option_and_then, length, find, leb, slice_get, position, IfSome, IfNone, None, IfOk};
+    ghost use Rattle.std.specs.Prelude.{◌<◌, ◌+◌, nat_lt, Some, option_map, option_and_then, length, find, leb, slice_get, position, IfSome, IfNone, None, IfOk};
     ghost use Rattle.std.specs.Str.{bytes_eq};
     ghost use Rattle.qo_notes.specs.Log.{given_from, first_from};
     ghost use Rattle.qo_table.specs.Rows.{IsLive};
@@ -131,6 +160,18 @@ impl Heap {
         object.slot_at(at)
     }
 
+    /// How many slots an object has; at most 2^32.
+    pub fn slot_count<L: Ledger>(&self, o: Oid, steps: &mut Steps<L>) -> usize
+        requires { IsLive self.now.rows o }
+        ensures count { result ≡ length (slots_of self.now o.birth) }
+        ensures few { result ≤ 2 ^ 32 }
+        ensures cost { steps.new ≡ steps.old + 1 }
+    {
+        let object = self.table.look(o, steps);
+        object.facts();
+        object.len()
+    }
+
     /// How often an object is pinned.
     pub(crate) fn pins<L: Ledger>(&self, o: Oid, steps: &mut Steps<L>) -> u64
         requires { IsLive self.now.rows o }
@@ -150,6 +191,21 @@ impl Heap {
     {
         let pins = self.pins(o, steps);
         pins + holding_in(&self.table, o.birth, steps)
+    }
+
+    /// Whether a slot holds the object of a birth.
+    fn has_holder<L: Ledger>(&self, birth: u64, steps: &mut Steps<L>) -> bool
+        ensures { result ≡ list_any (λ row. is_holder birth row.1) self.now.rows }
+    {
+        is_held_in(&self.table, birth, steps)
+    }
+
+    /// Whether an object has references: it is pinned, or a slot holds it.
+    pub fn is_held<L: Ledger>(&self, o: Oid, steps: &mut Steps<L>) -> bool
+        requires { IsLive self.now.rows o }
+        ensures { result ≡ nat_lt 0 (refs_of self.now o.birth) }
+    {
+        self.pins(o, steps) > 0 || self.has_holder(o.birth, steps)
     }
 
     /// The parent of an object; `None` exactly where it has none.

@@ -1,5 +1,6 @@
 -- The steps of a release over a heap.
-use Rattle.std.proofs.Common.{◌≡◌, refl, ap, sym, subst, ◌∙◌, ℕ, zero, suc, ◌+◌, ◌-◌, ◌*◌, ◌<◌, ◌≤◌, Bool, true, false, not, ◌==◌, eqb, nat_eq, List, [], ◌∷◌, filter_map, count_by, Option, Some, None, is_some, option_map, IfSome, arith}
+use Rattle.std.proofs.lemmas.Bool.Decides.{nat_tests}
+use Rattle.std.proofs.Common.{◌≡◌, refl, ap, sym, subst, ◌∙◌, ℕ, zero, suc, ◌+◌, ◌-◌, ◌*◌, ◌<◌, ◌≤◌, Bool, true, false, not, ◌==◌, eqb, nat_eq, nat_lt, List, [], ◌∷◌, filter_map, count_by, Option, Some, None, is_some, option_map, IfSome, arith}
 use Rattle.std.specs.List.{AllByRecursion, cons_option, list_any}
 use Rattle.std.specs.Option.{option_map_or}
 use Rattle.std.proofs.lemmas.Bool.{eqb-true, eq-eqb}
@@ -134,6 +135,13 @@ turn-live v u good n i (Some key) e is =
     subst (λ (x : Objects). IsLive x.rows key) (sym is) (live-edit n (dropped_at i) v.rows key live)
 
 -- an object that still has references stays, and one that has none ends
+-- who has no references, and who has some, as a test says
+pub unheld-none : (n : ℕ) (held : Bool) → held ≡ nat_lt 0 n → held ≡ false → n ≡ 0
+unheld-none n held is off = grind (arith, nat_tests)
+
+pub held-some : (n : ℕ) (held : Bool) → held ≡ nat_lt 0 n → held ≡ true → n ≡ 0 → ⊥
+held-some n held is on none = grind (arith, nat_tests)
+
 pub goes-held : (v : Objects) → IsHeap v → (n : ℕ) → (refs_of v n ≡ 0 → ⊥) → Goes (λ b. after finalise b (Some n)) v v
 goes-held v good n some =
     goes-same (λ b. b) (λ b. after finalise b (Some n)) v v (goes-none v) (λ b log s. go b (shows-refs b (with_log log v) s (heap-with_log v log good) n) (refs b n == 0) refl)

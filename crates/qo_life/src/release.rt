@@ -49,7 +49,7 @@ fn end_unheld<L: Ledger>(heap: &mut Heap, held: Option<Oid>, steps: &mut Steps<L
 {
     heap.facts();
     if let Some(o) = held {
-        if heap.refs(o, steps) == 0 {
+        if !heap.is_held(o, steps) {
             finalise(heap, o, steps);
         }
     }

@@ -292,10 +292,7 @@ impl Machine {
         ensures board { self.new.board ≡ self.old.board }
         ensures lasts { self.new.spent ≡ self.old.spent }
     {
-        match self.sessions[usize::from(session)].feed(alloc, bytes) {
-            Ok(items) => Ok(items),
-            Err(_) => Err(AllocError),
-        }
+        self.sessions[usize::from(session)].feed(alloc, bytes)
     }
 
     /// Bytes of the guest come: the lines that end in them are served in turn.
@@ -378,10 +375,7 @@ impl Machine {
         ensures board { self.new.board ≡ self.old.board }
         ensures lasts { self.new.spent ≡ self.old.spent }
     {
-        match self.sessions[usize::from(session)].act(alloc, item) {
-            Ok(what) => Ok(what),
-            Err(_) => Err(AllocError),
-        }
+        self.sessions[usize::from(session)].act(alloc, item)
     }
 
     /// What a command comes to that leaves the board, and the text of its reply.

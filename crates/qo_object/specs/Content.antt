@@ -77,9 +77,12 @@ without_pin c = record c { pins = c.pins - 1 }
 abbrev pub forgotten : ℕ → Content → Content
 forgotten birth c = record c { slots = each_changed (forgotten_in birth) c.slots }
 
--- how many slots hold the object of a birth, whether one has it as a child, and how many slots hold any
+-- how many slots hold the object of a birth, whether one does, whether one has it as a child, and how many slots hold any
 abbrev pub holding : ℕ → Content → ℕ
 holding birth c = count_by (λ (s : List ℕ × Slot). holds birth s.1) c.slots
+
+abbrev pub is_holder : ℕ → Content → Bool
+is_holder birth c = list_any (λ (s : List ℕ × Slot). holds birth s.1) c.slots
 
 abbrev pub is_parent : ℕ → Content → Bool
 is_parent birth c = list_any (λ (s : List ℕ × Slot). names_child birth s.1) c.slots

@@ -8,7 +8,7 @@ use std::alloc::{AllocError, Global};
 use std::marker::Model;
 
 /// An object has about so many slots, so that the first one makes room for as many.
-const SLOTS_AT_FIRST: usize = 6;
+const SLOTS_AT_FIRST: usize = 9;
 
 /// Slots by name, in the order of adding. The key of each is its name's text, so that one is found
 /// by a `&str` without memory.
@@ -199,6 +199,13 @@ impl SlotMap {
         ensures { result ≡ count_by (λ s. holds birth s.1) self.now }
     {
         self.map.values().filter(|slot| slot.holds(birth)).count()
+    }
+
+    /// Whether one holds the object of a birth.
+    pub fn is_holder(&self, birth: u64) -> bool
+        ensures { result ≡ list_any (λ s. holds birth s.1) self.now }
+    {
+        self.map.values().any(|slot| slot.holds(birth))
     }
 
     /// Whether one has the object of a birth as a child.

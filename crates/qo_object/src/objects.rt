@@ -80,7 +80,7 @@ impl Object {
     ghost use Rattle.qo_kinds.specs.Bodies.{MayAct, kept_of};
     ghost use Rattle.qo_object.specs.Lends.{lends_body};
     ghost use Rattle.qo_object.specs.Slots.{has_name, names_child};
-    ghost use Rattle.qo_object.specs.Content.{IsObject, acted_at, fresh, with_id, with_path, with_slot, named_at, dropped_at, empty_link_at, pointed_at, set_at, cut_at, with_pin, without_pin, forgotten, holding, is_parent, held_count};
+    ghost use Rattle.qo_object.specs.Content.{IsObject, acted_at, fresh, with_id, with_path, with_slot, named_at, dropped_at, empty_link_at, pointed_at, set_at, cut_at, with_pin, without_pin, forgotten, holding, is_holder, is_parent, held_count};
     ghost use Rattle.qo_object.specs.declared.errors.AddError.TheVariants.{Duplicate, Memory};
 
     /// An object of a type, without slots, pinned once. It takes no memory.
@@ -285,6 +285,14 @@ impl Object {
         ensures { result ≡ holding birth self.now }
     {
         self.slots.holding(birth) as u64
+    }
+
+    /// Whether one of its slots holds the object of a birth, as a child or by a strong link. It takes
+    /// no memory.
+    pub fn is_holder(&self, birth: u64) -> bool
+        ensures { result ≡ is_holder birth self.now }
+    {
+        self.slots.is_holder(birth)
     }
 
     /// Whether it has the object of a birth as a child. It takes no memory.

@@ -52,18 +52,6 @@ pub struct Seat {
     pub slot: u8,
 }
 
-/// How many slots an object has.
-fn slot_count<L: Ledger>(heap: &Heap, o: Oid, steps: &mut Steps<L>) -> usize
-    requires { IsLive heap.now.rows o }
-    ensures { result ≡ length (slots_of heap.now o.birth) }
-{
-    let mut count = 0;
-    while heap.slot_at(o, count, steps).is_some() {
-        count += 1;
-    }
-    count
-}
-
 /// Whether a slot is an object's own: a value or a link, and neither a child nor an alias.
 fn is_own(what: &Slot) -> bool
     ensures { result ≡ is_own what.now }
@@ -110,7 +98,7 @@ fn settle_own<L: Ledger>(heap: &mut Heap, o: Oid, mut plan: Vec<Fill>, steps: &m
     ensures { heap.new ≡ with_edit o.birth (with_own plan.items) heap.old }
 {
     heap.facts();
-    let mut at = slot_count(heap, o, steps);
+    let mut at = heap.slot_count(o, steps);
     while at > 0 {
         at -= 1;
         if !is_own_at(heap, o, at, steps) {
@@ -230,7 +218,7 @@ fn join_to<L: Ledger>(
     ensures err { OnErr result (heap.new ≡ heap.old) }
 {
     heap.facts();
-    let at = slot_count(heap, bus, steps);
+    let at = heap.slot_count(bus, steps);
     join_bus(heap, bus, device, link, steps)?;
     match path_of(heap, device, alloc, steps) {
         Ok(path) => Ok(path),
@@ -267,7 +255,7 @@ fn join<L: Ledger>(
         slot,
     } = seat;
     let link = kid_name(slot, alloc)?;
-    let at = slot_count(heap, container, steps);
+    let at = heap.slot_count(container, steps);
     heap.add_child(container, name, device, steps)?;
     match join_to(heap, device, bus, link, alloc, steps) {
         Ok(path) => Ok(path),

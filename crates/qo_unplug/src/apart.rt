@@ -13,7 +13,6 @@ ghost use Rattle.qo_heap.specs.Board.{Shows};
 ghost use Rattle.qo_life.specs.Life.{Goes, with_log};
 ghost use Rattle.qo_unplug.specs.Apart.{HasRoom, bus_lost, buses_lost, drained_within, first_apart, first_lost, held_times, taken_within};
 
-use crate::slots::slot_count;
 use qo_buses::{first_bus, first_kid, leave, leave_parent, let_go_bus};
 use qo_heap::{Heap, Oid, Steps};
 use qo_life::drop_pin;
@@ -50,7 +49,7 @@ fn drain<L: Ledger>(heap: &mut Heap, bus: Oid, levels: usize, steps: &mut Steps<
     requires room { HasRoom heap.old levels }
     ensures { Goes (drained_within levels bus.birth) heap.old heap.new }
 {
-    let count = slot_count(heap, bus, steps);
+    let count = heap.slot_count(bus, steps);
     for _turn in 0..count {
         if !take_first_kid(heap, bus.birth, levels, steps) {
             return;
@@ -96,7 +95,7 @@ fn lose_buses<L: Ledger>(heap: &mut Heap, dev: Oid, levels: usize, steps: &mut S
     requires room { HasRoom heap.old levels }
     ensures { Goes (buses_lost levels dev.birth) heap.old heap.new }
 {
-    let count = slot_count(heap, dev, steps);
+    let count = heap.slot_count(dev, steps);
     for _turn in 0..count {
         if !lose_first_bus(heap, dev, levels, steps) {
             return;

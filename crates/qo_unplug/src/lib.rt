@@ -7,7 +7,6 @@ mod apart;
 mod claims;
 mod detaching;
 mod ending;
-mod slots;
 #[cfg(test)]
 mod tests;
 mod unrealizing;

@@ -7,7 +7,6 @@ ghost use Rattle.qo_unplug.specs.Timerless.{Timerless};
 ghost use Rattle.qo_unplug.specs.Unrealizing.{Undoes, bus_undone, bus_within, device_within, kid_undone, parts};
 
 use crate::ending::{end_bus, end_device};
-use crate::slots::slot_count;
 use qo_buses::{bus_in_slot, kid_in_slot};
 use qo_heap::{Heap, Oid, Steps};
 use qo_hotplug::Hotplug;
@@ -50,7 +49,7 @@ fn unrealize_bus<L: Ledger>(
     ensures { Undoes (λ b. bus_within b levels bus.birth)
         (parts heap.old resets.old.births hotplug.old) (parts heap.new resets.new.births hotplug.new) }
 {
-    let count = slot_count(heap, bus, steps);
+    let count = heap.slot_count(bus, steps);
     for at in 0..count {
         unrealize_kid(heap, resets, hotplug, bus, at, levels, steps);
     }
@@ -96,7 +95,7 @@ fn unrealize_device<L: Ledger>(
     if levels == 0 {
         return;
     }
-    let count = slot_count(heap, dev, steps);
+    let count = heap.slot_count(dev, steps);
     for at in 0..count {
         unrealize_bus_at(heap, resets, hotplug, dev, at, levels - 1, steps);
     }

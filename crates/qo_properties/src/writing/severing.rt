@@ -19,18 +19,6 @@ use qo_paths::is_attached;
 use qo_values::Code;
 use std::sync::ledger::Ledger;
 
-/// How many slots an object has.
-fn slot_count<L: Ledger>(heap: &Heap, o: Oid, steps: &mut Steps<L>) -> usize
-    requires { IsLive heap.now.rows o }
-    ensures { result ≡ length (slots_of heap.now o.birth) }
-{
-    let mut count = 0;
-    while heap.slot_at(o, count, steps).is_some() {
-        count += 1;
-    }
-    count
-}
-
 /// Whether a strong link stands in the slot of an object at a place.
 fn is_strong_at<L: Ledger>(heap: &Heap, o: Oid, at: usize, steps: &mut Steps<L>) -> bool
     requires { IsLive heap.now.rows o }
@@ -60,7 +48,7 @@ fn sever_links<L: Ledger>(heap: &mut Heap, o: Oid, steps: &mut Steps<L>)
 {
     heap.facts();
     heap.pin(o, steps);
-    let count = slot_count(heap, o, steps);
+    let count = heap.slot_count(o, steps);
     for at in 0..count {
         sever_at(heap, o, at, steps);
     }

@@ -1,18 +1,18 @@
 use Rattle.std.proofs.Common.{refl, sym, ◌∙◌}
 use Rattle.qo_life.specs.Life.{next_at}
 use Rattle.qo_life.proofs.TreeLemmas.{goes-none}
-use Rattle.qo_life.proofs.GoesLemmas.{goes-held, goes-free, goes-past, goes-turn, going-first, going-next, going-smaller, going-free, going-bare, going-last, going-stops, none-given, turn-falls, turn-live}
+use Rattle.qo_life.proofs.GoesLemmas.{goes-held, goes-free, held-some, unheld-none, goes-past, goes-turn, going-first, going-next, going-smaller, going-free, going-bare, going-last, going-stops, none-given, turn-falls, turn-live}
 use Rattle.qo_life.proofs.release.+ending.Goals as goal
 
 -- an object that was held
 
-pub end_unheld-returns-then-refs-eq0 : goal.end_unheld-returns-then-refs-eq0
-end_unheld-returns-then-refs-eq0 g t c =
-    rw c.in-Some.is (goes-free c.args.heap.now c.finalise.new.heap c.facts.ensures c.in-Some.o.birth (sym c.refs.ensures ∙ c.if-refs-eq0.true) c.finalise.ensures)
+pub end_unheld-returns-then-not-is_held : goal.end_unheld-returns-then-not-is_held
+end_unheld-returns-then-not-is_held g t c =
+    rw c.in-Some.is (goes-free c.args.heap.now c.finalise.new.heap c.facts.ensures c.in-Some.o.birth (unheld-none _ c.is_held.result c.is_held.ensures c.if-not-is_held.true) c.finalise.ensures)
 
-pub end_unheld-returns-else-refs-eq0 : goal.end_unheld-returns-else-refs-eq0
-end_unheld-returns-else-refs-eq0 g t c =
-    rw c.in-Some.is (goes-held c.args.heap.now c.facts.ensures c.in-Some.o.birth (λ none. c.if-refs-eq0.false (c.refs.ensures ∙ none)))
+pub end_unheld-returns-else-not-is_held : goal.end_unheld-returns-else-not-is_held
+end_unheld-returns-else-not-is_held g t c =
+    rw c.in-Some.is (goes-held c.args.heap.now c.facts.ensures c.in-Some.o.birth (held-some _ c.is_held.result c.is_held.ensures c.if-not-is_held.false))
 
 pub end_unheld-returns-in_default : goal.end_unheld-returns-in_default
 end_unheld-returns-in_default g t c = rw c.in_default.is (goes-none c.args.heap.now)

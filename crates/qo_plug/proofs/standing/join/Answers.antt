@@ -24,6 +24,6 @@ empty-device-requires g c =
 
 pub returns-in-Err-clause-err : goal.returns-in-Err-clause-err
 returns-in-Err-clause-err g c =
-    child-undone c.args.heap.now c.facts.ensures c.args.seat.container c.requires.container c.args.seat.name c.slot_count-at.result c.slot_count-at.ensures c.args.device c.add_child.new.self c.empty-device.new.self
+    child-undone c.args.heap.now c.facts.ensures c.args.seat.container c.requires.container c.args.seat.name c.slot_count-at.result c.slot_count-at.ensures.count c.args.device c.add_child.new.self c.empty-device.new.self
     c.in_ok-add_child.ensures.added
     (c.empty-device.ensures.now ∙ ap (with_edit c.args.seat.container.birth (dropped_at c.slot_count-at.result)) c.in-Err.ensures.err)

@@ -4,7 +4,7 @@ use Rattle.qo_plug.proofs.StandFills.{none-left, settled-end, settled-fill, sett
 use Rattle.qo_plug.proofs.standing.settle_own.Goals as goal
 
 pub loop-at-init : goal.loop-at-init
-loop-at-init g c = settled-none c.args.plan.items c.args.o c.slot_count-at.result c.args.heap.now c.slot_count-at.ensures c.requires.fits
+loop-at-init g c = settled-none c.args.plan.items c.args.o c.slot_count-at.result c.args.heap.now c.slot_count-at.ensures.count c.requires.fits
 
 pub is_own_at-requires : goal.is_own_at-requires
 is_own_at-requires g c = settled-live c.args.plan.items c.args.o c.loop-at.at c.loop-at.plan.items c.args.heap.now c.loop-at.heap c.loop-at.invariant c.args.o c.requires.live

@@ -38,14 +38,14 @@ drain-loop-turn-preserved g t c =
 pub drain-returns-then-not-take_first_kid : goal.drain-returns-then-not-take_first_kid
 drain-returns-then-not-take_first_kid g t c =
     kids-stopped c.args.levels c.args.bus.birth c.slot_count-count.result (c.slot_count-count.result - (c.loop-turn._turn + 1)) c.args.heap.now
-    c.take_first_kid.new.heap c.slot_count-count.ensures
+    c.take_first_kid.new.heap c.slot_count-count.ensures.count
     (kids-lost c.args.levels c.args.bus.birth c.slot_count-count.result c.loop-turn._turn c.args.heap.now c.loop-turn.heap c.take_first_kid.new.heap
     c.loop-turn.invariant c.loop-turn-test.true c.take_first_kid.ensures.goes)
     (c.take_first_kid.ensures.none c.if-not-take_first_kid.true)
 
 pub drain-returns : goal.drain-returns
 drain-returns g t c =
-    kids-done c.args.levels c.args.bus.birth c.slot_count-count.result c.loop-turn._turn c.args.heap.now c.loop-turn.heap c.slot_count-count.ensures
+    kids-done c.args.levels c.args.bus.birth c.slot_count-count.result c.loop-turn._turn c.args.heap.now c.loop-turn.heap c.slot_count-count.ensures.count
     c.loop-turn-test.false c.loop-turn.invariant
 
 -- a bus
@@ -100,14 +100,14 @@ lose_buses-loop-turn-preserved g t c =
 pub lose_buses-returns-then-not-lose_first_bus : goal.lose_buses-returns-then-not-lose_first_bus
 lose_buses-returns-then-not-lose_first_bus g t c =
     buses-stopped c.args.levels c.args.dev.birth c.slot_count-count.result (c.slot_count-count.result - (c.loop-turn._turn + 1)) c.args.heap.now
-    c.lose_first_bus.new.heap c.slot_count-count.ensures
+    c.lose_first_bus.new.heap c.slot_count-count.ensures.count
     (buses-lost c.args.levels c.args.dev.birth c.slot_count-count.result c.loop-turn._turn c.args.heap.now c.loop-turn.heap c.lose_first_bus.new.heap
     c.loop-turn.invariant c.loop-turn-test.true c.lose_first_bus.ensures.goes)
     (c.lose_first_bus.ensures.none c.if-not-lose_first_bus.true)
 
 pub lose_buses-returns : goal.lose_buses-returns
 lose_buses-returns g t c =
-    buses-done c.args.levels c.args.dev.birth c.slot_count-count.result c.loop-turn._turn c.args.heap.now c.loop-turn.heap c.slot_count-count.ensures
+    buses-done c.args.levels c.args.dev.birth c.slot_count-count.result c.loop-turn._turn c.args.heap.now c.loop-turn.heap c.slot_count-count.ensures.count
     c.loop-turn-test.false c.loop-turn.invariant
 
 -- the device

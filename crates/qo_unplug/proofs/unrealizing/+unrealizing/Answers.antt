@@ -31,7 +31,7 @@ unrealize_bus-returns g t c =
     kids-last (parts c.args.heap.now c.args.resets.now.births c.args.hotplug.now)
     (parts c.loop-at.heap c.loop-at.resets.births c.loop-at.hotplug)
     (parts c.end_bus.new.heap c.end_bus.new.resets.births c.loop-at.hotplug) c.args.bus.birth c.args.levels c.loop-at.at c.slot_count-count.result
-    c.loop-at-test.false c.slot_count-count.ensures c.loop-at.invariant (c.end_bus.ensures c.loop-at.hotplug)
+    c.loop-at-test.false c.slot_count-count.ensures.count c.loop-at.invariant (c.end_bus.ensures c.loop-at.hotplug)
 
 pub unrealize_bus_at-returns-in-Some : goal.unrealize_bus_at-returns-in-Some
 unrealize_bus_at-returns-in-Some g t c =
@@ -63,4 +63,4 @@ unrealize_device-returns g t c =
     buses-last (parts c.args.heap.now c.args.resets.now.births c.args.hotplug.now)
     (parts c.loop-at.heap c.loop-at.resets.births c.loop-at.hotplug)
     (parts c.end_device.new.heap c.end_device.new.resets.births c.end_device.new.hotplug) c.args.dev.birth c.args.levels c.loop-at.at
-    c.slot_count-count.result c.if-levels-eq0.false c.loop-at-test.false c.slot_count-count.ensures c.loop-at.invariant c.end_device.ensures.undoes
+    c.slot_count-count.result c.if-levels-eq0.false c.loop-at-test.false c.slot_count-count.ensures.count c.loop-at.invariant c.end_device.ensures.undoes

@@ -18,4 +18,4 @@ pub drop_pin-requires-clause-pinned : goal.drop_pin-requires-clause-pinned
 drop_pin-requires-clause-pinned g c = severing-pinned c.args.heap.now c.loop-at.heap c.args.o c.slot_count-count.result c.loop-at.at c.facts-2.ensures c.loop-at.invariant
 
 pub returns : goal.returns
-returns g c = severing-last c.args.heap.now c.loop-at.heap c.drop_pin.new.heap c.args.o c.slot_count-count.result c.loop-at.at c.loop-at.invariant (let low : c.loop-at.at ≤ c.slot_count-count.result = c.loop-at.auto.at-end in let high : c.slot_count-count.result ≤ c.loop-at.at = c.loop-at-test.false in omega arith) (c.slot_count-count.ensures ∙ pinned-slots c.args.heap.now c.pin.new.self c.args.o.birth c.pin.ensures.now) c.drop_pin.ensures.goes
+returns g c = severing-last c.args.heap.now c.loop-at.heap c.drop_pin.new.heap c.args.o c.slot_count-count.result c.loop-at.at c.loop-at.invariant (let low : c.loop-at.at ≤ c.slot_count-count.result = c.loop-at.auto.at-end in let high : c.slot_count-count.result ≤ c.loop-at.at = c.loop-at-test.false in omega arith) (c.slot_count-count.ensures.count ∙ pinned-slots c.args.heap.now c.pin.new.self c.args.o.birth c.pin.ensures.now) c.drop_pin.ensures.goes
