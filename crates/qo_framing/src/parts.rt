@@ -57,6 +57,9 @@ fn behind_skipping(bytes: &[u8]) -> Option<&[u8]>
 fn joined(alloc: Global, front: &[u8], back: &[u8]) -> Result<Chars, AllocError>
     ensures { IfOk result (λ chars. chars ≡ front.now ++ back.now) }
 {
+    if front.is_empty() {
+        return Ok(Chars::from_vec(Vec::from_slice(alloc, back)?));
+    }
     let mut bytes = Vec::with_capacity(alloc, front.len() + back.len())?;
     bytes.extend_from_slice(front)?;
     bytes.extend_from_slice(back)?;

@@ -1,6 +1,6 @@
 //! The messages of one step.
 
-ghost use Rattle.std.specs.Prelude.{◌≡◌, [], ◌∷◌, ◌++◌, OnOk};
+ghost use Rattle.std.specs.Prelude.{◌≡◌, [], ◌∷◌, ◌++◌, IfOk, OnOk};
 
 use qo_causes::Lane;
 use qo_values::Chars;
@@ -44,6 +44,15 @@ impl Outs {
         Outs {
             messages: Vec::new(alloc),
         }
+    }
+
+    /// No message, and room for so many. The error is want of memory.
+    pub(crate) fn with_room(alloc: Global, count: usize) -> Result<Outs, AllocError>
+        ensures { IfOk result (λ outs. outs ≡ []) }
+    {
+        Ok(Outs {
+            messages: Vec::with_capacity(alloc, count)?,
+        })
     }
 
     /// Adds one message to a lane.

@@ -228,7 +228,7 @@ pub(crate) fn serve_items<L: Ledger>(
     ensures lanes { IfOk result AreToLanes }
     ensures lasts { machine.new.spent ≡ machine.old.spent }
 {
-    let mut outs = Outs::none(alloc);
+    let mut outs = Outs::with_room(alloc, items.len())?;
     for item in items {
         serve_item(machine, alloc, at, session, item, &mut outs, steps)?;
     }

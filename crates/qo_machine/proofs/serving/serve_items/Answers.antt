@@ -1,5 +1,5 @@
 -- One item more.
-use Rattle.std.proofs.Common.{sym, ◌∙◌, subst, List, [], ◌∷◌, ◌++◌, ◌+◌, take, arith}
+use Rattle.std.proofs.Common.{refl, sym, ◌∙◌, subst, List, [], ◌∷◌, ◌++◌, ◌+◌, take, arith}
 use Rattle.qo_framing.specs.declared.items.Item.{Item}
 use Rattle.qo_machine.proofs.LaneLemmas.{more_lanes}
 use Rattle.qo_machine.proofs.LeftLemmas.{front_of_all_by, front_on_by}
@@ -25,8 +25,13 @@ returns-clause-lanes g c = c.loop-item.invariant.lanes
 
 pub returns-in_err-serve_item-clause-left : goal.returns-in_err-serve_item-clause-left
 returns-in_err-serve_item-clause-left g c =
-    on_err c.from_residual.result
+    on_err c.from_residual-in_err-serve_item.result
     (λ s here.
     front_of_all_by (by_item c.args.at c.args.session) s c.serve_item.new.machine c.args.items.now (c.loop-item.item-index + 1)
     (subst (λ (items : List Item). ServesFront c.args.at c.args.session s items c.serve_item.new.machine) (sym (take_one c.args.items.now c.loop-item.item-index c.item-item.result (omega arith) c.item-item.is))
     (front_on_by (by_item c.args.at c.args.session) s c.loop-item.machine c.serve_item.new.machine (take c.loop-item.item-index c.args.items.now) (c.item-item.result ∷ []) c.loop-item.outs (c.loop-item.invariant.served s here) c.in_err-serve_item.ensures.left)))
+
+-- where there is no room for the messages nothing is served
+
+pub returns-in_err-outs-clause-left : goal.returns-in_err-outs-clause-left
+returns-in_err-outs-clause-left g c = on_err c.from_residual.result (λ s here. ([], c.args.items.now, [], refl, here))
