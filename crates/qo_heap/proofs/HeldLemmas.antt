@@ -54,7 +54,6 @@ module _ {X : Type 0} (p : X → Bool) where
   any-summed weight weighs (x ∷ xs) =
       ap₂ (λ (a b : Bool). a || b) (weighs x) (any-summed weight weighs xs) ∙ either-part (weight x) (sum_by weight xs) ∙ ap (nat_lt 0) (sym (sum_by-cons weight x xs))
 
-
 one-counts : (b : Bool) → b ≡ nat_lt 0 (cond b 1 0)
 one-counts true = refl
 one-counts false = refl
@@ -66,7 +65,7 @@ holder-weighs birth row = any-summed (λ (s : List ℕ × Slot). holds birth s.1
 pub held-refs : (v : Objects) (n : ℕ) → (nat_lt 0 (pins_of v n) || list_any (λ (row : Key × Content). is_holder n row.1) v.rows) ≡ nat_lt 0 (refs_of v n)
 held-refs v n =
     ap (λ (b : Bool). nat_lt 0 (pins_of v n) || b)
-      (any-summed (λ (row : Key × Content). is_holder n row.1) (λ (row : Key × Content). holding n row.1) (holder-weighs n) v.rows)
+    (any-summed (λ (row : Key × Content). is_holder n row.1) (λ (row : Key × Content). holding n row.1) (holder-weighs n) v.rows)
     ∙ part-either (pins_of v n) (sum_by (λ (row : Key × Content). holding n row.1) v.rows)
 
 -- of an object that is not pinned, a slot that holds it is its reference
