@@ -213,14 +213,14 @@ const ANSWERED: [(&str, &str); 6] = [
     ),
     (
         "{\"execute\":\"query-commands\"}",
-        "0 {\"return\":[{\"name\":\"cont\"},{\"name\":\"device-list-properties\"},{\"name\":\"device_add\"},{\"name\":\"device_del\"},{\"name\":\"object-add\"},{\"name\":\"object-del\"},{\"name\":\"qmp_capabilities\"},{\"name\":\"qom-get\"},{\"name\":\"qom-list\"},{\"name\":\"qom-list-types\"},{\"name\":\"qom-set\"},{\"name\":\"query-commands\"},{\"name\":\"query-status\"},{\"name\":\"query-version\"},{\"name\":\"quit\"},{\"name\":\"stop\"},{\"name\":\"x-guest\"},{\"name\":\"x-query-detached\"},{\"name\":\"x-query-notes\"},{\"name\":\"x-sever\"},{\"name\":\"x-step\"}]}\r\n",
+        "0 {\"return\":[{\"name\":\"cont\"},{\"name\":\"device-list-properties\"},{\"name\":\"device_add\"},{\"name\":\"device_del\"},{\"name\":\"object-add\"},{\"name\":\"object-del\"},{\"name\":\"qmp_capabilities\"},{\"name\":\"qom-get\"},{\"name\":\"qom-list\"},{\"name\":\"qom-list-types\"},{\"name\":\"qom-set\"},{\"name\":\"query-commands\"},{\"name\":\"query-status\"},{\"name\":\"query-version\"},{\"name\":\"quit\"},{\"name\":\"stop\"},{\"name\":\"system_reset\"},{\"name\":\"x-guest\"},{\"name\":\"x-query-detached\"},{\"name\":\"x-query-notes\"},{\"name\":\"x-reset-hold\"},{\"name\":\"x-reset-release\"},{\"name\":\"x-sever\"},{\"name\":\"x-step\"}]}\r\n",
     ),
     (
         "{\"execute\":\"query-version\"}",
         "0 {\"return\":{\"package\":\"compose\",\"qemu\":{\"major\":1,\"micro\":0,\"minor\":0}}}\r\n",
     ),
     (
-        "{\"execute\":\"system_reset\"}",
+        "{\"execute\":\"chardev-remove\",\"arguments\":{\"id\":\"r\"}}",
         "0 {\"error\":{\"class\":\"CommandNotFound\",\"desc\":\"E10 unknown command\"}}\r\n",
     ),
     (

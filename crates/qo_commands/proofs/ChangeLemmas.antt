@@ -9,7 +9,7 @@ use Rattle.qo_model.specs.Access.{write_at}
 use Rattle.qo_lane.specs.Hearing.{heard, outcome_of}
 use Rattle.qo_lane.specs.Hearing as hearing
 use Rattle.qo_lane.specs.declared.hearing.Heard.{Heard}
-use Rattle.qo_model.specs.Hotplug.{asked}
+use Rattle.qo_model.specs.Hotplug.{asked, reset_whole}
 use Rattle.qo_model.specs.Plug.{Plugged, Wanted}
 use Rattle.qo_plug.specs.Added.{added, wanted}
 use Rattle.qo_plug.specs.declared.adding.Added as device
@@ -21,6 +21,7 @@ use Rattle.qo_realize.specs.Answers.{Adds, IsAnswered, Plugs, Writes}
 use Rattle.qo_realize.specs.Answers as board
 use Rattle.qo_realize.specs.Parts.{Parts}
 use Rattle.qo_realize.specs.Stands.{Stands}
+use Rattle.qo_realize.specs.Resets.{held_at, released_at}
 use Rattle.qo_realize.specs.Time.{Advances, advanced, switches, with_running}
 use Rattle.qo_replies.specs.declared.events.Event.{Event}
 use Rattle.qo_replies.specs.declared.events.Event.TheVariants.{Resume, Stop as Stopped}
@@ -29,7 +30,7 @@ use Rattle.qo_requests.specs.declared.requests.Request.TheVariants.{QmpCapabilit
 use Rattle.qo_commands.specs.Changes.{Came, Changes, ComesTo, is_change}
 use Rattle.qo_commands.specs.Views.{done_of}
 use Rattle.qo_commands.specs.declared.commands.Done as outcome
-use Rattle.qo_commands.specs.Commands.{Done, changed, empty, performed, plugged, refused_with, returned, switched, time_data, timed, told, wrote}
+use Rattle.qo_commands.specs.Commands.{Done, changed, empty, performed, plugged, refused_with, reset_by, returned, switched, time_data, timed, told, wrote}
 
 -- a command that came to something, by what it came to
 came-value : (b c : Board) (r : Request) (value : Data) (d : outcome.Done) (p : Parts) → performed b r ≡ returned c value → Stands c p
@@ -124,17 +125,22 @@ plugs-as b driver id bus as_id as_bus props r p same_id same_bus h =
 pub refused-as : (b : Board) (w : Wanted) (refusal : AddRefusal) (stage : ℕ) (code : Code) (p : Parts) → refusal ≡ Barred stage code → Plugs b w (Err refusal) p → Plugs b w (Err (Barred stage code)) p
 refused-as b w refusal stage code p is h = subst (λ (x : AddRefusal). Plugs b w (Err x) p) is h
 
+-- a change that may want memory was made, or not
+made-changes : {E : Type 0} (b : Board) (p : Parts) (r : Request) (change : Changed) (answer : Result Unit Refusal) (result : Result outcome.Done E)
+    → performed b r ≡ changed change → board.Changes change b answer p → ComesTo answer result → Changes b r result p
+made-changes b p r change (Ok u) (Ok d) is (none, now) so = changed-ok b r change d p is none now so
+made-changes b p r change (Ok u) (Err e) is h so = absurd so
+made-changes b p r change (Err (Refused code)) (Ok d) is (same, now) so =
+    changed-err b r change code d p is (ap (λ (c : Changed). c.refusal) same) (subst (λ (c : Changed). Stands c.board p) (sym same) now) so
+made-changes b p r change (Err (Refused code)) (Err e) is h so = absurd so
+made-changes b p r change (Err Memory) (Ok d) is h so = absurd so
+made-changes b p r change (Err Memory) (Err e) is now so = inl now
+
 -- a removal is asked for, or not
 pub ask-changes : {E : Type 0} (b : Board) (p : Parts) (id : List ℕ) (answer : Result Unit Refusal) (result : Result outcome.Done E)
     → board.Changes (asked b id) b answer p → ComesTo answer result → Changes b (DeviceDel id) result p
 unfolding performed
-ask-changes b p id (Ok u) (Ok d) (none, now) so = changed-ok b (DeviceDel id) (asked b id) d p refl none now so
-ask-changes b p id (Ok u) (Err e) h so = absurd so
-ask-changes b p id (Err (Refused code)) (Ok d) (is, now) so =
-    changed-err b (DeviceDel id) (asked b id) code d p refl (ap (λ (c : Changed). c.refusal) is) (subst (λ (c : Changed). Stands c.board p) (sym is) now) so
-ask-changes b p id (Err (Refused code)) (Err e) h so = absurd so
-ask-changes b p id (Err Memory) (Ok d) h so = absurd so
-ask-changes b p id (Err Memory) (Err e) now so = inl now
+ask-changes b p id answer result h so = made-changes b p (DeviceDel id) (asked b id) answer result refl h so
 
 -- a line of the guest
 pub told-came : (b : Board) (line : List ℕ) (h : Heard) (d : outcome.Done) (p : Parts) → hearing.Came (heard b line) h p → ((x : Board) → done_of x d ≡ told (outcome_of x h)) → Came b (XGuest line) d p
@@ -186,35 +192,57 @@ pub cont-came : (b : Board) (changes : Bool) (d : outcome.Done) (p : Parts) → 
 unfolding performed
 cont-came b changes d p now same so = switched-came b true Resume Cont changes d p refl now same so
 
+-- holds, and the reset of the whole board
+pub hold-changes : {E : Type 0} (b : Board) (p : Parts) (path : List ℕ) (answer : Result Unit Refusal) (result : Result outcome.Done E)
+    → board.Changes (held_at b path) b answer p → ComesTo answer result → Changes b (XResetHold path) result p
+unfolding performed
+hold-changes b p path answer result h so = made-changes b p (XResetHold path) (held_at b path) answer result refl h so
+
+pub release-ok : (b : Board) (p : Parts) (path : List ℕ) (d : outcome.Done) → IsAnswered (released_at b path) (Ok tt) p
+    → ((x : Board) → done_of x d ≡ returned x empty) → Came b (XResetRelease path) d p
+unfolding performed
+release-ok b p path d h so = changed-ok b (XResetRelease path) (released_at b path) d p refl h.refusal h.board so
+
+pub release-err : (b : Board) (p : Parts) (path : List ℕ) (code : Code) (d : outcome.Done) → IsAnswered (released_at b path) (Err code) p
+    → ((x : Board) → done_of x d ≡ refused_with x code) → Came b (XResetRelease path) d p
+unfolding performed
+release-err b p path code d h so = changed-err b (XResetRelease path) (released_at b path) code d p refl h.refusal h.board so
+
+pub reset-came : (b : Board) (d : outcome.Done) (p : Parts) → Stands (reset_whole b) p → ((x : Board) → done_of x d ≡ record (reset_by b) { board = x })
+    → Came b SystemReset d p
+unfolding performed
+reset-came b d p now so = (now, so (reset_whole b))
+
 -- there is no other change
 pub no-other : (r : Request) → is_change r ≡ true → ((path name : List ℕ) (val : Val) → r ≡ QomSet path name val → ⊥) → ((driver id : List ℕ) (props : List Given) → r ≡ ObjectAdd driver id props → ⊥) → ((id : List ℕ) → r ≡ ObjectDel id → ⊥) → ((birth : ℕ) → r ≡ XSever birth → ⊥)
     → ((driver : List ℕ) (id bus : Option (List ℕ)) (props : List Given) → r ≡ DeviceAdd driver id bus props → ⊥) → ((id : List ℕ) → r ≡ DeviceDel id → ⊥) → ((line : List ℕ) → r ≡ XGuest line → ⊥)
-    → (r ≡ Stop → ⊥) → (r ≡ Cont → ⊥) → ((ns : ℕ) → r ≡ XStep ns → ⊥) → ⊥
-no-other (QmpCapabilities enable) is set add del sever plug ask guest stop cont step = cc
-no-other QueryVersion is set add del sever plug ask guest stop cont step = cc
-no-other QueryCommands is set add del sever plug ask guest stop cont step = cc
-no-other QueryStatus is set add del sever plug ask guest stop cont step = cc
-no-other Stop is set add del sever plug ask guest stop cont step = absurd (stop refl)
-no-other Cont is set add del sever plug ask guest stop cont step = absurd (cont refl)
-no-other SystemReset is set add del sever plug ask guest stop cont step = cc
-no-other Quit is set add del sever plug ask guest stop cont step = cc
-no-other (QomList path) is set add del sever plug ask guest stop cont step = cc
-no-other (QomGet path property) is set add del sever plug ask guest stop cont step = cc
-no-other (QomSet path property value) is set add del sever plug ask guest stop cont step = absurd (set path property value refl)
-no-other (QomListTypes implements with_abstract) is set add del sever plug ask guest stop cont step = cc
-no-other (DeviceListProperties typename) is set add del sever plug ask guest stop cont step = cc
-no-other (ObjectAdd driver id props) is set add del sever plug ask guest stop cont step = absurd (add driver id props refl)
-no-other (ObjectDel id) is set add del sever plug ask guest stop cont step = absurd (del id refl)
-no-other (DeviceAdd driver id bus props) is set add del sever plug ask guest stop cont step = absurd (plug driver id bus props refl)
-no-other (DeviceDel id) is set add del sever plug ask guest stop cont step = absurd (ask id refl)
-no-other (ChardevAdd id kind size) is set add del sever plug ask guest stop cont step = cc
-no-other (ChardevRemove id) is set add del sever plug ask guest stop cont step = cc
-no-other (RingbufRead device size format) is set add del sever plug ask guest stop cont step = cc
-no-other (RingbufWrite device payload format) is set add del sever plug ask guest stop cont step = cc
-no-other (XResetHold path) is set add del sever plug ask guest stop cont step = cc
-no-other (XResetRelease path) is set add del sever plug ask guest stop cont step = cc
-no-other (XSever birth) is set add del sever plug ask guest stop cont step = absurd (sever birth refl)
-no-other (XQueryNotes start) is set add del sever plug ask guest stop cont step = cc
-no-other XQueryDetached is set add del sever plug ask guest stop cont step = cc
-no-other (XGuest line) is set add del sever plug ask guest stop cont step = absurd (guest line refl)
-no-other (XStep ns) is set add del sever plug ask guest stop cont step = absurd (step ns refl)
+    → (r ≡ Stop → ⊥) → (r ≡ Cont → ⊥) → ((ns : ℕ) → r ≡ XStep ns → ⊥)
+    → (r ≡ SystemReset → ⊥) → ((path : List ℕ) → r ≡ XResetHold path → ⊥) → ((path : List ℕ) → r ≡ XResetRelease path → ⊥) → ⊥
+no-other (QmpCapabilities enable) is set add del sever plug ask guest stop cont step reset hold release = cc
+no-other QueryVersion is set add del sever plug ask guest stop cont step reset hold release = cc
+no-other QueryCommands is set add del sever plug ask guest stop cont step reset hold release = cc
+no-other QueryStatus is set add del sever plug ask guest stop cont step reset hold release = cc
+no-other Stop is set add del sever plug ask guest stop cont step reset hold release = absurd (stop refl)
+no-other Cont is set add del sever plug ask guest stop cont step reset hold release = absurd (cont refl)
+no-other SystemReset is set add del sever plug ask guest stop cont step reset hold release = absurd (reset refl)
+no-other Quit is set add del sever plug ask guest stop cont step reset hold release = cc
+no-other (QomList path) is set add del sever plug ask guest stop cont step reset hold release = cc
+no-other (QomGet path property) is set add del sever plug ask guest stop cont step reset hold release = cc
+no-other (QomSet path property value) is set add del sever plug ask guest stop cont step reset hold release = absurd (set path property value refl)
+no-other (QomListTypes implements with_abstract) is set add del sever plug ask guest stop cont step reset hold release = cc
+no-other (DeviceListProperties typename) is set add del sever plug ask guest stop cont step reset hold release = cc
+no-other (ObjectAdd driver id props) is set add del sever plug ask guest stop cont step reset hold release = absurd (add driver id props refl)
+no-other (ObjectDel id) is set add del sever plug ask guest stop cont step reset hold release = absurd (del id refl)
+no-other (DeviceAdd driver id bus props) is set add del sever plug ask guest stop cont step reset hold release = absurd (plug driver id bus props refl)
+no-other (DeviceDel id) is set add del sever plug ask guest stop cont step reset hold release = absurd (ask id refl)
+no-other (ChardevAdd id kind size) is set add del sever plug ask guest stop cont step reset hold release = cc
+no-other (ChardevRemove id) is set add del sever plug ask guest stop cont step reset hold release = cc
+no-other (RingbufRead device size format) is set add del sever plug ask guest stop cont step reset hold release = cc
+no-other (RingbufWrite device payload format) is set add del sever plug ask guest stop cont step reset hold release = cc
+no-other (XResetHold path) is set add del sever plug ask guest stop cont step reset hold release = absurd (hold path refl)
+no-other (XResetRelease path) is set add del sever plug ask guest stop cont step reset hold release = absurd (release path refl)
+no-other (XSever birth) is set add del sever plug ask guest stop cont step reset hold release = absurd (sever birth refl)
+no-other (XQueryNotes start) is set add del sever plug ask guest stop cont step reset hold release = cc
+no-other XQueryDetached is set add del sever plug ask guest stop cont step reset hold release = cc
+no-other (XGuest line) is set add del sever plug ask guest stop cont step reset hold release = absurd (guest line refl)
+no-other (XStep ns) is set add del sever plug ask guest stop cont step reset hold release = absurd (step ns refl)

@@ -19,6 +19,7 @@ use Rattle.qo_model.specs.Hotplug.{asked}
 use Rattle.qo_model.specs.Objects.{Changed, object_add, object_del, sever}
 use Rattle.qo_model.specs.Plug.{Plugged}
 use Rattle.qo_plug.specs.Added.{added, wanted}
+use Rattle.qo_realize.specs.Resets.{held_at, released_at}
 use Rattle.qo_realize.specs.Time.{advanced}
 use Rattle.qo_values.specs.declared.kinds.TypeId.{TypeId}
 use Rattle.qo_model.specs.Types.{TypeRow, is_a, row_named}
@@ -139,8 +140,8 @@ no_float b (ChardevAdd id kind size) = refl
 no_float b (ChardevRemove id) = refl
 no_float b (RingbufRead device size format) = refl
 no_float b (RingbufWrite device payload format) = refl
-no_float b (XResetHold path) = refl
-no_float b (XResetRelease path) = refl
+no_float b (XResetHold path) = changed_no_float (held_at b path)
+no_float b (XResetRelease path) = changed_no_float (released_at b path)
 no_float b (XSever birth) = changed_no_float (sever b birth)
 no_float b (XQueryNotes start) = rw (notes_no_float (given_from start b.notes)) refl
 no_float b XQueryDetached = detached_no_float (detached_told b)
@@ -170,7 +171,7 @@ unbuilt b QueryCommands stays list get types declared told detached version comm
 unbuilt b QueryStatus stays list get types declared told detached version commands status quit = absurd (status refl)
 unbuilt b Stop stays list get types declared told detached version commands status quit = cc
 unbuilt b Cont stays list get types declared told detached version commands status quit = cc
-unbuilt b SystemReset stays list get types declared told detached version commands status quit = refl
+unbuilt b SystemReset stays list get types declared told detached version commands status quit = cc
 unbuilt b Quit stays list get types declared told detached version commands status quit = absurd (quit refl)
 unbuilt b (QomList path) stays list get types declared told detached version commands status quit = absurd (list path refl)
 unbuilt b (QomGet path property) stays list get types declared told detached version commands status quit = absurd (get path property refl)
@@ -185,8 +186,8 @@ unbuilt b (ChardevAdd id kind size) stays list get types declared told detached 
 unbuilt b (ChardevRemove id) stays list get types declared told detached version commands status quit = refl
 unbuilt b (RingbufRead device size format) stays list get types declared told detached version commands status quit = refl
 unbuilt b (RingbufWrite device payload format) stays list get types declared told detached version commands status quit = refl
-unbuilt b (XResetHold path) stays list get types declared told detached version commands status quit = refl
-unbuilt b (XResetRelease path) stays list get types declared told detached version commands status quit = refl
+unbuilt b (XResetHold path) stays list get types declared told detached version commands status quit = cc
+unbuilt b (XResetRelease path) stays list get types declared told detached version commands status quit = cc
 unbuilt b (XSever birth) stays list get types declared told detached version commands status quit = cc
 unbuilt b (XQueryNotes start) stays list get types declared told detached version commands status quit = absurd (told start refl)
 unbuilt b XQueryDetached stays list get types declared told detached version commands status quit = absurd (detached refl)

@@ -9,7 +9,7 @@ use Rattle.qo_properties.specs.declared.refusals.Refusal.TheVariants.{Refused, M
 use Rattle.qo_realize.specs.Parts.{Parts}
 use Rattle.qo_realize.specs.Stands.{Stands}
 use Rattle.qo_requests.specs.declared.requests.Request.{Request}
-use Rattle.qo_requests.specs.declared.requests.Request.TheVariants.{Cont, DeviceAdd, DeviceDel, ObjectAdd, ObjectDel, QomSet, Stop, XGuest, XSever, XStep}
+use Rattle.qo_requests.specs.declared.requests.Request.TheVariants.{Cont, DeviceAdd, DeviceDel, ObjectAdd, ObjectDel, QomSet, Stop, SystemReset, XGuest, XResetHold, XResetRelease, XSever, XStep}
 use Rattle.qo_commands.specs.Commands.{empty, performed, refused_with, returned}
 use Rattle.qo_commands.specs.Views.{done_of}
 use Rattle.qo_commands.specs.declared.commands.Done.{Done}
@@ -26,6 +26,9 @@ is_change (XGuest line) = true
 is_change Stop = true
 is_change Cont = true
 is_change (XStep ns) = true
+is_change SystemReset = true
+is_change (XResetHold path) = true
+is_change (XResetRelease path) = true
 is_change request = false
 
 -- the board behind an attempt of a command that was cut for want of memory, when it had made so many objects, the last of them joined or not: `object-add` makes one, and `device_add` those of its device, where nothing bars them

@@ -11,7 +11,7 @@ use Rattle.qo_guest.specs.declared.answers.GuestAnswer.{GuestAnswer}
 use Rattle.qo_guest.specs.declared.answers.GuestAnswer.TheVariants.{NoLine}
 use Rattle.qo_lane.specs.Hearing.{Outcome, heard}
 use Rattle.qo_model.specs.Board.{Board, DeviceEvent}
-use Rattle.qo_model.specs.Hotplug.{asked}
+use Rattle.qo_model.specs.Hotplug.{asked, reset_whole}
 use Rattle.qo_model.specs.Plug.{Plugged}
 use Rattle.qo_plug.specs.Added.{added, wanted}
 use Rattle.qo_values.specs.Plain.{data_of}
@@ -30,12 +30,13 @@ use Rattle.qo_model.specs.declared.properties.RowKind.{RowKind}
 use Rattle.qo_model.specs.declared.properties.RowKind.TheVariants as row
 use Rattle.qo_types.specs.Rows.{listed as listed_types}
 pub use Rattle.qo_replies.specs.Properties.{properties_data, property_data}
+use Rattle.qo_realize.specs.Resets.{held_at, released_at}
 use Rattle.qo_realize.specs.Time.{advanced, switches, with_running}
 use Rattle.qo_replies.specs.Replies.{version_data}
 use Rattle.qo_replies.specs.declared.events.Event.{Event}
-use Rattle.qo_replies.specs.declared.events.Event.TheVariants.{DeviceDeleted, DeviceUnplugGuestError, Resume, Shutdown, Stop as Stopped}
+use Rattle.qo_replies.specs.declared.events.Event.TheVariants.{DeviceDeleted, DeviceUnplugGuestError, Reset, Resume, Shutdown, Stop as Stopped}
 use Rattle.qo_requests.specs.declared.requests.Request.{Request}
-use Rattle.qo_requests.specs.declared.requests.Request.TheVariants.{Cont, DeviceAdd, DeviceDel, DeviceListProperties, ObjectAdd, ObjectDel, QomGet, QomList, QomListTypes, QomSet, QueryCommands, QueryStatus, QueryVersion, Quit, Stop, XGuest, XQueryDetached, XQueryNotes, XSever, XStep}
+use Rattle.qo_requests.specs.declared.requests.Request.TheVariants.{Cont, DeviceAdd, DeviceDel, DeviceListProperties, ObjectAdd, ObjectDel, QomGet, QomList, QomListTypes, QomSet, QueryCommands, QueryStatus, QueryVersion, Quit, Stop, SystemReset, XGuest, XQueryDetached, XQueryNotes, XResetHold, XResetRelease, XSever, XStep}
 
 -- what a command comes to: what it returns or the code that refuses it, the board behind it, its events, and whether it ends the run
 pub record Done : Type 0 where
@@ -87,6 +88,10 @@ told line = record { result = answer_told line.answer; board = line.board; event
 -- the machine runs, or stands still; it is told of where that is a change
 abbrev pub switched : Board → Bool → Event → Done
 switched b on event = record { result = Ok empty; board = with_running on b; events = if switches b on then event ∷ [] else []; ends = false }
+
+-- the whole board is reset, and sessions are told that it was
+abbrev pub reset_by : Board → Done
+reset_by b = record { result = Ok empty; board = reset_whole b; events = Reset false ∷ []; ends = false }
 
 -- the virtual time, in ns, as it is told
 abbrev pub time_data : ℕ → Data
@@ -141,9 +146,12 @@ built =
     ∷ codes "query-version"
     ∷ codes "quit"
     ∷ codes "stop"
+    ∷ codes "system_reset"
     ∷ codes "x-guest"
     ∷ codes "x-query-detached"
     ∷ codes "x-query-notes"
+    ∷ codes "x-reset-hold"
+    ∷ codes "x-reset-release"
     ∷ codes "x-sever"
     ∷ codes "x-step"
     ∷ []
@@ -220,6 +228,9 @@ performed b (XGuest line) = told (heard b line)
 performed b Stop = switched b false Stopped
 performed b Cont = switched b true Resume
 performed b (XStep ns) = timed (advanced b ns)
+performed b SystemReset = reset_by b
+performed b (XResetHold path) = changed (held_at b path)
+performed b (XResetRelease path) = changed (released_at b path)
 performed b (XQueryNotes from) = returned b (notes_data from b.notes)
 performed b XQueryDetached = returned b (array (items_of (map detached_data (detached_told b))))
 performed b QueryVersion = returned b version_data

@@ -29,9 +29,12 @@ fn built() -> &'static [&'static str]
         "query-version",
         "quit",
         "stop",
+        "system_reset",
         "x-guest",
         "x-query-detached",
         "x-query-notes",
+        "x-reset-hold",
+        "x-reset-release",
         "x-sever",
         "x-step",
     ]

@@ -37,6 +37,9 @@ pub fn is_change(request: &Request) -> bool
         Request::Stop => true,
         Request::Cont => true,
         Request::XStep { .. } => true,
+        Request::SystemReset => true,
+        Request::XResetHold { .. } => true,
+        Request::XResetRelease { .. } => true,
         _ => false,
     }
 }
@@ -202,6 +205,35 @@ fn step(board: &mut Board, ns: u64) -> Done
     }
 }
 
+/// The whole board is reset, and sessions are told so.
+fn reset<L: Ledger>(board: &mut Board, steps: &mut Steps<L>) -> Done
+    ensures { (b : Tree) → Stands b board.old → Came b request.SystemReset result board.new }
+{
+    board.system_reset(steps);
+    Done {
+        result: Ok(Body::Empty),
+        event: Some(Event::Reset { guest: false }),
+        ends: false,
+    }
+}
+
+/// Holds the object at a path in reset.
+fn hold<L: Ledger>(board: &mut Board, path: &str, steps: &mut Steps<L>) -> Result<Done, AllocError>
+    ensures { (b : Tree) → Stands b board.old → Changes b (request.XResetHold path.now) result board.new }
+{
+    outcome_of(board.hold(path, steps))
+}
+
+/// Releases a hold on the object at a path.
+fn release<L: Ledger>(board: &mut Board, path: &str, steps: &mut Steps<L>) -> Done
+    ensures { (b : Tree) → Stands b board.old → Came b (request.XResetRelease path.now) result board.new }
+{
+    match board.release(path, steps) {
+        Ok(()) => returned(Body::Empty),
+        Err(code) => refused(code),
+    }
+}
+
 /// A command that changes the board, or is refused. Events on devices wait on the board behind it.
 /// Where it is refused the board is as it was, but for an attempt of `object-add` or `device_add` that
 /// was given up. The error is want of memory; the board is then as it was, or behind an attempt that
@@ -245,6 +277,9 @@ pub fn change<L: Ledger>(
         Request::Stop => Ok(stop(board)),
         Request::Cont => Ok(cont(board)),
         Request::XStep { ns } => Ok(step(board, *ns)),
+        Request::SystemReset => Ok(reset(board, steps)),
+        Request::XResetHold { path } => hold(board, path.as_str(), steps),
+        Request::XResetRelease { path } => Ok(release(board, path.as_str(), steps)),
         _ => unreachable!(),
     }
 }

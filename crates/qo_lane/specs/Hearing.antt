@@ -5,13 +5,13 @@ use Rattle.qo_guest.specs.declared.addresses.Addr.{Addr}
 use Rattle.qo_guest.specs.declared.answers.GuestAnswer.{GuestAnswer}
 use Rattle.qo_guest.specs.declared.answers.GuestAnswer.TheVariants.{Fine, Plug, Unplug, NoNotice, NoLine, NoStopped, NoDevice, NoPending}
 use Rattle.qo_guest.specs.declared.lines.GuestAct.{GuestAct}
-use Rattle.qo_guest.specs.declared.lines.GuestAct.TheVariants.{Ack, Nack, Poll, Shutdown as power_off}
+use Rattle.qo_guest.specs.declared.lines.GuestAct.TheVariants.{Ack, Nack, Poll, Reset as start_over, Shutdown as power_off}
 use Rattle.qo_model.specs.Board.{Board, Notice}
 use Rattle.qo_model.specs.Depth.{among}
-use Rattle.qo_model.specs.Hotplug.{completed, refused}
+use Rattle.qo_model.specs.Hotplug.{completed, refused, reset_whole}
 use Rattle.qo_buses.specs.Addresses.{addressed}
 use Rattle.qo_replies.specs.declared.events.Event.{Event}
-use Rattle.qo_replies.specs.declared.events.Event.TheVariants.{Shutdown}
+use Rattle.qo_replies.specs.declared.events.Event.TheVariants.{Reset, Shutdown}
 use Rattle.qo_realize.specs.Guest.{address_of, first_notice, polled}
 use Rattle.qo_realize.specs.Parts.{Parts}
 use Rattle.qo_realize.specs.Stands.{Stands}
@@ -54,15 +54,20 @@ told_by b (Some notice) = if notice.plug then Plug (address_of b notice.birth) e
 abbrev pub polled_by : Board → Outcome
 polled_by b = answered (polled b) (told_by b (first_notice b))
 
+-- it resets the whole board, and sessions are told that it did
+abbrev pub reset_by : Board → Outcome
+reset_by b = record { answer = Fine; board = reset_whole b; events = Reset true ∷ []; ends = false }
+
 -- it ends the run
 abbrev pub shut_down : Board → Outcome
 shut_down b = record { answer = Fine; board = b; events = Shutdown true ∷ []; ends = true }
 
--- what an act of the guest comes to where the machine runs; registers and resets are not built, and such a line is none
+-- what an act of the guest comes to where the machine runs; registers are not built, and such a line is none
 abbrev pub acted : Board → GuestAct → Outcome
 acted b (Ack at) = acked b (addressed b at)
 acted b (Nack at) = nacked b (addressed b at)
 acted b Poll = polled_by b
+acted b start_over = reset_by b
 acted b power_off = shut_down b
 acted b act = answered b NoLine
 
@@ -70,6 +75,7 @@ abbrev pub is_built : GuestAct → Bool
 is_built (Ack at) = true
 is_built (Nack at) = true
 is_built Poll = true
+is_built start_over = true
 is_built power_off = true
 is_built act = false
 

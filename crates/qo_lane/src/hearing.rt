@@ -5,7 +5,7 @@ ghost use Rattle.qo_guest.specs.Lines.{guest_line};
 ghost use Rattle.qo_model.specs.Board.{Board as Tree};
 ghost use Rattle.qo_realize.specs.Stands.{Stands};
 ghost use Rattle.qo_buses.specs.Addresses.{addressed};
-ghost use Rattle.qo_lane.specs.Hearing.{Came, act_in, acked, acted, heard, is_built, nacked, outcome_of, polled_by, shut_down, told_by};
+ghost use Rattle.qo_lane.specs.Hearing.{Came, act_in, acked, acted, heard, is_built, nacked, outcome_of, polled_by, reset_by, shut_down, told_by};
 
 use qo_guest::{Addr, GuestAct, GuestAnswer, read_line};
 use qo_heap::Steps;
@@ -95,6 +95,18 @@ fn poll<L: Ledger>(board: &mut Board, steps: &mut Steps<L>) -> Heard
     answered(told_by(board, notice.as_ref(), steps))
 }
 
+/// The guest resets the whole board. It takes no memory.
+fn reset<L: Ledger>(board: &mut Board, steps: &mut Steps<L>) -> Heard
+    ensures { (b : Tree) → Stands b board.old → Came (reset_by b) result board.new }
+{
+    board.system_reset(steps);
+    Heard {
+        answer: GuestAnswer::Fine,
+        event: Some(Event::Reset { guest: true }),
+        ends: false,
+    }
+}
+
 /// The guest ends the run.
 fn shut_down() -> Heard
     ensures { (b : Tree) → outcome_of b result ≡ shut_down b }
@@ -121,10 +133,9 @@ fn act<L: Ledger>(
         GuestAct::Ack(at) => Ok(ack(board, at, steps)),
         GuestAct::Nack(at) => nack(board, at, alloc, steps),
         GuestAct::Poll => Ok(poll(board, steps)),
+        GuestAct::Reset => Ok(reset(board, steps)),
         GuestAct::Shutdown => Ok(shut_down()),
-        GuestAct::Read(_, _) | GuestAct::Write(_, _, _) | GuestAct::Reset => {
-            Ok(answered(GuestAnswer::NoLine))
-        }
+        GuestAct::Read(_, _) | GuestAct::Write(_, _, _) => Ok(answered(GuestAnswer::NoLine)),
     }
 }
 
@@ -133,8 +144,12 @@ fn is_built(act: &GuestAct) -> bool
     ensures { result ≡ is_built act.now }
 {
     match act {
-        GuestAct::Ack(_) | GuestAct::Nack(_) | GuestAct::Poll | GuestAct::Shutdown => true,
-        GuestAct::Read(_, _) | GuestAct::Write(_, _, _) | GuestAct::Reset => false,
+        GuestAct::Ack(_)
+        | GuestAct::Nack(_)
+        | GuestAct::Poll
+        | GuestAct::Reset
+        | GuestAct::Shutdown => true,
+        GuestAct::Read(_, _) | GuestAct::Write(_, _, _) => false,
     }
 }
 

@@ -2,6 +2,7 @@
 use Rattle.std.proofs.Common.{refl, sym, ◌∙◌, List, Result, Ok, Err, IfOk, ◌≡◌, false}
 use Rattle.qo_causes.specs.declared.inputs.Input.{Input}
 use Rattle.qo_commands.specs.Commands.{without_events}
+use Rattle.qo_model.specs.Board.{Board}
 use Rattle.qo_realize.specs.Stands.{StandsForGood}
 use Rattle.qo_realize.specs.Time.{at_time, with_running}
 use Rattle.qo_realize.proofs.SoundLemmas.{completed-devices, polled-devices}
@@ -12,7 +13,7 @@ use Rattle.qo_machine.proofs.MachineLemmas.{in_at}
 use Rattle.qo_machine.specs.Machine.{Answers, BreaksOff, IsIn, Message, Seen, State, opening, state_at, step}
 
 -- changes and attempts keep them
-devices_kept : KeepsBoard SoundDevices
+pub devices_kept : KeepsBoard SoundDevices
 devices_kept =
     record {
       change = λ b change h. devices_kept_lem.change b change h;
@@ -25,12 +26,17 @@ devices_kept =
       polled = λ b h. polled-devices b h;
       timed = λ b now h. devices_kept_lem.beside b (at_time now b) refl refl refl refl refl refl h;
       switched = λ b on h. devices_kept_lem.beside b (with_running on b) refl refl refl refl refl refl h;
+      held_so = λ b n is h. devices_kept_lem.held_so b n h;
+      released_so = λ b n is h. devices_kept_lem.released_so b n h;
+      reset = λ b h. devices_kept_lem.reset b h;
     }
 
 -- the events are no matter to them
+pub devices_free : (b : Board) → SoundDevices b → SoundDevices (without_events b)
+devices_free b h = devices_kept_lem.beside b (without_events b) refl refl refl refl refl refl h
+
 pub devices_commands : KeepsCommands SoundDevices
-devices_commands =
-    keeps_commands SoundDevices devices_kept (λ b h. devices_kept_lem.beside b (without_events b) refl refl refl refl refl refl h)
+devices_commands = keeps_commands SoundDevices devices_kept devices_free
 
 -- where they are sound on one board that a machine stands at, they are on each
 devices_by : (s t : State) (m : Seen) → IsIn s m → IsIn t m → SoundDevices s.board → SoundDevices t.board

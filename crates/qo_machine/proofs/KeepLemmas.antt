@@ -10,7 +10,7 @@ use Rattle.serde_json.specs.Data.{Data, array}
 use Rattle.serde_json.specs.View.{items_of}
 use Rattle.qo_values.specs.Plain.{data_of}
 use Rattle.qo_values.specs.declared.codes.Code.{Code}
-use Rattle.qo_values.specs.declared.codes.Code.TheVariants.{E22, E53}
+use Rattle.qo_values.specs.declared.codes.Code.TheVariants.{E15, E22, E48, E49, E53}
 use Rattle.qo_values.specs.declared.kinds.TypeId.{TypeId}
 use Rattle.qo_values.specs.declared.properties.Val.{Val}
 use Rattle.qo_values.specs.declared.limits.TheConstants.{SESSIONS, TIME_MAX}
@@ -19,9 +19,11 @@ use Rattle.qo_model.specs.FinalNotesRuns.{Change, added as object_added, deleted
 use Rattle.qo_model.specs.Objects.{Changed, barred_by, object_add, object_del, sever, with_attempt}
 use Rattle.qo_model.specs.Properties.{object_at, write}
 use Rattle.qo_model.specs.Depth.{among}
-use Rattle.qo_model.specs.Hotplug.{asked, completed}
+use Rattle.qo_model.specs.Hotplug.{asked, completed, reset_whole}
 use Rattle.qo_model.specs.Hotplug.{refused as refused_removal}
+use Rattle.qo_model.specs.Paths.{Place, attached, found, is_of, missing, resolve, several}
 use Rattle.qo_model.specs.Plug.{Plugged, Wanted, cut_attempt, plug}
+use Rattle.qo_model.specs.Reset.{held, is_deep, released}
 use Rattle.qo_model.specs.Types.{TypeRow, is_a, row_named}
 use Rattle.qo_buses.specs.Addresses.{addressed}
 use Rattle.qo_guest.specs.Lines.{guest_line}
@@ -34,6 +36,7 @@ use Rattle.qo_lane.specs.Hearing as hearing
 use Rattle.qo_lane.specs.Lines.{lines_of, without_return}
 use Rattle.qo_plug.specs.Added.{added, driver_barred, wanted}
 use Rattle.qo_realize.specs.Guest.{polled}
+use Rattle.qo_realize.specs.Resets.{at_path, held_at, held_of, released_at, released_of, resettable_at}
 use Rattle.qo_realize.specs.Stands.{Stands}
 use Rattle.qo_realize.specs.Time.{advanced, at_time, with_running}
 use Rattle.qo_model.specs.Access.{listing_at, read, write_at}
@@ -49,6 +52,7 @@ use Rattle.qo_commands.proofs.AttemptLemmas.{attempted-all}
 use Rattle.qo_commands.specs.Changes.{attempted}
 use Rattle.qo_commands.specs.Commands.{answered, device_properties, perform, performed, without_events}
 use Rattle.qo_commands.specs.Commands as commands
+use Rattle.qo_sound.proofs.TargetLemmas.{resolved-of}
 use Rattle.qo_machine.specs.Machine.{BreaksOff, BreaksOffAt, Choice, Made, Seen, State, Stepped, behind, behind_command, by_item, by_line, defined, fed_at, first, input_step, item_step, line_step, made_by, mode_of, opened, others, refused, serve, serve_by, serve_lines, serve_unless, session_of, step, taken, unchanged, with_board, with_line, with_session}
 use Rattle.qo_machine.proofs.LeftLemmas.{fed_board}
 use Rattle.qo_machine.specs.Runs.{Turn, after, state_after}
@@ -68,6 +72,10 @@ pub record KeepsBoard (P : Board → Type 0) : Type 0 where
   -- it comes to another moment, and runs or stands still
   pub timed : (b : Board) (now : ℕ) → P b → P (at_time now b)
   pub switched : (b : Board) (on : Bool) → P b → P (with_running on b)
+  -- an object that may be is held in reset, and released; and the whole board is reset
+  pub held_so : (b : Board) (n : ℕ) → is_of b (codes "resettable") n ≡ true → P b → P (held b n)
+  pub released_so : (b : Board) (n : ℕ) → is_of b (codes "resettable") n ≡ true → P b → P (released b n)
+  pub reset : (b : Board) → P b → P (reset_whole b)
 
 -- what each command keeps of the board, and each attempt
 pub record KeepsCommands (P : Board → Type 0) : Type 0 where
@@ -149,7 +157,7 @@ acted_keeps P k b (Nack at) p = by (addressed b at)
 acted_keeps P k b Poll p = k.polled b p
 acted_keeps P k b (Read at register) p = p
 acted_keeps P k b (Write at register value) p = p
-acted_keeps P k b Reset p = p
+acted_keeps P k b Reset p = k.reset b p
 acted_keeps P k b Shutdown p = p
 
 pub heard_keeps : (P : Board → Type 0) → KeepsBoard P → (b : Board) (line : List ℕ) → P b → P (heard b line).board
@@ -186,6 +194,40 @@ advanced-all P b ns p q = by b.running (nat_lt TIME_MAX (b.now + ns))
     by true true = p
     by true false = q
 
+-- holds
+held_of-keeps : (P : Board → Type 0) → KeepsBoard P → (b : Board) (n : ℕ) → is_of b (codes "resettable") n ≡ true → P b → P (held_of b n).board
+held_of-keeps P k b n is p = by (attached b n) (is_deep b n)
+  where
+    come : Bool → Bool → Changed
+    come home deep =
+        if not home then record { refusal = Some E15; board = b }
+        else if deep then record { refusal = Some E48; board = b }
+        else record { refusal = None; board = held b n }
+
+    by : (home deep : Bool) → P (come home deep).board
+    by false deep = p
+    by true true = p
+    by true false = k.held_so b n is p
+
+released_of-keeps : (P : Board → Type 0) → KeepsBoard P → (b : Board) (n : ℕ) → is_of b (codes "resettable") n ≡ true → P b → P (released_of b n).board
+released_of-keeps P k b n is p = by (among b.holds n)
+  where
+    come : Bool → Changed
+    come stands = if stands then record { refusal = None; board = released b n } else record { refusal = Some E49; board = b }
+
+    by : (stands : Bool) → P (come stands).board
+    by true = k.released_so b n is p
+    by false = p
+
+at_path-keeps : (P : Board → Type 0) (b : Board) (path : List ℕ) (change : ℕ → Changed) → P b → ((n : ℕ) → is_of b (codes "resettable") n ≡ true → P (change n).board)
+    → P (at_path b change (resettable_at b path)).board
+at_path-keeps P b path change p q = by (resolve b path (codes "resettable")) refl
+  where
+    by : (o : Place) → resolve b path (codes "resettable") ≡ o → P (at_path b change (resettable_at b path)).board
+    by (found n) e = rw (resettable_at, e) (q n (resolved-of b path (codes "resettable") n e))
+    by missing e = rw (resettable_at, e) p
+    by several e = rw (resettable_at, e) p
+
 performed_keeps : (P : Board → Type 0) → KeepsBoard P → (b : Board) (r : Request) → P b → P (performed b r).board
 unfolding performed
 performed_keeps P k b (QmpCapabilities enable) p = p
@@ -194,7 +236,7 @@ performed_keeps P k b QueryCommands p = p
 performed_keeps P k b QueryStatus p = p
 performed_keeps P k b Stop p = k.switched b false p
 performed_keeps P k b Cont p = k.switched b true p
-performed_keeps P k b SystemReset p = p
+performed_keeps P k b SystemReset p = k.reset b p
 performed_keeps P k b Quit p = p
 performed_keeps P k b (QomList path) p = answered_board P b commands.properties_data (listing_at b path) p
 performed_keeps P k b (QomGet path property) p = answered_board P b data_of (read b path property) p
@@ -209,8 +251,8 @@ performed_keeps P k b (ChardevAdd id kind size) p = p
 performed_keeps P k b (ChardevRemove id) p = p
 performed_keeps P k b (RingbufRead device size format) p = p
 performed_keeps P k b (RingbufWrite device payload format) p = p
-performed_keeps P k b (XResetHold path) p = p
-performed_keeps P k b (XResetRelease path) p = p
+performed_keeps P k b (XResetHold path) p = changed_board P (held_at b path) (at_path-keeps P b path (held_of b) p (λ n is. held_of-keeps P k b n is p))
+performed_keeps P k b (XResetRelease path) p = changed_board P (released_at b path) (at_path-keeps P b path (released_of b) p (λ n is. released_of-keeps P k b n is p))
 performed_keeps P k b (XSever birth) p = changed_board P (sever b birth) (k.change b (severed birth) p)
 performed_keeps P k b (XQueryNotes start) p = p
 performed_keeps P k b XQueryDetached p = p

@@ -1,48 +1,84 @@
 -- Final notes over runs.
-use Rattle.std.proofs.Common.{true, refl}
-use Rattle.qo_model.specs.Board.{Board}
+use Rattle.std.proofs.Common.{◌≡◌, ℕ, zero, suc, true, refl, length, codes, Option, Some, None}
+use Rattle.qo_values.specs.declared.births.TheConstants.{MACHINE_BIRTH, ROOT_BIRTH}
+use Rattle.qo_model.specs.Board.{Board, is_live}
 use Rattle.qo_model.specs.FinalNotes.{NotesInOrder}
 use Rattle.qo_model.proofs.FinalNotesGrowthLemmas.{attempt-grows, grown-keeps}
 use Rattle.qo_model.proofs.FinalNotesRunsLemmas.{final_once_lem, once, opening_notes}
-use Rattle.qo_model.proofs.OpeningLemmas.{opening_sound}
+use Rattle.qo_model.specs.Hotplug.{all_completed, completed, reset_whole}
+use Rattle.qo_model.specs.Unplug.{first_of}
 use Rattle.qo_realize.specs.Guest.{polled}
 use Rattle.qo_realize.specs.Time.{at_time, with_running}
 use Rattle.qo_sound.proofs.NotesKeptLemmas.{notes_kept_lem}
-use Rattle.qo_sound.specs.Kept.{SoundTree}
+use Rattle.qo_sound.proofs.ViewLemmas.{rest-from_sound}
+use Rattle.qo_sound_devices.specs.SoundDevices.{SoundDevices}
+use Rattle.qo_sound_devices.specs.SoundLists.{IsOn}
+use Rattle.qo_sound_devices.proofs.DevicesLawLemmas.{devices_kept_lem}
+use Rattle.qo_sound_devices.proofs.PlacesLemmas.{child-live, of-live, stands-live}
+use Rattle.qo_sound_devices.proofs.ResetLemmas.{first-on}
 use Rattle.qo_machine.proofs.AddressLemmas.{address-there}
 use Rattle.qo_machine.proofs.KeepLemmas.{KeepsBoard, KeepsCommands, keeps_commands, run_keeps}
-use Rattle.qo_machine.proofs.TreeLemmas.{tree_free, tree_kept}
+use Rattle.qo_machine.proofs.DevicesLemmas.{devices_free, devices_kept}
 use Rattle.qo_machine.specs.Laws.{FinalOnceInRuns}
 use Rattle.qo_machine.specs.Machine.{opening}
 use Rattle.qo_machine.specs.Runs.{state_after}
 
--- on a board whose tree is sound
+-- on a board whose devices are sound
 abbrev Ordered : Board → Type 0
-Ordered b = SoundTree b × NotesInOrder b
+Ordered b = SoundDevices b × NotesInOrder b
+
+-- the removals that are pending come to their end
+completed-ordered : (times : ℕ) (b : Board) → Ordered b → Ordered (all_completed times b)
+completed-ordered zero b o = o
+completed-ordered (suc times) b o = go (first_of b.pending) refl (completed-ordered times)
+  where
+    ended : (d : ℕ) → IsOn b d → Ordered (completed b d)
+    ended d on = (
+      devices_kept_lem.detached b d o.0 on.0,
+      notes_kept_lem.detached b d o.0.tree (stands-live b (rest-from_sound b o.0.tree).used.firm d on.0) o.1,
+    )
+
+    go : (x : Option ℕ) → first_of b.pending ≡ x → ((c : Board) → Ordered c → Ordered (all_completed times c)) → Ordered (all_completed (suc times) b)
+    go None e rest = rw (all_completed, e) o
+    go (Some d) e rest = rw (all_completed, e) (rest (completed b d) (ended d (first-on (IsOn b) b.pending o.0.lists.pending d e)))
+
+-- the machine is there
+machine-live : (b : Board) → SoundDevices b → is_live b MACHINE_BIRTH ≡ true
+machine-live b h = child-live b (rest-from_sound b h.tree).used.firm ROOT_BIRTH MACHINE_BIRTH h.places.1.machine
+
+reset-notes : (b : Board) → Ordered b → NotesInOrder (reset_whole b)
+unfolding reset_whole
+reset-notes b o =
+    let c : Board = all_completed (length b.pending) b in
+    let p : Ordered c = completed-ordered (length b.pending) b o in
+    notes_kept_lem.pulsed c MACHINE_BIRTH p.0.tree (machine-live c p.0) p.1
 
 -- notes stay in order
 notes_kept : KeepsBoard Ordered
 notes_kept =
     record {
-      change = λ b change o. (tree_kept.change b change o.0, final_once_lem.step b change o.1);
-      attempt = λ b t o. (tree_kept.attempt b t o.0, grown-keeps b _ t true (attempt-grows b t o.1) o.1);
-      plugged = λ b a o. (tree_kept.plugged b a o.0, notes_kept_lem.plugged b a o.0 o.1);
-      cut = λ b t i joined o. (tree_kept.cut b t i joined o.0, notes_kept_lem.cut b t i joined o.1);
-      asked = λ b id o. (tree_kept.asked b id o.0, notes_kept_lem.asked_for b id o.1);
-      completed = λ b at d is pending o. (tree_kept.completed b at d is pending o.0, notes_kept_lem.detached b d o.0 (address-there b o.0 at d is) o.1);
-      refused = λ b d o. (tree_kept.refused b d o.0, notes_kept_lem.refused_by b d o.1);
-      polled = λ b o. (tree_kept.polled b o.0, notes_kept_lem.beside b (polled b) refl refl refl o.1);
-      timed = λ b now o. (tree_kept.timed b now o.0, notes_kept_lem.beside b (at_time now b) refl refl refl o.1);
-      switched = λ b on o. (tree_kept.switched b on o.0, notes_kept_lem.beside b (with_running on b) refl refl refl o.1);
+      change = λ b change o. (devices_kept.change b change o.0, final_once_lem.step b change o.1);
+      attempt = λ b t o. (devices_kept.attempt b t o.0, grown-keeps b _ t true (attempt-grows b t o.1) o.1);
+      plugged = λ b a o. (devices_kept.plugged b a o.0, notes_kept_lem.plugged b a o.0.tree o.1);
+      cut = λ b t i joined o. (devices_kept.cut b t i joined o.0, notes_kept_lem.cut b t i joined o.1);
+      asked = λ b id o. (devices_kept.asked b id o.0, notes_kept_lem.asked_for b id o.1);
+      completed = λ b at d is pending o. (devices_kept.completed b at d is pending o.0, notes_kept_lem.detached b d o.0.tree (address-there b o.0.tree at d is) o.1);
+      refused = λ b d o. (devices_kept.refused b d o.0, notes_kept_lem.refused_by b d o.1);
+      polled = λ b o. (devices_kept.polled b o.0, notes_kept_lem.beside b (polled b) refl refl refl o.1);
+      timed = λ b now o. (devices_kept.timed b now o.0, notes_kept_lem.beside b (at_time now b) refl refl refl o.1);
+      switched = λ b on o. (devices_kept.switched b on o.0, notes_kept_lem.beside b (with_running on b) refl refl refl o.1);
+      held_so = λ b n is o. (devices_kept.held_so b n is o.0, notes_kept_lem.held_so b n o.0.tree (of-live b (codes "resettable") n is) o.1);
+      released_so = λ b n is o. (devices_kept.released_so b n is o.0, notes_kept_lem.released_so b n o.0.tree (of-live b (codes "resettable") n is) o.1);
+      reset = λ b o. (devices_kept.reset b o.0, reset-notes b o);
     }
 
 -- events are no matter to them
 commands_kept : KeepsCommands Ordered
 commands_kept =
     keeps_commands Ordered notes_kept
-    (λ b o. (tree_free b o.0, record { opened = o.1.opened; counted = o.1.counted; unborn = o.1.unborn; living = o.1.living; gone = o.1.gone }))
+    (λ b o. (devices_free b o.0, record { opened = o.1.opened; counted = o.1.counted; unborn = o.1.unborn; living = o.1.living; gone = o.1.gone }))
 
 pub final_once_in_runs : FinalOnceInRuns
 final_once_in_runs turns =
-    let kept = run_keeps Ordered commands_kept opening turns ((opening_sound.graph, opening_sound.aliases), opening_notes) in
+    let kept = run_keeps Ordered commands_kept opening turns (devices_kept_lem.opening, opening_notes) in
     (kept.1, λ n. once (state_after opening turns).board kept.1 n)

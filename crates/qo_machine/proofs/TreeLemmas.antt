@@ -44,6 +44,9 @@ tree_kept =
       polled = λ b h. polled-tree b h;
       timed = λ b now h. timed-tree b now h;
       switched = λ b on h. switched-tree b on h;
+      held_so = λ b n is h. sound_kept_lem.held_so b n h;
+      released_so = λ b n is h. sound_kept_lem.released_so b n h;
+      reset = λ b h. sound_kept_lem.reset b h;
     }
 
 -- the tree has no part in the events

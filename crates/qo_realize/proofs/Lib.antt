@@ -2,8 +2,10 @@ pub mod AskLemmas
 pub mod CompleteLemmas
 pub mod DeviceLemmas
 pub mod GuestLemmas
+pub mod HoldLemmas
 pub mod PlugLemmas
 pub mod RefuseLemmas
+pub mod ResetLemmas
 pub mod SoundLemmas
 pub mod StageLemmas
 pub mod StandsLemmas

@@ -17,6 +17,7 @@ use Rattle.qo_model.specs.Objects.{attempted_as, barred_by, with_attempt}
 use Rattle.qo_model.specs.Opening.{opening_board}
 use Rattle.qo_model.specs.Plug.{Plugged, Wanted, barred_early, cut_attempt, objects_in, plug, plug_attempt, type_barred}
 use Rattle.qo_model.specs.Properties.{object_at, write}
+use Rattle.qo_model.specs.Reset.{held, pulse, released}
 use Rattle.qo_model.specs.SoundGraph.{graph_of}
 use Rattle.qo_model.specs.Types.{TypeRow, row_named}
 use Rattle.qo_plug.specs.Added.{added, driver_barred, is_built, unbuilt}
@@ -179,6 +180,16 @@ completed-devices b d pending h = devices_kept_lem.detached b d h (among-all (Is
 pub completed-good : (b : Board) (d : ℕ) → among b.pending d ≡ true → Good b → Good (completed b d)
 completed-good b d pending good =
     record { devices = completed-devices b d pending good.devices; timerless = timerless_kept_lem.detached b d good.timerless }
+
+-- a hold of a reset, a hold less, and both
+pub held-good : (b : Board) (n : ℕ) → Good b → Good (held b n)
+held-good b n good = record { devices = devices_kept_lem.held_so b n good.devices; timerless = timerless_kept_lem.held_so b n good.timerless }
+
+pub released-good : (b : Board) (n : ℕ) → Good b → Good (released b n)
+released-good b n good = record { devices = devices_kept_lem.released_so b n good.devices; timerless = timerless_kept_lem.released_so b n good.timerless }
+
+pub pulsed-good : (b : Board) (n : ℕ) → Good b → Good (pulse b n)
+pulsed-good b n good = record { devices = devices_kept_lem.pulsed b n good.devices; timerless = timerless_kept_lem.pulsed b n good.timerless }
 
 -- each board that stands at the same parts as a good one is good
 pub good-of : (p : Parts) → StandsForGood p → (b : Board) → Stands b p → Good b

@@ -3,6 +3,7 @@ pub mod Good
 pub mod Guest
 pub mod Parts
 pub mod Removals
+pub mod Resets
 pub mod Stages
 pub mod Stands
 pub mod Time

@@ -5,6 +5,7 @@
 mod board;
 mod guests;
 mod removals;
+mod resets;
 #[cfg(test)]
 mod stage_tests;
 mod stages;

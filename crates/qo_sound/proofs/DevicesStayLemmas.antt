@@ -20,6 +20,7 @@ use Rattle.qo_model.proofs.StaysLemmas.{stays-none}
 use Rattle.qo_sound.specs.DevicesStay.{AddLeaves, anonymous_behind, AttemptLeaves, DetachLeaves, DevicesStayLaw}
 use Rattle.qo_sound.proofs.MakeStepsLemmas.{all-any, any-rows, KeepsActs, KeepsEdits, KeepsNew, step-acted_all, step-drafted, step-plugged, step-stood}
 use Rattle.qo_sound.proofs.DetachStepsLemmas.{KeepsLists, KeepsPins, step-detach, step-pin, step-unrealize}
+use Rattle.qo_sound.proofs.ResetLemmas.{held-leaves, pulse-leaves, released-leaves}
 
 -- an attempt, and the steps of adding up to the number of accepted adds
 
@@ -230,4 +231,7 @@ devices_stay_lem =
       counted = plugged-counts;
       told = plugged-told;
       detached = detach-leaves;
+      held_so = held-leaves;
+      released_so = released-leaves;
+      pulsed = pulse-leaves;
     }

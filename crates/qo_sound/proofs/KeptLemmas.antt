@@ -6,7 +6,9 @@ use Rattle.qo_model.specs.FinalNotesRuns.{Change, added, deleted, wrote, severed
 use Rattle.qo_model.specs.Objects.{with_attempt}
 use Rattle.qo_model.specs.Opening.{opening_board}
 use Rattle.qo_model.specs.Paths.{births}
+use Rattle.qo_model.specs.Hotplug.{reset_whole}
 use Rattle.qo_model.specs.Plug.{cut_attempt, plug}
+use Rattle.qo_model.specs.Reset.{held, released}
 use Rattle.qo_model.specs.SoundGraph.{graph_of, SoundGraph}
 use Rattle.qo_model.specs.Unplug.{detach}
 use Rattle.qo_model.proofs.OpeningLemmas.{opening_sound}
@@ -14,6 +16,7 @@ use Rattle.qo_sound.specs.Kept.{SoundKeptLaw, SoundTree}
 use Rattle.qo_sound.proofs.RecordLemmas.{all-imply}
 use Rattle.qo_sound.proofs.AddLemmas.{object_add-rest}
 use Rattle.qo_sound.proofs.PlugLemmas.{cut_attempt-rest, plug-rest}
+use Rattle.qo_sound.proofs.ResetLemmas.{held-rest, released-rest, reset-rest}
 use Rattle.qo_sound.proofs.SeverLemmas.{sever-rest}
 use Rattle.qo_sound.proofs.UnplugLemmas.{detach-rest}
 use Rattle.qo_sound.proofs.ViewLemmas.{AtRest, rest-from_sound, sound-from_rest}
@@ -59,6 +62,9 @@ sound_kept_lem =
       plugged = λ b a h. sound-from_rest (plug b a).board (plug-rest b a (rest-from_sound b h));
       cut = λ b t i joined h. sound-from_rest (cut_attempt b t i joined) (cut_attempt-rest b t i joined (rest-from_sound b h));
       detached = λ b d h. sound-from_rest (detach b d) (detach-rest b d (rest-from_sound b h));
+      held_so = λ b n h. sound-from_rest (held b n) (held-rest b n (rest-from_sound b h));
+      released_so = λ b n h. sound-from_rest (released b n) (released-rest b n (rest-from_sound b h));
+      reset = λ b h. sound-from_rest (reset_whole b) (reset-rest b (rest-from_sound b h));
       run = λ changes. (behind-sound opening_board changes opening-tree).0;
       run_aliases = λ changes. (behind-sound opening_board changes opening-tree).1;
     }

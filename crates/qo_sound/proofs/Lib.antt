@@ -27,6 +27,7 @@ pub mod PinnedLemmas
 pub mod PlugComesToLemmas
 pub mod PlugLemmas
 pub mod RecordLemmas
+pub mod ResetLemmas
 pub mod SeverLemmas
 pub mod SlotLemmas
 pub mod StepsLemmas

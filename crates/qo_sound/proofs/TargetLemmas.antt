@@ -30,7 +30,7 @@ the_one-of P [] h m e = absurd (let clash : missing ≡ found m = e in cc)
 the_one-of P (n ∷ []) h m e = subst P (let same : found n ≡ found m = e in cc) h.0
 the_one-of P (n ∷ k ∷ ns) h m e = absurd (let clash : several ≡ found m = e in cc)
 
-resolved-of : (b : Board) (path wanted : List ℕ) (m : ℕ) → resolve b path wanted ≡ found m → is_of b wanted m ≡ true
+pub resolved-of : (b : Board) (path wanted : List ℕ) (m : ℕ) → resolve b path wanted ≡ found m → is_of b wanted m ≡ true
 resolved-of b path wanted m e = the_one-of (λ k. is_of b wanted k ≡ true) (ends b path wanted) (ends-of b wanted (λ n. walk b n (components path)) (starts b path)) m e
 
 -- what a text gives as a target

@@ -354,5 +354,8 @@ timerless_kept_lem =
       asked_for = asked-timerless;
       refused_by = λ b d h. h;
       acts = acted-timerless;
+      held_so = held-timerless;
+      released_so = released-timerless;
+      pulsed = pulse-timerless;
       reset = reset-timerless;
     }

@@ -1,9 +1,10 @@
--- What adding and detaching a device leaves of a board beside its objects.
+-- What adding and detaching a device, and a reset, leave of a board beside its objects.
 use Rattle.std.specs.Prelude.{◌≡◌, ℕ, suc, ◌+◌, Bool, true, List, [], ◌∷◌, ◌++◌, Option, Some, None}
 use Rattle.qo_values.specs.declared.codes.Code.{Code}
 use Rattle.qo_values.specs.declared.kinds.TypeId.{TypeId}
 use Rattle.qo_model.specs.Board.{Board, DeviceEvent}
 use Rattle.qo_model.specs.Plug.{Spot, Wanted, cut_attempt, plug, with_plugged}
+use Rattle.qo_model.specs.Reset.{held, pulse, released}
 use Rattle.qo_model.specs.Stays.{Stays}
 use Rattle.qo_model.specs.Unplug.{detach}
 
@@ -29,6 +30,16 @@ pub record DetachLeaves (b c : Board) : Type 0 where
   pub rings : c.rings ≡ b.rings
   pub events_gain : (more : List DeviceEvent) × (c.events ≡ b.events ++ more)
 
+-- what a hold of a reset leaves, and what a hold less does
+pub record ResetLeaves (b c : Board) : Type 0 where
+  pub anonymous : c.anonymous ≡ b.anonymous
+  pub now : c.now ≡ b.now
+  pub running : c.running ≡ b.running
+  pub pending : c.pending ≡ b.pending
+  pub notices : c.notices ≡ b.notices
+  pub rings : c.rings ≡ b.rings
+  pub events : c.events ≡ b.events
+
 -- the accepted adds of devices without an id, behind one more add
 abbrev pub anonymous_behind : Board → Option (List ℕ) → ℕ
 anonymous_behind b None = suc b.anonymous
@@ -47,3 +58,7 @@ pub record DevicesStayLaw : Type 0 where
       → (with_plugged b t a spot).notices ≡ b.notices ++ record { plug = true; birth = b.born + 1 } ∷ []
   -- a device that is detached
   pub detached : (b : Board) (d : ℕ) → DetachLeaves b (detach b d)
+  -- a hold, a hold less, and both
+  pub held_so : (b : Board) (n : ℕ) → ResetLeaves b (held b n)
+  pub released_so : (b : Board) (n : ℕ) → ResetLeaves b (released b n)
+  pub pulsed : (b : Board) (n : ℕ) → ResetLeaves b (pulse b n)

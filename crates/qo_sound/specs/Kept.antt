@@ -3,9 +3,11 @@ use Rattle.std.specs.Prelude.{ℕ, Bool, List}
 use Rattle.qo_values.specs.declared.kinds.TypeId.{TypeId}
 use Rattle.qo_model.specs.Board.{Board}
 use Rattle.qo_model.specs.FinalNotesRuns.{Change, behind, changed}
+use Rattle.qo_model.specs.Hotplug.{reset_whole}
 use Rattle.qo_model.specs.Objects.{with_attempt}
 use Rattle.qo_model.specs.Opening.{opening_board}
 use Rattle.qo_model.specs.Plug.{Wanted, cut_attempt, plug}
+use Rattle.qo_model.specs.Reset.{held, released}
 use Rattle.qo_model.specs.SoundAliases.{SoundAliases}
 use Rattle.qo_model.specs.SoundGraph.{SoundGraph}
 use Rattle.qo_model.specs.Unplug.{detach}
@@ -25,6 +27,10 @@ pub record SoundKeptLaw : Type 0 where
   pub plugged : (b : Board) (a : Wanted) → SoundTree b → SoundTree (plug b a).board
   pub cut : (b : Board) (t : TypeId) (i : ℕ) (joined : Bool) → SoundTree b → SoundTree (cut_attempt b t i joined)
   pub detached : (b : Board) (d : ℕ) → SoundTree b → SoundTree (detach b d)
+  -- a hold of a reset, and a hold less; and the reset of the whole board
+  pub held_so : (b : Board) (n : ℕ) → SoundTree b → SoundTree (held b n)
+  pub released_so : (b : Board) (n : ℕ) → SoundTree b → SoundTree (released b n)
+  pub reset : (b : Board) → SoundTree b → SoundTree (reset_whole b)
   -- so the tree is sound behind any changes of the opening board
   pub run : (changes : List Change) → SoundGraph (behind opening_board changes)
   pub run_aliases : (changes : List Change) → SoundAliases (behind opening_board changes)

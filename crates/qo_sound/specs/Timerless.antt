@@ -12,6 +12,7 @@ use Rattle.qo_model.specs.Hotplug.{asked, refused, reset_whole}
 use Rattle.qo_model.specs.Objects.{with_attempt}
 use Rattle.qo_model.specs.Opening.{opening_board}
 use Rattle.qo_model.specs.Plug.{Wanted, cut_attempt, plug}
+use Rattle.qo_model.specs.Reset.{held, pulse, released}
 use Rattle.qo_model.specs.Types.{TypeRow, row_named}
 use Rattle.qo_model.specs.Unplug.{detach}
 
@@ -41,9 +42,13 @@ pub record TimerlessKeptLaw : Type 0 where
   -- adding a device that is no timer, taken or refused at any stage, and an attempt at any device that was cut
   pub plugged : (b : Board) (a : Wanted) → makes_timer a.driver ≡ false → Timerless b → Timerless (plug b a).board
   pub cut : (b : Board) (t : TypeId) (i : ℕ) (joined : Bool) → Timerless b → Timerless (cut_attempt b t i joined)
-  -- a device that is detached; a removal that is asked for, or refused by the guest; an act; the reset of the whole board
+  -- a device that is detached; a removal that is asked for, or refused by the guest; an act
   pub detached : (b : Board) (d : ℕ) → Timerless b → Timerless (detach b d)
   pub asked_for : (b : Board) (id : List ℕ) → Timerless b → Timerless (asked b id).board
   pub refused_by : (b : Board) (d : ℕ) → Timerless b → Timerless (refused b d)
   pub acts : (act : Act) (n period : ℕ) (b : Board) → Timerless b → Timerless (acted act n period b)
+  -- a hold of a reset, a hold less, and both; and the reset of the whole board
+  pub held_so : (b : Board) (n : ℕ) → Timerless b → Timerless (held b n)
+  pub released_so : (b : Board) (n : ℕ) → Timerless b → Timerless (released b n)
+  pub pulsed : (b : Board) (n : ℕ) → Timerless b → Timerless (pulse b n)
   pub reset : (b : Board) → Timerless b → Timerless (reset_whole b)

@@ -71,7 +71,7 @@ detached-below b d h e =
     }
 
 -- the removals that are pending come to their end
-first-on : (P : ℕ → Type 0) (ns : List ℕ) → AllByRecursion P ns → (d : ℕ) → first_of ns ≡ Some d → P d
+pub first-on : (P : ℕ → Type 0) (ns : List ℕ) → AllByRecursion P ns → (d : ℕ) → first_of ns ≡ Some d → P d
 first-on P [] h d e = cc
 first-on P (n ∷ ns) h d e = subst P (same_Some n d e) h.0
 

@@ -1,0 +1,150 @@
+-- What stands where an object is held in reset, or released.
+use Rattle.std.proofs.Common.{◌≡◌, refl, ap, sym, subst, ◌∙◌, ap₂, ℕ, Bool, true, false, not, if◌then◌else◌, List, [], Some, None, Result, Ok, Err, OnErr}
+use Rattle.qo_values.specs.declared.codes.Code.{Code}
+use Rattle.qo_values.specs.declared.codes.Code.TheVariants.{E15, E48, E49}
+use Rattle.qo_model.specs.Board.{Board}
+use Rattle.qo_model.specs.Depth.{among}
+use Rattle.qo_model.specs.Objects.{Changed}
+use Rattle.qo_model.specs.Paths.{attached}
+use Rattle.qo_model.specs.Reset.{held, is_deep, pulse, released}
+use Rattle.qo_heap.specs.Acts.{Acts}
+use Rattle.qo_heap.specs.Objects.{Objects}
+use Rattle.qo_heap.proofs.ActsLemmas.{acts-book}
+use Rattle.qo_hotplug.specs.Asked.{Asked}
+use Rattle.qo_properties.specs.Pinned.{OnlyRootPinned}
+use Rattle.qo_properties.specs.declared.refusals.Refusal.{Refusal}
+use Rattle.qo_properties.specs.declared.refusals.Refusal.TheVariants.{Refused, Memory}
+use Rattle.qo_reset.specs.HoldList.{HoldList}
+use Rattle.qo_reset.specs.Phases.{Holds}
+use Rattle.qo_sound.specs.DevicesStay.{ResetLeaves}
+use Rattle.qo_sound.proofs.DevicesStayLemmas.{devices_stay_lem}
+use Rattle.qo_realize.specs.Answers.{Changes, IsAnswered}
+use Rattle.qo_realize.specs.Good.{Good}
+use Rattle.qo_realize.specs.Parts.{Parts, parts_of}
+use Rattle.qo_realize.specs.Resets.{Releases, Resets, at_path, held_at, held_of, released_at, released_of, resettable_at}
+use Rattle.qo_realize.specs.Stands.{Stands, StandsForGood}
+use Rattle.qo_realize.proofs.SoundLemmas.{held-good, pulsed-good, released-good, root-pinned}
+
+-- what is so of the board and of the board with the hold, or without it, is so behind the change
+
+at_path-all : (P : Board → Type 0) (b : Board) (change : ℕ → Changed) (r : Result ℕ Code) → P b → ((n : ℕ) → P (change n).board) → P (at_path b change r).board
+at_path-all P b change (Ok n) p q = q n
+at_path-all P b change (Err code) p q = p
+
+held_of-all : (P : Board → Type 0) (b : Board) (n : ℕ) → P b → P (held b n) → P (held_of b n).board
+held_of-all P b n p q = by (attached b n) (is_deep b n)
+  where
+    come : Bool → Bool → Changed
+    come home deep =
+        if not home then record { refusal = Some E15; board = b }
+        else if deep then record { refusal = Some E48; board = b }
+        else record { refusal = None; board = held b n }
+
+    by : (home deep : Bool) → P (come home deep).board
+    by false deep = p
+    by true true = p
+    by true false = q
+
+released_of-all : (P : Board → Type 0) (b : Board) (n : ℕ) → P b → P (released b n) → P (released_of b n).board
+released_of-all P b n p q = by (among b.holds n)
+  where
+    come : Bool → Changed
+    come there = if there then record { refusal = None; board = released b n } else record { refusal = Some E49; board = b }
+
+    by : (there : Bool) → P (come there).board
+    by true = q
+    by false = p
+
+held_at-all : (P : Board → Type 0) (b : Board) (path : List ℕ) → P b → ((n : ℕ) → P (held b n)) → P (held_at b path).board
+held_at-all P b path p q = at_path-all P b (held_of b) (resettable_at b path) p (λ n. held_of-all P b n p (q n))
+
+released_at-all : (P : Board → Type 0) (b : Board) (path : List ℕ) → P b → ((n : ℕ) → P (released b n)) → P (released_at b path).board
+released_at-all P b path p q = at_path-all P b (released_of b) (resettable_at b path) p (λ n. released_of-all P b n p (q n))
+
+none-leaves : (b : Board) → ResetLeaves b b
+none-leaves b = record { anonymous = refl; now = refl; running = refl; pending = refl; notices = refl; rings = refl; events = refl }
+
+held_at-leaves : (b : Board) (path : List ℕ) → ResetLeaves b (held_at b path).board
+held_at-leaves b path = held_at-all (ResetLeaves b) b path (none-leaves b) (λ n. devices_stay_lem.held_so b n)
+
+released_at-leaves : (b : Board) (path : List ℕ) → ResetLeaves b (released_at b path).board
+released_at-leaves b path = released_at-all (ResetLeaves b) b path (none-leaves b) (λ n. devices_stay_lem.released_so b n)
+
+held_at-good : (b : Board) (path : List ℕ) → Good b → Good (held_at b path).board
+held_at-good b path good = held_at-all Good b path good (λ n. held-good b n good)
+
+released_at-good : (b : Board) (path : List ℕ) → Good b → Good (released_at b path).board
+released_at-good b path good = released_at-all Good b path good (λ n. released-good b n good)
+
+-- with other holds, behind acts
+
+module _ (anonymous : ℕ) (running : Bool) (old new : HoldList) (asked : Asked) (v w : Objects) (acts : Acts v w) where
+  abbrev before : Parts
+  before = parts_of anonymous running old asked v
+
+  abbrev behind : Parts
+  behind = parts_of anonymous running new asked w
+
+  pub reset-stands : (b c : Board) → Stands b before → ResetLeaves b c → Holds c new.births w → Stands c behind
+  reset-stands b c s l h =
+      record {
+        shows = h.0;
+        anonymous = l.anonymous ∙ s.anonymous;
+        running = l.running ∙ s.running;
+        holds = h.1;
+        pending = l.pending ∙ s.pending;
+        notices = l.notices ∙ s.notices;
+        rings = l.rings ∙ s.rings;
+        book = acts-book [] v w acts s.book;
+      }
+
+  same-parts : (w ≡ v) × (new.births ≡ old.births) → behind ≡ before
+  same-parts h = ap₂ (λ (x : Objects) (holds : List ℕ). parts_of anonymous running (record { births = holds; spare = 0 }) asked x) h.0 h.1
+
+  left-stands : (b : Board) → Stands b before → (w ≡ v) × (new.births ≡ old.births) → Stands b behind
+  left-stands b s h = subst (λ (p : Parts). Stands b p) (sym (same-parts h)) s
+
+  changes : (b : Board) (change : Changed) (result : Result Unit Refusal) → Stands b before → ResetLeaves b change.board → Resets b change result new.births w
+      → OnErr result ((w ≡ v) × (new.births ≡ old.births)) → Changes change b result behind
+  changes b change (Ok u) s l (none, h) same = (none, reset-stands b change.board s l h)
+  changes b change (Err (Refused code)) s l is same = (is, left-stands b s same)
+  changes b change (Err Memory) s l is same = left-stands b s same
+
+  answers : (b : Board) (change : Changed) (result : Result Unit Code) → Stands b before → ResetLeaves b change.board → Releases b change result new.births w
+      → OnErr result ((w ≡ v) × (new.births ≡ old.births)) → IsAnswered change result behind
+  answers b change (Ok u) s l (none, h) same = record { refusal = none; board = reset-stands b change.board s l h }
+  answers b change (Err code) s l is same =
+      record { refusal = ap (λ (x : Changed). x.refusal) is; board = subst (λ (x : Changed). Stands x.board behind) (sym is) (left-stands b s same) }
+
+  pub hold-changes : (b : Board) (path : List ℕ) (result : Result Unit Refusal) → Stands b before → Resets b (held_at b path) result new.births w
+      → OnErr result ((w ≡ v) × (new.births ≡ old.births)) → Changes (held_at b path) b result behind
+  hold-changes b path result s h same = changes b (held_at b path) result s (held_at-leaves b path) h same
+
+  pub release-answers : (b : Board) (path : List ℕ) (result : Result Unit Code) → Stands b before → Releases b (released_at b path) result new.births w
+      → OnErr result ((w ≡ v) × (new.births ≡ old.births)) → IsAnswered (released_at b path) result behind
+  release-answers b path result s h same = answers b (released_at b path) result s (released_at-leaves b path) h same
+
+  -- the board that stands is good
+
+  pub good-pinned : (b : Board) → Stands b behind → Good b → OnlyRootPinned w × StandsForGood behind
+  good-pinned b s good = (root-pinned b behind s good, (b, s, good))
+
+  hold-good : (b : Board) (path : List ℕ) (result : Result Unit Refusal) → Good b → Changes (held_at b path) b result behind → OnlyRootPinned w × StandsForGood behind
+  hold-good b path (Ok u) good h = good-pinned (held_at b path).board h.1 (held_at-good b path good)
+  hold-good b path (Err (Refused code)) good h = good-pinned b h.1 good
+  hold-good b path (Err Memory) good h = good-pinned b h good
+
+  pub hold-keeps : (path : List ℕ) (result : Result Unit Refusal) → StandsForGood before → ((b : Board) → Holds b old.births v → Resets b (held_at b path) result new.births w)
+      → OnErr result ((w ≡ v) × (new.births ≡ old.births)) → OnlyRootPinned w × StandsForGood behind
+  hold-keeps path result (b, s, good) h same = hold-good b path result good (hold-changes b path result s (h b (s.shows, s.holds)) same)
+
+  pub release-keeps : (path : List ℕ) (result : Result Unit Code) → StandsForGood before → ((b : Board) → Holds b old.births v → Releases b (released_at b path) result new.births w)
+      → OnErr result ((w ≡ v) × (new.births ≡ old.births)) → OnlyRootPinned w × StandsForGood behind
+  release-keeps path result (b, s, good) h same =
+      good-pinned (released_at b path).board (release-answers b path result s (h b (s.shows, s.holds)) same).board (released_at-good b path good)
+
+  pub pulse-stands : (b : Board) (n : ℕ) → Stands b before → Holds (pulse b n) new.births w → Stands (pulse b n) behind
+  pulse-stands b n s h = reset-stands b (pulse b n) s (devices_stay_lem.pulsed b n) h
+
+  pub pulse-keeps : (n : ℕ) → StandsForGood before → ((b : Board) → Holds b old.births v → Holds (pulse b n) new.births w) → OnlyRootPinned w × StandsForGood behind
+  pulse-keeps n (b, s, good) h = good-pinned (pulse b n) (pulse-stands b n s (h b (s.shows, s.holds))) (pulsed-good b n good)

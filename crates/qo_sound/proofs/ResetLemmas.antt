@@ -1,0 +1,117 @@
+-- Holds of resets and the reset of the whole board keep the tree sound; what they leave of a board beside its objects.
+use Rattle.std.proofs.Common.{◌≡◌, refl, ◌∙◌, ℕ, zero, suc, List, [], ◌∷◌, ◌++◌, filter, length, Option, Some, None}
+use Rattle.qo_values.specs.declared.births.TheConstants.{MACHINE_BIRTH}
+use Rattle.qo_values.specs.declared.kinds.Act.{Act}
+use Rattle.qo_values.specs.declared.kinds.Act.TheVariants.{Enter, Hold, Exit}
+use Rattle.qo_model.specs.Board.{Board}
+use Rattle.qo_model.specs.Clocks.{acted}
+use Rattle.qo_model.specs.Hotplug.{all_completed, completed, reset_whole}
+use Rattle.qo_model.specs.Release.{without_first}
+use Rattle.qo_model.specs.Reset.{held, is_out, phased, post, pulse, released}
+use Rattle.qo_model.specs.Unplug.{first_of}
+use Rattle.qo_sound.specs.DevicesStay.{ResetLeaves}
+use Rattle.qo_sound.proofs.CutLemmas.{near-beside}
+use Rattle.qo_sound.proofs.PlugLemmas.{held-phased}
+use Rattle.qo_sound.proofs.UnplugLemmas.{detach-rest, Sits}
+use Rattle.qo_sound.proofs.ViewLemmas.{AtRest}
+
+-- the tree
+
+phased-rest : (act : Act) (ns : List ℕ) (b : Board) → AtRest b → AtRest (phased act ns b)
+phased-rest act ns b h =
+    let sits : Sits (1 ∷ []) (phased act ns b) = held-phased (1 ∷ []) act ns b (record { near = h.used; pins = h.pinned }) in
+    record { used = sits.near; pinned = sits.pins }
+
+holds-rest : (b : Board) (holds : List ℕ) → AtRest b → AtRest (record b { holds = holds })
+holds-rest b holds h = record { used = near-beside None b holds b.pending b.notices b.notes h.used; pinned = h.pinned }
+
+pub held-rest : (b : Board) (n : ℕ) → AtRest b → AtRest (held b n)
+unfolding held
+held-rest b n h =
+    let out : List ℕ = filter (is_out b) (post b n) in
+    holds-rest (phased Hold out (phased Enter out b)) (b.holds ++ n ∷ []) (phased-rest Hold out (phased Enter out b) (phased-rest Enter out b h))
+
+pub released-rest : (b : Board) (n : ℕ) → AtRest b → AtRest (released b n)
+unfolding released
+released-rest b n h =
+    let c : Board = record b { holds = without_first n b.holds } in
+    phased-rest Exit (filter (is_out c) (post c n)) c (holds-rest b (without_first n b.holds) h)
+
+pulse-rest : (b : Board) (n : ℕ) → AtRest b → AtRest (pulse b n)
+unfolding pulse
+pulse-rest b n h = released-rest (held b n) n (held-rest b n h)
+
+completed-rest : (times : ℕ) (b : Board) → AtRest b → AtRest (all_completed times b)
+completed-rest zero b h = h
+completed-rest (suc times) b h = go (first_of b.pending) refl (completed-rest times)
+  where
+    go : (o : Option ℕ) → first_of b.pending ≡ o → ((c : Board) → AtRest c → AtRest (all_completed times c)) → AtRest (all_completed (suc times) b)
+    go None p rest = rw (all_completed, p) h
+    go (Some d) p rest = rw (all_completed, p) (rest (completed b d) (detach-rest b d h))
+
+pub reset-rest : (b : Board) → AtRest b → AtRest (reset_whole b)
+unfolding reset_whole
+reset-rest b h = pulse-rest (all_completed (length b.pending) b) MACHINE_BIRTH (completed-rest (length b.pending) b h)
+
+-- what is beside the objects
+
+acted-leaves : (act : Act) (n : ℕ) (b c : Board) → ResetLeaves b c → ResetLeaves b (acted act n 0 c)
+unfolding acted
+acted-leaves act n b c h =
+    record {
+      anonymous = h.anonymous;
+      now = h.now;
+      running = h.running;
+      pending = h.pending;
+      notices = h.notices;
+      rings = h.rings;
+      events = h.events;
+    }
+
+phased-leaves : (act : Act) (ns : List ℕ) (b c : Board) → ResetLeaves b c → ResetLeaves b (phased act ns c)
+phased-leaves act [] b c h = h
+phased-leaves act (n ∷ ns) b c h = phased-leaves act ns b (acted act n 0 c) (acted-leaves act n b c h)
+
+holds-leaves : (b c : Board) (holds : List ℕ) → ResetLeaves b c → ResetLeaves b (record c { holds = holds })
+holds-leaves b c holds h =
+    record {
+      anonymous = h.anonymous;
+      now = h.now;
+      running = h.running;
+      pending = h.pending;
+      notices = h.notices;
+      rings = h.rings;
+      events = h.events;
+    }
+
+none-leaves : (b : Board) → ResetLeaves b b
+none-leaves b = record { anonymous = refl; now = refl; running = refl; pending = refl; notices = refl; rings = refl; events = refl }
+
+pub held-leaves : (b : Board) (n : ℕ) → ResetLeaves b (held b n)
+unfolding held
+held-leaves b n =
+    let out : List ℕ = filter (is_out b) (post b n) in
+    holds-leaves b (phased Hold out (phased Enter out b)) (b.holds ++ n ∷ [])
+    (phased-leaves Hold out b (phased Enter out b) (phased-leaves Enter out b b (none-leaves b)))
+
+pub released-leaves : (b : Board) (n : ℕ) → ResetLeaves b (released b n)
+unfolding released
+released-leaves b n =
+    let c : Board = record b { holds = without_first n b.holds } in
+    phased-leaves Exit (filter (is_out c) (post c n)) b c (holds-leaves b b (without_first n b.holds) (none-leaves b))
+
+leaves-then : (b c d : Board) → ResetLeaves b c → ResetLeaves c d → ResetLeaves b d
+leaves-then b c d h k =
+    record {
+      anonymous = k.anonymous ∙ h.anonymous;
+      now = k.now ∙ h.now;
+      running = k.running ∙ h.running;
+      pending = k.pending ∙ h.pending;
+      notices = k.notices ∙ h.notices;
+      rings = k.rings ∙ h.rings;
+      events = k.events ∙ h.events;
+    }
+
+pub pulse-leaves : (b : Board) (n : ℕ) → ResetLeaves b (pulse b n)
+unfolding pulse
+pulse-leaves b n = leaves-then b (held b n) (released (held b n) n) (held-leaves b n) (released-leaves (held b n) n)
