@@ -1,15 +1,14 @@
 -- The lines of events, piece by piece.
-use Rattle.std.proofs.Common.{◌≡◌, ℕ, Bool, true, false, List, [], ◌∷◌, ◌++◌, Option, None, Some, refl, sym, ◌∙◌, ap, append_assoc, append-nil, IsUtf8}
+use Rattle.std.proofs.Common.{◌≡◌, ℕ, Bool, true, false, List, [], ◌∷◌, ◌++◌, Option, None, Some, refl, sym, ◌∙◌, ap, append_assoc, IsUtf8}
 use Rattle.std.specs.Prelude.{codes, decimal}
 use Rattle.std.specs.List.{list_all}
 use Rattle.std.specs.Str.{IsAscii}
 use Rattle.std.proofs.lemmas.Str.{IsUtf8-append, IsUtf8-from_ascii, IsAscii-append}
-use Rattle.json.specs.Print.{escape, quoted}
+use Rattle.json.specs.Print.{quoted}
 use Rattle.serde_json.proofs.OnLiterals.{serde_json_on_literals}
-use Rattle.serde_json.specs.Data.{Data, Members, boolean, member, no_members, object, string}
-use Rattle.serde_json.specs.Written.{compact_text, members_text}
+use Rattle.serde_json.specs.Written.{compact_text}
 use Rattle.qo_causes.specs.declared.inputs.Moment.{Moment}
-use Rattle.qo_replies.specs.Events.{before_path, before_reason, caused_event, device_event, ending, named, plain_event}
+use Rattle.qo_replies.specs.Events.{before_path, before_reason, caused_event, device_event, ending, plain_event}
 use Rattle.qo_replies.specs.Json.{ascii, json}
 use Rattle.qo_replies.specs.Plain.{is_plain_byte}
 use Rattle.qo_replies.specs.Replies.{line_end}

@@ -1,13 +1,11 @@
 -- Lists of properties, property by property.
-use Rattle.std.proofs.Common.{◌≡◌, ◌≤◌, ℕ, Bool, true, false, List, [], ◌∷◌, ◌++◌, map, refl, sym, ◌∙◌, ap, append_assoc, append-nil, IsUtf8, arith, suc, zero}
-use Rattle.std.specs.Prelude.{codes, ◌&&◌, not, ◌==◌, nat_le}
+use Rattle.std.proofs.Common.{◌≡◌, ℕ, Bool, true, false, List, [], ◌∷◌, ◌++◌, map, refl, sym, ◌∙◌, ap, append_assoc, append-nil, IsUtf8, arith, suc, zero}
+use Rattle.std.specs.Prelude.{codes}
 use Rattle.std.specs.List.{list_all}
-use Rattle.std.specs.Str.{IsAscii, chars}
-use Rattle.std.proofs.lemmas.Grind.{flat_map-append}
-use Rattle.std.proofs.lemmas.Bool.{and_parts, le-ltb, leb-true, ne_eqb, not-true}
+use Rattle.std.specs.Str.{IsAscii}
 use Rattle.std.proofs.lemmas.List.Folds.{list_all-append}
-use Rattle.std.proofs.lemmas.Str.{chars-append, IsUtf8-append, IsUtf8-from_ascii, IsAscii-append}
-use Rattle.json.specs.Print.{escape, escape_byte, quoted}
+use Rattle.std.proofs.lemmas.Str.{IsUtf8-append, IsUtf8-from_ascii}
+use Rattle.json.specs.Print.{quoted}
 use Rattle.serde_json.proofs.OnLiterals.{serde_json_on_literals}
 use Rattle.serde_json.specs.View.{items_of}
 use Rattle.serde_json.specs.Written.{comma_if, compact_text, items_text}
@@ -19,7 +17,7 @@ use Rattle.qo_values.specs.declared.properties.PropType.{PropType}
 use Rattle.qo_values.specs.declared.properties.PropType.TheVariants as ty
 use Rattle.qo_values.specs.declared.type_texts.TypeText.{TypeText}
 use Rattle.qo_values.specs.declared.type_texts.TypeText.TheVariants as text
-use Rattle.qo_replies.specs.Json.{ascii, character_text, json}
+use Rattle.qo_replies.specs.Json.{ascii, json}
 use Rattle.qo_replies.specs.Plain.{is_plain_byte}
 use Rattle.qo_replies.specs.Properties.{Begun, HasWritten, are_any, before_name, before_type, behind_type, opened, properties_data, property_data, rows_text}
 use Rattle.qo_replies.proofs.AsciiLemmas.{ascii-plain}

@@ -4,6 +4,7 @@ ghost use Rattle.std.specs.Prelude.{◌≡◌, ◌++◌, decimal, option_map, st
 ghost use Rattle.std.specs.List.{list_all};
 ghost use Rattle.std.specs.Str.{IsAscii, IsUtf8};
 ghost use Rattle.qo_replies.specs.Events.{before_path, before_reason, caused_event, device_event, ending, event_line, plain_event};
+ghost use Rattle.qo_replies.specs.declared.events.Event.TheVariants.{Reset, Shutdown};
 ghost use Rattle.qo_replies.specs.Json.{ascii, json};
 ghost use Rattle.qo_replies.specs.Plain.{is_plain_byte};
 ghost use Rattle.qo_replies.specs.Replies.{line_end};
@@ -100,6 +101,30 @@ fn push_caused(
     Ok(())
 }
 
+#[tactic(auto, unfolding(crate::specs::Events::event_line))]
+/// Adds that the machine was reset.
+fn push_reset(text: &mut String, at: Moment, guest: bool) -> Result<(), AllocError>
+    ensures { OnOk result (string_bytes text.new ≡ string_bytes text.old ++ event_line at (Reset guest)) }
+{
+    if guest {
+        push_caused(text, at, true, "guest-reset", "RESET")
+    } else {
+        push_caused(text, at, false, "host-qmp-system-reset", "RESET")
+    }
+}
+
+#[tactic(auto, unfolding(crate::specs::Events::event_line))]
+/// Adds that the run ends.
+fn push_shutdown(text: &mut String, at: Moment, guest: bool) -> Result<(), AllocError>
+    ensures { OnOk result (string_bytes text.new ≡ string_bytes text.old ++ event_line at (Shutdown guest)) }
+{
+    if guest {
+        push_caused(text, at, true, "guest-shutdown", "SHUTDOWN")
+    } else {
+        push_caused(text, at, false, "host-qmp-quit", "SHUTDOWN")
+    }
+}
+
 /// Adds what stands before the path in an event of a device: its id, where it has one.
 fn push_before_path(alloc: Global, text: &mut String, id: Option<&Id>) -> Result<(), AllocError>
     ensures bytes { OnOk result (string_bytes text.new ≡ string_bytes text.old ++ ascii (before_path (option_map (λ id. id.now) id.entry))) }
@@ -159,16 +184,8 @@ fn push_event(alloc: Global, text: &mut String, at: Moment, event: &Event) -> Re
             path.as_str(),
             "DEVICE_UNPLUG_GUEST_ERROR",
         ),
-        Event::Reset { guest: true } => push_caused(text, at, true, "guest-reset", "RESET"),
-        Event::Reset { guest: false } => {
-            push_caused(text, at, false, "host-qmp-system-reset", "RESET")
-        }
-        Event::Shutdown { guest: true } => {
-            push_caused(text, at, true, "guest-shutdown", "SHUTDOWN")
-        }
-        Event::Shutdown { guest: false } => {
-            push_caused(text, at, false, "host-qmp-quit", "SHUTDOWN")
-        }
+        Event::Reset { guest } => push_reset(text, at, *guest),
+        Event::Shutdown { guest } => push_shutdown(text, at, *guest),
         Event::Stop => push_simple(text, at, "STOP"),
         Event::Resume => push_simple(text, at, "RESUME"),
     }

@@ -1,4 +1,4 @@
-use Rattle.std.proofs.Common.{append_assoc, codes}
+use Rattle.std.proofs.Common.{codes}
 use Rattle.std.specs.Prelude.{string_bytes}
 use Rattle.json.specs.Print.{quoted}
 use Rattle.qo_replies.specs.Json.{ascii}

@@ -1,6 +1,6 @@
-use Rattle.std.specs.Prelude.{option_map, string_bytes}
+use Rattle.std.specs.Prelude.{string_bytes}
 use Rattle.json.specs.Print.{quoted}
-use Rattle.qo_replies.specs.Events.{before_path, ending}
+use Rattle.qo_replies.specs.Events.{ending}
 use Rattle.qo_replies.specs.Json.{ascii}
 use Rattle.qo_replies.specs.Replies.{line_end}
 use Rattle.qo_replies.proofs.EventLemmas.{behind_data, device-text, ended}
