@@ -14,7 +14,7 @@ mod tests;
 mod types;
 mod values;
 
-pub use answers::{answer_value, time_value};
+pub use answers::{answer_written, time_written};
 pub use changes::{change, is_change};
 pub use commands::{Body, Done, ask};
 pub use events::drain;
