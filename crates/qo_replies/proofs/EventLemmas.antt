@@ -8,7 +8,7 @@ use Rattle.json.specs.Print.{quoted}
 use Rattle.serde_json.proofs.OnLiterals.{serde_json_on_literals}
 use Rattle.serde_json.specs.Written.{compact_text}
 use Rattle.qo_causes.specs.declared.inputs.Moment.{Moment}
-use Rattle.qo_replies.specs.Events.{before_path, before_reason, caused_event, device_event, ending, plain_event}
+use Rattle.qo_replies.specs.Events.{before_path, before_reason, caused_event, device_event, device_name, ending, event_line, of_device, plain_event}
 use Rattle.qo_replies.specs.Json.{ascii, json}
 use Rattle.qo_replies.specs.Plain.{is_plain_byte}
 use Rattle.qo_replies.specs.Replies.{line_end}
@@ -101,6 +101,12 @@ pub device-text : (id : Option (List ℕ)) (path name : List ℕ) (at : Moment) 
     → json (device_event at id path name) ≡ ascii (before_path id) ++ (ascii (quoted path) ++ (behind_data ++ ending name at))
 unfolding json
 device-text id path name at first second h = rw (device-told id path name at) (told-ascii (before_path id) path name at first second h)
+
+-- the line of an event of a device
+pub device-line : (deleted : Bool) (id : Option (List ℕ)) (path : List ℕ) (at : Moment) → event_line at (of_device deleted id path) ≡ json (device_event at id path (device_name deleted)) ++ line_end
+unfolding event_line
+device-line true id path at = refl
+device-line false id path at = refl
 
 -- what stands before the path
 pub before_path-none : ascii (before_path None) ≡ before_path None

@@ -1,5 +1,5 @@
 -- What a session is told unasked (QMP specification, 2.5 "Asynchronous events").
-use Rattle.std.specs.Prelude.{ℕ, List, ◌++◌, Bool, true, false, Option, None, Some, codes}
+use Rattle.std.specs.Prelude.{ℕ, List, ◌++◌, Bool, true, false, Option, None, Some, codes, if◌then◌else◌}
 use Rattle.qo_causes.specs.declared.inputs.Moment.{Moment}
 use Rattle.json.specs.Print.{quoted}
 use Rattle.serde_json.specs.Data.{Data, Members, boolean, member, no_members, number, object, string, unsigned}
@@ -51,6 +51,15 @@ device_event at (Some id) path name =
 abbrev pub caused_event : Moment → Bool → List ℕ → List ℕ → Data
 caused_event at guest reason name =
     told_event at (member (codes "guest") (boolean guest) (member (codes "reason") (string reason) no_members)) name
+
+-- the name of an event of a device: it was deleted, or the guest refused to let it go
+abbrev pub device_name : Bool → List ℕ
+device_name true = codes "DEVICE_DELETED"
+device_name false = codes "DEVICE_UNPLUG_GUEST_ERROR"
+
+-- an event of a device
+abbrev pub of_device : Bool → Option (List ℕ) → List ℕ → Event
+of_device deleted id path = if deleted then DeviceDeleted id path else DeviceUnplugGuestError id path
 
 -- an event as a value
 abbrev pub event_data : Moment → Event → Data

@@ -3,7 +3,7 @@
 ghost use Rattle.std.specs.Prelude.{◌≡◌, ◌++◌, decimal, option_map, string_bytes, true, IfOk, OnOk};
 ghost use Rattle.std.specs.List.{list_all};
 ghost use Rattle.std.specs.Str.{IsAscii, IsUtf8};
-ghost use Rattle.qo_replies.specs.Events.{before_path, before_reason, caused_event, device_event, ending, event_line, plain_event};
+ghost use Rattle.qo_replies.specs.Events.{before_path, before_reason, caused_event, device_name, ending, event_line, of_device, plain_event};
 ghost use Rattle.qo_replies.specs.declared.events.Event.TheVariants.{Reset, Shutdown};
 ghost use Rattle.qo_replies.specs.Json.{ascii, json};
 ghost use Rattle.qo_replies.specs.Plain.{is_plain_byte};
@@ -141,22 +141,33 @@ fn push_before_path(alloc: Global, text: &mut String, id: Option<&Id>) -> Result
     Ok(())
 }
 
-/// Adds an event of a device.
+/// The name of an event of a device.
+fn device_name(deleted: bool) -> &'static str
+    ensures value { result.now ≡ device_name deleted }
+    ensures plain { list_all is_plain_byte result.now ≡ true }
+{
+    if deleted {
+        "DEVICE_DELETED"
+    } else {
+        "DEVICE_UNPLUG_GUEST_ERROR"
+    }
+}
+
+/// Adds the line of an event of a device.
 fn push_device(
     alloc: Global,
     text: &mut String,
     at: Moment,
+    deleted: bool,
     id: Option<&Id>,
     path: &str,
-    name: &str,
 ) -> Result<(), AllocError>
-    requires { list_all is_plain_byte name.now ≡ true }
-    ensures { OnOk result (string_bytes text.new ≡ string_bytes text.old ++ (json (device_event at (option_map (λ id. id.now) id.entry) path.now name.now) ++ line_end)) }
+    ensures { OnOk result (string_bytes text.new ≡ string_bytes text.old ++ event_line at (of_device deleted (option_map (λ id. id.now) id.entry) path.now)) }
 {
     push_before_path(alloc, text, id)?;
     push_quoted(alloc, text, path)?;
     text.push_str("},")?;
-    push_ending(text, at, name)?;
+    push_ending(text, at, device_name(deleted))?;
     Ok(())
 }
 
@@ -167,23 +178,11 @@ fn push_event(alloc: Global, text: &mut String, at: Moment, event: &Event) -> Re
 {
     match event {
         Event::DeviceDeleted { id, path } => {
-            push_device(
-                alloc,
-                text,
-                at,
-                id.as_ref(),
-                path.as_str(),
-                "DEVICE_DELETED",
-            )
+            push_device(alloc, text, at, true, id.as_ref(), path.as_str())
         }
-        Event::DeviceUnplugGuestError { id, path } => push_device(
-            alloc,
-            text,
-            at,
-            id.as_ref(),
-            path.as_str(),
-            "DEVICE_UNPLUG_GUEST_ERROR",
-        ),
+        Event::DeviceUnplugGuestError { id, path } => {
+            push_device(alloc, text, at, false, id.as_ref(), path.as_str())
+        }
         Event::Reset { guest } => push_reset(text, at, *guest),
         Event::Shutdown { guest } => push_shutdown(text, at, *guest),
         Event::Stop => push_simple(text, at, "STOP"),
@@ -197,5 +196,21 @@ pub fn event_text(alloc: Global, at: Moment, event: &Event) -> Result<Chars, All
 {
     let mut text = String::with_capacity(alloc, EVENT_BYTES)?;
     push_event(alloc, &mut text, at, event)?;
+    Ok(Chars::from_vec(text.into_bytes()))
+}
+
+/// The line of an event on a device, by its parts: that it was deleted, or if not, that the guest
+/// refused to let it go.
+pub fn device_event_text(
+    alloc: Global,
+    at: Moment,
+    deleted: bool,
+    id: Option<&Id>,
+    path: &str,
+) -> Result<Chars, AllocError>
+    ensures { IfOk result (λ line. line ≡ event_line at (of_device deleted (option_map (λ id. id.now) id.entry) path.now)) }
+{
+    let mut text = String::with_capacity(alloc, EVENT_BYTES)?;
+    push_device(alloc, &mut text, at, deleted, id, path)?;
     Ok(Chars::from_vec(text.into_bytes()))
 }

@@ -11,7 +11,7 @@ mod replies;
 mod tests;
 
 pub use ascii::json_text;
-pub use events::{Event, event_text};
+pub use events::{Event, device_event_text, event_text};
 pub use members::{number_member, text_member};
 pub use properties::PropertyList;
 pub use replies::{error_text, greeting, return_text, return_written, version};
