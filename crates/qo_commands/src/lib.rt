@@ -6,7 +6,6 @@ mod built;
 mod changes;
 mod commands;
 mod detached;
-mod events;
 mod listings;
 mod notes;
 #[cfg(test)]
@@ -17,5 +16,4 @@ mod values;
 pub use answers::{answer_written, time_written};
 pub use changes::{change, is_change};
 pub use commands::{Body, Done, ask};
-pub use events::drain;
 pub use listings::listing_text;
