@@ -6,7 +6,6 @@ mod built;
 mod changes;
 mod commands;
 mod detached;
-mod events;
 mod listings;
 mod notes;
 #[cfg(test)]
@@ -14,8 +13,7 @@ mod tests;
 mod types;
 mod values;
 
-pub use answers::{answer_value, time_value};
+pub use answers::{answer_written, time_written};
 pub use changes::{change, is_change};
 pub use commands::{Body, Done, ask};
-pub use events::drain;
 pub use listings::listing_text;

@@ -119,19 +119,16 @@ pub more_lanes : (a front b : List Message) → b ≡ a ++ front → AreToLanes 
 more_lanes a front b is p q = subst AreToLanes (sym is) (lanes_more a front p q)
 
 -- the messages that tell of what waited, of a command's own events, and its reply
-pub reply_sent : (at : Moment) (lane : Lane) (m mid : Seen) (r : Replied) (start told both outs : List Message) (waiting seen own : List Event) (text : List ℕ)
+pub reply_sent : (at : Moment) (lane : Lane) (m mid : Seen) (r : Replied) (start told both outs : List Message) (waiting own : List Event) (text : List ℕ)
     → IsLane lane → ((b : Board) → state_at b mid ≡ state_at b m) → ((b : Board) → Stands b m.board → waiting ≡ map event_of b.events)
-    → told ≡ start ++ event_outs at (beside mid) seen → seen ≡ waiting → both ≡ told ++ event_outs at (beside mid) own → own ≡ option_to_list r.event
+    → told ≡ start ++ event_outs at (beside m) waiting → both ≡ told ++ event_outs at (beside mid) own → own ≡ option_to_list r.event
     → r.text ≡ Ok text → outs ≡ both ++ (lane, text) ∷ []
     → (front : List Message) × (outs ≡ start ++ front) × AreToLanes front × Tells at lane m r front
-reply_sent at lane m mid r start told both outs waiting seen own text below still waits tells sees adds owns has ends =
+reply_sent at lane m mid r start told both outs waiting own text below still waits tells adds owns has ends =
     let last : List Message = (lane, text) ∷ [] in
     let es : List Event = option_to_list r.event in
     let one : List Message = event_outs at (beside m) waiting in
     let two : List Message = event_outs at (beside m) es in
-    let first : told ≡ start ++ one =
-    tells ∙ ap (λ (l : List Event). start ++ event_outs at (beside mid) l) sees
-    ∙ ap (λ (s : State). start ++ event_outs at s waiting) (still opening_board) in
     let second : both ≡ told ++ two =
     adds ∙ ap (λ (l : List Event). told ++ event_outs at (beside mid) l) owns
     ∙ ap (λ (s : State). told ++ event_outs at s es) (still opening_board) in
@@ -139,7 +136,7 @@ reply_sent at lane m mid r start told both outs waiting seen own text below stil
     sym (flat_map-append (λ (event : Event). told_of event at (commanding (beside m))) waiting es) in
     let front : List Message = event_outs at (beside m) (waiting ++ es) ++ last in (
       front,
-      ends ∙ ap (λ (l : List Message). l ++ last) (second ∙ ap (λ (l : List Message). l ++ two) first ∙ append_assoc start one two)
+      ends ∙ ap (λ (l : List Message). l ++ last) (second ∙ ap (λ (l : List Message). l ++ two) tells ∙ append_assoc start one two)
           ∙ append_assoc start (one ++ two) last ∙ ap (λ (l : List Message). start ++ (l ++ last)) joined,
       told_lanes (waiting ++ es) (beside m) at lane text (event_outs at (beside m) (waiting ++ es)) front refl refl below,
       (text, has, λ b stands. ap (λ (l : List Event). event_outs at (state_at b m) (l ++ es) ++ last) (waits b stands)),

@@ -21,7 +21,7 @@ use Rattle.qo_sessions.specs.declared.acts.SessionAct.TheVariants.{Answer, Negot
 use Rattle.qo_values.specs.declared.codes.Code.{Code}
 use Rattle.qo_values.specs.declared.codes.Code.TheVariants.{E99}
 use Rattle.qo_values.specs.declared.limits.TheConstants.{SESSIONS}
-use Rattle.qo_model.specs.Board.{Board}
+use Rattle.qo_model.specs.Board.{Board, DeviceEvent}
 use Rattle.qo_model.specs.Opening.{opening_board}
 use Rattle.qo_commands.proofs.AttemptLemmas.{attempted-none}
 use Rattle.qo_commands.specs.Changes.{Left, attempted}
@@ -97,11 +97,16 @@ told_more s e at ns ms = rw (filter-append _ ns ms) (map-append _ (those_command
 pub take_one : {X : Type 0} (xs : List X) (i : ℕ) (x : X) → i < length xs → x ≡ slice_index_or xs i x → take (i + 1) xs ≡ take i xs ++ x ∷ []
 take_one xs i x below is = take_more xs i x below ∙ ap (λ y. take i xs ++ y ∷ []) (sym is)
 
-pub events_more : (at : Moment) (s : State) (es : List Event) (i : ℕ) (e : Event) (start old now : List Message) → i < length es → e ≡ slice_index_or es i e → old ≡ start ++ event_outs at s (take i es) → now ≡ old ++ told_of e at (commanding s) → now ≡ start ++ event_outs at s (take (i + 1) es)
+pub events_more : (at : Moment) (s : State) (es : List DeviceEvent) (i : ℕ) (e : DeviceEvent) (start old now : List Message) → i < length es → e ≡ slice_index_or es i e → old ≡ start ++ event_outs at s (map event_of (take i es)) → now ≡ old ++ told_of (event_of e) at (commanding s) → now ≡ start ++ event_outs at s (map event_of (take (i + 1) es))
 events_more at s es i e start old now below is was more =
-    more ∙ ap (λ (outs : List Message). outs ++ told_of e at (commanding s)) was ∙ append_assoc start (event_outs at s (take i es)) (told_of e at (commanding s))
+    let one : event_outs at s (event_of e ∷ []) ≡ told_of (event_of e) at (commanding s) = append-nil (told_of (event_of e) at (commanding s)) in
+    let both : event_outs at s (map event_of (take i es)) ++ event_outs at s (event_of e ∷ []) ≡ event_outs at s (map event_of (take i es) ++ event_of e ∷ []) =
+    sym (flat_map-append (λ (event : Event). told_of event at (commanding s)) (map event_of (take i es)) (event_of e ∷ [])) in
+    let front : map event_of (take i es) ++ event_of e ∷ [] ≡ map event_of (take (i + 1) es) =
+    sym (map-append event_of (take i es) (e ∷ [])) ∙ ap (map event_of) (sym (take_one es i e below is)) in
+    more ∙ ap (λ (outs : List Message). outs ++ told_of (event_of e) at (commanding s)) was ∙ append_assoc start (event_outs at s (map event_of (take i es))) (told_of (event_of e) at (commanding s))
     ∙ ap (λ (outs : List Message). start ++ outs)
-    (ap (λ (outs : List Message). event_outs at s (take i es) ++ outs) (sym (append-nil (told_of e at (commanding s)))) ∙ sym (flat_map-append (λ (event : Event). told_of event at (commanding s)) (take i es) (e ∷ [])) ∙ ap (event_outs at s) (sym (take_one es i e below is)))
+    (ap (λ (outs : List Message). event_outs at s (map event_of (take i es)) ++ outs) (sym one) ∙ both ∙ ap (event_outs at s) front)
 
 -- Items.
 

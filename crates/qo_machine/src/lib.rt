@@ -7,6 +7,7 @@ mod outs;
 mod replying;
 mod running;
 mod serving;
+mod telling;
 #[cfg(test)]
 mod tests;
 

@@ -1,6 +1,6 @@
 //! The machine: its board and its sessions, and what one input does.
 
-ghost use Rattle.std.specs.Prelude.{◌≡◌, ◌<◌, [], List, length, map, option_map, replicate, IfOk};
+ghost use Rattle.std.specs.Prelude.{◌≡◌, ◌<◌, [], List, length, option_map, replicate, IfOk};
 ghost use Rattle.qo_values.specs.declared.limits.TheConstants.{SESSIONS};
 ghost use Rattle.qo_causes.specs.declared.inputs.Moment.{Moment};
 ghost use Rattle.qo_causes.specs.declared.inputs.What.TheVariants as What;
@@ -12,7 +12,8 @@ use crate::outs::Outs;
 use crate::replying::{EMPTY, changed_text, guest_text, reply_text};
 use crate::serving::{serve_items, serve_lines};
 use qo_causes::{Input, Lane, Moment, What};
-use qo_commands::{ask, change, drain, is_change};
+use qo_commands::{ask, change, is_change};
+use qo_events::DeviceEvent;
 use qo_framing::Item;
 use qo_heap::Steps;
 use qo_lane::{cut_lines, hear};
@@ -96,7 +97,7 @@ impl Machine {
     ghost use Rattle.qo_sessions.specs.Acts.{act};
     ghost use Rattle.qo_sessions.specs.Sessions.{fed};
     ghost use Rattle.qo_commands.specs.Changes.{Left, is_change};
-    ghost use Rattle.qo_commands.specs.Commands.{event_of, without_events};
+    ghost use Rattle.qo_commands.specs.Commands.{without_events};
     ghost use Rattle.qo_realize.specs.Stands.{Stands};
     ghost use Rattle.qo_realize.specs.Time.{advanced};
     ghost use Rattle.qo_machine.specs.Machine.{Answers, BreaksOff, IsIn, State, behind_command, beside, finished, input_step, mode_of, opening, session_of, state_at, with_line, with_session};
@@ -446,15 +447,20 @@ impl Machine {
         }
     }
 
-    /// Takes the events on devices that wait on the board. The error is want of memory for the list;
-    /// no event waits then either.
-    pub(crate) fn drain(&mut self, alloc: Global) -> Result<Vec<Event>, AllocError>
-        ensures events { (b : Tree) → Stands b self.old.board → IfOk result (λ events. events.items ≡ map event_of b.events) }
+    /// The events on devices that wait on the board, in the order of their coming. It takes no memory.
+    pub(crate) fn waiting(&self) -> &[DeviceEvent]
+        ensures { (b : Tree) → Stands b self.now.board → result.now ≡ b.events }
+    {
+        self.board.events()
+    }
+
+    /// Lets the events on devices that wait on the board go, as they were told. It takes no memory.
+    pub(crate) fn forget_waiting(&mut self)
         ensures board { (b : Tree) → Stands b self.old.board → Stands (without_events b) self.new.board }
         ensures rest { (b : Tree) → state_at b self.new ≡ state_at b self.old }
         ensures lasts { self.new.spent ≡ self.old.spent }
     {
-        drain(alloc, &mut self.board)
+        self.board.clear_events();
     }
 
     /// The run ends where a command ends it. It takes no memory.

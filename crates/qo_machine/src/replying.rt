@@ -9,7 +9,7 @@ ghost use Rattle.qo_model.specs.Board.{Board as Tree};
 ghost use Rattle.qo_realize.specs.Stands.{Stands};
 ghost use Rattle.qo_replies.specs.Replies.{return_reply};
 
-use qo_commands::{Body, answer_value, listing_text, time_value};
+use qo_commands::{Body, answer_written, listing_text, time_written};
 use qo_guest::{GuestAnswer, answer_text};
 use qo_heap::Steps;
 use qo_realize::Board;
@@ -45,12 +45,12 @@ fn done_text<L: Ledger>(
             return_written(alloc, id, text.as_str())
         }
         Body::Answer(answer) => {
-            let value = answer_value(alloc, answer)?;
-            return_text(alloc, id, &value)
+            let text = answer_written(alloc, answer)?;
+            return_written(alloc, id, text.as_str())
         }
         Body::Time(now) => {
-            let value = time_value(alloc, *now)?;
-            return_text(alloc, id, &value)
+            let text = time_written(alloc, *now)?;
+            return_written(alloc, id, text.as_str())
         }
         Body::Value(value) => return_text(alloc, id, value),
     }

@@ -1,13 +1,13 @@
 //! Serving the items of a session and the lines of the guest: each makes exactly one reply, behind its events.
 
-ghost use Rattle.std.specs.Prelude.{◌≡◌, ◌<◌, [], ◌∷◌, ◌++◌, List, option_map, option_to_list, IfOk, OnErr, OnOk};
+ghost use Rattle.std.specs.Prelude.{◌≡◌, ◌<◌, [], ◌∷◌, ◌++◌, List, map, option_map, option_to_list, IfOk, OnErr, OnOk};
 ghost use Rattle.qo_causes.specs.declared.hubs.Lane.TheVariants as LaneView;
 ghost use Rattle.qo_guest.specs.declared.answers.GuestAnswer.TheVariants.{NoMemory};
 ghost use Rattle.qo_replies.specs.Replies.{error_reply};
 ghost use Rattle.qo_values.specs.declared.codes.Code.TheVariants.{E99};
 ghost use Rattle.qo_model.specs.Board.{Board as Tree};
 ghost use Rattle.qo_realize.specs.Stands.{Stands};
-ghost use Rattle.qo_commands.specs.Commands.{without_events};
+ghost use Rattle.qo_commands.specs.Commands.{event_of, without_events};
 ghost use Rattle.qo_machine.specs.Machine.{IsIn, Message, State, answer_line, beside, commanding, event_outs, state_at, those_commanding, told_of};
 ghost use Rattle.qo_values.specs.declared.limits.TheConstants.{SESSIONS};
 ghost use Rattle.qo_machine.specs.Sending.{AreToLanes, IsLane};
@@ -16,12 +16,14 @@ ghost use Rattle.qo_machine.specs.Serving.{CommandLeft, CommandServed, LinesFron
 use crate::machines::{Machine, Replied};
 use crate::outs::Outs;
 use crate::replying::{EMPTY, guest_text};
+use crate::telling::Told;
 use qo_causes::{Lane, Moment};
+use qo_events::DeviceEvent;
 use qo_framing::Item;
 use qo_guest::GuestAnswer;
 use qo_heap::Steps;
 use qo_lane::without_return;
-use qo_replies::{Event, error_text, event_text, return_written};
+use qo_replies::{Event, error_text, return_written};
 use qo_requests::Request;
 use qo_sessions::{Mode, SessionAct};
 use qo_values::{Chars, Code, SESSIONS, Text};
@@ -29,32 +31,32 @@ use std::alloc::{AllocError, Global};
 use std::sync::ledger::Ledger;
 
 /// One session is told of an event, if it commands.
-fn tell_one(
+fn tell_one<E: Told>(
     machine: &Machine,
     alloc: Global,
     at: Moment,
     session: u8,
-    event: &Event,
+    event: &E,
     outs: &mut Outs,
 ) -> Result<(), AllocError>
     requires { session < SESSIONS }
-    ensures { OnOk result (outs.new ≡ outs.old ++ told_of event.now at (those_commanding (beside machine.now) (session ∷ []))) }
+    ensures { OnOk result (outs.new ≡ outs.old ++ told_of (E.event event.now) at (those_commanding (beside machine.now) (session ∷ []))) }
 {
     if machine.mode(session) == Mode::Commanding {
-        outs.push(Lane::Session(session), event_text(alloc, at, event)?)?;
+        outs.push(Lane::Session(session), event.line(alloc, at)?)?;
     }
     Ok(())
 }
 
 /// Each session that commands is told of an event.
-fn tell(
+fn tell<E: Told>(
     machine: &Machine,
     alloc: Global,
     at: Moment,
-    event: &Event,
+    event: &E,
     outs: &mut Outs,
 ) -> Result<(), AllocError>
-    ensures { OnOk result (outs.new ≡ outs.old ++ told_of event.now at (commanding (beside machine.now))) }
+    ensures { OnOk result (outs.new ≡ outs.old ++ told_of (E.event event.now) at (commanding (beside machine.now))) }
 {
     for session in 0..SESSIONS {
         tell_one(machine, alloc, at, session, event, outs)?;
@@ -62,15 +64,15 @@ fn tell(
     Ok(())
 }
 
-/// Each session that commands is told of each event.
+/// Each session that commands is told of each event on a device, in their order.
 fn tell_all(
     machine: &Machine,
     alloc: Global,
     at: Moment,
-    events: &[Event],
+    events: &[DeviceEvent],
     outs: &mut Outs,
 ) -> Result<(), AllocError>
-    ensures { OnOk result (outs.new ≡ outs.old ++ event_outs at (beside machine.now) events.now) }
+    ensures { OnOk result (outs.new ≡ outs.old ++ event_outs at (beside machine.now) (map event_of events.now)) }
 {
     for event in events {
         tell(machine, alloc, at, event, outs)?;
@@ -132,8 +134,9 @@ fn send_reply(
     ensures rest { (b : Tree) → state_at b machine.new ≡ state_at b machine.old }
     ensures lasts { machine.new.spent ≡ machine.old.spent }
 {
-    let waiting = machine.drain(alloc)?;
-    tell_all(machine, alloc, at, &waiting, outs)?;
+    let told = tell_all(machine, alloc, at, machine.waiting(), outs);
+    machine.forget_waiting();
+    told?;
     tell_own(machine, alloc, at, reply.event.as_ref(), outs)?;
     outs.push(lane, reply.text?)?;
     Ok(())

@@ -1,2 +1,5 @@
 pub mod AsciiLemmas
+pub mod EventLemmas
+pub mod MemberLemmas
 pub mod PropertyLemmas
+pub mod QuotedLemmas

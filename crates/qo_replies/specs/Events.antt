@@ -1,7 +1,9 @@
 -- What a session is told unasked (QMP specification, 2.5 "Asynchronous events").
-use Rattle.std.specs.Prelude.{ℕ, List, ◌++◌, Bool, true, false, Option, None, Some, codes}
+use Rattle.std.specs.Prelude.{ℕ, List, ◌++◌, Bool, true, false, Option, None, Some, codes, if◌then◌else◌}
 use Rattle.qo_causes.specs.declared.inputs.Moment.{Moment}
+use Rattle.json.specs.Print.{quoted}
 use Rattle.serde_json.specs.Data.{Data, Members, boolean, member, no_members, number, object, string, unsigned}
+use Rattle.serde_json.specs.Written.{members_text}
 use Rattle.qo_replies.specs.Json.{json}
 use Rattle.qo_replies.specs.Replies.{line_end}
 use Rattle.qo_replies.specs.declared.events.Event.{Event}
@@ -13,6 +15,23 @@ timestamp at =
     member (codes "timestamp")
     (object (member (codes "microseconds") (number (unsigned at.micros)) (member (codes "seconds") (number (unsigned at.seconds)) no_members)))
     no_members
+
+-- the members that an event ends with: its name and its moment
+abbrev pub named : List ℕ → Moment → Members
+named name at = member (codes "event") (string name) (timestamp at)
+
+-- the text of an event from its name on
+unfoldable pub ending : List ℕ → Moment → List ℕ
+ending name at = members_text false (named name at)
+
+-- the text of an event with data up to its path, or to the reason of what one side caused
+abbrev pub before_path : Option (List ℕ) → List ℕ
+before_path None = codes "{\"data\":{\"path\":"
+before_path (Some id) = codes "{\"data\":{\"device\":" ++ (quoted id ++ codes ",\"path\":")
+
+abbrev pub before_reason : Bool → List ℕ
+before_reason true = codes "{\"data\":{\"guest\":true,\"reason\":"
+before_reason false = codes "{\"data\":{\"guest\":false,\"reason\":"
 
 -- an event without data
 abbrev pub plain_event : Moment → List ℕ → Data
@@ -32,6 +51,15 @@ device_event at (Some id) path name =
 abbrev pub caused_event : Moment → Bool → List ℕ → List ℕ → Data
 caused_event at guest reason name =
     told_event at (member (codes "guest") (boolean guest) (member (codes "reason") (string reason) no_members)) name
+
+-- the name of an event of a device: it was deleted, or the guest refused to let it go
+abbrev pub device_name : Bool → List ℕ
+device_name true = codes "DEVICE_DELETED"
+device_name false = codes "DEVICE_UNPLUG_GUEST_ERROR"
+
+-- an event of a device
+abbrev pub of_device : Bool → Option (List ℕ) → List ℕ → Event
+of_device deleted id path = if deleted then DeviceDeleted id path else DeviceUnplugGuestError id path
 
 -- an event as a value
 abbrev pub event_data : Moment → Event → Data

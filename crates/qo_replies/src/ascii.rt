@@ -95,12 +95,23 @@ pub(crate) fn push_json(alloc: Global, text: &mut String, value: &Value) -> Resu
     push_ascii(text, plain.as_str())
 }
 
+/// A text in ASCII: itself, or a copy with the others escaped.
+fn into_ascii(alloc: Global, plain: String) -> Result<Text, AllocError>
+    ensures { IfOk result (λ text. text ≡ ascii (string_bytes plain)) }
+{
+    if plain.is_ascii() {
+        return Ok(Text::from_string(plain));
+    }
+    let mut text = String::new(alloc);
+    push_escaped(&mut text, plain.as_str())?;
+    Ok(Text::from_string(text))
+}
+
+#[tactic(auto, unfolding(crate::specs::Json::json))]
 /// The text of a value: compact JSON in ASCII, members in byte order of their names, every other
 /// character escaped by its UTF-16 units. Nothing is said of the text of a fraction.
 pub fn json_text(alloc: Global, value: &Value) -> Result<Text, AllocError>
     ensures { IfOk result (λ text. has_float (view value.now) ≡ false → text ≡ json (view value.now)) }
 {
-    let mut text = String::new(alloc);
-    push_json(alloc, &mut text, value)?;
-    Ok(Text::from_string(text))
+    into_ascii(alloc, value.to_string(alloc)?)
 }

@@ -3,12 +3,15 @@
 
 mod ascii;
 mod events;
+mod members;
 mod properties;
+mod quoted;
 mod replies;
 #[cfg(test)]
 mod tests;
 
 pub use ascii::json_text;
-pub use events::{Event, event_text};
+pub use events::{Event, device_event_text, event_text};
+pub use members::{number_member, text_member};
 pub use properties::PropertyList;
 pub use replies::{error_text, greeting, return_text, return_written, version};

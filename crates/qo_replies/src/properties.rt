@@ -10,59 +10,13 @@ ghost use Rattle.qo_replies.specs.Plain.{is_plain_byte};
 ghost use Rattle.qo_replies.specs.Properties.{before_name, property_data};
 ghost use Rattle.serde_json.specs.Written.{comma_if, compact_text};
 
-use crate::ascii::push_ascii;
+use crate::quoted::{push_plain, push_quoted};
 use qo_values::{Text, TypeId, TypeText};
-use serde_json::Value;
 use std::alloc::{AllocError, Global};
 use std::marker::Model;
 
 /// A list has about so many bytes.
 const LIST_BYTES: usize = 512;
-
-/// Whether a byte stands for itself in a JSON string.
-fn is_plain_byte(byte: u8) -> bool
-    ensures { result ≡ is_plain_byte byte }
-{
-    (32..127).contains(&byte) && byte != b'"' && byte != b'\\'
-}
-
-/// Whether each byte of a text stands for itself in a JSON string.
-fn is_plain(text: &str) -> bool
-    ensures { result ≡ list_all is_plain_byte text.now }
-{
-    for byte in text.as_bytes() {
-        if !is_plain_byte(*byte) {
-            return false;
-        }
-    }
-    true
-}
-
-/// A text that stands for itself, in quotes.
-fn push_plain(text: &mut String, plain: &str) -> Result<(), AllocError>
-    requires { list_all is_plain_byte plain.now ≡ true }
-    ensures { OnOk result (string_bytes text.new ≡ string_bytes text.old ++ ascii (quoted plain.now)) }
-{
-    text.push_str("\"")?;
-    text.push_str(plain)?;
-    text.push_str("\"")?;
-    Ok(())
-}
-
-/// A text as a JSON string in ASCII.
-fn push_quoted(alloc: Global, text: &mut String, plain: &str) -> Result<(), AllocError>
-    ensures bytes { OnOk result (string_bytes text.new ≡ string_bytes text.old ++ ascii (quoted plain.now)) }
-    ensures spelled { OnOk result (IsUtf8 (quoted plain.now)) }
-{
-    if is_plain(plain) {
-        push_plain(text, plain)?;
-        Ok(())
-    } else {
-        let value = Value::String(String::from_str(alloc, plain)?);
-        let written = value.to_string(alloc)?;
-        push_ascii(text, written.as_str())
-    }
-}
 
 /// A word around the name of a type, in quotes.
 fn push_around(text: &mut String, word: &str, kind: TypeId) -> Result<(), AllocError>

@@ -4,5 +4,5 @@ use Rattle.qo_machine.specs.Machine.{beside, numbers_below, those_commanding, to
 use Rattle.qo_machine.proofs.serving.tell.Given as goal
 
 abbrev pub invariant-loop-session : goal.invariant-loop-session
-invariant-loop-session l =
-    l.outs ≡ l.fn.outs ++ told_of l.event l.at (those_commanding (beside l.machine) (numbers_below l.session))
+invariant-loop-session g l =
+    l.outs ≡ l.fn.outs ++ told_of (g.E.Told.event l.event) l.at (those_commanding (beside l.machine) (numbers_below l.session))

@@ -3,7 +3,8 @@ use Rattle.json.specs.Print.{quoted}
 use Rattle.qo_values.specs.TypeTexts.{text_of}
 use Rattle.qo_replies.specs.Json.{ascii}
 use Rattle.qo_replies.specs.Properties.{before_name, before_type, behind_type}
-use Rattle.qo_replies.proofs.PropertyLemmas.{five_more, plain-type, property-ascii, property-spelled, quoted-spelled}
+use Rattle.qo_replies.proofs.PropertyLemmas.{plain-type, property-ascii, property-spelled}
+use Rattle.qo_replies.proofs.QuotedLemmas.{five_more, quoted-spelled}
 use Rattle.qo_replies.proofs.properties.push_property.Goals as goal
 
 pub returns-clause-bytes : goal.returns-clause-bytes

@@ -1,7 +1,7 @@
 use Rattle.std.proofs.Common.{[], ◌∷◌}
 use Rattle.std.specs.Prelude.{string_bytes}
-use Rattle.qo_replies.proofs.PropertyLemmas.{quoted-plain, three_more}
-use Rattle.qo_replies.proofs.properties.push_plain.Goals as goal
+use Rattle.qo_replies.proofs.QuotedLemmas.{quoted-plain, three_more}
+use Rattle.qo_replies.proofs.quoted.push_plain.Goals as goal
 
 pub returns : goal.returns
 returns c =
