@@ -1,0 +1,5 @@
+pub mod FewerLemmas
+pub mod GrownLemmas
+pub mod LawLemmas
+pub mod LessLemmas
+pub mod ReadLemmas

@@ -1,0 +1,2 @@
+pub mod ClocksKept
+pub mod SoundClocks

@@ -1,0 +1,11 @@
+//! The soundness of the clocks of a board: periods fit, and what clocks go by has no rounds.
+//! Functions without effect, whose contracts say what keeps it so. The definitions stand in `specs/`.
+#![tactic(auto)]
+
+ghost use Rattle.qo_sound_clocks.specs.ClocksKept.{ClocksKeptLaw};
+
+/// The clocks of a board are sound on the opening board.
+#[tactic(auto, using(crate::proofs::LawLemmas::clocks_kept_lem))]
+pub fn law_clocks_kept()
+    ensures { ClocksKeptLaw }
+{}
