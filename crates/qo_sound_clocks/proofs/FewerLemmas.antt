@@ -75,7 +75,7 @@ finish-less c n x = go (x == n) refl
     go false p = rw (finish-record c n x p) (other (record_of c x))
 
 module _ (b : Board) where
-  fewer-drop : (c : Board) (n i : ℕ) → Fewer b c → Fewer b (drop_slot c n i)
+  pub fewer-drop : (c : Board) (n i : ℕ) → Fewer b c → Fewer b (drop_slot c n i)
   unfolding drop_slot
   fewer-drop c n i h = fewer-edit b n (with_dropped i) (λ r. refl) c (λ r e. less-dropped i r.slots) h
 

@@ -381,3 +381,52 @@ less-set_period i xs x e named =
     own : (plain_of (codes "period") ys ≡ Some (val.Uint 0)) ⊎ (plain_of (codes "period") ys ≡ plain_of (codes "period") xs) → own_in ys ≤ own_in xs
     own (inl k) = rw k (omega arith)
     own (inr k) = let same_own : own_in ys ≡ own_in xs = number-same (codes "period") 0 xs ys k in omega (arith, same_own)
+
+-- a slot more that is neither plain nor a weak link
+pub less-added : (name : List ℕ) (t : Slot) → plain_in t ≡ None → weak_in t ≡ None → (xs : Slots) → Less xs (xs ++ (name, t) ∷ [])
+less-added name t none blind xs =
+    less-same xs (xs ++ (name, t) ∷ [])
+    (record { period = same (codes "period") xs; mul = same (codes "mul") xs; div = same (codes "div") xs })
+    (λ s e. fewer s xs e)
+  where
+    last : (other : List ℕ) → plain_of other ((name, t) ∷ []) ≡ None
+    last other = rw none (absent (bytes_eq name other) None)
+
+    same : (other : List ℕ) (ys : Slots) → plain_of other (ys ++ (name, t) ∷ []) ≡ plain_of other ys
+    same other [] = last other
+    same other (y ∷ ys) = ap (option_or (plain_named other y)) (same other ys)
+
+    fewer : (s : ℕ) (ys : Slots) → sees s (ys ++ (name, t) ∷ []) ≡ true → sees s ys ≡ true
+    fewer s [] e = go (sees_it s (name, t)) refl
+      where
+        go : (u : Bool) → sees_it s (name, t) ≡ u → false ≡ true
+        go true p =
+            and-right (bytes_eq name (codes "source")) false (sym (ap (λ (o : Option ℕ). bytes_eq name (codes "source") && is_target s o) blind) ∙ p)
+        go false p = rw p at e
+    fewer s (y ∷ ys) e = or-less (sees_it s y) (sees s (ys ++ (name, t) ∷ [])) (sees_it s y) (sees s ys) (λ k. k) (fewer s ys) e
+
+-- a link of another name is pointed
+plain-pointed : (m : ℕ) (s : Slot) → plain_in (pointed m s) ≡ plain_in s
+plain-pointed m (plain v) = refl
+plain-pointed m (child k) = refl
+plain-pointed m (strong t target) = refl
+plain-pointed m (weak t target) = refl
+plain-pointed m (alias k property) = refl
+
+sees-apart : (g : Slot → Slot) (s i : ℕ) (xs : Slots) (x : List ℕ × Slot) → slice_get xs i ≡ Some x → bytes_eq x.0 (codes "source") ≡ false
+    → sees s (changed_at g i xs) ≡ true → sees s xs ≡ true
+sees-apart g s i [] x e apart k = k
+sees-apart g s zero (y ∷ xs) x e apart k =
+    let other : bytes_eq y.0 (codes "source") ≡ false = ap (λ (z : List ℕ × Slot). bytes_eq z.0 (codes "source")) (same_Some y x e) ∙ apart in
+    rw other (rw other at k)
+sees-apart g s (suc i) (y ∷ xs) x e apart k =
+    or-less (sees_it s y) (sees s (changed_at g i xs)) (sees_it s y) (sees s xs) (λ j. j) (sees-apart g s i xs x e apart) k
+
+pub less-pointed : (m i : ℕ) (xs : Slots) (x : List ℕ × Slot) → slice_get xs i ≡ Some x → OtherName x.0 → Less xs (changed_at (pointed m) i xs)
+less-pointed m i xs x e other =
+    less-same xs (changed_at (pointed m) i xs)
+    (record { period = same (codes "period"); mul = same (codes "mul"); div = same (codes "div") })
+    (λ s k. sees-apart (pointed m) s i xs x e other.source k)
+  where
+    same : (name : List ℕ) → plain_of name (changed_at (pointed m) i xs) ≡ plain_of name xs
+    same name = plain-changed (pointed m) (plain-pointed m) name i xs

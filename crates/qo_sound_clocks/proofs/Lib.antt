@@ -1,5 +1,12 @@
+pub mod CommandLemmas
 pub mod FewerLemmas
+pub mod FoundLemmas
 pub mod GrownLemmas
 pub mod LawLemmas
 pub mod LessLemmas
+pub mod OpeningLemmas
+pub mod QuietLemmas
 pub mod ReadLemmas
+pub mod SpreadLemmas
+pub mod StayLemmas
+pub mod WriteLemmas

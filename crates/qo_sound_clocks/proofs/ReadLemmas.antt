@@ -11,10 +11,10 @@ use Rattle.qo_model.specs.Board.{Board, Record, Slot, record_of, slots_at}
 use Rattle.qo_model.specs.Clocks.{div_of, mul_of, own_period, source_of, weak_in}
 use Rattle.qo_model.specs.Devices.{number_in, plain_in}
 use Rattle.qo_sound.specs.Kept.{SoundTree}
-use Rattle.qo_sound.proofs.FirmLemmas.{Firm}
+use Rattle.qo_sound.proofs.FirmLemmas.{HasNames}
 use Rattle.qo_sound.proofs.SlotLemmas.{names_in}
 use Rattle.qo_sound.proofs.ViewLemmas.{AtRest, rest-from_sound}
-use Rattle.qo_sound_devices.proofs.DropLemmas.{names-at}
+use Rattle.qo_sound_clocks.proofs.FoundLemmas.{all-found}
 use Rattle.qo_sound_clocks.proofs.LessLemmas.{div_in, is_target, mul_in, own_in, plain_named, plain_of, sees, sees_it, Slots}
 
 abbrev named_in : List ℕ → Slots → Option Slot
@@ -130,4 +130,4 @@ tree-reads b tree =
       where
         go : (o : Option Record) → record_of b c ≡ o → IsDistinct bytes_eq (names_in (slots_in o))
         go None e = tt
-        go (Some r) e = names-at b rest.used.firm c r e
+        go (Some r) e = all-found HasNames c b.records rest.used.firm.named r e
