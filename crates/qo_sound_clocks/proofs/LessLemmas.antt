@@ -126,7 +126,7 @@ pub record SameValues (xs ys : Slots) : Type 0 where
   pub mul : plain_of (codes "mul") ys ≡ plain_of (codes "mul") xs
   pub div : plain_of (codes "div") ys ≡ plain_of (codes "div") xs
 
-number-same : (name : List ℕ) (none : ℕ) (xs ys : Slots) → plain_of name ys ≡ plain_of name xs → number_of name none ys ≡ number_of name none xs
+pub number-same : (name : List ℕ) (none : ℕ) (xs ys : Slots) → plain_of name ys ≡ plain_of name xs → number_of name none ys ≡ number_of name none xs
 number-same name none xs ys e = ap (λ (o : Option Val). unwrap_or (option_and_then number_in o) none) e
 
 pub less-same : (xs ys : Slots) → SameValues xs ys → ((s : ℕ) → sees s ys ≡ true → sees s xs ≡ true) → Less xs ys
@@ -208,7 +208,7 @@ plain-dropped name zero ((own, strong t target) ∷ xs) = refl
 plain-dropped name zero ((own, weak t target) ∷ xs) = refl
 plain-dropped name zero ((own, alias m property) ∷ xs) = refl
 
-or-right : (t u : Bool) → u ≡ true → (t || u) ≡ true
+pub or-right : (t u : Bool) → u ≡ true → (t || u) ≡ true
 or-right true u e = refl
 or-right false u e = e
 
@@ -267,7 +267,7 @@ less-taken i xs own t e none =
 
 -- one slot is changed
 
-plain-changed : (g : Slot → Slot) → ((s : Slot) → plain_in (g s) ≡ plain_in s) → (name : List ℕ) (i : ℕ) (xs : Slots)
+pub plain-changed : (g : Slot → Slot) → ((s : Slot) → plain_in (g s) ≡ plain_in s) → (name : List ℕ) (i : ℕ) (xs : Slots)
     → plain_of name (changed_at g i xs) ≡ plain_of name xs
 plain-changed g same name i [] = refl
 plain-changed g same name zero (x ∷ xs) = rw (same x.1) refl

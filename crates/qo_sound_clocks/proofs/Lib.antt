@@ -5,6 +5,7 @@ pub mod GrownLemmas
 pub mod LawLemmas
 pub mod LessLemmas
 pub mod OpeningLemmas
+pub mod PlugLemmas
 pub mod QuietLemmas
 pub mod ReadLemmas
 pub mod SpreadLemmas

@@ -74,7 +74,7 @@ quiet-blank xs h =
     }
 
 -- the values given to a new object
-quiet-given : (b : Board) (props : List Given) (s : List ℕ × Slot) → Quiet s → Quiet (slot_given b props s)
+pub quiet-given : (b : Board) (props : List Given) (s : List ℕ × Slot) → Quiet s → Quiet (slot_given b props s)
 quiet-given b props (name, s) h = go (find (λ (p : Given). bytes_eq p.0 name) props) refl
   where
     given : (t : Slot) (v : Val) → Quiet (name, t) → Quiet (name, given_to b t v)

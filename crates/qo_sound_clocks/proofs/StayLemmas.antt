@@ -26,7 +26,7 @@ beside-clocks b c e h = same-sound b c (λ n. ap (λ (rs : List Record). slots_i
 
 -- acts
 
-acted-slots : (act : Act) (n period : ℕ) (b : Board) (x : ℕ) → slots_at (acted act n period b) x ≡ slots_at b x
+pub acted-slots : (act : Act) (n period : ℕ) (b : Board) (x : ℕ) → slots_at (acted act n period b) x ≡ slots_at b x
 unfolding acted
 acted-slots act n period b x = ap slots_in (found-edited n (with_act_on act b.now period) (λ r. refl) x b.records) ∙ go (record_of b x)
   where
