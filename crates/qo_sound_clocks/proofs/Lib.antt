@@ -6,6 +6,7 @@ pub mod LawLemmas
 pub mod LessLemmas
 pub mod OpeningLemmas
 pub mod PlugLemmas
+pub mod PluggedLemmas
 pub mod QuietLemmas
 pub mod ReadLemmas
 pub mod SpreadLemmas

@@ -48,23 +48,23 @@ use Rattle.qo_sound_clocks.proofs.StayLemmas.{acted-slots}
 
 -- a slot of the new device: it is not read as a clock's, and a child is new
 
-abbrev Above : ℕ → List ℕ × Slot → Type 0
+abbrev pub Above : ℕ → List ℕ × Slot → Type 0
 Above k (name, child m) = k < m
 Above k s = ⊤
 
-abbrev NewSlot : ℕ → List ℕ × Slot → Type 0
+abbrev pub NewSlot : ℕ → List ℕ × Slot → Type 0
 NewSlot k s = Quiet s × Above k s
 
-abbrev NewSlots : ℕ → Slots → Type 0
+abbrev pub NewSlots : ℕ → Slots → Type 0
 NewSlots k xs = AllByRecursion (NewSlot k) xs
 
 -- a clock as new goes by nothing but one clock
 
-record Calm (source : ℕ) (ys : Slots) : Type 0 where
-  own : own_in ys ≡ 0
-  mul : mul_in ys ≡ 1
-  div : div_in ys ≡ 1
-  only : (s : ℕ) → sees s ys ≡ true → s ≡ source
+pub record Calm (source : ℕ) (ys : Slots) : Type 0 where
+  pub own : own_in ys ≡ 0
+  pub mul : mul_in ys ≡ 1
+  pub div : div_in ys ≡ 1
+  pub only : (s : ℕ) → sees s ys ≡ true → s ≡ source
 
 calm-blank : (source : ℕ) (ys : Slots) → Blank ys → Calm source ys
 calm-blank source ys h =
@@ -268,7 +268,7 @@ edited-at P x change same_birth c m other own none = rw (found-edited x change s
     go (Some r) e = at_record r e (r.birth == x) refl
 
 -- the child of a name among slots
-child-in : (P : List ℕ × Slot → Type 0) (name : List ℕ) (xs : Slots) → AllByRecursion P xs → (k : ℕ)
+pub child-in : (P : List ℕ × Slot → Type 0) (name : List ℕ) (xs : Slots) → AllByRecursion P xs → (k : ℕ)
     → option_and_then child_named (option_map (λ (s : List ℕ × Slot). s.1) (find (λ s. bytes_eq s.0 name) xs)) ≡ Some k
     → (own : List ℕ) × P (own, child k)
 child-in P name [] h k e = cc
@@ -289,14 +289,14 @@ child-in P name (x ∷ xs) h k e = go (bytes_eq x.0 name) refl (child-in P name 
 
 -- the board as the device is added to b
 module _ (b : Board) (source : ℕ) where
-  abbrev n : ℕ
+  abbrev pub n : ℕ
   n = b.born + 1
 
-  record Growing (c : Board) : Type 0 where
-    born : b.born < c.born
-    old : (m : ℕ) → m ≤ b.born → Less (slots_at b m) (slots_at c m)
-    device : NewSlots b.born (slots_at c n)
-    new : (m : ℕ) → b.born < m → Calm source (slots_at c m)
+  pub record Growing (c : Board) : Type 0 where
+    pub born : b.born < c.born
+    pub old : (m : ℕ) → m ≤ b.born → Less (slots_at b m) (slots_at c m)
+    pub device : NewSlots b.born (slots_at c n)
+    pub new : (m : ℕ) → b.born < m → Calm source (slots_at c m)
 
   -- slots are as before
   growing-like : (c d : Board) → ((m : ℕ) → slots_at d m ≡ slots_at c m) → c.born ≡ d.born → Growing c → Growing d
@@ -524,7 +524,7 @@ module _ (b : Board) (source : ℕ) where
       let c2 : Board = phased Hold (post c d) c1 in
       growing-phased Exit (filter (is_out c) (post c d)) c2 (growing-phased Hold (post c d) c1 (growing-phased Enter (post c d) c h))
 
-growing-all : (b : Board) (t : TypeId) (a : Wanted) (spot : Spot) → ((m : ℕ) → b.born < m → record_of b m ≡ None) → is_a t (codes "device") ≡ true
+pub growing-all : (b : Board) (t : TypeId) (a : Wanted) (spot : Spot) → ((m : ℕ) → b.born < m → record_of b m ≡ None) → is_a t (codes "device") ≡ true
     → Growing b (source_for b spot.bus) (with_plugged b t a spot)
 growing-all b t a spot absent device =
     growing-like b source (edit m (with_path (canonical c3 m)) c3) _ (λ x. refl) refl
