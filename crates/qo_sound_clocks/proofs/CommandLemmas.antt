@@ -1,10 +1,9 @@
 -- The commands on objects change no clock: what they add is none, what they write is not a clock's, and what they let go may be one.
-use Rattle.std.proofs.Common.{◌≡◌, ◌⊎◌, inl, inr, refl, ap, sym, subst, ◌∙◌, rules, ℕ, zero, suc, ◌+◌, Bool, true, false, not, ◌==◌, List, [], ◌∷◌, ◌++◌, map, length, position, slice_get, Option, Some, None, option_map, option_and_then, codes, Result, Ok, Err, get_or, ◌<◌, arith}
-use Rattle.std.specs.Bool.{⊤}
+use Rattle.std.proofs.Common.{◌≡◌, refl, ap, sym, subst, ◌∙◌, rules, ℕ, zero, suc, ◌+◌, Bool, true, false, not, ◌==◌, List, [], ◌∷◌, map, length, position, slice_get, Option, Some, None, option_map, option_and_then, codes, Result, Ok, Err, get_or, ◌<◌, arith}
 use Rattle.std.specs.List.{AllByRecursion}
 use Rattle.std.specs.Option.{option_map_or, option_or}
 use Rattle.std.specs.Str.{bytes_eq}
-use Rattle.std.proofs.lemmas.Bool.{eqb-true, eq-eqb}
+use Rattle.std.proofs.lemmas.Bool.{eq-eqb}
 use Rattle.std.proofs.lemmas.Option.{same_Some}
 use Rattle.std.proofs.lemmas.Slice.Eq.{bytes_eq-Decides}
 use Rattle.std.proofs.lemmas.List.Quantifiers.{position-Some}
@@ -18,7 +17,7 @@ use Rattle.qo_values.specs.declared.kinds.TypeId.TheVariants.{Object, Container,
 use Rattle.qo_values.specs.declared.properties.Val.{Val}
 use Rattle.qo_values.specs.declared.properties.Val.TheVariants as val
 use Rattle.qo_model.specs.Board.{Board, Record, Slot, plain, child, strong, weak, alias, is_live, kind_of, record_of, slot_at, slots_at, held}
-use Rattle.qo_model.specs.Changes.{changed_at, point, pointed, set, with_added, with_changed, with_val}
+use Rattle.qo_model.specs.Changes.{point, pointed, set, with_added, with_changed, with_val}
 use Rattle.qo_model.specs.FinalNotesRuns.{Change, added, deleted, wrote, severed, behind_write, changed}
 use Rattle.qo_model.specs.Objects.{Given, added_as, added_by, barred, is_object_named, object_add, object_del, place_from, refusal_of, sever, severed_from, slot_given, with_object}
 use Rattle.qo_model.specs.Opening.{fresh_slots}
@@ -39,7 +38,7 @@ use Rattle.qo_sound_clocks.proofs.FewerLemmas.{edit-less, Fewer, fewer-after, fe
 use Rattle.qo_sound_clocks.proofs.FoundLemmas.{found-append}
 use Rattle.qo_sound_clocks.proofs.GrownLemmas.{fewer-sound}
 use Rattle.qo_sound_clocks.proofs.LessLemmas.{Less, less-blank, less-added, less-none, less-pointed, less-set, OtherName, Slots}
-use Rattle.qo_sound_clocks.proofs.QuietLemmas.{is_read, other-name, Quiet, quiet-all_given, quiet-blank}
+use Rattle.qo_sound_clocks.proofs.QuietLemmas.{Quiet, quiet-all_given, quiet-blank}
 use Rattle.qo_sound_clocks.proofs.ReadLemmas.{tree-reads}
 
 -- no property of a clock is written by `qom-set` yet

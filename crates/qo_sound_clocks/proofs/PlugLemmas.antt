@@ -1,14 +1,12 @@
 -- A device that is added brings clocks as new, which go by an older clock; the others stay as they are.
-use Rattle.std.proofs.Common.{◌≡◌, ◌⊎◌, inl, inr, refl, ap, sym, subst, ◌∙◌, rules, ℕ, zero, suc, ◌+◌, ◌<◌, ◌≤◌, Bool, true, false, not, eqb, ◌==◌, List, [], ◌∷◌, ◌++◌, map, filter, find, slice_get, Option, Some, None, option_map, option_and_then, unwrap_or, codes, arith}
+use Rattle.std.proofs.Common.{◌≡◌, ◌⊎◌, inl, inr, refl, ap, sym, subst, ◌∙◌, rules, ℕ, zero, suc, ◌+◌, ◌<◌, ◌≤◌, Bool, true, false, ◌==◌, List, [], ◌∷◌, filter, find, Option, Some, None, option_map, option_and_then, codes, arith}
 use Rattle.std.specs.Bool.{⊤}
-use Rattle.std.specs.List.{AllByRecursion, list_any}
-use Rattle.std.specs.Option.{option_map_or, option_or}
+use Rattle.std.specs.List.{AllByRecursion}
+use Rattle.std.specs.Option.{option_or}
 use Rattle.std.specs.Str.{bytes_eq}
 use Rattle.std.proofs.lemmas.Bool.{and_parts, eqb-true, or_cases}
 use Rattle.std.proofs.lemmas.Option.{same_Some}
 use Rattle.qo_values.specs.Kinds.{type_name}
-use Rattle.qo_values.specs.declared.births.TheConstants.{SYSTEM_CLOCK_BIRTH}
-use Rattle.qo_values.specs.declared.codes.Code.{Code}
 use Rattle.qo_values.specs.declared.kinds.Act.{Act}
 use Rattle.qo_values.specs.declared.kinds.Act.TheVariants.{Realize, Enter, Hold, Exit}
 use Rattle.qo_values.specs.declared.kinds.TypeId.{TypeId}
@@ -16,10 +14,10 @@ use Rattle.qo_values.specs.declared.kinds.TypeId.TheVariants.{Object, Container,
 use Rattle.qo_values.specs.declared.properties.Val.{Val}
 use Rattle.qo_values.specs.declared.properties.Val.TheVariants as val
 use Rattle.qo_values.specs.declared.ranges.Range.{Range}
-use Rattle.qo_model.specs.Board.{Board, Record, Slot, plain, child, strong, weak, alias, kind_of, record_of, slots_at}
+use Rattle.qo_model.specs.Board.{Board, Record, Slot, plain, child, strong, weak, alias, record_of, slots_at}
 use Rattle.qo_model.specs.Changes.{add, changed_at, fresh, set, with_added, with_changed, with_val}
 use Rattle.qo_model.specs.Clocks.{acted, weak_in}
-use Rattle.qo_model.specs.Devices.{bridge_of, child_named, clock_of, kid_name, plain_in}
+use Rattle.qo_model.specs.Devices.{child_named, clock_of, kid_name, plain_in}
 use Rattle.qo_model.specs.Objects.{Given, given_to, place_from, slot_given}
 use Rattle.qo_model.specs.Opening.{first_value, fresh_record, fresh_slots}
 use Rattle.qo_model.specs.Paths.{canonical, is_of, only_of}
@@ -33,15 +31,9 @@ use Rattle.qo_model.specs.declared.properties.Property.{Property}
 use Rattle.qo_model.specs.declared.properties.RowKind.{RowKind}
 use Rattle.qo_model.specs.declared.properties.RowKind.TheVariants as row
 use Rattle.qo_model.proofs.StepLemmas.{found-edited, found_at}
-use Rattle.qo_sound.specs.Kept.{SoundTree}
-use Rattle.qo_sound.proofs.DraftLemmas.{found-low}
-use Rattle.qo_sound.proofs.FirmLemmas.{Firm, Linked}
-use Rattle.qo_sound.proofs.KeptLemmas.{sound_kept_lem}
 use Rattle.qo_sound.proofs.RecordLemmas.{all-append, all-map, found-birth}
-use Rattle.qo_sound.proofs.ViewLemmas.{AtRest, rest-from_sound}
-use Rattle.qo_sound_clocks.specs.SoundClocks.{SoundClocks}
 use Rattle.qo_sound_clocks.proofs.FewerLemmas.{slots_in}
-use Rattle.qo_sound_clocks.proofs.FoundLemmas.{all-found, found-append}
+use Rattle.qo_sound_clocks.proofs.FoundLemmas.{found-append}
 use Rattle.qo_sound_clocks.proofs.LessLemmas.{Blank, blank-none, div_in, is_target, Less, less-added, less-blank, less-none, less-then, mul_in, number-same, or-right, own_in, plain-changed, plain_of, sees, sees_it, Slots}
 use Rattle.qo_sound_clocks.proofs.QuietLemmas.{is_read, Quiet, quiet-blank, quiet-given}
 use Rattle.qo_sound_clocks.proofs.StayLemmas.{acted-slots}

@@ -1,8 +1,8 @@
 -- Adding a device, taken or refused at any stage, keeps clocks sound.
-use Rattle.std.proofs.Common.{◌≡◌, refl, ap, sym, subst, ◌∙◌, ℕ, ◌+◌, ◌<◌, ◌≤◌, Bool, true, false, not, List, Option, Some, None, is_some, option_map, codes, arith}
+use Rattle.std.proofs.Common.{◌≡◌, refl, ap, sym, ◌∙◌, ℕ, ◌<◌, ◌≤◌, Bool, true, false, not, List, Option, Some, None, is_some, codes, arith}
 use Rattle.std.specs.List.{AllByRecursion}
 use Rattle.qo_values.specs.declared.codes.Code.{Code}
-use Rattle.qo_values.specs.declared.codes.Code.TheVariants.{E20, E21, E22}
+use Rattle.qo_values.specs.declared.codes.Code.TheVariants.{E21, E22}
 use Rattle.qo_values.specs.declared.kinds.TypeId.{TypeId}
 use Rattle.qo_model.specs.Board.{Board, Record, Slot, kind_of, record_of, slots_at}
 use Rattle.qo_model.specs.Devices.{bridge_of, clock_of}

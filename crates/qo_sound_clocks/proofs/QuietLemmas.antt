@@ -1,18 +1,16 @@
 -- Slots under other names than those of clocks: they read as no clock, and stay so.
-use Rattle.std.proofs.Common.{◌≡◌, ◌⊎◌, inl, inr, refl, ap, sym, subst, ◌∙◌, rules, ℕ, zero, suc, ◌<◌, Bool, true, false, cond, ◌&&◌, ◌||◌, List, [], ◌∷◌, ◌++◌, map, find, slice_get, Option, Some, None, codes}
+use Rattle.std.proofs.Common.{◌≡◌, refl, ap, sym, ◌∙◌, ℕ, Bool, true, false, cond, ◌&&◌, ◌||◌, List, [], ◌∷◌, map, find, Option, Some, None, codes}
 use Rattle.std.specs.Bool.{⊤}
-use Rattle.std.specs.List.{AllByRecursion, list_any}
-use Rattle.std.specs.Option.{option_map_or, option_or}
+use Rattle.std.specs.List.{AllByRecursion}
+use Rattle.std.specs.Option.{option_or}
 use Rattle.std.specs.Str.{bytes_eq}
 use Rattle.std.proofs.lemmas.Slice.Eq.{bytes_eq-Decides}
-use Rattle.qo_values.specs.declared.kinds.TypeId.{TypeId}
 use Rattle.qo_values.specs.declared.properties.Val.{Val}
 use Rattle.qo_values.specs.declared.properties.Val.TheVariants as val
 use Rattle.qo_model.specs.Board.{Board, Slot, plain, child, strong, weak, alias}
-use Rattle.qo_model.specs.Objects.{Given, given_to, slot_given, target_given}
-use Rattle.qo_model.specs.Properties.{link_target}
+use Rattle.qo_model.specs.Objects.{Given, given_to, slot_given}
 use Rattle.qo_sound.proofs.RecordLemmas.{all-map}
-use Rattle.qo_sound_clocks.proofs.LessLemmas.{Blank, OtherName, plain_of, sees, sees_it, Slots}
+use Rattle.qo_sound_clocks.proofs.LessLemmas.{Blank, OtherName, plain_of, sees, Slots}
 
 -- whether a name is one that is read of clocks
 abbrev pub is_read : List ℕ → Bool

@@ -1,6 +1,6 @@
 -- What is read of the clocks of a board whose tree is sound, by the slots of each object.
-use Rattle.std.proofs.Common.{◌≡◌, refl, ap, sym, subst, ◌∙◌, ℕ, Bool, true, false, cond, ◌&&◌, ◌||◌, ◌==◌, List, [], ◌∷◌, find, Option, Some, None, option_map, option_and_then, unwrap_or, codes}
-use Rattle.std.specs.List.{AllByRecursion, IsDistinct, list_any}
+use Rattle.std.proofs.Common.{◌≡◌, refl, ap, sym, ◌∙◌, ℕ, Bool, true, false, ◌||◌, List, [], ◌∷◌, find, Option, Some, None, option_map, option_and_then, unwrap_or, codes}
+use Rattle.std.specs.List.{AllByRecursion, IsDistinct}
 use Rattle.std.specs.Option.{option_map_or, option_or}
 use Rattle.std.specs.Str.{bytes_eq}
 use Rattle.std.proofs.lemmas.Bool.{eqb-true, eq-eqb}
@@ -15,7 +15,7 @@ use Rattle.qo_sound.proofs.FirmLemmas.{HasNames}
 use Rattle.qo_sound.proofs.SlotLemmas.{names_in}
 use Rattle.qo_sound.proofs.ViewLemmas.{AtRest, rest-from_sound}
 use Rattle.qo_sound_clocks.proofs.FoundLemmas.{all-found}
-use Rattle.qo_sound_clocks.proofs.LessLemmas.{div_in, is_target, mul_in, own_in, plain_named, plain_of, sees, sees_it, Slots}
+use Rattle.qo_sound_clocks.proofs.LessLemmas.{div_in, is_target, mul_in, own_in, plain_of, sees, sees_it, Slots}
 
 abbrev named_in : List ℕ → Slots → Option Slot
 named_in name slots = option_map (λ (s : List ℕ × Slot). s.1) (find (λ s. bytes_eq s.0 name) slots)

@@ -1,6 +1,5 @@
 -- What leaves the slots of objects leaves the clocks sound: acts, holds, and what lies beside the objects. Devices that go leave them sound too.
 use Rattle.std.proofs.Common.{◌≡◌, refl, ap, ◌∙◌, ℕ, zero, suc, Bool, true, false, ◌==◌, List, [], ◌∷◌, ◌++◌, filter, length, Option, Some, None, is_some, option_map}
-use Rattle.std.specs.Option.{option_map_or}
 use Rattle.qo_values.specs.declared.births.TheConstants.{MACHINE_BIRTH}
 use Rattle.qo_values.specs.declared.kinds.Act.{Act}
 use Rattle.qo_values.specs.declared.kinds.Act.TheVariants.{Enter, Hold, Exit}

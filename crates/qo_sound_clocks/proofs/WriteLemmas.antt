@@ -1,11 +1,8 @@
 -- Where a write of a clock's numbers is not refused, the clocks are sound behind it.
-use Rattle.std.proofs.Common.{◌≡◌, ◌≢◌, ◌⊎◌, inl, inr, refl, ap, ap₂, subst, sym, ◌∙◌, ℕ, zero, suc, ◌^◌, ◌<◌, ◌≤◌, ◌||◌, Bool, true, false, cond, eqb, List, [], ◌∷◌, map, length, filter, find, slice_get, Option, Some, None, is_some, option_map, option_and_then, unwrap_or, codes, Result, Ok, Err, arith}
-use Rattle.std.specs.List.{flat_map, list_any}
-use Rattle.std.specs.Option.{option_map_or}
+use Rattle.std.proofs.Common.{◌≡◌, ◌⊎◌, inl, inr, refl, ap, subst, sym, ◌∙◌, ℕ, zero, suc, Bool, true, false, eqb, List, [], ◌∷◌, find, slice_get, Option, Some, None, option_map, option_and_then, unwrap_or, codes, Result, Ok, Err}
+use Rattle.std.specs.List.{list_any}
 use Rattle.std.specs.Str.{bytes_eq}
 use Rattle.std.proofs.lemmas.Bool.{eqb-true, eq-eqb}
-use Rattle.std.proofs.lemmas.Bool.Decides.{nat_tests}
-use Rattle.std.proofs.lemmas.List.Folds.{list_any-append}
 use Rattle.std.proofs.lemmas.Option.{same_Some}
 use Rattle.std.proofs.lemmas.Slice.Eq.{bytes_eq-Decides}
 use Rattle.qo_values.specs.declared.codes.Code.{Code}
@@ -16,12 +13,11 @@ use Rattle.qo_values.specs.declared.properties.Val.TheVariants as val
 use Rattle.qo_model.specs.Board.{Board, Record, Slot, plain, child, strong, weak, alias, record_of, slots_at}
 use Rattle.qo_model.specs.Changes.{changed_at, set, with_changed, with_val}
 use Rattle.qo_model.specs.ClockChanges.{clock_scaled, clock_set}
-use Rattle.qo_model.specs.Clocks.{ClocksFit, acted, called, called_all, child_period, clock_written, clocks_below, div_of, fed_turn, is_source, mul_of, overflows, own_period, period, period_turn, scaled, scaled_by, source_of, spread, weak_in}
-use Rattle.qo_model.specs.Depth.{among, by_depth}
+use Rattle.qo_model.specs.Clocks.{acted, called, called_all, clock_written, clocks_below, div_of, overflows, own_period, period, source_of, spread, weak_in}
 use Rattle.qo_model.specs.Devices.{number_at, number_in, plain_in}
 use Rattle.qo_model.specs.Objects.{place_from}
 use Rattle.qo_model.specs.Paths.{births, parent_of}
-use Rattle.qo_model.specs.Release.{edit, edited}
+use Rattle.qo_model.specs.Release.{edited}
 use Rattle.qo_model.specs.Unplug.{is_named, set_named}
 use Rattle.qo_model.proofs.StepLemmas.{found-edited}
 use Rattle.qo_sound.proofs.FirmLemmas.{edited-births}
