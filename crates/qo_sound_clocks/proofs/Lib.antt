@@ -11,4 +11,5 @@ pub mod QuietLemmas
 pub mod ReadLemmas
 pub mod SpreadLemmas
 pub mod StayLemmas
+pub mod TimesLemmas
 pub mod WriteLemmas

@@ -191,7 +191,7 @@ called-all : (old new : Board) (cs : List ℕ) (e : Board) → SoundClocks e →
 called-all old new [] e h = h
 called-all old new (c ∷ cs) e h = called-all old new cs (called old new e c) (called-clocks old new e c h)
 
-same_ok : (x d : Board) → ◌≡◌ {A = Result Board Code} (Ok x) (Ok d) → x ≡ d
+pub same_ok : (x d : Board) → ◌≡◌ {A = Result Board Code} (Ok x) (Ok d) → x ≡ d
 same_ok x d e = ap (λ (r : Result Board Code). elim r as (λ _. Board) [ Ok y ↦ y | Err code ↦ x ]) e
 
 -- a clock whose numbers were written

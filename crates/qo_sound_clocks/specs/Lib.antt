@@ -1,2 +1,4 @@
 pub mod ClocksKept
 pub mod SoundClocks
+pub mod SoundTimes
+pub mod TimesKept

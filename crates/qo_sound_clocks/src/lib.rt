@@ -3,9 +3,16 @@
 #![tactic(auto)]
 
 ghost use Rattle.qo_sound_clocks.specs.ClocksKept.{ClocksKeptLaw};
+ghost use Rattle.qo_sound_clocks.specs.TimesKept.{TimesKeptLaw};
 
 /// The clocks of a board are sound on the opening board.
 #[tactic(auto, using(crate::proofs::LawLemmas::clocks_kept_lem))]
 pub fn law_clocks_kept()
     ensures { ClocksKeptLaw }
+{}
+
+/// No timer is ahead of the virtual time.
+#[tactic(auto, using(crate::proofs::TimesLemmas::times_kept_lem))]
+pub fn law_times_kept()
+    ensures { TimesKeptLaw }
 {}
