@@ -2,6 +2,7 @@ pub mod CommandLemmas
 pub mod FewerLemmas
 pub mod FoundLemmas
 pub mod GrownLemmas
+pub mod KeepLemmas
 pub mod LawLemmas
 pub mod LessLemmas
 pub mod OpeningLemmas
@@ -9,6 +10,7 @@ pub mod PlugLemmas
 pub mod PluggedLemmas
 pub mod QuietLemmas
 pub mod ReadLemmas
+pub mod SayLemmas
 pub mod SpreadLemmas
 pub mod StayLemmas
 pub mod TimesLemmas
