@@ -26,6 +26,7 @@ use Rattle.qo_sound_devices.proofs.MovedLemmas.{places-moved}
 use Rattle.qo_sound_devices.proofs.ResetLemmas.{acted-below}
 use Rattle.qo_sound_devices.proofs.UnrealizeLemmas.{Dims, dims-set}
 use Rattle.qo_sound_clocks.specs.WritesKeep.{WritesKeepLaw}
+use Rattle.qo_sound_clocks.proofs.NotesLemmas.{scaled-notes, set-notes}
 use Rattle.qo_sound_clocks.proofs.WriteLemmas.{same_ok}
 
 -- what setting a number of a clock and acts keep, writes of clocks keep
@@ -132,4 +133,6 @@ writes_keep_lem =
       scaled_tree = kept-scaled SoundTree tree-acted tree-set;
       set_devices = kept-set SoundDevices acted-below devices-set;
       scaled_devices = kept-scaled SoundDevices acted-below devices-set;
+      set_notes = set-notes;
+      scaled_notes = scaled-notes;
     }

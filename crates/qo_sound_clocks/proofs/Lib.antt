@@ -5,11 +5,13 @@ pub mod GrownLemmas
 pub mod KeepLemmas
 pub mod LawLemmas
 pub mod LessLemmas
+pub mod NotesLemmas
 pub mod OpeningLemmas
 pub mod PlugLemmas
 pub mod PluggedLemmas
 pub mod QuietLemmas
 pub mod ReadLemmas
+pub mod RunLemmas
 pub mod SayLemmas
 pub mod SpreadLemmas
 pub mod StayLemmas

@@ -1,3 +1,4 @@
+pub mod ClockRuns
 pub mod ClocksKept
 pub mod ClocksSay
 pub mod SoundClocks

@@ -2,6 +2,7 @@
 //! Functions without effect, whose contracts say what keeps it so. The definitions stand in `specs/`.
 #![tactic(auto)]
 
+ghost use Rattle.qo_sound_clocks.specs.ClockRuns.{ClockRunsLaw};
 ghost use Rattle.qo_sound_clocks.specs.ClocksKept.{ClocksKeptLaw};
 ghost use Rattle.qo_sound_clocks.specs.ClocksSay.{ClocksSayLaw};
 ghost use Rattle.qo_sound_clocks.specs.TimesKept.{TimesKeptLaw};
@@ -29,4 +30,10 @@ pub fn law_clocks_say()
 #[tactic(auto, using(crate::proofs::KeepLemmas::writes_keep_lem))]
 pub fn law_writes_keep()
     ensures { WritesKeepLaw }
+{}
+
+/// Runs.
+#[tactic(auto, using(crate::proofs::RunLemmas::clock_runs_lem))]
+pub fn law_clock_runs()
+    ensures { ClockRunsLaw }
 {}
