@@ -15,5 +15,6 @@ pub mod RunLemmas
 pub mod SayLemmas
 pub mod SpreadLemmas
 pub mod StayLemmas
+pub mod StepsLemmas
 pub mod TimesLemmas
 pub mod WriteLemmas

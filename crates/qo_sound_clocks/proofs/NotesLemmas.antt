@@ -1,14 +1,11 @@
 -- Writes of clocks keep the notes in order: who is called back is there.
-use Rattle.std.proofs.Common.{◌≡◌, refl, ap, sym, subst, ◌∙◌, ℕ, Bool, true, false, eqb, ◌==◌, List, [], ◌∷◌, find, codes, Option, Some, None, is_some, option_map, option_and_then, Result, Ok, Err}
+use Rattle.std.proofs.Common.{◌≡◌, refl, ap, sym, subst, ◌∙◌, ℕ, Bool, true, false, eqb, ◌==◌, List, [], ◌∷◌, find, codes, Option, Some, None, is_some, Ok, Err}
 use Rattle.std.specs.List.{list_any}
 use Rattle.std.proofs.lemmas.Bool.{eq-eqb}
 use Rattle.std.proofs.lemmas.Option.{same_Some}
-use Rattle.qo_values.specs.declared.codes.Code.{Code}
 use Rattle.qo_values.specs.declared.codes.Code.TheVariants.{E45, E46, E47}
 use Rattle.qo_values.specs.declared.kinds.Act.{Act}
 use Rattle.qo_values.specs.declared.kinds.Act.TheVariants.{Pre, Update}
-use Rattle.qo_values.specs.declared.kinds.TypeId.{TypeId}
-use Rattle.qo_values.specs.declared.properties.Val.{Val}
 use Rattle.qo_values.specs.declared.properties.Val.TheVariants as val
 use Rattle.qo_model.specs.declared.notes.Deed.TheVariants.{Did}
 use Rattle.qo_model.specs.Board.{Board, Record, Slot, is_live, kind_of}
@@ -23,7 +20,7 @@ use Rattle.qo_model.proofs.FinalNotesGrowthLemmas.{act-keeps}
 use Rattle.qo_model.proofs.FinalNotesLemmas.{edit-keeps, edit-kind, kind-live, same-keep}
 use Rattle.qo_model.proofs.StepLemmas.{found_at}
 use Rattle.qo_sound.proofs.MakeStepsLemmas.{KeepsEdits, step-set}
-use Rattle.qo_sound_clocks.proofs.WriteLemmas.{same_ok}
+use Rattle.qo_sound_clocks.proofs.StepsLemmas.{same_ok}
 
 -- the parent of an object is there
 

@@ -1,5 +1,5 @@
 -- The law: runs with writes of clocks and time that goes on stay sound.
-use Rattle.std.proofs.Common.{◌≡◌, refl, ℕ, ◌+◌, ◌≤◌, Bool, true, false, List, [], ◌∷◌, Option, Some, None, Result, Ok, Err, arith}
+use Rattle.std.proofs.Common.{◌≡◌, refl, ℕ, ◌+◌, Bool, true, false, List, [], ◌∷◌, Result, Ok, Err, arith}
 use Rattle.qo_values.specs.declared.codes.Code.{Code}
 use Rattle.qo_model.specs.Board.{Board, Notice}
 use Rattle.qo_model.specs.ClockChanges.{clock_scaled, clock_set}

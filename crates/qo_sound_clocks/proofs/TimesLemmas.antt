@@ -1,39 +1,36 @@
 -- The law: no timer gets ahead of the virtual time.
-use Rattle.std.proofs.Common.{◌≡◌, refl, ap, sym, subst, ◌∙◌, rules, ℕ, zero, suc, ◌+◌, ◌≤◌, ◌%◌, ◌||◌, Bool, true, false, cond, not, ◌==◌, eqb, List, [], ◌∷◌, filter, length, codes, Option, Some, None, is_some, option_map, Result, Ok, Err, arith}
+use Rattle.std.proofs.Common.{◌≡◌, refl, ap, sym, subst, ◌∙◌, rules, ℕ, zero, suc, ◌+◌, ◌≤◌, ◌%◌, ◌||◌, Bool, true, false, cond, not, ◌==◌, eqb, List, [], ◌∷◌, filter, length, Option, Some, None, is_some, option_map, arith}
 use Rattle.std.specs.Bool.{⊤}
-use Rattle.std.specs.List.{AllByRecursion, list_any}
+use Rattle.std.specs.List.{AllByRecursion}
 use Rattle.std.proofs.lemmas.Option.{same_Some}
 use Rattle.qo_values.specs.Bodies.{Effect, body_act, body_write, bridge_write, effect_of, nothing}
 use Rattle.qo_values.specs.Dimm.{dimm_read}
 use Rattle.qo_values.specs.Registers.{BridgeRegisters, Registers, TimerRegisters, UartRegisters, bare, bridge, dimm, fresh_registers, timer, uart}
-use Rattle.qo_values.specs.Timer.{after_begin, after_end, control_write, reload_write, timer_halt, timer_update, timer_write}
+use Rattle.qo_values.specs.Timer.{after_end, control_write, reload_write, timer_halt, timer_update, timer_write}
 use Rattle.qo_values.specs.Uart.{uart_write}
 use Rattle.qo_values.specs.declared.births.TheConstants.{MACHINE_BIRTH, OBJECTS_BIRTH}
 use Rattle.qo_values.specs.declared.codes.Code.{Code}
-use Rattle.qo_values.specs.declared.codes.Code.TheVariants.{E45, E46, E47}
 use Rattle.qo_values.specs.declared.kinds.Act.{Act}
 use Rattle.qo_values.specs.declared.kinds.Act.TheVariants.{Init, Realize, Unrealize, Enter, Hold, Exit, Pre, Update}
 use Rattle.qo_values.specs.declared.kinds.TypeId.{TypeId}
 use Rattle.qo_values.specs.declared.kinds.TypeId.TheVariants.{Object, Container, Machine, Device, SlotDevice, SlotUart, SlotTimer, SlotBridge, MemDimm, Bus, SlotBus, MemBus, Clock, MemoryBackend, MemoryBackendRam, Tag}
-use Rattle.qo_values.specs.declared.properties.Val.{Val}
 use Rattle.qo_values.specs.declared.properties.Val.TheVariants as val
 use Rattle.qo_values.specs.declared.ranges.Range.{Range}
 use Rattle.qo_model.specs.Board.{Board, Record}
-use Rattle.qo_model.specs.ClockChanges.{clock_scaled, clock_set}
-use Rattle.qo_model.specs.Clocks.{acted, called, called_all, clock_written, clocks_below, overflows, period, source_of, spread, with_act_on}
+use Rattle.qo_model.specs.Clocks.{acted, period, with_act_on}
 use Rattle.qo_model.specs.Depth.{among}
 use Rattle.qo_model.specs.Devices.{buses_of, kids_of}
 use Rattle.qo_model.specs.FinalNotesRuns.{Change, added, deleted, wrote, severed, changed}
 use Rattle.qo_model.specs.Hotplug.{all_completed, asked, asked_of, completed, device_at, reset_whole}
 use Rattle.qo_model.specs.Objects.{Given, added_as, added_by, barred, object_add, refusal_of}
 use Rattle.qo_model.specs.Opening.{opening_board}
-use Rattle.qo_model.specs.Paths.{attached, canonical, parent_of}
+use Rattle.qo_model.specs.Paths.{attached, canonical}
 use Rattle.qo_model.specs.Plug.{Spot, Wanted, acted_all, barred_early, barred_late, bus_births, bus_for, counted, drafted, notice_barred, plug, plug_as, plug_by, plug_late, spot_of, type_barred, with_body_of, with_device, with_path, with_plugged}
 use Rattle.qo_model.specs.Release.{drop_slot, edit, edited, finish, forgotten, pin, with_dropped, without_first}
 use Rattle.qo_model.specs.ReleaseKeeps.{KeepsRelease}
 use Rattle.qo_model.specs.Reset.{held, is_out, phased, plugged, post, pulse, released}
 use Rattle.qo_model.specs.Types.{TypeRow, row_named, slots_of, types}
-use Rattle.qo_model.specs.Unplug.{detach, first_of, set_named}
+use Rattle.qo_model.specs.Unplug.{detach, first_of}
 use Rattle.qo_model.proofs.ReleaseKeepsLemmas.{after_keeps}
 use Rattle.qo_sound.proofs.RecordLemmas.{all-append, all-filter, all-imply, all-map}
 use Rattle.qo_sound.proofs.MakeStepsLemmas.{all-any, any-rows, KeepsActs, KeepsEdits, KeepsNew, new_with, step-acted_all, step-drafted, step-plugged, step-set, step-stood}
@@ -42,7 +39,7 @@ use Rattle.qo_sound.proofs.ChangeStepsLemmas.{step-object_del, step-sever, step-
 use Rattle.qo_sound_clocks.specs.SoundTimes.{IsTimely, SoundTimes}
 use Rattle.qo_sound_clocks.specs.TimesKept.{TimesKeptLaw}
 use Rattle.qo_sound_clocks.proofs.FoundLemmas.{all-found}
-use Rattle.qo_sound_clocks.proofs.WriteLemmas.{same_ok}
+use Rattle.qo_sound_clocks.proofs.StepsLemmas.{kept-scaled, kept-set, KeepsNumbers}
 
 -- an object that is timely at a moment
 abbrev Timely : ℕ → Record → Type 0
@@ -384,50 +381,9 @@ reset-times : (b : Board) → SoundTimes b → SoundTimes (reset_whole b)
 unfolding reset_whole
 reset-times b h = pulse-times (all_completed (length b.pending) b) MACHINE_BIRTH (completed-times (length b.pending) b h)
 
--- writes of clocks
-
-called-times : (old new e : Board) (c : ℕ) → SoundTimes e → SoundTimes (called old new e c)
-called-times old new e c h = go (eqb (period old c) (period new c)) refl (parent_of new c) refl
-  where
-    go : (t : Bool) → eqb (period old c) (period new c) ≡ t → (o : Option ℕ) → parent_of new c ≡ o → SoundTimes (called old new e c)
-    go true p o q = rw (called, p) h
-    go false p None q = rw (called, p, q) h
-    go false p (Some d) q = rw (called, p, q) (acted-times Update d (period new c) (acted Pre d (period old c) e) (acted-times Pre d (period old c) e h))
-
-all-called : (old new : Board) (cs : List ℕ) (e : Board) → SoundTimes e → SoundTimes (called_all old new cs e)
-all-called old new [] e h = h
-all-called old new (c ∷ cs) e h = all-called old new cs (called old new e c) (called-times old new e c h)
-
-written-times : (b new d : Board) (c : ℕ) → SoundTimes new → clock_written b new c ≡ Ok d → SoundTimes d
-written-times b new d c h e = go (list_any (overflows new) (c ∷ clocks_below b c)) refl
-  where
-    go : (t : Bool) → list_any (overflows new) (c ∷ clocks_below b c) ≡ t → SoundTimes d
-    go true p = absurd (let clash : Err E47 ≡ Ok d = rw (clock_written, p) at e in cc)
-    go false p =
-        let is : Ok (spread b new c) ≡ Ok d = rw (clock_written, p) at e in
-        subst SoundTimes (same_ok (spread b new c) d is) (all-called b new (clocks_below b c) new h)
-
-set-times : (b d : Board) (c period : ℕ) → clock_set b c period ≡ Ok d → SoundTimes b → SoundTimes d
-set-times b d c period e h = go (is_some (source_of b c)) refl
-  where
-    go : (t : Bool) → is_some (source_of b c) ≡ t → SoundTimes d
-    go true p = absurd (let clash : Err E45 ≡ Ok d = rw (clock_set, p) at e in cc)
-    go false p =
-        written-times b (set_named c (codes "period") (val.Uint period) b) d c
-        (step-set SoundTimes times-edits c (codes "period") (val.Uint period) b h) (rw (clock_set, p) at e)
-
-scaled-times : (b d : Board) (c mul div : ℕ) → clock_scaled b c mul div ≡ Ok d → SoundTimes b → SoundTimes d
-scaled-times b d c mul div e h = go (eqb div 0) refl
-  where
-    mid : Board
-    mid = set_named c (codes "mul") (val.Uint mul) b
-
-    go : (t : Bool) → eqb div 0 ≡ t → SoundTimes d
-    go true p = absurd (let clash : Err E46 ≡ Ok d = rw (clock_scaled, p) at e in cc)
-    go false p =
-        written-times b (set_named c (codes "div") (val.Uint div) mid) d c
-        (step-set SoundTimes times-edits c (codes "div") (val.Uint div) mid (step-set SoundTimes times-edits c (codes "mul") (val.Uint mul) b h))
-        (rw (clock_scaled, p) at e)
+-- numbers of clocks
+times-numbers : KeepsNumbers SoundTimes
+times-numbers name no_slot no_mark n v b h = step-set SoundTimes times-edits n name (val.Uint v) b h
 
 -- time that goes on
 
@@ -458,8 +414,8 @@ times_kept_lem =
       held_so = held-times;
       released_so = released-times;
       pulsed = pulse-times;
-      set = set-times;
-      scaled = scaled-times;
+      set = kept-set SoundTimes acted-times times-numbers;
+      scaled = kept-scaled SoundTimes acted-times times-numbers;
       change = changed-times;
       plugged = plug-times;
       detached = detach-times;

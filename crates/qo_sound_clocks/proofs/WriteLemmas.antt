@@ -1,22 +1,20 @@
 -- Where a write of a clock's numbers is not refused, the clocks are sound behind it.
-use Rattle.std.proofs.Common.{◌≡◌, ◌⊎◌, inl, inr, refl, ap, subst, sym, ◌∙◌, ℕ, zero, suc, Bool, true, false, eqb, List, [], ◌∷◌, find, slice_get, Option, Some, None, option_map, option_and_then, unwrap_or, codes, Result, Ok, Err}
+use Rattle.std.proofs.Common.{◌≡◌, ◌⊎◌, inl, inr, refl, ap, subst, sym, ◌∙◌, ℕ, zero, suc, Bool, true, false, eqb, List, [], ◌∷◌, find, slice_get, Option, Some, None, option_map, option_and_then, unwrap_or, codes, Ok, Err}
 use Rattle.std.specs.List.{list_any}
 use Rattle.std.specs.Str.{bytes_eq}
 use Rattle.std.proofs.lemmas.Bool.{eqb-true, eq-eqb}
 use Rattle.std.proofs.lemmas.Option.{same_Some}
 use Rattle.std.proofs.lemmas.Slice.Eq.{bytes_eq-Decides}
-use Rattle.qo_values.specs.declared.codes.Code.{Code}
 use Rattle.qo_values.specs.declared.codes.Code.TheVariants.{E45, E46, E47}
-use Rattle.qo_values.specs.declared.kinds.Act.TheVariants.{Pre, Update}
 use Rattle.qo_values.specs.declared.properties.Val.{Val}
 use Rattle.qo_values.specs.declared.properties.Val.TheVariants as val
 use Rattle.qo_model.specs.Board.{Board, Record, Slot, plain, child, strong, weak, alias, record_of, slots_at}
 use Rattle.qo_model.specs.Changes.{changed_at, set, with_changed, with_val}
 use Rattle.qo_model.specs.ClockChanges.{clock_scaled, clock_set}
-use Rattle.qo_model.specs.Clocks.{acted, called, called_all, clock_written, clocks_below, div_of, overflows, own_period, period, source_of, spread, weak_in}
+use Rattle.qo_model.specs.Clocks.{clock_written, clocks_below, div_of, overflows, own_period, period, source_of, spread, weak_in}
 use Rattle.qo_model.specs.Devices.{number_at, number_in, plain_in}
 use Rattle.qo_model.specs.Objects.{place_from}
-use Rattle.qo_model.specs.Paths.{births, parent_of}
+use Rattle.qo_model.specs.Paths.{births}
 use Rattle.qo_model.specs.Release.{edited}
 use Rattle.qo_model.specs.Unplug.{is_named, set_named}
 use Rattle.qo_model.proofs.StepLemmas.{found-edited}
@@ -28,6 +26,7 @@ use Rattle.qo_sound_clocks.proofs.FewerLemmas.{slots_in}
 use Rattle.qo_sound_clocks.proofs.LessLemmas.{Slots}
 use Rattle.qo_sound_clocks.proofs.SpreadLemmas.{fits-new, IsWritten, written-then}
 use Rattle.qo_sound_clocks.proofs.StayLemmas.{acted-clocks}
+use Rattle.qo_sound_clocks.proofs.StepsLemmas.{kept-all, same_ok}
 
 abbrev named_in : List ℕ → Slots → Option Slot
 named_in name slots = option_map (λ (s : List ℕ × Slot). s.1) (find (λ s. bytes_eq s.0 name) slots)
@@ -177,23 +176,6 @@ module _ (n : ℕ) (name : List ℕ) (v : Val) (b c : Board) (h : IsSetAt n name
         own = λ x p. ap (λ (o : Option ℕ). unwrap_or o 0) (number-at (codes "period") x p);
       }
 
--- the clocks below are called back
-
-called-clocks : (old new e : Board) (c : ℕ) → SoundClocks e → SoundClocks (called old new e c)
-called-clocks old new e c h = go (eqb (period old c) (period new c)) refl (parent_of new c) refl
-  where
-    go : (t : Bool) → eqb (period old c) (period new c) ≡ t → (o : Option ℕ) → parent_of new c ≡ o → SoundClocks (called old new e c)
-    go true p o q = rw (called, p) h
-    go false p None q = rw (called, p, q) h
-    go false p (Some d) q = rw (called, p, q) (acted-clocks Update d (period new c) (acted Pre d (period old c) e) (acted-clocks Pre d (period old c) e h))
-
-called-all : (old new : Board) (cs : List ℕ) (e : Board) → SoundClocks e → SoundClocks (called_all old new cs e)
-called-all old new [] e h = h
-called-all old new (c ∷ cs) e h = called-all old new cs (called old new e c) (called-clocks old new e c h)
-
-pub same_ok : (x d : Board) → ◌≡◌ {A = Result Board Code} (Ok x) (Ok d) → x ≡ d
-same_ok x d e = ap (λ (r : Result Board Code). elim r as (λ _. Board) [ Ok y ↦ y | Err code ↦ x ]) e
-
 -- a clock whose numbers were written
 module _ (b new : Board) (c : ℕ) (w : IsWritten b new c) (h : SoundClocks b) where
   written-sound : ((s : ℕ) → source_of b c ≡ Some s → own_period new c ≡ own_period b c) → (div_of new c ≡ 0 → ⊥)
@@ -221,7 +203,7 @@ module _ (b new : Board) (c : ℕ) (w : IsWritten b new c) (h : SoundClocks b) w
       go false p false q =
           let is : Ok (spread b new c) ≡ Ok d = rw (clock_written, p, q) at e in
           subst SoundClocks (same_ok (spread b new c) d is)
-          (called-all b new (clocks_below b c) new (written-sound kept not_zero p q))
+          (kept-all SoundClocks acted-clocks b new (clocks_below b c) new (written-sound kept not_zero p q))
 
 -- the writes
 

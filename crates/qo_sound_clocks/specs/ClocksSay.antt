@@ -1,5 +1,5 @@
 -- What the soundness of clocks says of them.
-use Rattle.std.specs.Prelude.{◌≡◌, ℕ, ◌<◌, ◌^◌, List, Option, Some}
+use Rattle.std.specs.Prelude.{◌≡◌, ℕ, ◌<◌, ◌^◌, List, Some}
 use Rattle.std.specs.Option.{option_to_list}
 use Rattle.qo_model.specs.Board.{Board}
 use Rattle.qo_model.specs.Clocks.{ClocksFit, period, source_of}
