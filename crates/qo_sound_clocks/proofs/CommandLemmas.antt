@@ -73,7 +73,12 @@ never-set Tag = record { period = refl; mul = refl; div = refl; source = refl }
 
 set-other : (t : TypeId) (name : List ℕ) → MaySet t name ≡ true → OtherName name
 set-other t name e =
-    record { period = apart (codes "period") n.period; mul = apart (codes "mul") n.mul; div = apart (codes "div") n.div; source = apart (codes "source") n.source }
+    record {
+      period = apart (codes "period") n.period;
+      mul = apart (codes "mul") n.mul;
+      div = apart (codes "div") n.div;
+      source = apart (codes "source") n.source;
+    }
   where
     n : NeverSet t
     n = never-set t
@@ -133,7 +138,8 @@ dropped-at c n i x at r e = go (record_of c n) refl
         let slots : without_hold i y.slots ≡ r.slots = rw (edited, own_birth) at is in
         ap (λ (o : Option Record). without_hold i (slots_in o)) q ∙ slots
 
-module _ (b : Board) (n i : ℕ) (own : List ℕ) (s left : Slot) (at : slice_get (slots_at b n) i ≡ Some (own, s)) (stays : emptied s ≡ Some left) (other : OtherName own) where
+module _ (b : Board) (n i : ℕ) (own : List ℕ) (s left : Slot)
+    (at : slice_get (slots_at b n) i ≡ Some (own, s)) (stays : emptied s ≡ Some left) (other : OtherName own) where
   pointed-fewer : (target : Option ℕ) → Fewer b (pointed_at target n i (drop_slot b n i))
   unfolding point
   pointed-fewer None = fewer-drop b b n i (fewer-none b)
@@ -270,7 +276,15 @@ with_object-fewer b t id props quiet x =
     change = with_added id (child (b.born + 1))
 
     new : Record
-    new = record { birth = b.born + 1; kind = t; slots = map (slot_given b props) (fresh_slots t); registers = fresh_registers t; device_id = None; kept_path = None }
+    new =
+        record {
+          birth = b.born + 1;
+          kind = t;
+          slots = map (slot_given b props) (fresh_slots t);
+          registers = fresh_registers t;
+          device_id = None;
+          kept_path = None;
+        }
 
     at_record : (r : Record) (u : Bool) → (r.birth == OBJECTS_BIRTH) ≡ u → Less r.slots (edited OBJECTS_BIRTH change r).slots
     at_record r true p = rw (edited, p) (less-added id (child (b.born + 1)) refl refl r.slots)

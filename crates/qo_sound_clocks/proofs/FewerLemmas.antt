@@ -220,7 +220,9 @@ module _ (b : Board) where
           go (Some x) q =
               let was : slice_get x.slots i ≡ Some (own, strong t target) = sym (ap (λ (o : Option Record). slice_get (slots_in o) i) q) ∙ at in
               let is : slots_in (option_map (edited n (with_dropped i)) (Some x)) ≡ r.slots =
-              sym (ap (λ (o : Option Record). slots_in (option_map (edited n (with_dropped i)) o)) q) ∙ sym (ap slots_in (drop-record c n i n)) ∙ ap slots_in e in
+              sym (ap (λ (o : Option Record). slots_in (option_map (edited n (with_dropped i)) o)) q)
+              ∙ sym (ap slots_in (drop-record c n i n))
+              ∙ ap slots_in e in
               let own_birth : (x.birth == n) ≡ true = eq-eqb x.birth n (found-birth n c.records x q) in
               let slots : without_hold i x.slots ≡ r.slots = rw (edited, own_birth) at is in
               less-taken i r.slots own (strong t None) (sym (ap (λ (ss : Slots). slice_get ss i) slots) ∙ kept-strong i x.slots own t target was) refl

@@ -154,7 +154,8 @@ module _ (b c : Board) (on : Reads b) (now : Reads c) (h : SoundClocks b) where
         by new rest (Some s) e =
             let older : s < m = new.older s (now.seen m s e) in
             let there : child_period c s < 2 ^ 64 = rest s (omega (arith, older, short)) in
-            let same : child_period c m ≡ scaled_by 1 1 (period c m) = ap₂ (λ (x y : ℕ). scaled_by x y (period c m)) (now.mul m ∙ new.mul) (now.div m ∙ new.div) in
+            let same : child_period c m ≡ scaled_by 1 1 (period c m) =
+            ap₂ (λ (x y : ℕ). scaled_by x y (period c m)) (now.mul m ∙ new.mul) (now.div m ∙ new.div) in
             let is : child_period c m ≡ child_period c s = same ∙ scaled-one (period c m) ∙ period-fed c m s e in
             omega (arith, is, there)
 

@@ -104,7 +104,12 @@ blank-fresh Tag = record { own = refl; mul = refl; div = refl; source = λ s. re
 -- the rows of a device name nothing that is read of clocks
 
 abbrev RowQuiet : Property → Type 0
-RowQuiet p = elim p.kind as (λ _. Type 0) [ row.Plain type first ↦ is_read (property_name p.name) ≡ false | row.Link t holds ↦ is_read (property_name p.name) ≡ false | _ ↦ ⊤ ]
+RowQuiet p =
+    elim p.kind as (λ _. Type 0) [
+      | row.Plain type first ↦ is_read (property_name p.name) ≡ false
+      | row.Link t holds ↦ is_read (property_name p.name) ≡ false
+      | _ ↦ ⊤
+    ]
 
 rows-quiet : (t : TypeId) → is_a t (codes "device") ≡ true → AllByRecursion RowQuiet (slots_of t)
 unfolding types
@@ -274,7 +279,8 @@ child-in P name (x ∷ xs) h k e = go (bytes_eq x.0 name) refl (child-in P name 
     here (own, alias m property) p q = cc
 
     go : (t : Bool) → bytes_eq x.0 name ≡ t
-        → (option_and_then child_named (option_map (λ (s : List ℕ × Slot). s.1) (find (λ s. bytes_eq s.0 name) xs)) ≡ Some k → (own : List ℕ) × P (own, child k))
+        → (option_and_then child_named (option_map (λ (s : List ℕ × Slot). s.1) (find (λ s. bytes_eq s.0 name) xs)) ≡ Some k
+        → (own : List ℕ) × P (own, child k))
         → (own : List ℕ) × P (own, child k)
     go true p rest = here x h.0 (rw p at e)
     go false p rest = rest (rw p at e)
@@ -457,7 +463,9 @@ module _ (b : Board) (source : ℕ) where
   growing-given : (props : List Given) (c : Board) → Growing c → Growing (edit n (with_given b props) c)
   growing-given props c h =
       growing-own (with_given b props) (λ r. refl)
-      (λ r k. all-map (NewSlot b.born) (NewSlot b.born) (slot_given b props) (λ s j. (quiet-given b props s j.0, above-given b.born b props s j.1)) r.slots k) c h
+      (λ r k.
+      all-map (NewSlot b.born) (NewSlot b.born) (slot_given b props)
+      (λ s j. (quiet-given b props s j.0, above-given b.born b props s j.1)) r.slots k) c h
 
   growing-addressed : (range : Option Range) (c : Board) → Growing c → Growing (addressed_at n range c)
   growing-addressed None c h = h

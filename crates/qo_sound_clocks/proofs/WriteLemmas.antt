@@ -97,7 +97,8 @@ read-here v name (suc i) (x ∷ xs) = go (bytes_eq x.0 name) refl (read-here v n
   where
     go : (t : Bool) → bytes_eq x.0 name ≡ t
         → (plain_at_name name (changed_at (with_val v) i xs) ≡ Some v) ⊎ (plain_at_name name (changed_at (with_val v) i xs) ≡ plain_at_name name xs)
-        → (plain_at_name name (x ∷ changed_at (with_val v) i xs) ≡ Some v) ⊎ (plain_at_name name (x ∷ changed_at (with_val v) i xs) ≡ plain_at_name name (x ∷ xs))
+        → (plain_at_name name (x ∷ changed_at (with_val v) i xs) ≡ Some v)
+        ⊎ (plain_at_name name (x ∷ changed_at (with_val v) i xs) ≡ plain_at_name name (x ∷ xs))
     go true p rest = inr (rw p refl)
     go false p (inl is) = inl (rw p is)
     go false p (inr same) = inr (rw p same)
