@@ -33,13 +33,12 @@ use Rattle.qo_sound.specs.Kept.{SoundTree}
 use Rattle.qo_sound.proofs.AddLemmas.{unbarred}
 use Rattle.qo_sound.proofs.KeptLemmas.{sound_kept_lem}
 use Rattle.qo_sound.proofs.RecordLemmas.{found-birth}
-use Rattle.qo_sound_clocks.specs.SoundClocks.{SoundClocks}
 use Rattle.qo_sound_clocks.proofs.FewerLemmas.{edit-less, Fewer, fewer-after, fewer-drop, fewer-edit, fewer-let_go, fewer-none, fewer-pin, fewer-unpin, slots_in}
 use Rattle.qo_sound_clocks.proofs.FoundLemmas.{found-append}
-use Rattle.qo_sound_clocks.proofs.GrownLemmas.{fewer-sound}
 use Rattle.qo_sound_clocks.proofs.LessLemmas.{Less, less-blank, less-added, less-none, less-pointed, less-set, OtherName, Slots}
 use Rattle.qo_sound_clocks.proofs.QuietLemmas.{Quiet, quiet-all_given, quiet-blank}
 use Rattle.qo_sound_clocks.proofs.ReadLemmas.{tree-reads}
+use Rattle.qo_sound_clocks.proofs.StayLemmas.{KeptByFewer}
 
 -- no property of a clock is written by `qom-set` yet
 
@@ -330,6 +329,6 @@ changed-fewer b (deleted id) = object_del-fewer b id
 changed-fewer b (wrote n name v) = write-fewer b n name v
 changed-fewer b (severed n) = sever-fewer b n
 
-pub changed-clocks : (b : Board) (change : Change) → SoundTree b → SoundClocks b → SoundClocks (changed b change)
-changed-clocks b change tree h =
-    fewer-sound b (changed b change) (tree-reads b tree) (tree-reads (changed b change) (sound_kept_lem.change b change tree)) h (changed-fewer b change)
+pub kept-change : (P : Board → Type 0) → KeptByFewer P → (b : Board) (change : Change) → SoundTree b → P b → P (changed b change)
+kept-change P fewer b change tree h =
+    fewer b (changed b change) (tree-reads b tree) (tree-reads (changed b change) (sound_kept_lem.change b change tree)) (changed-fewer b change) h

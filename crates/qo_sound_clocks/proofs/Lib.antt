@@ -6,6 +6,7 @@ pub mod KeepLemmas
 pub mod LawLemmas
 pub mod LessLemmas
 pub mod NotesLemmas
+pub mod NumbersLemmas
 pub mod OpeningLemmas
 pub mod PlugLemmas
 pub mod PluggedLemmas

@@ -6,7 +6,7 @@ use Rattle.qo_values.specs.declared.codes.Code.TheVariants.{E21, E22}
 use Rattle.qo_values.specs.declared.kinds.TypeId.{TypeId}
 use Rattle.qo_model.specs.Board.{Board, Record, Slot, kind_of, record_of, slots_at}
 use Rattle.qo_model.specs.Devices.{bridge_of, clock_of}
-use Rattle.qo_model.specs.Plug.{Spot, Wanted, barred_early, barred_late, bus_for, plug, plug_as, plug_by, plug_late, source_for, spot_of, type_barred, with_plugged}
+use Rattle.qo_model.specs.Plug.{Spot, Wanted, barred_early, barred_late, bus_for, plug, plug_as, plug_attempt, plug_by, plug_late, source_for, spot_of, type_barred, with_plugged}
 use Rattle.qo_model.specs.Types.{TypeRow, is_a, row_named}
 use Rattle.qo_model.proofs.StepLemmas.{is_some-map}
 use Rattle.qo_sound.specs.Kept.{SoundTree}
@@ -18,10 +18,10 @@ use Rattle.qo_sound.proofs.ViewLemmas.{AtRest, rest-from_sound}
 use Rattle.qo_sound_clocks.specs.SoundClocks.{SoundClocks}
 use Rattle.qo_sound_clocks.proofs.FewerLemmas.{slots_in}
 use Rattle.qo_sound_clocks.proofs.FoundLemmas.{all-found}
-use Rattle.qo_sound_clocks.proofs.GrownLemmas.{grown-sound}
+use Rattle.qo_sound_clocks.proofs.GrownLemmas.{grown-sound, same-sound}
 use Rattle.qo_sound_clocks.proofs.PlugLemmas.{child-in, Growing, growing-all}
 use Rattle.qo_sound_clocks.proofs.ReadLemmas.{tree-reads}
-use Rattle.qo_sound_clocks.proofs.StayLemmas.{beside-clocks}
+use Rattle.qo_sound_clocks.proofs.StayLemmas.{kept-beside}
 
 -- what a clock goes by is there
 
@@ -66,6 +66,11 @@ module _ (b : Board) (firm : Firm b) where
       go None e = rw (source_for, e) (omega (arith, begun))
       go (Some p) e = by p e (clock_of b p) refl
 
+-- what a device that was added leaves of the clocks that were there, and what it brings
+pub growing : (b : Board) (t : TypeId) (a : Wanted) (spot : Spot) → is_a t (codes "device") ≡ true → SoundTree b
+    → Growing b (source_for b spot.bus) (with_plugged b t a spot)
+growing b t a spot device tree = growing-all b t a spot (absent-above b (rest-from_sound b tree).used.firm) device
+
 plugged-clocks : (b : Board) (t : TypeId) (a : Wanted) (spot : Spot) → is_a t (codes "device") ≡ true → SoundTree b → SoundTree (with_plugged b t a spot)
     → SoundClocks b → SoundClocks (with_plugged b t a spot)
 plugged-clocks b t a spot device tree after h =
@@ -76,33 +81,16 @@ plugged-clocks b t a spot device tree after h =
       own = new.own;
       mul = new.mul;
       div = new.div;
-      older = λ s e. let is : s ≡ source_for b spot.bus = new.only s e in omega (arith, is, high, source-low b rest.used.firm spot.bus);
+      older = λ s e.
+          let is : s ≡ source_for b spot.bus = new.only s e in
+          omega (arith, is, high, source-low b (rest-from_sound b tree).used.firm spot.bus);
     })
   where
     c : Board
     c = with_plugged b t a spot
 
-    rest : AtRest b
-    rest = rest-from_sound b tree
-
     g : Growing b (source_for b spot.bus) c
-    g = growing-all b t a spot (absent-above b rest.used.firm) device
-
--- at each stage
-
-late-clocks : (b : Board) (t : TypeId) (bus : ℕ) (a : Wanted) (o : Option (ℕ × Code)) → is_a t (codes "device") ≡ true → SoundTree b
-    → SoundTree (plug_late b t bus a o).board → SoundClocks b → SoundClocks (plug_late b t bus a o).board
-late-clocks b t bus a (Some refusal) device tree after h = beside-clocks b _ refl h
-late-clocks b t bus a None device tree after h = plugged-clocks b t a (spot_of b t bus a.props) device tree after h
-
-as-clocks : (b : Board) (t : TypeId) (a : Wanted) (o : Option (ℕ × Code)) → is_a t (codes "device") ≡ true → SoundTree b
-    → SoundTree (plug_as b t a o).board → SoundClocks b → SoundClocks (plug_as b t a o).board
-as-clocks b t a (Some refusal) device tree after h = h
-as-clocks b t a None device tree after h = go (bus_for b t a.bus) refl
-  where
-    go : (m : Option ℕ) → bus_for b t a.bus ≡ m → SoundClocks (plug_as b t a None).board
-    go None p = rw (plug_as, p) h
-    go (Some bus) p = rw (plug_as, p) (late-clocks b t bus a (barred_late b t bus a.props) device tree (rw (plug_as, p) at after) h)
+    g = growing b t a spot device tree
 
 flipped : (u : Bool) → not u ≡ false → u ≡ true
 flipped true e = refl
@@ -114,16 +102,36 @@ is-device driver row p e =
     let second = unbarred (not (is_a row.id (codes "device"))) E22 _ first.1 in
     flipped (is_a row.id (codes "device")) second.0
 
-by-clocks : (b : Board) (a : Wanted) (o : Option Code) → type_barred a.driver ≡ o → SoundTree b → SoundTree (plug_by b a o).board → SoundClocks b
-    → SoundClocks (plug_by b a o).board
-by-clocks b a (Some code) e tree after h = h
-by-clocks b a None e tree after h = go (row_named a.driver) refl
-  where
-    go : (row : Option TypeRow) → row_named a.driver ≡ row → SoundClocks (plug_by b a None).board
-    go None p = rw (plug_by, p) h
-    go (Some row) p =
-        rw (plug_by, p) (as-clocks b row.id a (barred_early b row.id a) (is-device a.driver row p e) tree (rw (plug_by, p) at after) h)
+-- at each stage
+module _ (P : Board → Type 0) (b : Board) (a : Wanted) (h : P b)
+    (given_up : (t : TypeId) (bus stage : ℕ) → P (plug_attempt b t bus stage))
+    (added : (t : TypeId) (spot : Spot) → is_a t (codes "device") ≡ true → SoundTree (with_plugged b t a spot) → P (with_plugged b t a spot)) where
+  kept-late : (t : TypeId) (bus : ℕ) (o : Option (ℕ × Code)) → is_a t (codes "device") ≡ true → SoundTree (plug_late b t bus a o).board
+      → P (plug_late b t bus a o).board
+  kept-late t bus (Some refusal) device after = given_up t bus refusal.0
+  kept-late t bus None device after = added t (spot_of b t bus a.props) device after
+
+  kept-as : (t : TypeId) (o : Option (ℕ × Code)) → is_a t (codes "device") ≡ true → SoundTree (plug_as b t a o).board → P (plug_as b t a o).board
+  kept-as t (Some refusal) device after = h
+  kept-as t None device after = go (bus_for b t a.bus) refl
+    where
+      go : (m : Option ℕ) → bus_for b t a.bus ≡ m → P (plug_as b t a None).board
+      go None p = rw (plug_as, p) h
+      go (Some bus) p = rw (plug_as, p) (kept-late t bus (barred_late b t bus a.props) device (rw (plug_as, p) at after))
+
+  kept-by : (o : Option Code) → type_barred a.driver ≡ o → SoundTree (plug_by b a o).board → P (plug_by b a o).board
+  kept-by (Some code) e after = h
+  kept-by None e after = go (row_named a.driver) refl
+    where
+      go : (row : Option TypeRow) → row_named a.driver ≡ row → P (plug_by b a None).board
+      go None p = rw (plug_by, p) h
+      go (Some row) p = rw (plug_by, p) (kept-as row.id (barred_early b row.id a) (is-device a.driver row p e) (rw (plug_by, p) at after))
+
+  pub kept-plug : SoundTree (plug b a).board → P (plug b a).board
+  unfolding plug
+  kept-plug after = kept-by (type_barred a.driver) refl after
 
 pub plug-clocks : (b : Board) (a : Wanted) → SoundTree b → SoundClocks b → SoundClocks (plug b a).board
-unfolding plug
-plug-clocks b a tree h = by-clocks b a (type_barred a.driver) refl tree (sound_kept_lem.plugged b a tree) h
+plug-clocks b a tree h =
+    kept-plug SoundClocks b a h (λ t bus stage. kept-beside SoundClocks same-sound b (plug_attempt b t bus stage) refl h)
+    (λ t spot device after. plugged-clocks b t a spot device tree after h) (sound_kept_lem.plugged b a tree)

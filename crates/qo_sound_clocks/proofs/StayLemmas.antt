@@ -1,4 +1,4 @@
--- What leaves the slots of objects leaves the clocks sound: acts, holds, and what lies beside the objects. Devices that go leave them sound too.
+-- What leaves the slots of objects keeps what speaks of these alone: acts, holds, and what lies beside the objects. What is kept where objects read no more as clocks, devices that go keep.
 use Rattle.std.proofs.Common.{◌≡◌, refl, ap, ◌∙◌, ℕ, zero, suc, Bool, true, false, ◌==◌, List, [], ◌∷◌, ◌++◌, filter, length, Option, Some, None, is_some, option_map}
 use Rattle.qo_values.specs.declared.births.TheConstants.{MACHINE_BIRTH}
 use Rattle.qo_values.specs.declared.kinds.Act.{Act}
@@ -15,13 +15,12 @@ use Rattle.qo_model.specs.Unplug.{detach, first_of}
 use Rattle.qo_model.proofs.StepLemmas.{found-edited, found_at}
 use Rattle.qo_sound.specs.Kept.{SoundTree}
 use Rattle.qo_sound.proofs.KeptLemmas.{sound_kept_lem}
-use Rattle.qo_sound_clocks.specs.SoundClocks.{SoundClocks}
-use Rattle.qo_sound_clocks.proofs.FewerLemmas.{fewer-detach, fewer-none, slots_in}
-use Rattle.qo_sound_clocks.proofs.GrownLemmas.{fewer-sound, same-sound}
-use Rattle.qo_sound_clocks.proofs.ReadLemmas.{tree-reads}
+use Rattle.qo_sound_clocks.proofs.FewerLemmas.{Fewer, fewer-detach, fewer-none, slots_in}
+use Rattle.qo_sound_clocks.proofs.ReadLemmas.{Reads, tree-reads}
 
-pub beside-clocks : (b c : Board) → c.records ≡ b.records → SoundClocks b → SoundClocks c
-beside-clocks b c e h = same-sound b c (λ n. ap (λ (rs : List Record). slots_in (found_at n rs)) e) h
+-- what is kept where objects read no more as clocks
+abbrev pub KeptByFewer : (Board → Type 0) → Type 0
+KeptByFewer P = (b c : Board) → Reads b → Reads c → Fewer b c → P b → P c
 
 -- acts
 
@@ -37,67 +36,72 @@ acted-slots act n period b x = ap slots_in (found-edited n (with_act_on act b.no
     go None = refl
     go (Some r) = at_record r (r.birth == n) refl
 
-pub acted-clocks : (act : Act) (n period : ℕ) (b : Board) → SoundClocks b → SoundClocks (acted act n period b)
-acted-clocks act n period b h = same-sound b (acted act n period b) (acted-slots act n period b) h
+module _ (P : Board → Type 0) (same : (b c : Board) → ((n : ℕ) → slots_at c n ≡ slots_at b n) → P b → P c) where
+  pub kept-beside : (b c : Board) → c.records ≡ b.records → P b → P c
+  kept-beside b c e h = same b c (λ n. ap (λ (rs : List Record). slots_in (found_at n rs)) e) h
 
-pub phased-clocks : (act : Act) (ns : List ℕ) (b : Board) → SoundClocks b → SoundClocks (phased act ns b)
-phased-clocks act [] b h = h
-phased-clocks act (n ∷ ns) b h = phased-clocks act ns (acted act n 0 b) (acted-clocks act n 0 b h)
+  pub kept-acted : (act : Act) (n period : ℕ) (b : Board) → P b → P (acted act n period b)
+  kept-acted act n period b h = same b (acted act n period b) (acted-slots act n period b) h
 
--- holds
+  pub kept-phased : (act : Act) (ns : List ℕ) (b : Board) → P b → P (phased act ns b)
+  kept-phased act [] b h = h
+  kept-phased act (n ∷ ns) b h = kept-phased act ns (acted act n 0 b) (kept-acted act n 0 b h)
 
-pub held-clocks : (b : Board) (n : ℕ) → SoundClocks b → SoundClocks (held b n)
-unfolding held
-held-clocks b n h =
-    let entered : Board = phased Enter (filter (is_out b) (post b n)) b in
-    let c : Board = phased Hold (filter (is_out b) (post b n)) entered in
-    beside-clocks c (record c { holds = b.holds ++ n ∷ [] }) refl
-    (phased-clocks Hold (filter (is_out b) (post b n)) entered (phased-clocks Enter (filter (is_out b) (post b n)) b h))
+  -- holds
 
-pub released-clocks : (b : Board) (n : ℕ) → SoundClocks b → SoundClocks (released b n)
-unfolding released
-released-clocks b n h =
-    let c : Board = record b { holds = without_first n b.holds } in
-    phased-clocks Exit (filter (is_out c) (post c n)) c (beside-clocks b c refl h)
+  pub kept-held : (b : Board) (n : ℕ) → P b → P (held b n)
+  unfolding held
+  kept-held b n h =
+      let entered : Board = phased Enter (filter (is_out b) (post b n)) b in
+      let c : Board = phased Hold (filter (is_out b) (post b n)) entered in
+      kept-beside c (record c { holds = b.holds ++ n ∷ [] }) refl
+      (kept-phased Hold (filter (is_out b) (post b n)) entered (kept-phased Enter (filter (is_out b) (post b n)) b h))
 
-pub pulse-clocks : (b : Board) (n : ℕ) → SoundClocks b → SoundClocks (pulse b n)
-unfolding pulse
-pulse-clocks b n h = released-clocks (held b n) n (held-clocks b n h)
+  pub kept-released : (b : Board) (n : ℕ) → P b → P (released b n)
+  unfolding released
+  kept-released b n h =
+      let c : Board = record b { holds = without_first n b.holds } in
+      kept-phased Exit (filter (is_out c) (post c n)) c (kept-beside b c refl h)
 
--- a removal that is asked for
+  pub kept-pulse : (b : Board) (n : ℕ) → P b → P (pulse b n)
+  unfolding pulse
+  kept-pulse b n h = kept-released (held b n) n (kept-held b n h)
 
-asked_of-clocks : (b : Board) (d : ℕ) → SoundClocks b → SoundClocks (asked_of b d).board
-asked_of-clocks b d h = go (attached b d) refl (among b.pending d) refl (is_some (notice_barred b)) refl
-  where
-    go : (home : Bool) → attached b d ≡ home → (pending : Bool) → among b.pending d ≡ pending → (full : Bool) → is_some (notice_barred b) ≡ full
-        → SoundClocks (asked_of b d).board
-    go false p pending q full r = rw (asked_of, p) h
-    go true p true q full r = rw (asked_of, p, q) h
-    go true p false q true r = rw (asked_of, p, q, r) h
-    go true p false q false r = rw (asked_of, p, q, r) (beside-clocks b _ refl h)
+  -- a removal that is asked for
 
-pub asked-clocks : (b : Board) (id : List ℕ) → SoundClocks b → SoundClocks (asked b id).board
-asked-clocks b id h = go (device_at b id) refl
-  where
-    go : (o : Option ℕ) → device_at b id ≡ o → SoundClocks (asked b id).board
-    go None e = rw (asked, e) h
-    go (Some d) e = rw (asked, e) (asked_of-clocks b d h)
+  kept-asked_of : (b : Board) (d : ℕ) → P b → P (asked_of b d).board
+  kept-asked_of b d h = go (attached b d) refl (among b.pending d) refl (is_some (notice_barred b)) refl
+    where
+      go : (home : Bool) → attached b d ≡ home → (pending : Bool) → among b.pending d ≡ pending → (full : Bool) → is_some (notice_barred b) ≡ full
+          → P (asked_of b d).board
+      go false p pending q full r = rw (asked_of, p) h
+      go true p true q full r = rw (asked_of, p, q) h
+      go true p false q true r = rw (asked_of, p, q, r) h
+      go true p false q false r = rw (asked_of, p, q, r) (kept-beside b _ refl h)
 
--- devices that go
+  pub kept-asked : (b : Board) (id : List ℕ) → P b → P (asked b id).board
+  kept-asked b id h = go (device_at b id) refl
+    where
+      go : (o : Option ℕ) → device_at b id ≡ o → P (asked b id).board
+      go None e = rw (asked, e) h
+      go (Some d) e = rw (asked, e) (kept-asked_of b d h)
 
-pub detach-clocks : (b : Board) (d : ℕ) → SoundTree b → SoundClocks b → SoundClocks (detach b d)
-detach-clocks b d tree h =
-    fewer-sound b (detach b d) (tree-reads b tree) (tree-reads (detach b d) (sound_kept_lem.detached b d tree)) h (fewer-detach b b d (fewer-none b))
+  module _ (fewer : KeptByFewer P) where
+    -- devices that go
 
-completed-clocks : (times : ℕ) (b : Board) → SoundTree b → SoundClocks b → SoundClocks (all_completed times b)
-completed-clocks zero b tree h = h
-completed-clocks (suc times) b tree h = go (first_of b.pending) refl (completed-clocks times)
-  where
-    go : (o : Option ℕ) → first_of b.pending ≡ o → ((c : Board) → SoundTree c → SoundClocks c → SoundClocks (all_completed times c))
-        → SoundClocks (all_completed (suc times) b)
-    go None e rest = rw (all_completed, e) h
-    go (Some d) e rest = rw (all_completed, e) (rest (completed b d) (sound_kept_lem.detached b d tree) (detach-clocks b d tree h))
+    pub kept-detach : (b : Board) (d : ℕ) → SoundTree b → P b → P (detach b d)
+    kept-detach b d tree h =
+        fewer b (detach b d) (tree-reads b tree) (tree-reads (detach b d) (sound_kept_lem.detached b d tree)) (fewer-detach b b d (fewer-none b)) h
 
-pub reset-clocks : (b : Board) → SoundTree b → SoundClocks b → SoundClocks (reset_whole b)
-unfolding reset_whole
-reset-clocks b tree h = pulse-clocks (all_completed (length b.pending) b) MACHINE_BIRTH (completed-clocks (length b.pending) b tree h)
+    kept-completed : (times : ℕ) (b : Board) → SoundTree b → P b → P (all_completed times b)
+    kept-completed zero b tree h = h
+    kept-completed (suc times) b tree h = go (first_of b.pending) refl (kept-completed times)
+      where
+        go : (o : Option ℕ) → first_of b.pending ≡ o → ((c : Board) → SoundTree c → P c → P (all_completed times c))
+            → P (all_completed (suc times) b)
+        go None e rest = rw (all_completed, e) h
+        go (Some d) e rest = rw (all_completed, e) (rest (completed b d) (sound_kept_lem.detached b d tree) (kept-detach b d tree h))
+
+    pub kept-reset : (b : Board) → SoundTree b → P b → P (reset_whole b)
+    unfolding reset_whole
+    kept-reset b tree h = kept-pulse (all_completed (length b.pending) b) MACHINE_BIRTH (kept-completed (length b.pending) b tree h)

@@ -37,17 +37,17 @@ module _ (P : Board → Type 0) (acts : (act : Act) (n period : ℕ) (b : Board)
   kept-all old new [] e h = h
   kept-all old new (c ∷ cs) e h = kept-all old new cs (called old new e c) (kept-called old new e c h)
 
+  pub kept-written : (b new d : Board) (c : ℕ) → P new → clock_written b new c ≡ Ok d → P d
+  kept-written b new d c h e = go (list_any (overflows new) (c ∷ clocks_below b c)) refl
+    where
+      go : (t : Bool) → list_any (overflows new) (c ∷ clocks_below b c) ≡ t → P d
+      go true p = absurd (let clash : Err E47 ≡ Ok d = rw (clock_written, p) at e in cc)
+      go false p =
+          let is : Ok (spread b new c) ≡ Ok d = rw (clock_written, p) at e in
+          subst P (same_ok (spread b new c) d is) (kept-all b new (clocks_below b c) new h)
+
   -- the whole write
   module _ (numbers : KeepsNumbers P) where
-    kept-written : (b new d : Board) (c : ℕ) → P new → clock_written b new c ≡ Ok d → P d
-    kept-written b new d c h e = go (list_any (overflows new) (c ∷ clocks_below b c)) refl
-      where
-        go : (t : Bool) → list_any (overflows new) (c ∷ clocks_below b c) ≡ t → P d
-        go true p = absurd (let clash : Err E47 ≡ Ok d = rw (clock_written, p) at e in cc)
-        go false p =
-            let is : Ok (spread b new c) ≡ Ok d = rw (clock_written, p) at e in
-            subst P (same_ok (spread b new c) d is) (kept-all b new (clocks_below b c) new h)
-
     pub kept-set : (b d : Board) (c period : ℕ) → clock_set b c period ≡ Ok d → P b → P d
     kept-set b d c period e h = go (is_some (source_of b c)) refl
       where

@@ -25,22 +25,23 @@ use Rattle.qo_sound_clocks.specs.SoundClocks.{SoundClocks}
 use Rattle.qo_sound_clocks.proofs.FewerLemmas.{slots_in}
 use Rattle.qo_sound_clocks.proofs.LessLemmas.{Slots}
 use Rattle.qo_sound_clocks.proofs.SpreadLemmas.{fits-new, IsWritten, written-then}
-use Rattle.qo_sound_clocks.proofs.StayLemmas.{acted-clocks}
+use Rattle.qo_sound_clocks.proofs.GrownLemmas.{same-sound}
+use Rattle.qo_sound_clocks.proofs.StayLemmas.{kept-acted}
 use Rattle.qo_sound_clocks.proofs.StepsLemmas.{kept-all, same_ok}
 
-abbrev named_in : List ℕ → Slots → Option Slot
+abbrev pub named_in : List ℕ → Slots → Option Slot
 named_in name slots = option_map (λ (s : List ℕ × Slot). s.1) (find (λ s. bytes_eq s.0 name) slots)
 
-abbrev plain_at_name : List ℕ → Slots → Option Val
+abbrev pub plain_at_name : List ℕ → Slots → Option Val
 plain_at_name name xs = option_and_then plain_in (named_in name xs)
 
 -- what is read of slots where a value is set at a name
 
 -- the same is read by every other name, and by this name the value or what was read
-record IsSet (name : List ℕ) (v : Val) (xs ys : Slots) : Type 0 where
-  source : option_and_then weak_in (named_in (codes "source") ys) ≡ option_and_then weak_in (named_in (codes "source") xs)
-  others : (other : List ℕ) → bytes_eq name other ≡ false → plain_at_name other ys ≡ plain_at_name other xs
-  here : (plain_at_name name ys ≡ Some v) ⊎ (plain_at_name name ys ≡ plain_at_name name xs)
+pub record IsSet (name : List ℕ) (v : Val) (xs ys : Slots) : Type 0 where
+  pub source : option_and_then weak_in (named_in (codes "source") ys) ≡ option_and_then weak_in (named_in (codes "source") xs)
+  pub others : (other : List ℕ) → bytes_eq name other ≡ false → plain_at_name other ys ≡ plain_at_name other xs
+  pub here : (plain_at_name name ys ≡ Some v) ⊎ (plain_at_name name ys ≡ plain_at_name name xs)
 
 is_set-none : (name : List ℕ) (v : Val) (xs : Slots) → IsSet name v xs xs
 is_set-none name v xs = record { source = refl; others = λ other e. refl; here = inr refl }
@@ -115,12 +116,12 @@ set-slots name v i xs x e named =
     }
 
 -- on the board
-record IsSetAt (n : ℕ) (name : List ℕ) (v : Val) (b c : Board) : Type 0 where
-  at : IsSet name v (slots_at b n) (slots_at c n)
-  apart : (x : ℕ) → eqb x n ≡ false → slots_at c x ≡ slots_at b x
-  births : births c ≡ births b
+pub record IsSetAt (n : ℕ) (name : List ℕ) (v : Val) (b c : Board) : Type 0 where
+  pub at : IsSet name v (slots_at b n) (slots_at c n)
+  pub apart : (x : ℕ) → eqb x n ≡ false → slots_at c x ≡ slots_at b x
+  pub births : births c ≡ births b
 
-set-at : (n : ℕ) (name : List ℕ) (v : Val) (b : Board) → IsSetAt n name v b (set_named n name v b)
+pub set-at : (n : ℕ) (name : List ℕ) (v : Val) (b : Board) → IsSetAt n name v b (set_named n name v b)
 unfolding set
 set-at n name v b = go (place_from (is_named name) 0 (slots_at b n)) refl
   where
@@ -161,10 +162,10 @@ module _ (n : ℕ) (name : List ℕ) (v : Val) (b c : Board) (h : IsSetAt n name
   source-at x true p = subst (λ (k : ℕ). source_of c k ≡ source_of b k) (sym (eqb-true x n p)) h.at.source
   source-at x false p = read-at (λ (xs : Slots). option_and_then weak_in (named_in (codes "source") xs)) x p
 
-  number-at : (other : List ℕ) (x : ℕ) → eqb x n ≡ false → number_at c x other ≡ number_at b x other
+  pub number-at : (other : List ℕ) (x : ℕ) → eqb x n ≡ false → number_at c x other ≡ number_at b x other
   number-at other x p = read-at (λ (xs : Slots). option_and_then number_in (plain_at_name other xs)) x p
 
-  number-here : (other : List ℕ) → bytes_eq name other ≡ false → number_at c n other ≡ number_at b n other
+  pub number-here : (other : List ℕ) → bytes_eq name other ≡ false → number_at c n other ≡ number_at b n other
   number-here other p = ap (option_and_then number_in) (h.at.others other p)
 
   set-written : IsWritten b c n
@@ -204,7 +205,7 @@ module _ (b new : Board) (c : ℕ) (w : IsWritten b new c) (h : SoundClocks b) w
       go false p false q =
           let is : Ok (spread b new c) ≡ Ok d = rw (clock_written, p, q) at e in
           subst SoundClocks (same_ok (spread b new c) d is)
-          (kept-all SoundClocks acted-clocks b new (clocks_below b c) new (written-sound kept not_zero p q))
+          (kept-all SoundClocks (kept-acted SoundClocks same-sound) b new (clocks_below b c) new (written-sound kept not_zero p q))
 
 -- the writes
 

@@ -6,6 +6,7 @@
 ghost use Rattle.qo_sound_clocks.specs.ClockRuns.{ClockRunsLaw};
 ghost use Rattle.qo_sound_clocks.specs.ClocksKept.{ClocksKeptLaw};
 ghost use Rattle.qo_sound_clocks.specs.ClocksSay.{ClocksSayLaw};
+ghost use Rattle.qo_sound_clocks.specs.NumbersKept.{NumbersKeptLaw};
 ghost use Rattle.qo_sound_clocks.specs.TimesKept.{TimesKeptLaw};
 ghost use Rattle.qo_sound_clocks.specs.WritesKeep.{WritesKeepLaw};
 
@@ -24,6 +25,13 @@ pub fn law_clocks_kept()
 #[tactic(auto, using(crate::proofs::SayLemmas::clocks_say_lem))]
 pub fn law_clocks_say()
     ensures { ClocksSayLaw }
+{}
+
+/// A clock's own period is of 64 bits, and its mul and div of 32, on the opening board and behind each
+/// of these changes, where what is written is so.
+#[tactic(auto, using(crate::proofs::NumbersLemmas::numbers_kept_lem))]
+pub fn law_numbers_kept()
+    ensures { NumbersKeptLaw }
 {}
 
 /// A write of a clock that is not refused keeps the tree sound, the places of devices and the lists
