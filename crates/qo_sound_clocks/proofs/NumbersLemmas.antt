@@ -1,21 +1,18 @@
 -- The law: the numbers of clocks stay as wide as their properties.
-use Rattle.std.proofs.Common.{◌≡◌, ◌⊎◌, inl, inr, refl, ap, sym, subst, ◌∙◌, rules, ℕ, ◌+◌, ◌<◌, ◌≤◌, ◌^◌, Bool, true, false, ◌&&◌, eqb, List, [], find, Option, Some, None, is_some, option_map, option_and_then, unwrap_or, codes, Result, Ok, Err, arith}
+use Rattle.std.proofs.Common.{◌≡◌, ◌⊎◌, inl, inr, refl, ap, sym, subst, ◌∙◌, rules, ℕ, ◌<◌, ◌≤◌, ◌^◌, Bool, true, false, ◌&&◌, eqb, List, Option, Some, None, is_some, option_and_then, unwrap_or, codes, Ok, Err, arith}
 use Rattle.std.specs.Prelude.{nat_lt}
 use Rattle.std.specs.List.{AllByRecursion}
-use Rattle.std.specs.Option.{option_map_or}
 use Rattle.std.specs.Str.{bytes_eq}
 use Rattle.std.proofs.lemmas.Bool.{and_parts, cases_lt, eqb-true}
 use Rattle.std.proofs.lemmas.Bool.Decides.{nat_tests}
-use Rattle.qo_values.specs.declared.codes.Code.{Code}
 use Rattle.qo_values.specs.declared.codes.Code.TheVariants.{E45, E46}
-use Rattle.qo_values.specs.declared.kinds.Act.{Act}
 use Rattle.qo_values.specs.declared.kinds.TypeId.{TypeId}
 use Rattle.qo_values.specs.declared.properties.Val.{Val}
 use Rattle.qo_values.specs.declared.properties.Val.TheVariants as val
 use Rattle.qo_model.specs.Board.{Board, Record, record_of, slots_at}
 use Rattle.qo_model.specs.ClockChanges.{clock_scaled, clock_set}
-use Rattle.qo_model.specs.Clocks.{acted, div_of, mul_of, own_period, source_of}
-use Rattle.qo_model.specs.Devices.{number_at, number_in, plain_in}
+use Rattle.qo_model.specs.Clocks.{div_of, mul_of, own_period, source_of}
+use Rattle.qo_model.specs.Devices.{number_at, number_in}
 use Rattle.qo_model.specs.Opening.{opening_board}
 use Rattle.qo_model.specs.Plug.{Spot, Wanted, plug, plug_attempt, source_for, with_plugged}
 use Rattle.qo_model.specs.Types.{is_a, types}
@@ -33,7 +30,7 @@ use Rattle.qo_sound_clocks.proofs.PluggedLemmas.{growing, kept-plug}
 use Rattle.qo_sound_clocks.proofs.ReadLemmas.{Reads, tree-reads}
 use Rattle.qo_sound_clocks.proofs.StayLemmas.{kept-acted, kept-asked, kept-beside, kept-detach, kept-held, kept-pulse, kept-released, kept-reset, KeptByFewer}
 use Rattle.qo_sound_clocks.proofs.StepsLemmas.{kept-written}
-use Rattle.qo_sound_clocks.proofs.WriteLemmas.{IsSetAt, named_in, number-at, number-here, plain_at_name, set-at}
+use Rattle.qo_sound_clocks.proofs.WriteLemmas.{IsSetAt, number-at, number-here, plain_at_name, set-at}
 
 abbrev number_by : List ℕ → ℕ → Slots → ℕ
 number_by name none xs = unwrap_or (option_and_then number_in (plain_at_name name xs)) none

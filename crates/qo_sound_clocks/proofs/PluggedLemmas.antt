@@ -14,7 +14,7 @@ use Rattle.qo_sound.proofs.AddLemmas.{unbarred}
 use Rattle.qo_sound.proofs.DraftLemmas.{found-low}
 use Rattle.qo_sound.proofs.FirmLemmas.{Firm, Linked}
 use Rattle.qo_sound.proofs.KeptLemmas.{sound_kept_lem}
-use Rattle.qo_sound.proofs.ViewLemmas.{AtRest, rest-from_sound}
+use Rattle.qo_sound.proofs.ViewLemmas.{rest-from_sound}
 use Rattle.qo_sound_clocks.specs.SoundClocks.{SoundClocks}
 use Rattle.qo_sound_clocks.proofs.FewerLemmas.{slots_in}
 use Rattle.qo_sound_clocks.proofs.FoundLemmas.{all-found}

@@ -48,8 +48,9 @@ pub fn law_times_kept()
     ensures { TimesKeptLaw }
 {}
 
-/// Devices, clocks and moments are sound together behind any steps of the opening board: what comes
-/// and goes, clocks that are written, refused or not, and time that goes on. Each step keeps them so.
+/// Devices, clocks with their numbers, and moments are sound together behind any steps of the opening
+/// board: what comes and goes, clocks that are written, refused or not, and time that goes on. Each
+/// step keeps them so.
 #[tactic(auto, using(crate::proofs::RunLemmas::clock_runs_lem))]
 pub fn law_clock_runs()
     ensures { ClockRunsLaw }
