@@ -1,0 +1,334 @@
+-- The commands on objects change no clock: what they add is none, what they write is not a clock's, and what they let go may be one.
+use Rattle.std.proofs.Common.{◌≡◌, refl, ap, sym, subst, ◌∙◌, rules, ℕ, zero, suc, ◌+◌, Bool, true, false, not, ◌==◌, List, [], ◌∷◌, map, length, position, slice_get, Option, Some, None, option_map, option_and_then, codes, Result, Ok, Err, get_or, ◌<◌, arith}
+use Rattle.std.specs.List.{AllByRecursion}
+use Rattle.std.specs.Option.{option_map_or, option_or}
+use Rattle.std.specs.Str.{bytes_eq}
+use Rattle.std.proofs.lemmas.Bool.{eq-eqb}
+use Rattle.std.proofs.lemmas.Option.{same_Some}
+use Rattle.std.proofs.lemmas.Slice.Eq.{bytes_eq-Decides}
+use Rattle.std.proofs.lemmas.List.Quantifiers.{position-Some}
+use Rattle.qo_values.specs.Properties.{admits}
+use Rattle.qo_values.specs.Registers.{fresh_registers}
+use Rattle.qo_values.specs.declared.births.TheConstants.{OBJECTS_BIRTH}
+use Rattle.qo_values.specs.declared.codes.Code.{Code}
+use Rattle.qo_values.specs.declared.codes.Code.TheVariants.{E21, E22}
+use Rattle.qo_values.specs.declared.kinds.TypeId.{TypeId}
+use Rattle.qo_values.specs.declared.kinds.TypeId.TheVariants.{Object, Container, Machine, Device, SlotDevice, SlotUart, SlotTimer, SlotBridge, MemDimm, Bus, SlotBus, MemBus, Clock, MemoryBackend, MemoryBackendRam, Tag}
+use Rattle.qo_values.specs.declared.properties.Val.{Val}
+use Rattle.qo_values.specs.declared.properties.Val.TheVariants as val
+use Rattle.qo_model.specs.Board.{Board, Record, Slot, plain, child, strong, weak, alias, is_live, kind_of, record_of, slot_at, slots_at, held}
+use Rattle.qo_model.specs.Changes.{point, pointed, set, with_added, with_changed, with_val}
+use Rattle.qo_model.specs.FinalNotesRuns.{Change, added, deleted, wrote, severed, behind_write, changed}
+use Rattle.qo_model.specs.Objects.{Given, added_as, added_by, barred, is_object_named, object_add, object_del, place_from, refusal_of, sever, severed_from, slot_given, with_object}
+use Rattle.qo_model.specs.Opening.{fresh_slots}
+use Rattle.qo_model.specs.Paths.{attached}
+use Rattle.qo_model.specs.Properties.{link_target, link_written, linked, may_set, pointed_at, relinked, row_of_property, write, written, written_by}
+use Rattle.qo_model.specs.Release.{drop_slot, edited, emptied, let_go, pin, with_dropped, without_hold}
+use Rattle.qo_model.specs.Types.{TypeRow, is_a, row_named, types}
+use Rattle.qo_model.specs.declared.properties.Property.{Property}
+use Rattle.qo_model.specs.declared.properties.RowKind.{RowKind}
+use Rattle.qo_model.specs.declared.properties.RowKind.TheVariants as row
+use Rattle.qo_model.proofs.StepLemmas.{drop-record, found-edited, found_at}
+use Rattle.qo_sound.specs.Kept.{SoundTree}
+use Rattle.qo_sound.proofs.AddLemmas.{unbarred}
+use Rattle.qo_sound.proofs.KeptLemmas.{sound_kept_lem}
+use Rattle.qo_sound.proofs.RecordLemmas.{found-birth}
+use Rattle.qo_sound_clocks.proofs.FewerLemmas.{edit-less, Fewer, fewer-after, fewer-drop, fewer-edit, fewer-let_go, fewer-none, fewer-pin, fewer-unpin, slots_in}
+use Rattle.qo_sound_clocks.proofs.FoundLemmas.{found-append}
+use Rattle.qo_sound_clocks.proofs.LessLemmas.{Less, less-blank, less-added, less-none, less-pointed, less-set, OtherName, Slots}
+use Rattle.qo_sound_clocks.proofs.QuietLemmas.{Quiet, quiet-all_given, quiet-blank}
+use Rattle.qo_sound_clocks.proofs.ReadLemmas.{tree-reads}
+use Rattle.qo_sound_clocks.proofs.StayLemmas.{KeptByFewer}
+
+-- no property of a clock is written by `qom-set` yet
+
+abbrev MaySet : TypeId → List ℕ → Bool
+MaySet t name = option_map_or (λ (p : Property). may_set p.mark) (row_of_property t name) false
+
+record NeverSet (t : TypeId) : Type 0 where
+  period : MaySet t (codes "period") ≡ false
+  mul : MaySet t (codes "mul") ≡ false
+  div : MaySet t (codes "div") ≡ false
+  source : MaySet t (codes "source") ≡ false
+
+never-set : (t : TypeId) → NeverSet t
+unfolding types
+never-set Object = record { period = refl; mul = refl; div = refl; source = refl }
+never-set Container = record { period = refl; mul = refl; div = refl; source = refl }
+never-set Machine = record { period = refl; mul = refl; div = refl; source = refl }
+never-set Device = record { period = refl; mul = refl; div = refl; source = refl }
+never-set SlotDevice = record { period = refl; mul = refl; div = refl; source = refl }
+never-set SlotUart = record { period = refl; mul = refl; div = refl; source = refl }
+never-set SlotTimer = record { period = refl; mul = refl; div = refl; source = refl }
+never-set SlotBridge = record { period = refl; mul = refl; div = refl; source = refl }
+never-set MemDimm = record { period = refl; mul = refl; div = refl; source = refl }
+never-set Bus = record { period = refl; mul = refl; div = refl; source = refl }
+never-set SlotBus = record { period = refl; mul = refl; div = refl; source = refl }
+never-set MemBus = record { period = refl; mul = refl; div = refl; source = refl }
+never-set Clock = record { period = refl; mul = refl; div = refl; source = refl }
+never-set MemoryBackend = record { period = refl; mul = refl; div = refl; source = refl }
+never-set MemoryBackendRam = record { period = refl; mul = refl; div = refl; source = refl }
+never-set Tag = record { period = refl; mul = refl; div = refl; source = refl }
+
+set-other : (t : TypeId) (name : List ℕ) → MaySet t name ≡ true → OtherName name
+set-other t name e =
+    record {
+      period = apart (codes "period") n.period;
+      mul = apart (codes "mul") n.mul;
+      div = apart (codes "div") n.div;
+      source = apart (codes "source") n.source;
+    }
+  where
+    n : NeverSet t
+    n = never-set t
+
+    apart : (other : List ℕ) → MaySet t other ≡ false → bytes_eq name other ≡ false
+    apart other never = go (bytes_eq name other) refl
+      where
+        go : (u : Bool) → bytes_eq name other ≡ u → bytes_eq name other ≡ false
+        go true p = absurd (let clash : true ≡ false = sym e ∙ ap (MaySet t) ((bytes_eq-Decides name other).0 p) ∙ never in cc)
+        go false p = p
+
+-- the slot that is written
+
+slice-of : (xs : Slots) (i : ℕ) (d : List ℕ × Slot) → i < length xs → slice_get xs i ≡ Some (get_or xs i d)
+slice-of [] i d low = absurd (omega (arith, low))
+slice-of (x ∷ xs) zero d low = refl
+slice-of (x ∷ xs) (suc i) d low = slice-of xs i d (omega (arith, low))
+
+record SlotFound (name : List ℕ) (slots : Slots) (i : ℕ) : Type 0 where
+  entry : List ℕ × Slot
+  at : slice_get slots i ≡ Some entry
+  passes : bytes_eq entry.0 name ≡ true
+
+position-slot : (name : List ℕ) (slots : Slots) (i : ℕ) → position (λ (s : List ℕ × Slot). bytes_eq s.0 name) slots ≡ Some i → SlotFound name slots i
+position-slot name slots i e =
+    let d : List ℕ × Slot = ([], plain val.Nothing) in
+    let h : (i < length slots) × (bytes_eq (get_or slots i d).0 name ≡ true) × ((k : ℕ) → k < i → bytes_eq (get_or slots k d).0 name ≡ false) =
+    position-Some (λ (s : List ℕ × Slot). bytes_eq s.0 name) slots i d e in
+    record { entry = get_or slots i d; at = slice-of slots i d h.0; passes = h.1 }
+
+set-fewer : (b : Board) (n i : ℕ) (v : Val) (x : List ℕ × Slot) → slice_get (slots_at b n) i ≡ Some x → OtherName x.0 → Fewer b (set n i v b)
+unfolding set
+set-fewer b n i v x at other =
+    edit-less n (with_changed (with_val v) i) (λ r. refl) b
+    (λ r q. less-set v i r.slots x (sym (ap (λ (o : Option Record). slice_get (slots_in o) i) q) ∙ at) other)
+
+-- a link that is written keeps its name
+
+kept-slot : (i : ℕ) (xs : Slots) (own : List ℕ) (s left : Slot) → slice_get xs i ≡ Some (own, s) → emptied s ≡ Some left
+    → slice_get (without_hold i xs) i ≡ Some (own, left)
+kept-slot i [] own s left e stays = cc
+kept-slot zero (x ∷ xs) own s left e stays =
+    ap (λ (y : List ℕ × Slot). slice_get (without_hold zero (y ∷ xs)) 0) (same_Some x (own, s) e)
+    ∙ ap (λ (o : Option Slot). slice_get (elim o as (λ _. Slots) [ None ↦ xs | Some l ↦ (own, l) ∷ xs ]) 0) stays
+kept-slot (suc i) (x ∷ xs) own s left e stays = kept-slot i xs own s left e stays
+
+dropped-at : (c : Board) (n i : ℕ) (x : List ℕ × Slot) → slice_get (slots_at c n) i ≡ Some x → (r : Record) → record_of (drop_slot c n i) n ≡ Some r
+    → without_hold i (slots_at c n) ≡ r.slots
+dropped-at c n i x at r e = go (record_of c n) refl
+  where
+    go : (o : Option Record) → record_of c n ≡ o → without_hold i (slots_at c n) ≡ r.slots
+    go None q = absurd (let clash : None ≡ Some x = sym (ap (λ (o : Option Record). slice_get (slots_in o) i) q) ∙ at in cc)
+    go (Some y) q =
+        let is : slots_in (option_map (edited n (with_dropped i)) (Some y)) ≡ r.slots =
+        sym (ap (λ (o : Option Record). slots_in (option_map (edited n (with_dropped i)) o)) q) ∙ sym (ap slots_in (drop-record c n i n)) ∙ ap slots_in e in
+        let own_birth : (y.birth == n) ≡ true = eq-eqb y.birth n (found-birth n c.records y q) in
+        let slots : without_hold i y.slots ≡ r.slots = rw (edited, own_birth) at is in
+        ap (λ (o : Option Record). without_hold i (slots_in o)) q ∙ slots
+
+module _ (b : Board) (n i : ℕ) (own : List ℕ) (s left : Slot)
+    (at : slice_get (slots_at b n) i ≡ Some (own, s)) (stays : emptied s ≡ Some left) (other : OtherName own) where
+  pointed-fewer : (target : Option ℕ) → Fewer b (pointed_at target n i (drop_slot b n i))
+  unfolding point
+  pointed-fewer None = fewer-drop b b n i (fewer-none b)
+  pointed-fewer (Some m) =
+      fewer-edit b n (with_changed (pointed m) i) (λ r. refl) (drop_slot b n i)
+      (λ r e.
+      less-pointed m i r.slots (own, left)
+      (sym (ap (λ (xs : Slots). slice_get xs i) (dropped-at b n i (own, s) at r e)) ∙ kept-slot i (slots_at b n) own s left at stays) other)
+      (fewer-drop b b n i (fewer-none b))
+
+  relinked-fewer : (target : Option ℕ) → Fewer b (relinked b n i target)
+  relinked-fewer target =
+      let there : slot_at b n i ≡ Some s = ap (option_map (λ (x : List ℕ × Slot). x.1)) at in
+      rw (relinked, there) (fewer-after b (held s) (pointed_at target n i (drop_slot b n i)) (pointed-fewer target))
+
+  linked-fewer : (target : Result (Option ℕ) Code) → Fewer b (behind_write b (linked b n i target))
+  linked-fewer (Ok target) = relinked-fewer target
+  linked-fewer (Err code) = fewer-none b
+
+  link_written-fewer : (t : TypeId) (v : Val) → Fewer b (behind_write b (link_written b n i t v))
+  link_written-fewer t (val.Text path) = linked-fewer (link_target b t path)
+  link_written-fewer t (val.Bool v) = fewer-none b
+  link_written-fewer t (val.Int v) = fewer-none b
+  link_written-fewer t (val.Uint v) = fewer-none b
+  link_written-fewer t val.Nothing = fewer-none b
+
+written-fewer : (b : Board) (n i : ℕ) (own : List ℕ) (s : Slot) → slice_get (slots_at b n) i ≡ Some (own, s) → OtherName own → (kind : RowKind) (v : Val)
+    → Fewer b (behind_write b (written b n i kind (Some s) v))
+written-fewer b n i own (plain old) at other (row.Plain type first) v = go (admits type v) refl
+  where
+    go : (t : Bool) → admits type v ≡ t → Fewer b (behind_write b (written b n i (row.Plain type first) (Some (plain old)) v))
+    go true p = rw (written, p) (set-fewer b n i v (own, plain old) at other)
+    go false p = rw (written, p) (fewer-none b)
+written-fewer b n i own (strong to target) at other (row.Link t holds) v =
+    link_written-fewer b n i own (strong to target) (strong to None) at refl other to v
+written-fewer b n i own (weak to target) at other (row.Link t holds) v =
+    link_written-fewer b n i own (weak to target) (weak to None) at refl other to v
+written-fewer b n i own (child m) at other (row.Plain type first) v = fewer-none b
+written-fewer b n i own (strong to target) at other (row.Plain type first) v = fewer-none b
+written-fewer b n i own (weak to target) at other (row.Plain type first) v = fewer-none b
+written-fewer b n i own (alias m property) at other (row.Plain type first) v = fewer-none b
+written-fewer b n i own (plain old) at other (row.Link t holds) v = fewer-none b
+written-fewer b n i own (child m) at other (row.Link t holds) v = fewer-none b
+written-fewer b n i own (alias m property) at other (row.Link t holds) v = fewer-none b
+written-fewer b n i own s at other (row.Child t) v = fewer-none b
+written-fewer b n i own s at other (row.Alias owner property) v = fewer-none b
+
+written_by-fewer : (b : Board) (n i : ℕ) (name : List ℕ) (v : Val) → SlotFound name (slots_at b n) i → (t : Option TypeId) → kind_of b n ≡ t
+    → Fewer b (behind_write b (written_by b n i (option_and_then (λ k. row_of_property k name) t) v))
+written_by-fewer b n i name v f None q = fewer-none b
+written_by-fewer b n i name v f (Some t) q = go (row_of_property t name) refl
+  where
+    its : name ≡ f.entry.0
+    its = sym ((bytes_eq-Decides f.entry.0 name).0 f.passes)
+
+    by : (p : Property) → row_of_property t name ≡ Some p → (u : Bool) → may_set p.mark ≡ u → Fewer b (behind_write b (written_by b n i (Some p) v))
+    by p e false m = rw (written_by, m) (fewer-none b)
+    by p e true m =
+        let may : MaySet t name ≡ true = ap (λ (o : Option Property). option_map_or (λ (x : Property). may_set x.mark) o false) e ∙ m in
+        let there : slot_at b n i ≡ Some f.entry.1 = ap (option_map (λ (x : List ℕ × Slot). x.1)) f.at in
+        rw (written_by, m, there) (written-fewer b n i f.entry.0 f.entry.1 f.at (subst OtherName its (set-other t name may)) p.kind v)
+
+    go : (o : Option Property) → row_of_property t name ≡ o → Fewer b (behind_write b (written_by b n i o v))
+    go None e = fewer-none b
+    go (Some p) e = by p e (may_set p.mark) refl
+
+write-fewer : (b : Board) (n : ℕ) (name : List ℕ) (v : Val) → Fewer b (behind_write b (write b n name v))
+write-fewer b n name v = go (position (λ (s : List ℕ × Slot). bytes_eq s.0 name) (slots_at b n)) refl
+  where
+    go : (place : Option ℕ) → position (λ (s : List ℕ × Slot). bytes_eq s.0 name) (slots_at b n) ≡ place → Fewer b (behind_write b (write b n name v))
+    go None p = rw (write, p) (fewer-none b)
+    go (Some i) p = rw (write, p) (written_by-fewer b n i name v (position-slot name (slots_at b n) i p) (kind_of b n) refl)
+
+-- an object that goes, and one that lets go of its links
+
+object_del-fewer : (b : Board) (id : List ℕ) → Fewer b (object_del b id).board
+object_del-fewer b id = go (place_from (is_object_named id) 0 (slots_at b OBJECTS_BIRTH)) refl
+  where
+    go : (place : Option ℕ) → place_from (is_object_named id) 0 (slots_at b OBJECTS_BIRTH) ≡ place → Fewer b (object_del b id).board
+    go None p = rw (object_del, p) (fewer-none b)
+    go (Some i) p = rw (object_del, p) (fewer-let_go b OBJECTS_BIRTH i b (fewer-none b))
+
+severed-fewer : (b : Board) (places i n : ℕ) (c : Board) → Fewer b c → Fewer b (severed_from places i n c)
+severed-fewer b zero i n c h = h
+severed-fewer b (suc places) i n c h = go (slot_at c n i) refl (severed-fewer b places (suc i) n)
+  where
+    go : (s : Option Slot) → slot_at c n i ≡ s → ((d : Board) → Fewer b d → Fewer b (severed_from places (suc i) n d))
+        → Fewer b (severed_from (suc places) i n c)
+    go None p rest = rw (severed_from, p) (rest c h)
+    go (Some (plain v)) p rest = rw (severed_from, p) (rest c h)
+    go (Some (child m)) p rest = rw (severed_from, p) (rest c h)
+    go (Some (strong t target)) p rest = rw (severed_from, p) (rest (let_go c n i) (fewer-let_go b n i c h))
+    go (Some (weak t target)) p rest = rw (severed_from, p) (rest c h)
+    go (Some (alias m property)) p rest = rw (severed_from, p) (rest c h)
+
+sever-fewer : (b : Board) (n : ℕ) → Fewer b (sever b n).board
+sever-fewer b n = go (is_live b n) refl (attached b n) refl
+  where
+    go : (there : Bool) → is_live b n ≡ there → (at_home : Bool) → attached b n ≡ at_home → Fewer b (sever b n).board
+    go false p at_home q = rw (sever, p) (fewer-none b)
+    go true p true q = rw (sever, p, q) (fewer-none b)
+    go true p false q =
+        rw (sever, p, q)
+        (fewer-unpin b n (severed_from (length (slots_at b n)) 0 n (pin b n))
+        (severed-fewer b (length (slots_at b n)) 0 n (pin b n) (fewer-pin b n b (fewer-none b))))
+
+-- an object that is added is no clock
+
+created-quiet : (t : TypeId) → is_a t (codes "user-creatable") ≡ true → AllByRecursion Quiet (fresh_slots t)
+unfolding types
+created-quiet Object e = search rules
+created-quiet Container e = search rules
+created-quiet Machine e = search rules
+created-quiet Device e = search rules
+created-quiet SlotDevice e = search rules
+created-quiet SlotUart e = search rules
+created-quiet SlotTimer e = search rules
+created-quiet SlotBridge e = search rules
+created-quiet MemDimm e = search rules
+created-quiet Bus e = search rules
+created-quiet SlotBus e = search rules
+created-quiet MemBus e = search rules
+created-quiet Clock e = absurd (let clash : false ≡ true = e in cc)
+created-quiet MemoryBackend e = search rules
+created-quiet MemoryBackendRam e = search rules
+created-quiet Tag e = search rules
+
+with_object-fewer : (b : Board) (t : TypeId) (id : List ℕ) (props : List Given) → AllByRecursion Quiet (fresh_slots t) → Fewer b (with_object b t id props)
+with_object-fewer b t id props quiet x =
+    rw (found-append x (map (edited OBJECTS_BIRTH change) b.records) (new ∷ []), found-edited OBJECTS_BIRTH change (λ r. refl) x b.records)
+    (go (record_of b x) refl)
+  where
+    change : Record → Record
+    change = with_added id (child (b.born + 1))
+
+    new : Record
+    new =
+        record {
+          birth = b.born + 1;
+          kind = t;
+          slots = map (slot_given b props) (fresh_slots t);
+          registers = fresh_registers t;
+          device_id = None;
+          kept_path = None;
+        }
+
+    at_record : (r : Record) (u : Bool) → (r.birth == OBJECTS_BIRTH) ≡ u → Less r.slots (edited OBJECTS_BIRTH change r).slots
+    at_record r true p = rw (edited, p) (less-added id (child (b.born + 1)) refl refl r.slots)
+    at_record r false p = rw (edited, p) (less-none r.slots)
+
+    last : (u : Bool) → ((b.born + 1) == x) ≡ u → Less [] (slots_in (found_at x (new ∷ [])))
+    last true p = rw p (less-blank [] new.slots (quiet-blank new.slots (quiet-all_given b props (fresh_slots t) quiet)))
+    last false p = rw p (less-none [])
+
+    go : (o : Option Record) → record_of b x ≡ o → Less (slots_in o) (slots_in (option_or (option_map (edited OBJECTS_BIRTH change) o) (found_at x (new ∷ []))))
+    go None e = last ((b.born + 1) == x) refl
+    go (Some r) e = at_record r (r.birth == OBJECTS_BIRTH) refl
+
+flipped : (u : Bool) → not u ≡ false → u ≡ true
+flipped true e = refl
+flipped false e = absurd (let clash : true ≡ false = e in cc)
+
+creatable : (b : Board) (row : TypeRow) (id : List ℕ) → barred b row id ≡ None → is_a row.id (codes "user-creatable") ≡ true
+creatable b row id e =
+    let first = unbarred row.is_abstract E21 _ e in
+    let second = unbarred (not (is_a row.id (codes "user-creatable"))) E22 _ first.1 in
+    flipped (is_a row.id (codes "user-creatable")) second.0
+
+added-fewer : (b : Board) (t : TypeId) (id : List ℕ) (props : List Given) → AllByRecursion Quiet (fresh_slots t) → (o : Option Code)
+    → Fewer b (added_as b t id props o).board
+added-fewer b t id props quiet (Some code) = fewer-none b
+added-fewer b t id props quiet None = with_object-fewer b t id props quiet
+
+object_add-fewer : (b : Board) (driver id : List ℕ) (props : List Given) → Fewer b (object_add b driver id props).board
+object_add-fewer b driver id props = go (row_named driver) refl
+  where
+    by : (row : TypeRow) (o : Option Code) → barred b row id ≡ o → Fewer b (added_by b row id props o).board
+    by row (Some code) e = fewer-none b
+    by row None e = added-fewer b row.id id props (created-quiet row.id (creatable b row id e)) (refusal_of b row.id props)
+
+    go : (row : Option TypeRow) → row_named driver ≡ row → Fewer b (object_add b driver id props).board
+    go None p = rw (object_add, p) (fewer-none b)
+    go (Some row) p = rw (object_add, p) (by row (barred b row id) refl)
+
+changed-fewer : (b : Board) (change : Change) → Fewer b (changed b change)
+changed-fewer b (added driver id props) = object_add-fewer b driver id props
+changed-fewer b (deleted id) = object_del-fewer b id
+changed-fewer b (wrote n name v) = write-fewer b n name v
+changed-fewer b (severed n) = sever-fewer b n
+
+pub kept-change : (P : Board → Type 0) → KeptByFewer P → (b : Board) (change : Change) → SoundTree b → P b → P (changed b change)
+kept-change P fewer b change tree h =
+    fewer b (changed b change) (tree-reads b tree) (tree-reads (changed b change) (sound_kept_lem.change b change tree)) (changed-fewer b change) h

@@ -1,0 +1,9 @@
+pub mod ClockRuns
+pub mod ClocksKept
+pub mod ClocksSay
+pub mod NumbersKept
+pub mod SoundClocks
+pub mod SoundNumbers
+pub mod SoundTimes
+pub mod TimesKept
+pub mod WritesKeep

@@ -1,0 +1,57 @@
+//! The soundness of a board's clocks and moments: what clocks go by leads nowhere round, and periods
+//! fit in 64 bits; no timer is ahead of the virtual time. Functions without effect, whose contracts
+//! say what keeps it so. The definitions stand in `specs/`.
+#![tactic(auto)]
+
+ghost use Rattle.qo_sound_clocks.specs.ClockRuns.{ClockRunsLaw};
+ghost use Rattle.qo_sound_clocks.specs.ClocksKept.{ClocksKeptLaw};
+ghost use Rattle.qo_sound_clocks.specs.ClocksSay.{ClocksSayLaw};
+ghost use Rattle.qo_sound_clocks.specs.NumbersKept.{NumbersKeptLaw};
+ghost use Rattle.qo_sound_clocks.specs.TimesKept.{TimesKeptLaw};
+ghost use Rattle.qo_sound_clocks.specs.WritesKeep.{WritesKeepLaw};
+
+/// The clocks of a board are sound on the opening board. They are so behind what changes no object,
+/// behind acts and holds, and behind a write of a clock's period, or of its mul and div, that is not
+/// refused. Where the tree is sound too, they are so behind each command on objects, behind a device
+/// that is added or refused at any stage, behind one that is detached, and behind the reset of the
+/// whole board.
+#[tactic(auto, using(crate::proofs::LawLemmas::clocks_kept_lem))]
+pub fn law_clocks_kept()
+    ensures { ClocksKeptLaw }
+{}
+
+/// On a board whose clocks are sound no clock goes by itself, in however many steps; and the periods
+/// of those that go by a clock fit in 64 bits.
+#[tactic(auto, using(crate::proofs::SayLemmas::clocks_say_lem))]
+pub fn law_clocks_say()
+    ensures { ClocksSayLaw }
+{}
+
+/// A clock's own period is of 64 bits, and its mul and div of 32, on the opening board and behind each
+/// of these changes, where what is written is so.
+#[tactic(auto, using(crate::proofs::NumbersLemmas::numbers_kept_lem))]
+pub fn law_numbers_kept()
+    ensures { NumbersKeptLaw }
+{}
+
+/// A write of a clock that is not refused keeps the tree sound, the places of devices and the lists
+/// that name them, and the notes in order.
+#[tactic(auto, using(crate::proofs::KeepLemmas::writes_keep_lem))]
+pub fn law_writes_keep()
+    ensures { WritesKeepLaw }
+{}
+
+/// No timer is ahead of the virtual time, on the opening board, and behind each of these changes and
+/// time that goes on. A guest's write to a timer's register leaves the timer so.
+#[tactic(auto, using(crate::proofs::TimesLemmas::times_kept_lem))]
+pub fn law_times_kept()
+    ensures { TimesKeptLaw }
+{}
+
+/// Devices, clocks with their numbers, and moments are sound together behind any steps of the opening
+/// board: what comes and goes, clocks that are written, refused or not, and time that goes on. Each
+/// step keeps them so.
+#[tactic(auto, using(crate::proofs::RunLemmas::clock_runs_lem))]
+pub fn law_clock_runs()
+    ensures { ClockRunsLaw }
+{}
