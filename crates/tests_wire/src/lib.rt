@@ -1,7 +1,8 @@
 //! Tests of the crates between bytes and the board: values and names, what comes and goes (bytes, items, requests,
-//! replies, the lines of the guest), and the parts of devices that stand by themselves. They say what no clause
-//! of those crates says: texts that were written by hand, and that each call succeeds with ample memory. They stand in
-//! a crate of their own since a crate with tests is proved twice, with them and without.
+//! replies, the lines of the guest, clients on a socket), and the parts of devices that stand by themselves. They say
+//! what no clause of those crates says: texts that were written by hand, that each call succeeds with ample memory, and
+//! what the system does. They stand in a crate of their own since a crate with tests is proved twice, with them and
+//! without.
 #![tactic(auto)]
 
 #[cfg(test)]
@@ -30,5 +31,7 @@ mod sessions;
 mod timer;
 #[cfg(test)]
 mod uart;
+#[cfg(test)]
+mod unix;
 #[cfg(test)]
 mod values;
