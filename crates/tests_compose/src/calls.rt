@@ -1,9 +1,10 @@
 //! The worked rows of the recorded stream, through the top call over a source and sinks in memory.
 //! Expected texts are written out by hand.
 
-use crate::{call, joined, replay};
+use crate::{Left, call, joined, replay};
 use compose::Status;
-use std::alloc::Global;
+use std::alloc::{AllocError, Global};
+use std::process::Abort;
 use std::test::Fail;
 
 const GREETING: &str =
@@ -21,19 +22,20 @@ const NEGOTIATE: &str = "bytes 1.000000 0 30\n{\"execute\":\"qmp_capabilities\"}
 const LIST_ROOT: &str =
     "bytes 1.000000 0 47\n{\"execute\":\"qom-list\",\"arguments\":{\"path\":\"/\"}}\n";
 
+/// A call left this: its status, what its sink holds, and what was complained.
+fn leaves(rt: &impl Abort, left: &Left, status: Status, held: &[u8], told: &[u8]) {
+    assert_eq!(rt; left.status, status);
+    assert_eq!(rt; left.held.as_slice(), held);
+    assert_eq!(rt; left.told.as_slice(), told);
+}
+
 #[test]
 fn records_without_entries(rt: HostRuntime) -> Result<(), Fail> {
     let left = replay(rt.alloc(), b"qrec 1\n")?;
-    assert_eq!(rt; left.status, Status::Done);
-    assert_eq!(rt; left.held.as_slice(), b"".as_slice());
-    assert_eq!(rt; left.told.as_slice(), b"".as_slice());
+    leaves(&rt, &left, Status::Done, b"", b"");
     let left = replay(rt.alloc(), b"")?;
-    assert_eq!(rt; left.status, Status::BadRecord);
-    assert_eq!(rt; left.held.as_slice(), b"".as_slice());
-    assert_eq!(rt;
-        left.told.as_slice(),
-        b"compose: bad record at byte 0\n".as_slice()
-    );
+    let told = b"compose: bad record at byte 0\n";
+    leaves(&rt, &left, Status::BadRecord, b"", told);
     Ok(())
 }
 
@@ -42,9 +44,7 @@ fn the_opening_tree_is_listed(rt: HostRuntime) -> Result<(), Fail> {
     let record = joined(rt.alloc(), &[OPEN, NEGOTIATE, LIST_ROOT])?;
     let left = replay(rt.alloc(), record.as_bytes())?;
     let want = joined(rt.alloc(), &[GREETING, EMPTY, ROOT])?;
-    assert_eq!(rt; left.status, Status::Done);
-    assert_eq!(rt; left.held.as_slice(), want.as_bytes());
-    assert_eq!(rt; left.told.as_slice(), b"".as_slice());
+    leaves(&rt, &left, Status::Done, want.as_bytes(), b"");
     Ok(())
 }
 
@@ -52,12 +52,8 @@ fn the_opening_tree_is_listed(rt: HostRuntime) -> Result<(), Fail> {
 fn a_truncated_entry_is_the_bad_place(rt: HostRuntime) -> Result<(), Fail> {
     let record = joined(rt.alloc(), &[OPEN, "bytes 1.0"])?;
     let left = replay(rt.alloc(), record.as_bytes())?;
-    assert_eq!(rt; left.status, Status::BadRecord);
-    assert_eq!(rt; left.held.as_slice(), GREETING.as_bytes());
-    assert_eq!(rt;
-        left.told.as_slice(),
-        b"compose: bad record at byte 23\n".as_slice()
-    );
+    let told = b"compose: bad record at byte 23\n";
+    leaves(&rt, &left, Status::BadRecord, GREETING.as_bytes(), told);
     Ok(())
 }
 
@@ -83,8 +79,7 @@ fn messages_are_answered(rt: HostRuntime) -> Result<(), Fail> {
         let record = joined(rt.alloc(), &[OPEN, NEGOTIATE, entry])?;
         let left = replay(rt.alloc(), record.as_bytes())?;
         let want = joined(rt.alloc(), &[GREETING, EMPTY, answer])?;
-        assert_eq!(rt; left.status, Status::Done);
-        assert_eq!(rt; left.held.as_slice(), want.as_bytes());
+        leaves(&rt, &left, Status::Done, want.as_bytes(), b"");
     }
     Ok(())
 }
@@ -96,80 +91,78 @@ fn nothing_else_is_served_before_the_negotiation(rt: HostRuntime) -> Result<(), 
     let refusal =
         "0 {\"error\":{\"class\":\"CommandNotFound\",\"desc\":\"E8 negotiation expected\"}}\r\n";
     let want = joined(rt.alloc(), &[GREETING, refusal])?;
-    assert_eq!(rt; left.status, Status::Done);
-    assert_eq!(rt; left.held.as_slice(), want.as_bytes());
+    leaves(&rt, &left, Status::Done, want.as_bytes(), b"");
     Ok(())
 }
+
+/// Replays a record of which the take of this number fails.
+fn replay_with_take(alloc: Global, record: &str, take: u64) -> Result<Left, AllocError> {
+    call(alloc, &["replay"], record.as_bytes(), &[take], &[])
+}
+
+/// Replays a record of which the put of this number fails.
+fn replay_with_put(alloc: Global, record: &str, put: u64) -> Result<Left, AllocError> {
+    call(alloc, &["replay"], record.as_bytes(), &[], &[put])
+}
+
+const READ_FAULT: &[u8] = b"compose: read fault\n";
 
 #[test]
 fn each_failing_take_is_a_read_fault(rt: HostRuntime) -> Result<(), Fail> {
     let record = joined(rt.alloc(), &[OPEN, NEGOTIATE, LIST_ROOT])?;
-    let left = call(rt.alloc(), &["replay"], record.as_bytes(), &[1], &[])?;
-    assert_eq!(rt; left.status, Status::ReadFault);
-    assert_eq!(rt; left.held.as_slice(), b"".as_slice());
-    assert_eq!(rt; left.told.as_slice(), b"compose: read fault\n".as_slice());
-    // All of the record comes with the first take.
-    let left = call(rt.alloc(), &["replay"], record.as_bytes(), &[2], &[])?;
     let whole = joined(rt.alloc(), &[GREETING, EMPTY, ROOT])?;
-    assert_eq!(rt; left.status, Status::ReadFault);
-    assert_eq!(rt; left.held.as_slice(), whole.as_bytes());
-    assert_eq!(rt; left.told.as_slice(), b"compose: read fault\n".as_slice());
-    let left = call(rt.alloc(), &["replay"], record.as_bytes(), &[3], &[])?;
-    assert_eq!(rt; left.status, Status::Done);
+    let left = replay_with_take(rt.alloc(), &record, 1)?;
+    leaves(&rt, &left, Status::ReadFault, b"", READ_FAULT);
+    // All of the record comes with the first take.
+    let left = replay_with_take(rt.alloc(), &record, 2)?;
+    leaves(&rt, &left, Status::ReadFault, whole.as_bytes(), READ_FAULT);
+    let left = replay_with_take(rt.alloc(), &record, 3)?;
+    leaves(&rt, &left, Status::Done, whole.as_bytes(), b"");
     Ok(())
 }
 
 #[test]
 fn messages_are_answered_before_the_next_take(rt: HostRuntime) -> Result<(), Fail> {
     let record = joined(rt.alloc(), &[OPEN, NEGOTIATE, "bytes 1.0"])?;
-    let left = call(rt.alloc(), &["replay"], record.as_bytes(), &[2], &[])?;
+    let left = replay_with_take(rt.alloc(), &record, 2)?;
     let want = joined(rt.alloc(), &[GREETING, EMPTY])?;
-    assert_eq!(rt; left.status, Status::ReadFault);
-    assert_eq!(rt; left.held.as_slice(), want.as_bytes());
-    assert_eq!(rt; left.told.as_slice(), b"compose: read fault\n".as_slice());
+    leaves(&rt, &left, Status::ReadFault, want.as_bytes(), READ_FAULT);
     Ok(())
 }
 
 #[test]
 fn each_failing_put_is_a_write_fault(rt: HostRuntime) -> Result<(), Fail> {
     let record = joined(rt.alloc(), &[OPEN, NEGOTIATE, LIST_ROOT])?;
-    let whole = joined(rt.alloc(), &[GREETING, EMPTY, ROOT])?;
     // Each message is one put.
-    let fronts = [0, GREETING.len(), GREETING.len() + EMPTY.len()];
-    for (at, front) in fronts.iter().enumerate() {
-        let left = call(
-            rt.alloc(),
-            &["replay"],
-            record.as_bytes(),
-            &[],
-            &[at as u64 + 1],
-        )?;
-        assert_eq!(rt; left.status, Status::WriteFault, "at put {at}");
-        assert_eq!(rt; left.held.len(), *front, "at put {at}");
-        assert!(rt; whole.as_bytes().starts_with(left.held.as_slice()));
-        assert_eq!(rt; left.told.as_slice(), b"compose: write fault\n".as_slice());
+    for (put, lines) in [(1, ["", ""]), (2, [GREETING, ""]), (3, [GREETING, EMPTY])] {
+        let left = replay_with_put(rt.alloc(), &record, put)?;
+        let front = joined(rt.alloc(), &lines)?;
+        let told = b"compose: write fault\n";
+        leaves(&rt, &left, Status::WriteFault, front.as_bytes(), told);
     }
-    let left = call(rt.alloc(), &["replay"], record.as_bytes(), &[], &[4])?;
+    let left = replay_with_put(rt.alloc(), &record, 4)?;
     assert_eq!(rt; left.status, Status::Done);
+    Ok(())
+}
+
+const USAGE: &[u8] =
+    b"usage: compose replay | serve --socket PATH --connections N | demo --seed N --steps K | types\n";
+
+/// These words are no order.
+fn is_usage(rt: &impl Abort, alloc: Global, words: &[&str]) -> Result<(), Fail> {
+    let left = call(alloc, words, b"qrec 1\n", &[1], &[1])?;
+    leaves(rt, &left, Status::Usage, b"", USAGE);
     Ok(())
 }
 
 #[test]
 fn other_words_are_no_order(rt: HostRuntime) -> Result<(), Fail> {
-    let usage =
-        "usage: compose replay | serve --socket PATH --connections N | demo --seed N --steps K | types\n";
-    let no_words: [&str; 0] = [];
-    let left = call(rt.alloc(), &no_words, b"qrec 1\n", &[1], &[1])?;
-    assert_eq!(rt; left.status, Status::Usage);
-    assert_eq!(rt; left.told.as_slice(), usage.as_bytes());
+    is_usage(&rt, rt.alloc(), &[])?;
     for words in [["replay", "x"], ["--", "replay"], ["replay", "--help"]] {
-        let left = call(rt.alloc(), &words, b"qrec 1\n", &[1], &[1])?;
-        assert_eq!(rt; left.status, Status::Usage);
-        assert_eq!(rt; left.told.as_slice(), usage.as_bytes());
+        is_usage(&rt, rt.alloc(), &words)?;
     }
     for word in ["Replay", "replay ", "serve", "demo", "--help", ""] {
-        let left = call(rt.alloc(), &[word], b"qrec 1\n", &[1], &[1])?;
-        assert_eq!(rt; left.status, Status::Usage);
+        is_usage(&rt, rt.alloc(), &[word])?;
     }
     Ok(())
 }
@@ -192,27 +185,26 @@ fn long_records_are_read_through(rt: HostRuntime) -> Result<(), Fail> {
     record.extend_from_slice(NEGOTIATE.as_bytes())?;
     let want = joined(rt.alloc(), &[GREETING, EMPTY])?;
     let left = replay(rt.alloc(), record.as_slice())?;
-    assert_eq!(rt; left.status, Status::Done);
-    assert_eq!(rt; left.held.as_slice(), want.as_bytes());
+    leaves(&rt, &left, Status::Done, want.as_bytes(), b"");
     record.push(b'x')?;
     let left = replay(rt.alloc(), record.as_slice())?;
-    assert_eq!(rt; left.status, Status::BadRecord);
-    assert_eq!(rt; left.held.as_slice(), want.as_bytes());
-    assert_eq!(rt;
-        left.told.as_slice(),
-        b"compose: bad record at byte 16848480\n".as_slice()
-    );
+    let told = b"compose: bad record at byte 16848480\n";
+    leaves(&rt, &left, Status::BadRecord, want.as_bytes(), told);
     Ok(())
 }
 
 #[test]
 fn statuses_have_their_codes(rt: HostRuntime) {
-    assert_eq!(rt; Status::Done.code(), 0);
-    assert_eq!(rt; Status::Usage.code(), 2);
-    assert_eq!(rt; Status::BadRecord.code(), 3);
-    assert_eq!(rt; Status::Memory.code(), 4);
-    assert_eq!(rt; Status::ReadFault.code(), 5);
-    assert_eq!(rt; Status::WriteFault.code(), 6);
-    assert_eq!(rt; Status::HubFault.code(), 7);
-    assert_eq!(rt; Status::InputLimit.code(), 8);
+    for (status, code) in [
+        (Status::Done, 0),
+        (Status::Usage, 2),
+        (Status::BadRecord, 3),
+        (Status::Memory, 4),
+        (Status::ReadFault, 5),
+        (Status::WriteFault, 6),
+        (Status::HubFault, 7),
+        (Status::InputLimit, 8),
+    ] {
+        assert_eq!(rt; status.code(), code);
+    }
 }
