@@ -9,8 +9,6 @@ mod detached;
 mod events;
 mod listings;
 mod notes;
-#[cfg(test)]
-mod tests;
 mod types;
 mod values;
 

@@ -7,8 +7,6 @@ mod outs;
 mod replying;
 mod running;
 mod serving;
-#[cfg(test)]
-mod tests;
 
 pub use machines::Machine;
 pub use outs::Outs;

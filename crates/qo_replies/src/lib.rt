@@ -5,8 +5,6 @@ mod ascii;
 mod events;
 mod properties;
 mod replies;
-#[cfg(test)]
-mod tests;
 
 pub use ascii::json_text;
 pub use events::{Event, event_text};

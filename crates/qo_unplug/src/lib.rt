@@ -8,8 +8,6 @@ mod claims;
 mod detaching;
 mod ending;
 mod slots;
-#[cfg(test)]
-mod tests;
 mod unrealizing;
 
 pub use detaching::detach;
