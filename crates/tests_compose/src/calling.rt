@@ -6,17 +6,17 @@ use std::alloc::{AllocError, Global};
 
 /// What a call left: its status, what its sink holds, and what was complained.
 #[derive(Drop)]
-pub struct Left {
+pub(crate) struct Left {
     /// How it ended.
-    pub status: Status,
+    pub(crate) status: Status,
     /// What the sink holds.
-    pub held: Vec<u8>,
+    pub(crate) held: Vec<u8>,
     /// What was complained.
-    pub told: Vec<u8>,
+    pub(crate) told: Vec<u8>,
 }
 
 /// Calls `compose` with these words over a record in memory; the takes and puts of these numbers fail.
-pub fn call(
+pub(crate) fn call(
     alloc: Global,
     words: &[&str],
     record: &[u8],
@@ -27,7 +27,7 @@ pub fn call(
 }
 
 /// The same, with a sink that has room for so many bytes.
-pub fn call_with_room(
+pub(crate) fn call_with_room(
     alloc: Global,
     words: &[&str],
     record: &[u8],
@@ -66,12 +66,12 @@ pub fn call_with_room(
 }
 
 /// Replays a record.
-pub fn replay(alloc: Global, record: &[u8]) -> Result<Left, AllocError> {
+pub(crate) fn replay(alloc: Global, record: &[u8]) -> Result<Left, AllocError> {
     call(alloc, &["replay"], record, &[], &[])
 }
 
 /// The texts, one after another.
-pub fn joined(alloc: Global, parts: &[&str]) -> Result<String, AllocError> {
+pub(crate) fn joined(alloc: Global, parts: &[&str]) -> Result<String, AllocError> {
     let mut text = String::new(alloc);
     for part in parts {
         text.push_str(part)?;

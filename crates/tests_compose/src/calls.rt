@@ -1,7 +1,7 @@
 //! The worked rows of the recorded stream, through the top call over a source and sinks in memory.
 //! Expected texts are written out by hand.
 
-use crate::{Left, call, joined, replay};
+use crate::calling::{Left, call, joined, replay};
 use compose::Status;
 use std::alloc::{AllocError, Global};
 use std::process::Abort;

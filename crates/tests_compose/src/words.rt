@@ -1,6 +1,6 @@
 //! The words that are orders, the words that are none, and sessions that are served over a hub in memory.
 
-use crate::{Left, call, call_with_room};
+use crate::calling::{Left, call, call_with_room};
 use compose::{NoHub, Ran, Status, compose};
 use qo_causes::{ByteSink, ByteSource, Chunk, Input, Lane, Moment, ScriptHub, What};
 use qo_record::demo_record;

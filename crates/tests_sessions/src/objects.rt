@@ -1,10 +1,10 @@
 //! Worked sessions with users' objects and devices, byte for byte through the top call. Expected texts are
 //! written out by hand.
 
+use crate::replaying::replay;
 use compose::Status;
 use std::alloc::Global;
 use std::test::Fail;
-use tests_compose::call_with_room;
 
 const GREETING: &str =
     "0 {\"QMP\":{\"capabilities\":[],\"version\":{\"package\":\"compose\",\"qemu\":{\"major\":1,\"micro\":0,\"minor\":0}}}}\r\n";
@@ -115,7 +115,7 @@ fn greeted(alloc: Global) -> Result<String, Fail> {
 
 /// Whether a record comes to its end, with this transcript.
 fn gives(alloc: Global, record: &[u8], want: &[u8]) -> Result<bool, Fail> {
-    let left = call_with_room(alloc, &["replay"], record, &[], &[], 131_072)?;
+    let left = replay(alloc, record)?;
     Ok(left.status == Status::Done && left.held.as_slice() == want)
 }
 

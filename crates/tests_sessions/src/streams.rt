@@ -1,11 +1,11 @@
 //! Worked sessions over the whole recorded stream, byte for byte through the top call. Expected texts
 //! are written out by hand.
 
+use crate::replaying::{joined, replay};
 use compose::Status;
 use std::alloc::Global;
 use std::process::Abort;
 use std::test::Fail;
-use tests_compose::{joined, replay};
 
 const GREETING: &str =
     "0 {\"QMP\":{\"capabilities\":[],\"version\":{\"package\":\"compose\",\"qemu\":{\"major\":1,\"micro\":0,\"minor\":0}}}}\r\n";
