@@ -1,6 +1,6 @@
-//! Tests of devices: on their buses, added, detached, and through the calls of the board, in one and in stages. They say
-//! what no clause says: that each of these succeeds with ample memory. They stand in a crate of their own since a
-//! crate with tests is proved twice, with them and without.
+//! Tests of devices: on their buses, added, started and detached. They say what no clause says: that each of these
+//! succeeds with ample memory. They stand in a crate of their own since a crate with tests is proved twice, with them and
+//! without.
 #![tactic(auto)]
 
 #[cfg(test)]
@@ -9,9 +9,5 @@ mod buses;
 mod plug;
 #[cfg(test)]
 mod plug_stood;
-#[cfg(test)]
-mod realize;
-#[cfg(test)]
-mod stages;
 #[cfg(test)]
 mod unplug;
