@@ -17,12 +17,3 @@ pub use calls::compose;
 pub use complaints::out_of_memory;
 pub use no_hub::NoHub;
 pub use statuses::{Ran, Status};
-
-#[cfg(test)]
-mod object_rows;
-#[cfg(test)]
-mod rows;
-#[cfg(test)]
-mod tests;
-#[cfg(test)]
-mod word_rows;

@@ -10,8 +10,6 @@ mod kids;
 mod leaving;
 mod names;
 mod slots;
-#[cfg(test)]
-mod tests;
 mod writing;
 
 pub use addresses::by_address;

@@ -12,8 +12,6 @@ mod script_hub;
 mod shelves;
 mod sinks;
 mod sources;
-#[cfg(test)]
-mod tests;
 
 pub use byte_sink::ByteSink;
 pub use byte_source::ByteSource;

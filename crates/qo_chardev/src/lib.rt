@@ -6,6 +6,3 @@ mod ring;
 mod texts;
 
 pub use ring::{AddError, Ring, RingError, TakeError};
-
-#[cfg(test)]
-mod tests;

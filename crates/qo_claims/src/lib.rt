@@ -12,8 +12,6 @@ pub mod laws;
 mod placing;
 mod ranges;
 mod slots;
-#[cfg(test)]
-mod tests;
 
 pub use claims::{Claim, Claims, Kept, Space, keep};
 pub use errors::ClaimError;

@@ -10,5 +10,4 @@ pub mod ReadLemmas
 pub mod RoundLemmas
 pub mod SetLemmas
 pub mod SpreadLemmas
-pub mod TestLemmas
 pub mod WrittenLemmas

@@ -14,8 +14,6 @@ mod links;
 mod periods;
 mod reads;
 mod spread;
-#[cfg(test)]
-mod tests;
 mod writes;
 
 pub use errors::ClockError;

@@ -8,8 +8,6 @@ mod commands;
 mod detached;
 mod listings;
 mod notes;
-#[cfg(test)]
-mod tests;
 mod types;
 mod values;
 

@@ -4,8 +4,6 @@
 
 mod device;
 mod events;
-#[cfg(test)]
-mod tests;
 
 pub use device::DeviceEvent;
 pub use events::Events;

@@ -13,6 +13,3 @@ mod scanner;
 
 pub use framer::Framer;
 pub use items::Item;
-
-#[cfg(test)]
-mod tests;

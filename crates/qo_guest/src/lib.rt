@@ -10,6 +10,3 @@ mod words;
 pub use addresses::{Addr, Steps9};
 pub use answers::{GuestAnswer, answer_text};
 pub use lines::{GuestAct, GuestBad, read_line};
-
-#[cfg(test)]
-mod tests;

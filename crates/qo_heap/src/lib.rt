@@ -11,8 +11,6 @@ mod heap;
 mod links;
 mod reads;
 mod slots;
-#[cfg(test)]
-mod tests;
 mod tree;
 
 pub use errors::{MakeError, SlotError};

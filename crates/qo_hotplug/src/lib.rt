@@ -4,8 +4,6 @@
 mod errors;
 mod hotplug;
 mod notices;
-#[cfg(test)]
-mod tests;
 
 pub use errors::{AskError, NotPending, NoticesFull};
 pub use hotplug::Hotplug;

@@ -8,6 +8,3 @@ mod release;
 
 pub use birth::create;
 pub use release::{drop_hold, drop_pin, let_go};
-
-#[cfg(test)]
-mod tests;

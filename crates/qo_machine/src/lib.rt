@@ -8,8 +8,6 @@ mod replying;
 mod running;
 mod serving;
 mod telling;
-#[cfg(test)]
-mod tests;
 
 pub use machines::Machine;
 pub use outs::Outs;

@@ -95,16 +95,6 @@ pub fn law_cycle()
     ensures { CycleLaw }
 {}
 
-#[cfg(test)]
-mod tests {
-    use super::*;
-
-    #[test]
-    fn release_induction_can_be_called(_rt: HostRuntime) {
-        law_release_keeps::<Brand>();
-    }
-}
-
 /// The period of a clock without a source is its own, and of any other that of its source, as the
 /// source's multiplier and divider make it (docs/devel/clocks.rst, "Clock multiplier and divider
 /// settings"), on every board, also where sources lead round.

@@ -69,24 +69,3 @@ impl Note {
         }
     }
 }
-
-#[cfg(test)]
-mod tests {
-    use super::*;
-
-    #[test]
-    fn texts(rt: HostRuntime) {
-        let rows = [
-            (9, Deed::Did(Act::Init(TypeId::Device)), "init 9 device"),
-            (9, Deed::Did(Act::Enter), "enter 9"),
-            (9, Deed::Did(Act::Pre), "pre 9"),
-            (9, Deed::Final(TypeId::Device), "final 9 device"),
-            (145, Deed::Did(Act::Unrealize), "unrealize 145"),
-        ];
-        for (birth, deed, want) in rows {
-            let note = Note { birth, deed };
-            let text = note.text(rt.alloc()).expect(&rt, "ample memory");
-            assert_eq!(rt; text.as_str(), want);
-        }
-    }
-}

@@ -5,6 +5,3 @@ pub mod laws;
 mod log;
 
 pub use log::NoteLog;
-
-#[cfg(test)]
-mod tests;

@@ -8,8 +8,6 @@ mod errors;
 mod named;
 mod objects;
 mod slots;
-#[cfg(test)]
-mod tests;
 
 pub use devices::DeviceId;
 pub use errors::AddError;

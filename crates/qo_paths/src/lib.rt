@@ -9,8 +9,6 @@ mod errors;
 mod parts;
 mod places;
 mod resolving;
-#[cfg(test)]
-mod tests;
 mod walks;
 mod writing;
 

@@ -16,10 +16,6 @@ mod placing;
 mod refusals;
 mod standing;
 mod starting;
-#[cfg(test)]
-mod stood_tests;
-#[cfg(test)]
-mod tests;
 
 pub use adding::{Added, add};
 pub use admitting::{Place, Site, admit};

@@ -6,8 +6,6 @@
 mod adding;
 mod reading;
 mod refusals;
-#[cfg(test)]
-mod tests;
 mod writing;
 
 pub use adding::barring::{Admitted, admit};

@@ -6,11 +6,7 @@ mod board;
 mod guests;
 mod removals;
 mod resets;
-#[cfg(test)]
-mod stage_tests;
 mod stages;
-#[cfg(test)]
-mod tests;
 
 pub use board::Board;
 pub use stages::{Draft, NotAdded, Plugged};

@@ -14,6 +14,3 @@ mod windows;
 pub use demos::demo_record;
 pub use replay_hub::{ReplayHub, Unmade};
 pub use windows::AHEAD_BYTES;
-
-#[cfg(test)]
-mod tests;

@@ -7,8 +7,6 @@ mod members;
 mod properties;
 mod quoted;
 mod replies;
-#[cfg(test)]
-mod tests;
 
 pub use ascii::json_text;
 pub use events::{Event, device_event_text, event_text};

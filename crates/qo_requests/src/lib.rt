@@ -16,6 +16,3 @@ pub use commands::Command;
 pub use fields::Field;
 pub use messages::read;
 pub use requests::{Parsed, ReadError, Request};
-
-#[cfg(test)]
-mod tests;

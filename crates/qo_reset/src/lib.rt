@@ -10,8 +10,6 @@ mod counts;
 mod errors;
 mod phases;
 mod resets;
-#[cfg(test)]
-mod tests;
 
 pub use errors::HoldError;
 pub use resets::Resets;

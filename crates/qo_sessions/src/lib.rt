@@ -4,8 +4,6 @@
 mod acts;
 mod modes;
 mod sessions;
-#[cfg(test)]
-mod tests;
 
 pub use acts::SessionAct;
 pub use modes::Mode;

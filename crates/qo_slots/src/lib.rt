@@ -7,8 +7,6 @@ mod counting;
 mod keys;
 mod stored;
 mod table;
-#[cfg(test)]
-mod tests;
 mod walk;
 
 pub use counting::Steps;

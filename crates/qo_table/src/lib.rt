@@ -5,8 +5,6 @@
 #![tactic(auto)]
 
 mod table;
-#[cfg(test)]
-mod tests;
 
 pub use qo_slots::{Key, Steps};
 pub use table::ObjectTable;

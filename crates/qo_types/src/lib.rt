@@ -6,7 +6,5 @@
 mod hierarchy;
 mod slots;
 mod table;
-#[cfg(test)]
-mod tests;
 
 pub use table::TypeTable;

@@ -2,8 +2,6 @@
 #![tactic(auto)]
 
 mod socket_file;
-#[cfg(test)]
-mod tests;
 mod unix_hub;
 
 pub use unix_hub::UnixHub;

@@ -7,8 +7,6 @@ mod apart;
 mod claims;
 mod detaching;
 mod ending;
-#[cfg(test)]
-mod tests;
 mod unrealizing;
 
 pub use detaching::detach;

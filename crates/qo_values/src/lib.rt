@@ -12,8 +12,6 @@ mod names;
 mod plain;
 mod properties;
 mod ranges;
-#[cfg(test)]
-mod tests;
 mod type_texts;
 
 pub use births::{

@@ -1,5 +1,0 @@
-use Rattle.qo_clocks.proofs.TestLemmas.{connected-timely}
-use Rattle.qo_clocks.proofs.tests.connected.Goals as goal
-
-pub returns : goal.returns
-returns g c = connected-timely c.args.heap c.connect.new.heap c.in_ok-c.c.birth c.in_ok-source.source c.connect.ensures.now c.requires

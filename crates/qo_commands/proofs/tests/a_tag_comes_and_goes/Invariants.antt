@@ -1,4 +1,0 @@
-use Rattle.qo_commands.proofs.tests.a_tag_comes_and_goes.Given as goal
-
-abbrev pub ghosts-changes : goal.ghosts-changes
-ghosts-changes g a = record { name = a.blank.name; parts = a.blank.parts }

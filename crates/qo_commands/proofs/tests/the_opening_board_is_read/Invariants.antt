@@ -1,4 +1,0 @@
-use Rattle.qo_commands.proofs.tests.the_opening_board_is_read.Given as goal
-
-abbrev pub ghosts-reads : goal.ghosts-reads
-ghosts-reads g a = record { name = a.blank.name; parts = a.blank.parts }

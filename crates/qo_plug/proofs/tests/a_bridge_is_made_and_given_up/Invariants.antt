@@ -1,4 +1,0 @@
-use Rattle.qo_plug.proofs.tests.a_bridge_is_made_and_given_up.Given as goal
-
-abbrev pub ghosts-drafted : goal.ghosts-drafted
-ghosts-drafted g a = record { name = a.blank.name; parts = a.blank.parts }

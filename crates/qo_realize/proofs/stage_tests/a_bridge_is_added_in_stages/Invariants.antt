@@ -1,4 +1,0 @@
-use Rattle.qo_realize.proofs.stage_tests.a_bridge_is_added_in_stages.Given as goal
-
-abbrev pub ghosts-staged : goal.ghosts-staged
-ghosts-staged g a = record { name = a.blank.name; parts = a.blank.parts }

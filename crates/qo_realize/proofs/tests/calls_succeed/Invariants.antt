@@ -1,4 +1,0 @@
-use Rattle.qo_realize.proofs.tests.calls_succeed.Given as goal
-
-abbrev pub ghosts-call_all : goal.ghosts-call_all
-ghosts-call_all g a = record { name = a.blank.name; parts = a.blank.parts }

@@ -1,4 +1,0 @@
-use Rattle.qo_reset.proofs.tests.holds_and_notes.Given as goal
-
-abbrev pub ghosts-held_and_released : goal.ghosts-held_and_released
-ghosts-held_and_released a = record { name = a.blank.name; parts = a.blank.parts }

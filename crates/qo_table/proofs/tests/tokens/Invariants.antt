@@ -1,4 +1,0 @@
-use Rattle.qo_table.proofs.tests.tokens.Given as goal
-
-abbrev pub ghosts-tokens_in : goal.ghosts-tokens_in
-ghosts-tokens_in a = record { name = a.blank.name; parts = a.blank.parts }

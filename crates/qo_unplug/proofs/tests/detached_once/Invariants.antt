@@ -1,4 +1,0 @@
-use Rattle.qo_unplug.proofs.tests.detached_once.Given as goal
-
-abbrev pub ghosts-detached : goal.ghosts-detached
-ghosts-detached a = record { name = a.blank.name; parts = a.blank.parts }

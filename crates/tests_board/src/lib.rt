@@ -1,0 +1,9 @@
+//! Tests of the calls of the board: on objects, and on devices that are added in stages. They say what no clause says:
+//! that each of these succeeds with ample memory. They stand in a crate of their own since a crate with tests is proved
+//! twice, with them and without.
+#![tactic(auto)]
+
+#[cfg(test)]
+mod realize;
+#[cfg(test)]
+mod stages;

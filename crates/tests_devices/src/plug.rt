@@ -1,0 +1,102 @@
+//! What no clause says: that a device is made where there is enough memory.
+ghost use Rattle.std.specs.Prelude.{◌≡◌, ◌<◌};
+
+use qo_heap::{Heap, Steps};
+use qo_hotplug::Hotplug;
+use qo_plug::{AddRefusal, Added, add, give_up, make_device};
+use qo_properties::make_all;
+use qo_reset::Resets;
+use qo_values::{BUS_SLOTS, Code, NOTICES_MAX, PropList, ROOT_BUS_BIRTH, Text, TypeId, Val};
+use std::alloc::{AllocError, Global};
+use std::marker::Brand;
+use std::sync::ledger::{Blank, Ledger};
+use std::test::Fail;
+
+/// A bridge is made on the opening board, with its clock and its bus, and given up: each of the three
+/// leaves its notes.
+fn drafted<L: Ledger>(alloc: Global, blank: Blank) -> Result<bool, AllocError>
+    requires name { blank.name ≡ L.name }
+    requires parts { blank.parts ≡ L.parts }
+    requires some { 0 < blank.parts }
+{
+    let mut steps = Steps::<L>::from_blank(blank);
+    let mut heap = Heap::new(alloc)?;
+    make_all(&mut heap, alloc, &mut steps)?;
+    let device = make_device(&mut heap, TypeId::SlotBridge, alloc, &mut steps)?;
+    let made = heap.live() == 11 && heap.notes_total() == 6;
+    give_up(&mut heap, device, &mut steps);
+    Ok(made && heap.live() == 8 && heap.notes_total() == 12)
+}
+
+#[test]
+fn a_bridge_is_made_and_given_up(rt: HostRuntime) -> Result<(), Fail> {
+    assert!(rt; drafted::<Brand>(rt.alloc(), Blank::new(1))?);
+    Ok(())
+}
+
+/// Whether an add was refused at a stage by a code.
+fn refuses(added: Result<Added, AddRefusal>, at: u8, by: Code) -> bool {
+    match added {
+        Ok(_) | Err(AddRefusal::Memory) => false,
+        Err(AddRefusal::Refused { stage, code }) => stage == at && code == by,
+    }
+}
+
+/// A bridge is added to the root bus, with these properties.
+fn bridge<L: Ledger>(
+    heap: &mut Heap,
+    resets: &Resets,
+    hotplug: &mut Hotplug,
+    props: &PropList,
+    alloc: Global,
+    steps: &mut Steps<L>,
+) -> Result<Added, AddRefusal> {
+    let driver = "slot-bridge";
+    add(
+        heap, resets, hotplug, 0, driver, None, None, props, alloc, steps,
+    )
+}
+
+/// The slot behind the last one, as a property.
+fn slot_behind(alloc: Global) -> Result<PropList, AllocError> {
+    let mut props = PropList::new(alloc);
+    let name = Text::from_string(String::from_str(alloc, "slot")?);
+    match props.push(name, Val::Uint(u64::from(BUS_SLOTS))) {
+        Ok(()) => Ok(props),
+        Err(_) => Err(AllocError),
+    }
+}
+
+/// On the opening board a bridge is refused as its slot is none, and leaves its notes; one is refused
+/// behind its acts, which are noted too, where the notices are full; and one is added.
+fn refused_and_added<L: Ledger>(alloc: Global, blank: Blank) -> Result<bool, AddRefusal>
+    requires name { blank.name ≡ L.name }
+    requires parts { blank.parts ≡ L.parts }
+    requires some { 0 < blank.parts }
+{
+    let mut steps = Steps::<L>::from_blank(blank);
+    let mut heap = Heap::new(alloc)?;
+    make_all(&mut heap, alloc, &mut steps)?;
+    let resets = Resets::new(alloc);
+    let (mut hotplug, mut full) = (Hotplug::new(alloc)?, Hotplug::new(alloc)?);
+    let Some(bus) = heap.by_birth(ROOT_BUS_BIRTH) else {
+        return Ok(false);
+    };
+    for _ in 0..NOTICES_MAX {
+        let _told = full.plug(bus);
+    }
+    let (props, behind) = (PropList::new(alloc), slot_behind(alloc)?);
+    let early = bridge(&mut heap, &resets, &mut hotplug, &behind, alloc, &mut steps);
+    let noted = heap.live() == 8 && heap.notes_total() == 12;
+    let late = bridge(&mut heap, &resets, &mut full, &props, alloc, &mut steps);
+    let told = heap.live() == 8 && heap.notes_total() == 34;
+    let added = bridge(&mut heap, &resets, &mut hotplug, &props, alloc, &mut steps)?;
+    let refused = refuses(early, 5, Code::E28) && refuses(late, 8, Code::E44);
+    Ok(refused && noted && told && added.birth == 15 && heap.live() == 11)
+}
+
+#[test]
+fn a_bridge_is_refused_and_added(rt: HostRuntime) -> Result<(), Fail> {
+    assert!(rt; refused_and_added::<Brand>(rt.alloc(), Blank::new(1))?);
+    Ok(())
+}

@@ -1,0 +1,58 @@
+//! What no clause says: that a device stands and starts where there is enough memory.
+ghost use Rattle.std.specs.Prelude.{◌≡◌, ◌<◌};
+
+use qo_buses::{anonymous_name, is_realized};
+use qo_heap::{Heap, Steps};
+use qo_hotplug::Hotplug;
+use qo_plug::{Seat, make_device, stand, start};
+use qo_properties::{make_all, plan_of};
+use qo_reset::Resets;
+use qo_values::{ANONYMOUS_BIRTH, PropList, ROOT_BUS_BIRTH, TypeId};
+use std::alloc::{AllocError, Global};
+use std::marker::Brand;
+use std::sync::ledger::{Blank, Ledger};
+use std::test::Fail;
+
+/// A bridge takes its place on the opening board and starts: it is realized, and the guest is told of
+/// it.
+fn started<L: Ledger>(alloc: Global, blank: Blank) -> Result<bool, AllocError>
+    requires name { blank.name ≡ L.name }
+    requires parts { blank.parts ≡ L.parts }
+    requires some { 0 < blank.parts }
+{
+    let mut steps = Steps::<L>::from_blank(blank);
+    let mut heap = Heap::new(alloc)?;
+    make_all(&mut heap, alloc, &mut steps)?;
+    let device = make_device(&mut heap, TypeId::SlotBridge, alloc, &mut steps)?;
+    let props = PropList::new(alloc);
+    let plan = plan_of(&heap, TypeId::SlotBridge, &props, alloc, &mut steps)?;
+    let name = anonymous_name(0, alloc)?;
+    let (Some(container), Some(bus)) = (
+        heap.by_birth(ANONYMOUS_BIRTH),
+        heap.by_birth(ROOT_BUS_BIRTH),
+    ) else {
+        return Ok(false);
+    };
+    if device.birth == bus.birth {
+        return Ok(false);
+    }
+    let seat = Seat {
+        container,
+        name,
+        bus,
+        slot: 0,
+    };
+    let path = stand(&mut heap, device, seat, None, plan, alloc, &mut steps)?;
+    let stands = path.as_str() == "/machine/peripheral-anon/device[0]";
+    let resets = Resets::new(alloc);
+    let mut hotplug = Hotplug::new(alloc)?;
+    start(&mut heap, &resets, &mut hotplug, device, path, &mut steps);
+    let told = hotplug.notices().len() == 1;
+    Ok(stands && told && is_realized(&heap, device, &mut steps))
+}
+
+#[test]
+fn a_bridge_stands_and_starts(rt: HostRuntime) -> Result<(), Fail> {
+    assert!(rt; started::<Brand>(rt.alloc(), Blank::new(1))?);
+    Ok(())
+}

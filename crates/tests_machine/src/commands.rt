@@ -1,0 +1,207 @@
+//! What no clause says: that commands are answered where there is enough memory. What they tell is
+//! compared with texts written by hand.
+ghost use Rattle.std.specs.Prelude.{◌≡◌, ◌<◌, false, true};
+ghost use Rattle.qo_commands.specs.Changes.{is_change};
+
+use qo_commands::{Body, Done, ask, change, listing_text};
+use qo_heap::Steps;
+use qo_realize::Board;
+use qo_requests::Request;
+use qo_values::{Code, PropList, Text, Val};
+use std::alloc::{AllocError, Global};
+use std::marker::Brand;
+use std::sync::ledger::{Blank, Ledger};
+use std::test::Fail;
+
+/// A text of a request.
+fn text(alloc: Global, of: &str) -> Result<Text, AllocError> {
+    Ok(Text::from_string(String::from_str(alloc, of)?))
+}
+
+/// Whether a command tells this.
+fn tells<L: Ledger>(
+    alloc: Global,
+    board: &Board,
+    request: &Request,
+    want: &str,
+    steps: &mut Steps<L>,
+) -> Result<bool, AllocError>
+    requires { is_change request.now ≡ false }
+{
+    let Done {
+        result,
+        event: _,
+        ends: _,
+    } = ask(alloc, board, request, steps)?;
+    match result {
+        Ok(Body::Value(value)) => Ok(value.to_string(alloc)?.as_str() == want),
+        _ => Ok(false),
+    }
+}
+
+/// Whether a listing has one property, the text `type`.
+fn lists_type<L: Ledger>(
+    alloc: Global,
+    board: &Board,
+    request: &Request,
+    steps: &mut Steps<L>,
+) -> Result<bool, AllocError>
+    requires { is_change request.now ≡ false }
+{
+    let Done {
+        result,
+        event: _,
+        ends: _,
+    } = ask(alloc, board, request, steps)?;
+    let Ok(Body::Listing(birth)) = result else {
+        return Ok(false);
+    };
+    let listed = listing_text(alloc, board, birth, steps)?;
+    Ok(listed.as_str() == "[{\"name\":\"type\",\"type\":\"string\"}]")
+}
+
+/// Whether the opening board is read.
+fn reads<L: Ledger>(alloc: Global, blank: Blank) -> Result<bool, AllocError>
+    requires name { blank.name ≡ L.name }
+    requires parts { blank.parts ≡ L.parts }
+    requires some { 0 < blank.parts }
+{
+    let mut steps = Steps::<L>::from_blank(blank);
+    let board = Board::start(alloc, &mut steps)?;
+    let path = text(alloc, "/objects")?;
+    let listed = Request::QomList { path };
+    let path = text(alloc, "sysclk")?;
+    let property = text(alloc, "period")?;
+    let period = Request::QomGet { path, property };
+    let noted = Request::XQueryNotes { from: 7 };
+    Ok(
+        lists_type(alloc, &board, &listed, &mut steps)?
+            && tells(alloc, &board, &period, "42949672960", &mut steps)?
+            && tells(
+                alloc,
+                &board,
+                &noted,
+                "{\"first\":0,\"notes\":[],\"total\":0}",
+                &mut steps,
+            )?
+            && tells(alloc, &board, &Request::XQueryDetached, "[]", &mut steps)?,
+    )
+}
+
+#[test]
+fn the_opening_board_is_read(rt: HostRuntime) -> Result<(), Fail> {
+    assert!(rt; reads::<Brand>(rt.alloc(), Blank::new(1))?);
+    Ok(())
+}
+
+/// What a change is refused with, or nothing.
+fn answer<L: Ledger>(
+    alloc: Global,
+    board: &mut Board,
+    request: &Request,
+    steps: &mut Steps<L>,
+) -> Result<Option<Code>, AllocError>
+    requires { is_change request.now ≡ true }
+{
+    let Done {
+        result,
+        event: _,
+        ends: _,
+    } = change(alloc, board, request, steps)?;
+    Ok(result.err())
+}
+
+/// Adds a tag `t`.
+fn adds<L: Ledger>(
+    alloc: Global,
+    board: &mut Board,
+    steps: &mut Steps<L>,
+) -> Result<Option<Code>, AllocError> {
+    let driver = text(alloc, "tag")?;
+    let id = text(alloc, "t")?;
+    let props = PropList::new(alloc);
+    answer(
+        alloc,
+        board,
+        &Request::ObjectAdd { driver, id, props },
+        steps,
+    )
+}
+
+/// Writes the text of the tag.
+fn writes<L: Ledger>(
+    alloc: Global,
+    board: &mut Board,
+    steps: &mut Steps<L>,
+) -> Result<Option<Code>, AllocError> {
+    let path = text(alloc, "/objects/t")?;
+    let property = text(alloc, "text")?;
+    let value = Val::Text(text(alloc, "seen")?);
+    let written = Request::QomSet {
+        path,
+        property,
+        value,
+    };
+    answer(alloc, board, &written, steps)
+}
+
+/// Whether the text of the tag is read.
+fn reads_text<L: Ledger>(
+    alloc: Global,
+    board: &Board,
+    steps: &mut Steps<L>,
+) -> Result<bool, AllocError> {
+    let path = text(alloc, "t")?;
+    let property = text(alloc, "text")?;
+    let read = Request::QomGet { path, property };
+    tells(alloc, board, &read, "\"seen\"", steps)
+}
+
+/// Removes the tag.
+fn removes<L: Ledger>(
+    alloc: Global,
+    board: &mut Board,
+    steps: &mut Steps<L>,
+) -> Result<Option<Code>, AllocError> {
+    let id = text(alloc, "t")?;
+    answer(alloc, board, &Request::ObjectDel { id }, steps)
+}
+
+/// Whether the last note on the tag is told.
+fn tells_end<L: Ledger>(
+    alloc: Global,
+    board: &Board,
+    steps: &mut Steps<L>,
+) -> Result<bool, AllocError> {
+    tells(
+        alloc,
+        board,
+        &Request::XQueryNotes { from: 1 },
+        "{\"first\":1,\"notes\":[\"final 9 tag\"],\"total\":2}",
+        steps,
+    )
+}
+
+/// Whether a tag is added, written, read and removed, and is not there to be severed.
+fn changes<L: Ledger>(alloc: Global, blank: Blank) -> Result<bool, AllocError>
+    requires name { blank.name ≡ L.name }
+    requires parts { blank.parts ≡ L.parts }
+    requires some { 0 < blank.parts }
+{
+    let mut steps = Steps::<L>::from_blank(blank);
+    let mut board = Board::start(alloc, &mut steps)?;
+    let is_added = adds(alloc, &mut board, &mut steps)?.is_none();
+    let is_written = writes(alloc, &mut board, &mut steps)?.is_none();
+    let is_read = reads_text(alloc, &board, &mut steps)?;
+    let is_removed = removes(alloc, &mut board, &mut steps)?.is_none();
+    let is_noted = tells_end(alloc, &board, &mut steps)?;
+    let severed = Request::XSever { birth: 9 };
+    let is_gone = answer(alloc, &mut board, &severed, &mut steps)? == Some(Code::E33);
+    Ok(is_added && is_written && is_read && is_removed && is_noted && is_gone)
+}
+
+#[test]
+fn a_tag_comes_and_goes(rt: HostRuntime) -> Result<(), Fail> {
+    assert!(rt; changes::<Brand>(rt.alloc(), Blank::new(1))?);
+    Ok(())
+}
