@@ -90,14 +90,13 @@ def summary(transcript):
     return "".join(f"{name} {count}\n" for name, count in lines).encode()
 
 
-def demo_differs():
-    """Whether a long demo, twice, does not count what is sent for its record, made and counted here; says so."""
-    replayed = subprocess.run([PROGRAM, "replay"], input=demo_record(7, 20000), capture_output=True, timeout=60)
-    words = ["demo", "--seed", "7", "--steps", "20000"]
+def demo_differs(name, words, seed, steps):
+    """Whether a demo, twice, does not count what is sent for its record, made and counted here; says so."""
+    replayed = subprocess.run([PROGRAM, "replay"], input=demo_record(seed, steps), capture_output=True, timeout=60)
     if replayed.returncode != 0:
-        print(f"the record of a long demo: status {replayed.returncode}", file=sys.stderr)
+        print(f"the record of {name}: status {replayed.returncode}", file=sys.stderr)
         return True
-    return any(differs("a long demo", words, b"", 0, summary(replayed.stdout), b"") for _ in range(2))
+    return any(differs(name, words, b"", 0, summary(replayed.stdout), b"") for _ in range(2))
 
 
 def answers_late():
@@ -145,7 +144,11 @@ def main():
         ("a demo with a step too many", ["demo", "--seed", "1", "--steps", "1000001"], b"", 2, b"", USAGE),
         ("a socket in no folder", ["serve", "--socket", "no/such/folder", "--connections", "1"], b"", 7, b"", b"compose: hub fault\n"),
     ]
-    return any([*[differs(*run) for run in runs], demo_differs(), answers_late()])
+    demos = [
+        ("a long demo", ["demo", "--seed", "7", "--steps", "20000"], 7, 20_000),
+        ("the longest demo", ["demo", "--steps", "1000000", "--seed=18446744073709551615"], 2**64 - 1, 1_000_000),
+    ]
+    return any([*[differs(*run) for run in runs], *[demo_differs(*demo) for demo in demos], answers_late()])
 
 
 sys.exit(main())

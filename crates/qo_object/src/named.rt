@@ -7,6 +7,9 @@ use qo_values::{Name, Val};
 use std::alloc::{AllocError, Global};
 use std::marker::Model;
 
+/// An object has about so many slots, so that the first one makes room for as many.
+const SLOTS_AT_FIRST: usize = 6;
+
 /// Slots by name, in the order of adding. The key of each is its name's text, so that one is found
 /// by a `&str` without memory.
 #[derive(Drop)]
@@ -80,13 +83,13 @@ impl SlotMap {
         Some(SlotView { at, name, what })
     }
 
-    /// Makes room for so many slots at once, where there is none yet. It adds nothing.
-    fn make_room(&mut self, room: usize) -> Result<(), AllocError>
+    /// Makes room for the first slots at once, where there is none yet. It adds nothing.
+    fn make_room(&mut self) -> Result<(), AllocError>
         ensures same { self.new ≡ self.old }
         ensures empty { OnErr result (self.old ≡ []) }
     {
         if self.map.is_empty() {
-            self.map.reserve(room)?;
+            self.map.reserve(SLOTS_AT_FIRST)?;
         }
         Ok(())
     }
@@ -102,15 +105,14 @@ impl SlotMap {
     }
 
     /// Adds a slot under a name, behind the others, unless there is one of that name, which then stays.
-    /// It answers whether it was added. The first one makes room for as many as there will be about.
-    /// An error adds nothing.
-    pub fn add(&mut self, name: Name, slot: Slot, room: usize) -> Result<bool, AllocError>
+    /// It answers whether it was added. An error adds nothing.
+    pub fn add(&mut self, name: Name, slot: Slot) -> Result<bool, AllocError>
         ensures added { result ≡ Ok true → (has_name name self.old ≡ false) × (self.new ≡ self.old ++ (name, slot) ∷ []) }
         ensures there { result ≡ Ok false → (has_name name self.old ≡ true) × (self.new ≡ self.old) }
         ensures absent { OnErr result (has_name name self.old ≡ false) }
         ensures err { OnErr result (self.new ≡ self.old) }
     {
-        self.make_room(room)?;
+        self.make_room()?;
         let (at, old) = self.map.insert_full(name.into_string(), slot)?;
         match old {
             None => Ok(true),

@@ -13,15 +13,6 @@ use std::marker::Model;
 /// The most slots of an object, so that each count of them fits.
 const SLOTS_MAX: usize = 0x1_0000_0000;
 
-/// About how many slots an object of a type has when it is made: room for so many is made at once.
-fn first_slots(kind: TypeId) -> usize {
-    match kind {
-        TypeId::SlotBridge | TypeId::SlotTimer | TypeId::SlotUart => 9,
-        TypeId::Clock => 5,
-        _ => 6,
-    }
-}
-
 /// An object by itself (docs/devel/qom.rst, "The QEMU Object Model"). Letting it go says nothing to
 /// the objects that it names.
 pub struct Object {
@@ -223,7 +214,7 @@ impl Object {
             };
             return Err(error);
         }
-        if self.slots.add(name, slot, first_slots(self.kind))? {
+        if self.slots.add(name, slot)? {
             Ok(())
         } else {
             Err(AddError::Duplicate)
