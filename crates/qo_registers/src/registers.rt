@@ -3,7 +3,7 @@
 ghost use Rattle.std.specs.Prelude.{◌≡◌, ◌≤◌, Bool, IfNone, ℕ, option_map};
 ghost use Rattle.qo_values.specs.Bodies.{body_read, body_write};
 ghost use Rattle.qo_values.specs.Registers as registers;
-ghost use Rattle.qo_kinds.specs.Bodies.{IsTimely, registers_of, with_registers};
+ghost use Rattle.qo_kinds.specs.Bodies.{IsTimely, kept_of, registers_of, with_registers};
 ghost use Rattle.qo_registers.specs.Effects.{effect_told};
 
 use crate::bridge;
@@ -73,6 +73,7 @@ pub fn write(
     requires { IsTimely time body.old }
     ensures written { option_map (λ effect. (registers_of body.new, effect_told effect)) result ≡ body_write (registers_of body.old) reg value ring time period }
     ensures rest { body.new ≡ with_registers (registers_of body.new) body.old }
+    ensures kept { kept_of body.new ≡ kept_of body.old }
     ensures absent { IfNone result (body.new ≡ body.old) }
 {
     match body {
