@@ -1,5 +1,5 @@
 -- The board that stands is good behind each call.
-use Rattle.std.proofs.Common.{◌≡◌, refl, ap, sym, subst, ◌∙◌, ℕ, Bool, true, false, List, [], ◌∷◌, drop, Option, None, Some, Result, Ok, Err, if◌then◌else◌}
+use Rattle.std.proofs.Common.{◌≡◌, ◌≤◌, arith, refl, ap, sym, subst, ◌∙◌, ℕ, Bool, true, false, List, [], ◌∷◌, drop, Option, None, Some, Result, Ok, Err, if◌then◌else◌}
 use Rattle.std.specs.Option.{option_map_or}
 use Rattle.std.proofs.lemmas.Bool.{true≢false}
 use Rattle.qo_values.specs.Registers.{fresh_registers}
@@ -30,15 +30,28 @@ use Rattle.qo_sound_devices.specs.SoundDevices.{SoundDevices}
 use Rattle.qo_sound_devices.specs.SoundLists.{IsOn}
 use Rattle.qo_sound_devices.proofs.DevicesLawLemmas.{devices_kept_lem}
 use Rattle.qo_sound_devices.proofs.PlugLemmas.{among-all}
+use Rattle.qo_sound_clocks.proofs.LawLemmas.{clocks_kept_lem}
+use Rattle.qo_sound_clocks.proofs.NumbersLemmas.{numbers_kept_lem}
+use Rattle.qo_sound_clocks.proofs.TimesLemmas.{times_kept_lem}
 use Rattle.qo_realize.specs.Good.{Good}
 use Rattle.qo_realize.specs.Guest.{polled}
 use Rattle.qo_realize.specs.Parts.{Parts}
 use Rattle.qo_realize.specs.Stands.{Stands, StandsForGood}
 use Rattle.qo_realize.specs.Time.{at_time, with_running}
 
+le-of-eq : {m n : ℕ} → m ≡ n → m ≤ n
+le-of-eq {m} e = subst (λ (n : ℕ). m ≤ n) e (omega arith)
+
 -- each change by command on objects
 pub changed-good : (b : Board) (change : Change) → Good b → Good (changed b change)
-changed-good b change h = record { devices = devices_kept_lem.change b change h.devices; timerless = timerless_kept_lem.change b change h.timerless }
+changed-good b change h =
+    record {
+      devices = devices_kept_lem.change b change h.devices;
+      clocks = clocks_kept_lem.change b change h.devices.tree h.clocks;
+      numbers = numbers_kept_lem.change b change h.devices.tree h.numbers;
+      times = times_kept_lem.change b change h.times;
+      timerless = timerless_kept_lem.change b change h.timerless;
+    }
 
 -- a value that was written
 pub wrote-good : (b c : Board) (path name : List ℕ) (val : Val) → write_at b path name val ≡ Ok c → Good b → Good c
@@ -52,7 +65,14 @@ wrote-good b c path name val is good = go (object_at b path) refl
 
 -- an attempt to make a user's object
 attempt-good : (b : Board) (t : TypeId) → Good b → Good (with_attempt b t)
-attempt-good b t h = record { devices = devices_kept_lem.attempt b t h.devices; timerless = timerless_kept_lem.attempt b t h.timerless }
+attempt-good b t h =
+    record {
+      devices = devices_kept_lem.attempt b t h.devices;
+      clocks = clocks_kept_lem.attempt b t h.clocks;
+      numbers = numbers_kept_lem.beside b (with_attempt b t) refl h.numbers;
+      times = times_kept_lem.attempt b t h.times;
+      timerless = timerless_kept_lem.attempt b t h.timerless;
+    }
 
 pub attempted-good : (b : Board) (driver id : List ℕ) → Good b → Good (attempted_as b driver id)
 attempted-good b driver id good = by (barred_by b driver id) (row_named driver)
@@ -62,31 +82,49 @@ attempted-good b driver id good = by (barred_by b driver id) (row_named driver)
     by None None = good
     by None (Some row) = attempt-good b row.id good
 
--- boards with the same objects, births, accepted adds, pins, pending removals and notices are good alike
+-- boards with the same objects, births, accepted adds, pins, pending removals and notices are good alike, where time does not go back
 good-alike : (b c : Board) → c.records ≡ b.records → c.born ≡ b.born → c.anonymous ≡ b.anonymous → c.pins ≡ b.pins → c.pending ≡ b.pending
-    → c.notices ≡ b.notices → Good b → Good c
-good-alike b c records born anonymous pins pending notices h =
+    → c.notices ≡ b.notices → b.now ≤ c.now → Good b → Good c
+good-alike b c records born anonymous pins pending notices on h =
     record {
       devices = devices_kept_lem.beside b c records born anonymous pins pending notices h.devices;
+      clocks = clocks_kept_lem.beside b c records h.clocks;
+      numbers = numbers_kept_lem.beside b c records h.numbers;
+      times = times_kept_lem.beside b c records on h.times;
       timerless = timerless_kept_lem.same b c records h.timerless;
     }
 
 -- the events are no matter to it
 pub cleared-good : (b : Board) → Good b → Good (record b { events = [] })
-cleared-good b = good-alike b (record b { events = [] }) refl refl refl refl refl refl
+cleared-good b = good-alike b (record b { events = [] }) refl refl refl refl refl refl (omega arith)
 
 -- a removal that is asked for, or refused, and a notice that is taken
 pub asked-good : (b : Board) (id : List ℕ) → Good b → Good (asked b id).board
-asked-good b id h = record { devices = devices_kept_lem.asked_for b id h.devices; timerless = timerless_kept_lem.asked_for b id h.timerless }
+asked-good b id h =
+    record {
+      devices = devices_kept_lem.asked_for b id h.devices;
+      clocks = clocks_kept_lem.asked_for b id h.clocks;
+      numbers = numbers_kept_lem.asked_for b id h.numbers;
+      times = times_kept_lem.asked_for b id h.times;
+      timerless = timerless_kept_lem.asked_for b id h.timerless;
+    }
 
-pub timed-good : (b : Board) (now : ℕ) → Good b → Good (at_time now b)
+-- time that goes on, and a machine that runs or stands still
+pub timed-good : (b : Board) (now : ℕ) → b.now ≤ now → Good b → Good (at_time now b)
 timed-good b now = good-alike b (at_time now b) refl refl refl refl refl refl
 
 pub switched-good : (b : Board) (on : Bool) → Good b → Good (with_running on b)
-switched-good b on = good-alike b (with_running on b) refl refl refl refl refl refl
+switched-good b on = good-alike b (with_running on b) refl refl refl refl refl refl (omega arith)
 
 pub refused-good : (b : Board) (n : ℕ) → Good b → Good (refused b n)
-refused-good b n h = record { devices = devices_kept_lem.refused_by b n h.devices; timerless = timerless_kept_lem.refused_by b n h.timerless }
+refused-good b n h =
+    record {
+      devices = devices_kept_lem.refused_by b n h.devices;
+      clocks = clocks_kept_lem.refused_by b n h.clocks;
+      numbers = numbers_kept_lem.beside b (refused b n) refl h.numbers;
+      times = times_kept_lem.refused_by b n h.times;
+      timerless = timerless_kept_lem.refused_by b n h.timerless;
+    }
 
 pub polled-devices : (b : Board) → SoundDevices b → SoundDevices (polled b)
 polled-devices b h = go b.notices refl
@@ -97,11 +135,25 @@ polled-devices b h = go b.notices refl
         subst (λ (notices : List Notice). SoundDevices (record b { notices = notices })) (sym (ap (drop 1) is)) (devices_kept_lem.read b notice others is h)
 
 pub polled-good : (b : Board) → Good b → Good (polled b)
-polled-good b h = record { devices = polled-devices b h.devices; timerless = timerless_kept_lem.same b (polled b) refl h.timerless }
+polled-good b h =
+    record {
+      devices = polled-devices b h.devices;
+      clocks = clocks_kept_lem.beside b (polled b) refl h.clocks;
+      numbers = numbers_kept_lem.beside b (polled b) refl h.numbers;
+      times = times_kept_lem.beside b (polled b) refl (omega arith) h.times;
+      timerless = timerless_kept_lem.same b (polled b) refl h.timerless;
+    }
 
 -- the beginning
 pub opening-good : Good opening_board
-opening-good = record { devices = devices_kept_lem.opening; timerless = timerless_kept_lem.opening }
+opening-good =
+    record {
+      devices = devices_kept_lem.opening;
+      clocks = clocks_kept_lem.opening;
+      numbers = numbers_kept_lem.opening;
+      times = times_kept_lem.opening;
+      timerless = timerless_kept_lem.opening;
+    }
 
 -- a device that is built is no timer
 built-timerless : (t : TypeId) → is_built t ≡ true → is_timer (fresh_registers t) ≡ false
@@ -146,11 +198,25 @@ added-good b a good = by (driver_barred a.driver) refl
   where
     by : (bar : Option Code) → driver_barred a.driver ≡ bar → Good (elim bar as (λ o. Plugged) [ Some code ↦ record { refusal = Some (1, code); board = b } | None ↦ plug b a ]).board
     by (Some code) is = good
-    by None is = record { devices = devices_kept_lem.plugged b a good.devices; timerless = timerless_kept_lem.plugged b a (no-timer a.driver is) good.timerless }
+    by None is =
+        record {
+          devices = devices_kept_lem.plugged b a good.devices;
+          clocks = clocks_kept_lem.plugged b a good.devices.tree good.clocks;
+          numbers = numbers_kept_lem.plugged b a good.devices.tree good.numbers;
+          times = times_kept_lem.plugged b a good.times;
+          timerless = timerless_kept_lem.plugged b a (no-timer a.driver is) good.timerless;
+        }
 
 -- an attempt at one is cut
 cut-good : (b : Board) (t : TypeId) (i : ℕ) (joined : Bool) → Good b → Good (cut_attempt b t i joined)
-cut-good b t i joined good = record { devices = devices_kept_lem.cut b t i joined good.devices; timerless = timerless_kept_lem.cut b t i joined good.timerless }
+cut-good b t i joined good =
+    record {
+      devices = devices_kept_lem.cut b t i joined good.devices;
+      clocks = clocks_kept_lem.cut b t i joined good.clocks;
+      numbers = numbers_kept_lem.beside b (cut_attempt b t i joined) refl good.numbers;
+      times = times_kept_lem.cut b t i joined good.times;
+      timerless = timerless_kept_lem.cut b t i joined good.timerless;
+    }
 
 pub cut_as-good : (b : Board) (a : Wanted) (i : ℕ) (joined : Bool) → Good b → Good (cut_as b a i joined)
 unfolding cut_as
@@ -179,23 +245,50 @@ completed-devices b d pending h = devices_kept_lem.detached b d h (among-all (Is
 
 pub completed-good : (b : Board) (d : ℕ) → among b.pending d ≡ true → Good b → Good (completed b d)
 completed-good b d pending good =
-    record { devices = completed-devices b d pending good.devices; timerless = timerless_kept_lem.detached b d good.timerless }
+    record {
+      devices = completed-devices b d pending good.devices;
+      clocks = clocks_kept_lem.detached b d good.devices.tree good.clocks;
+      numbers = numbers_kept_lem.detached b d good.devices.tree good.numbers;
+      times = times_kept_lem.detached b d good.times;
+      timerless = timerless_kept_lem.detached b d good.timerless;
+    }
 
 -- a hold of a reset, a hold less, and both
 pub held-good : (b : Board) (n : ℕ) → Good b → Good (held b n)
-held-good b n good = record { devices = devices_kept_lem.held_so b n good.devices; timerless = timerless_kept_lem.held_so b n good.timerless }
+held-good b n good =
+    record {
+      devices = devices_kept_lem.held_so b n good.devices;
+      clocks = clocks_kept_lem.held_so b n good.clocks;
+      numbers = numbers_kept_lem.held_so b n good.numbers;
+      times = times_kept_lem.held_so b n good.times;
+      timerless = timerless_kept_lem.held_so b n good.timerless;
+    }
 
 pub released-good : (b : Board) (n : ℕ) → Good b → Good (released b n)
-released-good b n good = record { devices = devices_kept_lem.released_so b n good.devices; timerless = timerless_kept_lem.released_so b n good.timerless }
+released-good b n good =
+    record {
+      devices = devices_kept_lem.released_so b n good.devices;
+      clocks = clocks_kept_lem.released_so b n good.clocks;
+      numbers = numbers_kept_lem.released_so b n good.numbers;
+      times = times_kept_lem.released_so b n good.times;
+      timerless = timerless_kept_lem.released_so b n good.timerless;
+    }
 
 pub pulsed-good : (b : Board) (n : ℕ) → Good b → Good (pulse b n)
-pulsed-good b n good = record { devices = devices_kept_lem.pulsed b n good.devices; timerless = timerless_kept_lem.pulsed b n good.timerless }
+pulsed-good b n good =
+    record {
+      devices = devices_kept_lem.pulsed b n good.devices;
+      clocks = clocks_kept_lem.pulsed b n good.clocks;
+      numbers = numbers_kept_lem.pulsed b n good.numbers;
+      times = times_kept_lem.pulsed b n good.times;
+      timerless = timerless_kept_lem.pulsed b n good.timerless;
+    }
 
 -- each board that stands at the same parts as a good one is good
 pub good-of : (p : Parts) → StandsForGood p → (b : Board) → Stands b p → Good b
 good-of p (c, s, good) b t =
     good-alike c b (t.shows.records ∙ sym s.shows.records) (t.shows.born ∙ sym s.shows.born) (t.anonymous ∙ sym s.anonymous) (t.shows.pins ∙ sym s.shows.pins)
-    (t.pending ∙ sym s.pending) (t.notices ∙ sym s.notices) good
+    (t.pending ∙ sym s.pending) (t.notices ∙ sym s.notices) (le-of-eq (s.shows.now ∙ sym t.shows.now)) good
 
 -- and the root alone is pinned
 pub root-pinned : (b : Board) (p : Parts) → Stands b p → Good b → OnlyRootPinned p.objects

@@ -1,5 +1,7 @@
 -- Another moment, and a machine that stands still or runs again: the board of that stands, and it is good.
-use Rattle.std.proofs.Common.{ℕ, Bool, refl}
+use Rattle.std.proofs.Common.{◌≡◌, ◌≤◌, ◌+◌, ℕ, Bool, true, false, None, Some, arith, if◌then◌else◌, refl, subst, sym}
+use Rattle.std.specs.Prelude.{nat_lt}
+use Rattle.qo_values.specs.declared.limits.TheConstants.{TIME_MAX}
 use Rattle.qo_model.specs.Board.{Board}
 use Rattle.qo_heap.specs.Objects.{Objects}
 use Rattle.qo_hotplug.specs.Asked.{Asked}
@@ -24,9 +26,21 @@ timed-stands b anonymous running holds asked v time s =
       book = s.book;
     }
 
-pub timed-for-good : (anonymous : ℕ) (running : Bool) (holds : HoldList) (asked : Asked) (v : Objects) (time : ℕ)
+-- the moment that is told for later is no earlier
+pub later-is : (now ns time : ℕ) → Some time ≡ (if nat_lt TIME_MAX (now + ns) then None else Some (now + ns)) → now ≤ time
+later-is now ns time is = go (nat_lt TIME_MAX (now + ns)) refl
+  where
+    go : (past : Bool) → nat_lt TIME_MAX (now + ns) ≡ past → now ≤ time
+    go true e = absurd (let clash : Some time ≡ None = rw e at is in cc)
+    go false e = let same : Some time ≡ Some (now + ns) = rw e at is in let its : time ≡ now + ns = cc in omega (arith, its)
+
+pub timed-for-good : (anonymous : ℕ) (running : Bool) (holds : HoldList) (asked : Asked) (v : Objects) (time : ℕ) → v.time ≤ time
     → StandsForGood (parts_of anonymous running holds asked v) → StandsForGood (parts_of anonymous running holds asked (record v { time = time }))
-timed-for-good anonymous running holds asked v time (b, s, good) = (at_time time b, timed-stands b anonymous running holds asked v time s, timed-good b time good)
+timed-for-good anonymous running holds asked v time on (b, s, good) = (
+  at_time time b,
+  timed-stands b anonymous running holds asked v time s,
+  timed-good b time (subst (λ (now : ℕ). now ≤ time) (sym s.shows.now) on) good,
+)
 
 -- it runs, or stands still
 pub switched-stands : (b : Board) (anonymous : ℕ) (was on : Bool) (holds : HoldList) (asked : Asked) (v : Objects)

@@ -2,8 +2,16 @@
 use Rattle.qo_model.specs.Board.{Board}
 use Rattle.qo_sound.specs.Timerless.{Timerless}
 use Rattle.qo_sound_devices.specs.SoundDevices.{SoundDevices}
+use Rattle.qo_sound_clocks.specs.SoundClocks.{SoundClocks}
+use Rattle.qo_sound_clocks.specs.SoundNumbers.{SoundNumbers}
+use Rattle.qo_sound_clocks.specs.SoundTimes.{SoundTimes}
 
--- its tree is sound, and so is where devices stand, and the lists that name devices; and no object is a timer, since none is built yet
 pub record Good (b : Board) : Type 0 where
+  -- its tree is sound, and so is where devices stand, and the lists that name devices
   pub devices : SoundDevices b
+  -- so are its clocks, with their numbers, and no timer is ahead of the time
+  pub clocks : SoundClocks b
+  pub numbers : SoundNumbers b
+  pub times : SoundTimes b
+  -- no object is a timer, since none is built yet
   pub timerless : Timerless b

@@ -26,7 +26,8 @@ use std::sync::ledger::Ledger;
 
 /// The board: the objects of the machine, and what stands beside them. Between two calls nothing
 /// holds the objects from outside the tree but the one pin of the root, the tree is sound, devices
-/// stand in their places, and the lists that name devices name those that do.
+/// stand in their places, and the lists that name devices name those that do; its clocks with their
+/// numbers are sound, and no timer is ahead of the virtual time.
 #[derive(Drop)]
 pub struct Board {
     pub(crate) heap: Heap,

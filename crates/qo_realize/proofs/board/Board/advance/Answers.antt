@@ -1,14 +1,17 @@
 -- The board at the later moment stands.
-use Rattle.std.proofs.Common.{sym, subst}
+use Rattle.std.proofs.Common.{◌≤◌, ℕ, sym, subst, ◌∙◌}
 use Rattle.qo_heap.specs.Objects.{Objects}
 use Rattle.qo_properties.specs.Pinned.{OnlyRootPinned}
 use Rattle.qo_realize.specs.Parts.{parts_of}
 use Rattle.qo_realize.specs.Stands.{StandsForGood}
-use Rattle.qo_realize.proofs.TimeLemmas.{timed-for-good}
+use Rattle.qo_realize.proofs.TimeLemmas.{later-is, timed-for-good}
 use Rattle.qo_realize.proofs.board.Board.advance.Goals as goal
 
 pub invariant_of-self : goal.invariant_of-self
 invariant_of-self c =
     let inside = c.self.inside in
+    let time = c.in-Some.time in
+    let on : c.time-now.result ≤ time = later-is c.time-now.result c.args.ns time (sym c.in-Some.is ∙ c.later.ensures) in
+    let later : inside.heap.time ≤ time = subst (λ (now : ℕ). now ≤ time) c.time-now.ensures on in
     subst (λ (w : Objects). OnlyRootPinned w × StandsForGood (parts_of inside.anonymous inside.running inside.resets inside.hotplug w)) (sym c.set_time.ensures)
-    (c.self.invariant.0, timed-for-good inside.anonymous inside.running inside.resets inside.hotplug inside.heap c.in-Some.time c.self.invariant.1)
+    (c.self.invariant.0, timed-for-good inside.anonymous inside.running inside.resets inside.hotplug inside.heap time later c.self.invariant.1)
