@@ -12,6 +12,7 @@ pub mod PlugLemmas
 pub mod PluggedLemmas
 pub mod QuietLemmas
 pub mod ReadLemmas
+pub mod RegisterLemmas
 pub mod RunLemmas
 pub mod SayLemmas
 pub mod SpreadLemmas

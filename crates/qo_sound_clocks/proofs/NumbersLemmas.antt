@@ -69,7 +69,7 @@ opening-numbers c =
     below m n e = grind (arith, nat_tests, e)
 
 -- the slots are as before
-same-numbers : (b c : Board) → ((n : ℕ) → slots_at c n ≡ slots_at b n) → SoundNumbers b → SoundNumbers c
+pub same-numbers : (b c : Board) → ((n : ℕ) → slots_at c n ≡ slots_at b n) → SoundNumbers b → SoundNumbers c
 same-numbers b c same h n =
     record {
       period = subst (λ (k : ℕ). k < 2 ^ 64) (number (codes "period") 0) (h n).period;

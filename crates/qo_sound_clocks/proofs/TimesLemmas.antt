@@ -199,7 +199,7 @@ edited-timely now n change keeps r h = go (r.birth == n) refl
     go true e = rw (edited, e) (keeps r h)
     go false e = rw (edited, e) h
 
-edit-times : (n : ℕ) (change : Record → Record) (c : Board) → ((r : Record) → Timely c.now r → Timely c.now (change r)) → SoundTimes c
+pub edit-times : (n : ℕ) (change : Record → Record) (c : Board) → ((r : Record) → Timely c.now r → Timely c.now (change r)) → SoundTimes c
     → SoundTimes (edit n change c)
 edit-times n change c keeps h = all-map (Timely c.now) (Timely c.now) (edited n change) (edited-timely c.now n change keeps) c.records h
 

@@ -2,6 +2,7 @@ pub mod ClockRuns
 pub mod ClocksKept
 pub mod ClocksSay
 pub mod NumbersKept
+pub mod RegistersKept
 pub mod SoundClocks
 pub mod SoundNumbers
 pub mod SoundTimes

@@ -7,6 +7,7 @@ ghost use Rattle.qo_sound_clocks.specs.ClockRuns.{ClockRunsLaw};
 ghost use Rattle.qo_sound_clocks.specs.ClocksKept.{ClocksKeptLaw};
 ghost use Rattle.qo_sound_clocks.specs.ClocksSay.{ClocksSayLaw};
 ghost use Rattle.qo_sound_clocks.specs.NumbersKept.{NumbersKeptLaw};
+ghost use Rattle.qo_sound_clocks.specs.RegistersKept.{RegistersKeptLaw};
 ghost use Rattle.qo_sound_clocks.specs.TimesKept.{TimesKeptLaw};
 ghost use Rattle.qo_sound_clocks.specs.WritesKeep.{WritesKeepLaw};
 
@@ -39,6 +40,14 @@ pub fn law_numbers_kept()
 #[tactic(auto, using(crate::proofs::KeepLemmas::writes_keep_lem))]
 pub fn law_writes_keep()
     ensures { WritesKeepLaw }
+{}
+
+/// Other registers of an object leave the places of devices and the lists that name them sound, the
+/// clocks with their numbers, and the notes in order; and the moments of timers, where no moment in
+/// them is ahead of the time.
+#[tactic(auto, using(crate::proofs::RegisterLemmas::registers_kept_lem))]
+pub fn law_registers_kept()
+    ensures { RegistersKeptLaw }
 {}
 
 /// No timer is ahead of the virtual time, on the opening board, and behind each of these changes and

@@ -1,0 +1,104 @@
+-- The law: what other registers of an object keep. None of it speaks of registers but the moments of timers.
+use Rattle.std.proofs.Common.{◌≡◌, refl, ap, sym, ◌∙◌, ℕ, Bool, true, false, ◌==◌, List, find, filter_map, codes, Option, Some, None, option_map, option_and_then}
+use Rattle.std.specs.Option.{option_map_or}
+use Rattle.std.specs.Str.{bytes_eq}
+use Rattle.qo_values.specs.Registers.{Registers}
+use Rattle.qo_model.specs.Board.{Board, Record, Slot, record_of, slots_at}
+use Rattle.qo_model.specs.Devices.{is_true, number_in, plain_in, strong_in}
+use Rattle.qo_model.specs.Release.{edited}
+use Rattle.qo_model.proofs.FinalNotesLemmas.{edit-keeps}
+use Rattle.qo_model.proofs.StepLemmas.{found-edited}
+use Rattle.qo_sound.proofs.CutLemmas.{near-same_slots}
+use Rattle.qo_sound.proofs.FirmLemmas.{Firm}
+use Rattle.qo_sound.proofs.ViewLemmas.{AtRest, rest-from_sound, sound-from_rest}
+use Rattle.qo_sound.proofs.WorkLemmas.{Nearly}
+use Rattle.qo_sound_devices.specs.SoundDevices.{SoundDevices}
+use Rattle.qo_sound_devices.specs.SoundPlaces.{PlacesBut, child_entry, kid_entry}
+use Rattle.qo_sound_devices.proofs.AlikeLemmas.{Alike, bodiless}
+use Rattle.qo_sound_devices.proofs.ListsLemmas.{lists-same}
+use Rattle.qo_sound_devices.proofs.LowLemmas.{moved-dimmed, stands-dimmed}
+use Rattle.qo_sound_devices.proofs.MovedLemmas.{places-moved}
+use Rattle.qo_sound_devices.proofs.UnrealizeLemmas.{Dims, dims-alike}
+use Rattle.qo_sound_clocks.specs.RegistersKept.{RegistersKeptLaw, registers_set, with_registers}
+use Rattle.qo_sound_clocks.proofs.FewerLemmas.{slots_in}
+use Rattle.qo_sound_clocks.proofs.GrownLemmas.{same-sound}
+use Rattle.qo_sound_clocks.proofs.NumbersLemmas.{same-numbers}
+use Rattle.qo_sound_clocks.proofs.TimesLemmas.{edit-times}
+
+abbrev named_in : List ℕ → List (List ℕ × Slot) → Option Slot
+named_in name slots = option_map (λ (s : List ℕ × Slot). s.1) (find (λ s. bytes_eq s.0 name) slots)
+
+module _ (b : Board) (n : ℕ) (registers : Registers) where
+  abbrev set : Board
+  set = registers_set b n registers
+
+  found : (x : ℕ) → record_of set x ≡ option_map (edited n (with_registers registers)) (record_of b x)
+  found x = found-edited n (with_registers registers) (λ r. refl) x b.records
+
+  slots-set : (x : ℕ) → slots_at set x ≡ slots_at b x
+  slots-set x = ap slots_in (found x) ∙ go (record_of b x)
+    where
+      at_record : (r : Record) (t : Bool) → (r.birth == n) ≡ t → (edited n (with_registers registers) r).slots ≡ r.slots
+      at_record r true p = rw (edited, p) refl
+      at_record r false p = rw (edited, p) refl
+
+      go : (o : Option Record) → slots_in (option_map (edited n (with_registers registers)) o) ≡ slots_in o
+      go None = refl
+      go (Some r) = at_record r (r.birth == n) refl
+
+  body-set : (x : ℕ) → option_map bodiless (record_of set x) ≡ option_map bodiless (record_of b x)
+  body-set x = ap (option_map bodiless) (found x) ∙ go (record_of b x)
+    where
+      at_record : (r : Record) (t : Bool) → (r.birth == n) ≡ t → bodiless (edited n (with_registers registers) r) ≡ bodiless r
+      at_record r true p = rw (edited, p) refl
+      at_record r false p = rw (edited, p) refl
+
+      go : (o : Option Record) → option_map bodiless (option_map (edited n (with_registers registers)) o) ≡ option_map bodiless o
+      go None = refl
+      go (Some r) = ap Some (at_record r (r.birth == n) refl)
+
+  alike-set : (x : ℕ) → Alike b set x
+  alike-set x =
+      let slots = slots-set x in
+      record {
+        children = ap (filter_map child_entry) slots;
+        kids = ap (filter_map kid_entry) slots;
+        bus = ap (λ (ss : List (List ℕ × Slot)). option_and_then strong_in (named_in (codes "parent_bus") ss)) slots;
+        place = ap (λ (ss : List (List ℕ × Slot)). option_and_then number_in (option_and_then plain_in (named_in (codes "slot") ss))) slots;
+        realized = ap (λ (ss : List (List ℕ × Slot)). option_map_or is_true (option_and_then plain_in (named_in (codes "realized") ss)) false) slots;
+        body = body-set x;
+      }
+
+  dims-set : Dims b set
+  dims-set = dims-alike b set refl alike-set
+
+  near-set : Nearly None b → Nearly None set
+  near-set near = near-same_slots n (with_registers registers) (λ r. refl) (λ r. refl) (λ r. refl) None b near
+
+  places-set : (depth : ℕ → ℕ) → Firm set → PlacesBut depth None (λ x. false) b → PlacesBut depth None (λ x. false) set
+  places-set depth firm h =
+      let d : Dims b set = dims-set in
+      places-moved b set depth None None (λ x. false) (λ x. false) (moved-dimmed depth None (λ x. false) b set firm h d.dimmed) h (λ x e k. k)
+      (λ x there lit s. stands-dimmed b set d.dimmed x ∙ s)
+      (λ x s k. d.same x ∙ h.each x (sym (stands-dimmed b set d.dimmed x) ∙ s) refl)
+
+  devices-set : SoundDevices b → SoundDevices set
+  devices-set h =
+      let rest : AtRest b = rest-from_sound b h.tree in
+      let near : Nearly None set = near-set rest.used in
+      let d : Dims b set = dims-set in
+      record {
+        tree = sound-from_rest set (record { used = near; pinned = rest.pinned });
+        places = (h.places.0, places-set h.places.0 near.firm h.places.1);
+        lists = lists-same b set refl refl (λ x on. (stands-dimmed b set d.dimmed x ∙ on.0, d.same x ∙ on.1)) h.lists;
+      }
+
+pub registers_kept_lem : RegistersKeptLaw
+registers_kept_lem =
+    record {
+      devices = devices-set;
+      clocks = λ b n registers h. same-sound b (registers_set b n registers) (slots-set b n registers) h;
+      numbers = λ b n registers h. same-numbers b (registers_set b n registers) (slots-set b n registers) h;
+      notes = λ b n registers h. edit-keeps n (with_registers registers) (λ r. refl) (λ r. refl) b h;
+      times = λ b n registers timely h. edit-times n (with_registers registers) b (λ r k. timely) h;
+    }
