@@ -73,6 +73,10 @@ finish-less c n x = go (x == n) refl
         rw gone (less-blank (slots_at c x) [] blank-none)
     go false p = rw (finish-record c n x p) (other (record_of c x))
 
+-- that a device is realized is not read of clocks
+pub other-realized : OtherName (codes "realized")
+other-realized = record { period = refl; mul = refl; div = refl; source = refl }
+
 module _ (b : Board) where
   pub fewer-drop : (c : Board) (n i : ℕ) → Fewer b c → Fewer b (drop_slot c n i)
   unfolding drop_slot
@@ -150,16 +154,13 @@ module _ (b : Board) where
       go None e = rw (unseen_named, e) h
       go (Some i) e = rw (unseen_named, e) (fewer-edit b n (with_changed unseen i) (λ r. refl) c (λ r q. less-unseen i r.slots) h)
 
-  fewer-disconnected : (o : Option ℕ) (c : Board) → Fewer b c → Fewer b (disconnected o c)
+  pub fewer-disconnected : (o : Option ℕ) (c : Board) → Fewer b c → Fewer b (disconnected o c)
   fewer-disconnected None c h = h
   fewer-disconnected (Some n) c h = fewer-stopped n _ (fewer-unseen n (codes "source") c h)
 
   pub fewer-acted : (act : Act) (n period : ℕ) (c : Board) → Fewer b c → Fewer b (acted act n period c)
   unfolding acted
   fewer-acted act n period c h = fewer-edit b n (with_act_on act c.now period) (λ r. refl) c (λ r e. less-none r.slots) h
-
-  other-realized : OtherName (codes "realized")
-  other-realized = record { period = refl; mul = refl; div = refl; source = refl }
 
   fewer-device : (d : ℕ) (c : Board) → Fewer b c → Fewer b (unrealized_device d c)
   fewer-device d c h =

@@ -111,9 +111,10 @@ pub record Reads (b : Board) : Type 0 where
   pub mul : (c : ℕ) → mul_of b c ≡ mul_in (slots_at b c)
   pub div : (c : ℕ) → div_of b c ≡ div_in (slots_at b c)
 
-pub tree-reads : (b : Board) → SoundTree b → Reads b
+-- where the names of each object's slots differ
+pub named-reads : (b : Board) → AllByRecursion HasNames b.records → Reads b
 unfolding IsDistinct
-tree-reads b tree =
+named-reads b named =
     record {
       seen = λ c s e. seen s (slots_at b c) e;
       source = λ c s e. seen-back s (slots_at b c) (names c) e;
@@ -122,12 +123,15 @@ tree-reads b tree =
       div = λ c. ap (λ (o : Option Val). unwrap_or (option_and_then number_in o) 1) (plain-read (codes "div") (slots_at b c) (names c));
     }
   where
-    rest : AtRest b
-    rest = rest-from_sound b tree
-
     names : (c : ℕ) → IsDistinct bytes_eq (names_in (slots_at b c))
     names c = go (record_of b c) refl
       where
         go : (o : Option Record) → record_of b c ≡ o → IsDistinct bytes_eq (names_in (slots_in o))
         go None e = tt
-        go (Some r) e = all-found HasNames c b.records rest.used.firm.named r e
+        go (Some r) e = all-found HasNames c b.records named r e
+
+pub tree-named : (b : Board) → SoundTree b → AllByRecursion HasNames b.records
+tree-named b tree = let rest : AtRest b = rest-from_sound b tree in rest.used.firm.named
+
+pub tree-reads : (b : Board) → SoundTree b → Reads b
+tree-reads b tree = named-reads b (tree-named b tree)

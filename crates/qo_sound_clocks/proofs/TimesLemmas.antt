@@ -203,7 +203,7 @@ pub edit-times : (n : ℕ) (change : Record → Record) (c : Board) → ((r : Re
     → SoundTimes (edit n change c)
 edit-times n change c keeps h = all-map (Timely c.now) (Timely c.now) (edited n change) (edited-timely c.now n change keeps) c.records h
 
-times-edits : KeepsEdits SoundTimes
+pub times-edits : KeepsEdits SoundTimes
 times-edits n change same c h = edit-times n change c (λ r k. subst (Timely c.now) (sym (same r)) k) h
 
 times-acts : KeepsActs (λ n. ⊤) SoundTimes
@@ -216,7 +216,7 @@ times-new t slots made c h = all-append (Timely c.now) c.records (new_with c t s
 times-lists : KeepsLists SoundTimes
 times-lists holds pending notices c h = h
 
-times-pins : KeepsPins SoundTimes
+pub times-pins : KeepsPins SoundTimes
 times-pins pins c h = h
 
 finish-times : (c : Board) (n : ℕ) → SoundTimes c → SoundTimes (finish c n)
@@ -224,7 +224,7 @@ unfolding finish
 finish-times c n h =
     all-map (Timely c.now) (Timely c.now) (forgotten n) (λ r k. k) _ (all-filter (Timely c.now) (λ (r : Record). not (r.birth == n)) c.records h)
 
-drop-times : (c : Board) (n i : ℕ) → SoundTimes c → SoundTimes (drop_slot c n i)
+pub drop-times : (c : Board) (n i : ℕ) → SoundTimes c → SoundTimes (drop_slot c n i)
 unfolding drop_slot
 drop-times c n i h = times-edits n (with_dropped i) (λ r. refl) c h
 
@@ -236,7 +236,7 @@ release-times =
       kept = λ c n i work s h e held_on. drop-times c n i h;
     }
 
-times-ends : KeepsEnds SoundTimes
+pub times-ends : KeepsEnds SoundTimes
 times-ends o c h = after_keeps (λ (work : List (ℕ × ℕ)) (d : Board). SoundTimes d) release-times c o [] (λ m e free. h) (λ held_on. h)
 
 -- the commands on objects

@@ -19,6 +19,7 @@ use Rattle.qo_object.specs.Shown.{shown_slots}
 use Rattle.qo_object.proofs.ShownLemmas.{length-shown}
 use Rattle.qo_heap.specs.Board.{Shows, pins_in}
 use Rattle.qo_heap.specs.Objects.{IsHeap, Objects, content_of, pins_of, slots_of, with_edit}
+use Rattle.qo_heap.specs.Timely.{Timely}
 use Rattle.qo_heap.proofs.BookLemmas.{book-edit}
 use Rattle.qo_heap.proofs.HeapLemmas.{all-weaker, live-edit}
 use Rattle.qo_heap.proofs.ShowsEdits.{all-replicate, pins-above, shows-pin}
@@ -27,9 +28,8 @@ use Rattle.qo_heap.proofs.ShowsReads.{shows-live, shows-live_key, shows-slots}
 use Rattle.qo_life.specs.Life.{Goes, with_log}
 use Rattle.qo_life.proofs.TreeLemmas.{goes-names, goes-none, goes-same, goes-then, heap-with_log, live-before_edit, tree, tree-shows}
 use Rattle.qo_unplug.specs.Apart.{HasRoom, bus_lost, buses_lost, drained_within, first_apart, first_lost, held_times, taken_within}
-use Rattle.qo_unplug.specs.Timerless.{Timerless}
 use Rattle.qo_unplug.specs.Unrealizing.{on_one}
-use Rattle.qo_unplug.proofs.TimerLemmas.{goes-timerless}
+use Rattle.qo_unplug.proofs.TimelyLemmas.{goes-timely}
 use Rattle.qo_unplug.proofs.TakesLemmas.{Takes, put-most, takes-first_apart, takes-first_lost, takes-none, takes-then, times, times-own}
 
 -- how often an object is held
@@ -160,8 +160,8 @@ module _ (step : Board → Board) (v w : Objects) (goes : Goes step v w) (takes 
   pub taken-same : IsUp (pins_in v.rows) → pins_in w.rows ≡ pins_in v.rows
   taken-same up = sym (goes.shown (tree v) empty_log (tree-shows v)).pins ∙ (takes (tree v)).same up
 
-  pub taken-timerless : Timerless v → Timerless w
-  taken-timerless = goes-timerless step v w goes (λ b. (takes b).untimed)
+  pub taken-timely : Timely v → Timely w
+  taken-timely = goes-timely step v w goes (λ b. (takes b).moments)
 
 -- steps one after another, of which some are left
 

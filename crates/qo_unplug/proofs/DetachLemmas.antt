@@ -15,20 +15,27 @@ use Rattle.qo_notes.specs.Log.{empty_log}
 use Rattle.qo_hotplug.specs.Asked.{Asked}
 use Rattle.qo_heap.specs.Board.{Shows, pins_in}
 use Rattle.qo_heap.specs.Objects.{IsHeap, Objects, pins_of, with_edit}
+use Rattle.qo_heap.specs.Timely.{Timely}
 use Rattle.qo_heap.proofs.HeapLemmas.{length-edit}
 use Rattle.qo_heap.proofs.ShowsReads.{shows-births}
 use Rattle.qo_life.specs.Life.{Goes, KeepsNames}
 use Rattle.qo_life.proofs.TreeLemmas.{goes-names, goes-shows, goes-then, tree, tree-shows}
 use Rattle.qo_properties.specs.Claims.{KeepsBook}
 use Rattle.qo_properties.specs.Pinned.{OnlyRootPinned}
+use Rattle.qo_clocks.proofs.KeepLemmas.{edit-timely}
+use Rattle.qo_sound.specs.Kept.{SoundTree}
+use Rattle.qo_sound.proofs.DetachStepsLemmas.{step-unpin}
+use Rattle.qo_sound_clocks.specs.SoundClocks.{SoundClocks}
+use Rattle.qo_sound_clocks.specs.SoundTimes.{SoundTimes}
+use Rattle.qo_sound_clocks.proofs.ReadLemmas.{tree-named}
+use Rattle.qo_sound_clocks.proofs.TimesLemmas.{times-edits, times-ends, times-pins}
 use Rattle.qo_unplug.specs.Apart.{HasRoom, held_times, taken_within}
 use Rattle.qo_unplug.specs.Beside.{Beside}
-use Rattle.qo_unplug.specs.Timerless.{Timerless}
-use Rattle.qo_unplug.specs.Unrealizing.{Parts, Undoes, device_within, parts}
-use Rattle.qo_unplug.proofs.ApartLemmas.{held-pins, pin-live, pin-most, pin-own, pin-same, pins-up, pins-within, taken-same, taken-timerless}
+use Rattle.qo_unplug.specs.Unrealizing.{Ticks, Undoes, device_within, parts}
+use Rattle.qo_unplug.proofs.ApartLemmas.{held-pins, pin-live, pin-most, pin-own, pin-same, pins-up, pins-within, taken-same, taken-timely}
 use Rattle.qo_unplug.proofs.TakesLemmas.{put-most, takes-taken_within, times}
-use Rattle.qo_unplug.proofs.TimerLemmas.{edit-timerless, goes-timerless, unpin-untimed}
-use Rattle.qo_unplug.proofs.TreeLemmas.{same-none}
+use Rattle.qo_unplug.proofs.TimelyLemmas.{goes-timely}
+use Rattle.qo_unplug.proofs.TreeLemmas.{same-none, ticks-beside}
 
 -- the pin of meanwhile
 
@@ -38,50 +45,25 @@ unfolding pin
 pin-beside v u held asked n goes b beside =
     record { shown = goes-shows (λ c. pin c n) v u goes b beside.shown; holds = beside.holds; pending = beside.pending; notices = beside.notices }
 
-pub pin-timerless : (v u : Objects) (n : ℕ) → u ≡ with_edit n with_pin v → Timerless v → Timerless u
-pin-timerless v u n is none = subst (λ (x : Objects). Timerless x) (sym is) (edit-timerless v n with_pin (λ c. refl) none)
+pub pin-timely : (v u : Objects) (n : ℕ) → u ≡ with_edit n with_pin v → Timely v → Timely u
+pin-timely v u n is all = subst (λ (x : Objects). Timely x) (sym is) (edit-timely n with_pin (λ c. refl) v.time v.rows all)
 
 pin-length : (v u : Objects) (n : ℕ) → u ≡ with_edit n with_pin v → length u.rows ≡ length v.rows
 pin-length v u n is = ap (λ (x : Objects). length x.rows) is ∙ length-edit n with_pin v.rows
 
--- a heap as a part of some board, and what unrealizing leaves of its pins
-some-board : (v : Objects) (held : List ℕ) (asked : Asked) (b : Board) → Shows b v
-    → Beside (record b { holds = held; pending = asked.pending; notices = asked.notices }) v held asked
-some-board v held asked b s =
-    record {
-      shown = record { records = s.records; born = s.born; pins = s.pins; notes = s.notes; events = s.events; now = s.now };
-      holds = refl;
-      pending = refl;
-      notices = refl;
-    }
+pub pin-ticks : (b : Board) (n : ℕ) → SoundTree b → SoundClocks b → Ticks (pin b n)
+unfolding pin
+pin-ticks b n tree clocks = ticks-beside b (pin b n) refl (record { clocks = clocks; named = tree-named b tree })
 
-undone-pins : (f : Board → Board → Board) (s t : Parts) → Undoes f s t → (c : Board) → Beside c s.heap s.held s.asked
-    → pins_in t.heap.rows ≡ pins_in s.heap.rows
-undone-pins f s t undoes c beside =
-    let behind = undoes.shown c c (same-none c) beside in
-    let tree = undoes.tree c c (same-none c) beside in
-    sym behind.shown.pins ∙ tree.pins ∙ beside.shown.pins
-
-pub unrealized-pins : (f : Board → Board → Board) (v u w : Objects) (held after : List ℕ) (asked told : Asked) (d : ℕ) (b : Board) → Shows b v
-    → Goes (λ c. pin c d) v u → Undoes f (parts u held asked) (parts w after told) → pins_in w.rows ≡ pins_in u.rows
-unrealized-pins f v u w held after asked told d b s goes undoes =
-    let c : Board = record b { holds = held; pending = asked.pending; notices = asked.notices } in
-    undone-pins f (parts u held asked) (parts w after told) undoes (pin c d) (pin-beside v u held asked d goes c (some-board v held asked b s))
-
-pub unrealized-times : (f : Board → Board → Board) (v u w : Objects) (held after : List ℕ) (asked told : Asked) (d : ℕ) (b : Board) → Shows b v
-    → Goes (λ c. pin c d) v u → Undoes f (parts u held asked) (parts w after told) → (n : ℕ) → held_times w n ≡ held_times u n
-unrealized-times f v u w held after asked told d b s goes undoes n = ap (times n) (unrealized-pins f v u w held after asked told d b s goes undoes)
-
-pub unrealized-pinned : (f : Board → Board → Board) (v u w : Objects) (held after : List ℕ) (asked told : Asked) (d : ℕ) (b : Board) → Shows b v
-    → Goes (λ c. pin c d) v u → Undoes f (parts u held asked) (parts w after told) → 0 < held_times w d
-unrealized-pinned f v u w held after asked told d b s goes undoes =
-    omega (arith, unrealized-times f v u w held after asked told d b s goes undoes d, pin-own v u d goes)
+-- it is not taken away where the pins stay
+pub unrealized-pinned : (v u w : Objects) (d : ℕ) → Goes (λ c. pin c d) v u → pins_in w.rows ≡ pins_in u.rows → 0 < held_times w d
+unrealized-pinned v u w d goes same = omega (arith, ap (times d) same, pin-own v u d goes)
 
 pub detach-room : (v u w : Objects) → IsHeap v → (d levels : ℕ) → ((n : ℕ) → pins_of v n ≤ 1) → levels ≡ length v.rows → Goes (λ b. pin b d) v u
-    → ((n : ℕ) → held_times w n ≡ held_times u n) → HasRoom w levels
+    → pins_in w.rows ≡ pins_in u.rows → HasRoom w levels
 detach-room v u w good d levels once is goes same n =
     let few : length v.rows ≤ LIVE_OBJECTS_MAX = good.few in
-    omega (arith, few, is, once n, held-pins v good n, pin-most v u d goes n, same n)
+    omega (arith, few, is, once n, held-pins v good n, pin-most v u d goes n, ap (times n) same)
 
 -- where `/` alone is pinned, once, no object is pinned twice
 pub once-pinned : (v : Objects) → OnlyRootPinned v → (n : ℕ) → pins_of v n ≤ 1
@@ -114,12 +96,12 @@ detach-is b d = refl
 pub beside-detached : (v u w x y : Objects) (held after : List ℕ) (asked told : Asked) (d levels : ℕ) → levels ≡ length v.rows
     → u ≡ with_edit d with_pin v → Goes (λ b. pin b d) v u
     → Undoes (λ b. device_within b (length u.rows + 1) d) (parts u held asked) (parts w after told) → Goes (taken_within levels d) w x
-    → Goes (λ b. unpin b d) x y → (b : Board) → Beside b v held asked → Beside (detach b d) y after told
-beside-detached v u w x y held after asked told d levels is pins pinned undoes taken unpinned b beside =
+    → Goes (λ b. unpin b d) x y → (b : Board) → SoundTree b → SoundClocks b → Beside b v held asked → Beside (detach b d) y after told
+beside-detached v u w x y held after asked told d levels is pins pinned undoes taken unpinned b tree clocks beside =
     let b1 : Board = pin b d in
     let beside1 = pin-beside v u held asked d pinned b beside in
     let b2 : Board = device_within b1 (length u.rows + 1) d b1 in
-    let beside2 : Beside b2 w after told = undoes.shown b1 b1 (same-none b1) beside1 in
+    let beside2 : Beside b2 w after told = undoes.shown b1 b1 (pin-ticks b d tree clocks) (same-none b1) beside1 in
     let b3 : Board = taken_within levels d b2 in
     let takes = takes-taken_within levels d b2 in
     let leaves = unpin-leaves b3 d in
@@ -140,7 +122,7 @@ pub book-detached : (f : Board → Board → Board) (g : Board → Board) (v u w
 book-detached f g v u w x y held after asked told d pinned undoes taken unpinned out h =
     unpinned.book out (taken.book out (undoes.book out (pinned.book out h)))
 
--- the pins, the names, and that there are no timers
+-- the pins, the names, and the moments of timers
 
 pub pins-detached : (v u w x y : Objects) → IsHeap v → (d levels : ℕ) → Goes (λ b. pin b d) v u → pins_in w.rows ≡ pins_in u.rows
     → Goes (taken_within levels d) w x → Goes (λ b. unpin b d) x y → pins_in y.rows ≡ pins_in v.rows
@@ -160,9 +142,9 @@ pub names-detached : (f : Board → Board → Board) (g : Board → Board) (v u 
 names-detached f g v u w x y held after asked told d pins undoes taken unpinned key live some =
     goes-names (λ b. unpin (g b) d) w y (goes-then g (λ b. unpin b d) w x y taken unpinned) key (undoes.live key (pin-live v u d pins key live)) some
 
-pub timerless-detached : (f : Board → Board → Board) (v u w x y : Objects) (held after : List ℕ) (asked told : Asked) (d levels : ℕ)
+pub timely-detached : (f : Board → Board → Board) (v u w x y : Objects) (held after : List ℕ) (asked told : Asked) (d levels : ℕ)
     → u ≡ with_edit d with_pin v → Undoes f (parts u held asked) (parts w after told) → Goes (taken_within levels d) w x
-    → Goes (λ b. unpin b d) x y → Timerless v → Timerless y
-timerless-detached f v u w x y held after asked told d levels pins undoes taken unpinned none =
-    goes-timerless (λ b. unpin b d) x y unpinned (λ b. unpin-untimed b d)
-    (taken-timerless (taken_within levels d) w x taken (takes-taken_within levels d) (undoes.timerless (pin-timerless v u d pins none)))
+    → Goes (λ b. unpin b d) x y → Timely v → Timely y
+timely-detached f v u w x y held after asked told d levels pins undoes taken unpinned all =
+    goes-timely (λ b. unpin b d) x y unpinned (λ b h. step-unpin SoundTimes times-edits times-pins times-ends d b h)
+    (taken-timely (taken_within levels d) w x taken (takes-taken_within levels d) (undoes.timely (pin-timely v u d pins all)))

@@ -14,58 +14,62 @@ use Rattle.qo_kinds.specs.declared.kept.KeptSet.{KeptSet}
 use Rattle.qo_slots.specs.declared.keys.Key.{Key}
 use Rattle.qo_table.specs.Rows.{IsLive}
 use Rattle.qo_model.specs.Board.{Board, Record}
-use Rattle.qo_model.specs.Clocks.{acted, device_period}
+use Rattle.qo_model.specs.Clocks.{ClocksFit, acted, device_period}
 use Rattle.qo_model.specs.Devices.{clock_of}
 use Rattle.qo_model.specs.Release.{edited}
 use Rattle.qo_model.specs.Unplug.{disconnected, set_named}
 use Rattle.qo_model.specs.declared.notes.Deed.TheVariants.{Did}
-use Rattle.qo_notes.specs.Log.{empty_log, noted_all}
+use Rattle.qo_notes.specs.Log.{empty_log}
 use Rattle.qo_object.specs.declared.slots.Slot.{Slot}
 use Rattle.qo_object.specs.Content.{Content, acted_at}
 use Rattle.qo_object.specs.Shown.{birth_of, shown}
 use Rattle.qo_object.specs.Slots.{with_val}
 use Rattle.qo_hotplug.specs.Asked.{Asked}
-use Rattle.qo_heap.specs.Board.{Shows}
+use Rattle.qo_heap.specs.Board.{Shows, pins_in}
 use Rattle.qo_heap.specs.Book.{IsBook, kept_times, owned}
 use Rattle.qo_heap.specs.Objects.{IsHeap, Objects, content_of, with_edit, with_note, without_kept}
+use Rattle.qo_heap.specs.Timely.{Timely}
 use Rattle.qo_heap.proofs.ActsLemmas.{acts-act, acts-book}
 use Rattle.qo_heap.proofs.BookLemmas.{book-edit, kept-without, sum-changed}
 use Rattle.qo_heap.proofs.HeapLemmas.{edit-is, live-edit}
 use Rattle.qo_heap.proofs.ShowsActs.{shows-acted}
 use Rattle.qo_heap.proofs.ShowsEdits.{shows-edit}
 use Rattle.qo_heap.proofs.ShowsLive.{content-edited, live-content}
+use Rattle.qo_heap.proofs.TimelyLemmas.{acts-timely}
 use Rattle.qo_life.specs.Life.{Goes, with_log}
 use Rattle.qo_life.proofs.TreeLemmas.{goes-shows, tree, tree-shows}
 use Rattle.qo_clocks.specs.Links.{changed_named, place_on, unseen_on, with_slot_changed}
+use Rattle.qo_clocks.proofs.KeepLemmas.{timely-changed}
 use Rattle.qo_clocks.proofs.LinkLemmas.{live-changed}
-use Rattle.qo_unplug.specs.Timerless.{Timerless}
+use Rattle.qo_sound.proofs.MakeStepsLemmas.{step-set}
+use Rattle.qo_sound_clocks.specs.SoundTimes.{SoundTimes}
+use Rattle.qo_sound_clocks.proofs.LessLemmas.{OtherName}
+use Rattle.qo_sound_clocks.proofs.TimesLemmas.{times-edits}
 use Rattle.qo_unplug.specs.Unrealizing.{Parts, Undoes, parts}
-use Rattle.qo_unplug.proofs.TimerLemmas.{acted-same, acted-timer, bare-timer, edit-timerless, same-timerless}
-use Rattle.qo_unplug.proofs.TreeLemmas.{quiet-acted, quiet-disconnected, quiet-set_named}
+use Rattle.qo_unplug.proofs.TimelyLemmas.{edit-pins, goes-timely, same-timely}
+use Rattle.qo_unplug.proofs.TreeLemmas.{quiet-acted, quiet-disconnected, quiet-set_named, same-then}
 use Rattle.qo_unplug.proofs.TreeLemmas as boards
-use Rattle.qo_unplug.proofs.UndoesLemmas.{undoes-quiet, undoes-same, undoes-then}
+use Rattle.qo_unplug.proofs.UndoesLemmas.{Stands, undoes-quiet, undoes-same, undoes-then}
 
 -- the act
 
-abbrev acted_on : ℕ → Objects → Objects
-acted_on n v = with_note (record { birth = n; deed = Did Unrealize }) (with_edit n (acted_at Unrealize v.time 0) v)
+abbrev acted_on : ℕ → ℕ → Objects → Objects
+acted_on n period v = with_note (record { birth = n; deed = Did Unrealize }) (with_edit n (acted_at Unrealize v.time period) v)
 
-pub undoes-act : (v w : Objects) (n : ℕ) → Timerless v
-    → w ≡ with_note (record { birth = n; deed = Did Unrealize }) (with_edit n (acted_at Unrealize v.time 0) v) → (period : ℕ) (held : List ℕ) (asked : Asked)
+pub undoes-act : (v w : Objects) (n period : ℕ)
+    → w ≡ with_note (record { birth = n; deed = Did Unrealize }) (with_edit n (acted_at Unrealize v.time period) v) → (held : List ℕ) (asked : Asked)
     → Undoes (λ _ c. acted Unrealize n period c) (parts v held asked) (parts w held asked)
-undoes-act v w n none is period held asked =
+undoes-act v w n period is held asked =
     undoes-quiet (acted Unrealize n period) v w held asked
-    (λ c s.
-    subst (λ (d : Board). Shows d w) (acted-same c v s none n 0 period)
-    (subst (λ (x : Objects). Shows (acted Unrealize n 0 c) x) (sym is) (shows-acted c v s Unrealize n 0)))
+    (λ c s. subst (λ (x : Objects). Shows (acted Unrealize n period c) x) (sym is) (shows-acted c v s Unrealize n period))
     (λ c. quiet-acted c n period)
-    (λ key here. subst (λ (x : Objects). IsLive x.rows key) (sym is) (live-edit n (acted_at Unrealize v.time 0) v.rows key here))
+    (λ key here. subst (λ (x : Objects). IsLive x.rows key) (sym is) (live-edit n (acted_at Unrealize v.time period) v.rows key here))
     (λ out h.
     subst (λ (x : Objects). IsBook out x) (sym is)
-    (acts-book out v (acted_on n v) (acts-act v (record { birth = n; deed = Did Unrealize }) n Unrealize v.time 0) h))
-    (λ still.
-    subst (λ (x : Objects). Timerless x) (sym is)
-    (edit-timerless v n (acted_at Unrealize v.time 0) (λ c. acted-timer v.time 0 c.body) still))
+    (acts-book out v (acted_on n period v) (acts-act v (record { birth = n; deed = Did Unrealize }) n Unrealize v.time period) h))
+    (ap (λ (x : Objects). pins_in x.rows) is ∙ edit-pins n (acted_at Unrealize v.time period) (λ c. refl) v.rows)
+    (λ all.
+    subst (λ (x : Objects). Timely x) (sym is) (acts-timely v (record { birth = n; deed = Did Unrealize }) n Unrealize period all))
 
 -- a clock loses its source and stands still
 
@@ -77,12 +81,13 @@ module _ (n : ℕ) (name : List ℕ) (f : Slot → Slot) (v : Objects) where
       go None = h
       go (Some i) = book-edit out v n (with_slot_changed f i) (λ c. refl) h
 
-  changed-timerless : Timerless v → Timerless (changed_named n name f v)
-  changed-timerless none = go (place_on v n name)
+  changed-pins : pins_in (changed_named n name f v).rows ≡ pins_in v.rows
+  changed-pins = go (place_on v n name)
     where
-      go : (o : Option ℕ) → Timerless (elim o as (λ _. Objects) [ None ↦ v | Some i ↦ with_edit n (with_slot_changed f i) v ])
-      go None = none
-      go (Some i) = edit-timerless v n (with_slot_changed f i) (λ c. refl) none
+      go : (o : Option ℕ)
+          → pins_in (elim o as (λ _. Objects) [ None ↦ v | Some i ↦ with_edit n (with_slot_changed f i) v ]).rows ≡ pins_in v.rows
+      go None = refl
+      go (Some i) = edit-pins n (with_slot_changed f i) (λ c. refl) v.rows
 
 pub undoes-disconnected : (v w : Objects) (n : ℕ) → ((b : Board) → Shows b v → Shows (disconnected (Some n) b) w)
     → w ≡ changed_named n (codes "period") (with_val (val.Uint 0)) (changed_named n (codes "source") unseen_on v) → (held : List ℕ) (asked : Asked)
@@ -96,41 +101,47 @@ undoes-disconnected v w n shows is held asked =
     (λ out h.
     subst (λ (x : Objects). IsBook out x) (sym is)
     (changed-book n (codes "period") (with_val (val.Uint 0)) u out (changed-book n (codes "source") unseen_on v out h)))
-    (λ none.
-    subst (λ (x : Objects). Timerless x) (sym is)
-    (changed-timerless n (codes "period") (with_val (val.Uint 0)) u (changed-timerless n (codes "source") unseen_on v none)))
+    (ap (λ (x : Objects). pins_in x.rows) is
+    ∙ changed-pins n (codes "period") (with_val (val.Uint 0)) u
+    ∙ changed-pins n (codes "source") unseen_on v)
+    (λ all.
+    subst (λ (x : Objects). Timely x) (sym is)
+    (timely-changed n (codes "period") (with_val (val.Uint 0)) u (timely-changed n (codes "source") unseen_on v all)))
 
--- an act with the period that a board says
-undoes-at : (f : ℕ → Board → Board) (p : Board → ℕ) (s t : Parts) → ((period : ℕ) → Undoes (λ _ c. f period c) s t) → Undoes (λ _ c. f (p c) c) s t
-undoes-at f p s t undoes =
+-- an act with the period that a board says, where its clocks are sound
+undoes-at : (d period : ℕ) (s t : Parts) → ((b : Board) → Shows b s.heap → ClocksFit b → period ≡ device_period b d)
+    → Undoes (λ _ c. acted Unrealize d period c) s t → Undoes (λ _ c. acted Unrealize d (device_period c d) c) s t
+undoes-at d period s t says undoes =
     record {
-      shown = λ b c same beside. (undoes (p c)).shown b c same beside;
-      tree = λ b c same beside. (undoes (p c)).tree b c same beside;
-      live = (undoes 0).live;
-      book = (undoes 0).book;
-      timerless = (undoes 0).timerless;
+      shown = λ b c ticks same beside.
+          subst (λ (p : ℕ). Stands (acted Unrealize d p c) t) (says c beside.shown (same.ticks ticks).clocks.fit) (undoes.shown b c ticks same beside);
+      tree = λ b c ticks same beside. same-then b c (acted Unrealize d (device_period c d) c) same (quiet-acted c d (device_period c d)).tree;
+      live = undoes.live;
+      book = undoes.book;
+      pins = undoes.pins;
+      timely = undoes.timely;
     }
 
-pub undoes-stop : (s t u : Parts) (d : ℕ) (clock : Option Key) → ((b : Board) → Shows b s.heap → birth_of clock ≡ clock_of b d)
-    → ((period : ℕ) → Undoes (λ _ c. acted Unrealize d period c) s t) → Undoes (λ _. disconnected (birth_of clock)) t u
+pub undoes-stop : (s t u : Parts) (d period : ℕ) (clock : Option Key) → ((b : Board) → Shows b s.heap → birth_of clock ≡ clock_of b d)
+    → ((b : Board) → Shows b s.heap → ClocksFit b → period ≡ device_period b d)
+    → Undoes (λ _ c. acted Unrealize d period c) s t → Undoes (λ _. disconnected (birth_of clock)) t u
     → Undoes (λ _ c. disconnected (clock_of c d) (acted Unrealize d (device_period c d) c)) s u
-undoes-stop s t u d clock is acts behind =
+undoes-stop s t u d period clock is says acts behind =
     undoes-same (λ _ c. disconnected (birth_of clock) (acted Unrealize d (device_period c d) c))
     (λ _ c. disconnected (clock_of c d) (acted Unrealize d (device_period c d) c)) s u
     (undoes-then (λ _ c. acted Unrealize d (device_period c d) c) (λ _. disconnected (birth_of clock)) s t u
-    (undoes-at (acted Unrealize d) (λ c. device_period c d) s t acts) behind)
+    (undoes-at d period s t says acts) behind)
     (λ b c same beside. ap (λ (o : Option ℕ). disconnected o (acted Unrealize d (device_period c d) c)) (sym (is c beside.shown)))
 
--- a value is set
+-- a value is set that is none of a clock's
 
-pub undoes-set : (v w : Objects) (n : ℕ) (name : List ℕ) (value : Val) → Goes (set_named n name value) v w
+pub undoes-set : (v w : Objects) (n : ℕ) (name : List ℕ) (value : Val) → OtherName name → Goes (set_named n name value) v w
     → ((key : Key) → IsLive v.rows key → IsLive w.rows key) → (held : List ℕ) (asked : Asked)
     → Undoes (λ _. set_named n name value) (parts v held asked) (parts w held asked)
-undoes-set v w n name value goes live held asked =
-    undoes-quiet (set_named n name value) v w held asked (goes-shows (set_named n name value) v w goes) (λ c. quiet-set_named c n name value) live goes.book
-    (λ none.
-    same-timerless (tree v) (set_named n name value (tree v)) (with_log empty_log v) (with_log (noted_all goes.more empty_log) w)
-    (quiet-set_named (tree v) n name value).tree (tree-shows v) (goes.shown (tree v) empty_log (tree-shows v)) none)
+undoes-set v w n name value other goes live held asked =
+    undoes-quiet (set_named n name value) v w held asked (goes-shows (set_named n name value) v w goes) (λ c. quiet-set_named c n name value other) live goes.book
+    (sym (goes.shown (tree v) empty_log (tree-shows v)).pins ∙ (quiet-set_named (tree v) n name value other).tree.pins)
+    (goes-timely (set_named n name value) v w goes (λ b h. step-set SoundTimes times-edits n name value b h))
 
 -- claims end that no board sees
 
@@ -211,4 +222,8 @@ undoes-freed v u w good n c there kept own bare frees held asked =
     boards.quiet-none
     (λ key here. subst (λ (x : Objects). IsLive x.rows key) (sym is) (live-edit n bared v.rows key here))
     (λ out h. subst (λ (x : Objects). IsBook out x) (sym is) (book-freed out v good n c there h))
-    (λ none. subst (λ (x : Objects). Timerless x) (sym is) (edit-timerless v n bared (λ d. bare-timer d.body) none))
+    (ap (λ (x : Objects). pins_in x.rows) is ∙ edit-pins n bared (λ d. refl) v.rows)
+    (λ all.
+    subst (λ (x : Objects). Timely x) (sym is)
+    (same-timely (tree v) (with_log empty_log v) (with_log empty_log (record (with_edit n bared v) { claims = without_kept (kept_of c.body) v.claims }))
+    (tree-shows v) (shows-bared (tree v) (with_log empty_log v) (tree-shows v) n (without_kept (kept_of c.body) v.claims)) all))

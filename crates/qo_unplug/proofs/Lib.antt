@@ -1,7 +1,7 @@
 pub mod ApartLemmas
 pub mod DetachLemmas
 pub mod TreeLemmas
-pub mod TimerLemmas
+pub mod TimelyLemmas
 pub mod UndoesLemmas
 pub mod EndingLemmas
 pub mod TakesLemmas

@@ -20,7 +20,8 @@ use Rattle.qo_model.proofs.ReleaseLeavesLemmas.{release_leaves}
 use Rattle.qo_model.proofs.StepLemmas.{drop-live, finish-live, found-edited, is_some-map}
 use Rattle.qo_unplug.specs.Apart.{bus_lost, buses_lost, drained_within, first_apart, first_lost, taken_within}
 use Rattle.qo_unplug.specs.Unrealizing.{on_one}
-use Rattle.qo_unplug.proofs.TimerLemmas.{Untimed, after-untimed, cut-untimed, drop-untimed}
+use Rattle.qo_sound_clocks.specs.SoundTimes.{SoundTimes}
+use Rattle.qo_sound_clocks.proofs.TimesLemmas.{drop-times, times-edits, times-ends}
 
 -- how often a number stands in a list
 
@@ -86,13 +87,13 @@ pub record Takes (b c : Board) : Type 0 where
   pub pins : (x : ℕ) → times x c.pins ≡ times x b.pins
   pub same : IsUp b.pins → c.pins ≡ b.pins
   pub live : (x : ℕ) → is_live b x ≡ true → 0 < times x b.pins → is_live c x ≡ true
-  pub untimed : Untimed b → Untimed c
+  pub moments : SoundTimes b → SoundTimes c
   pub holds : c.holds ≡ b.holds
   pub pending : c.pending ≡ b.pending
   pub notices : c.notices ≡ b.notices
 
 pub takes-none : (b : Board) → Takes b b
-takes-none b = record { pins = λ x. refl; same = λ up. refl; live = λ x live some. live; untimed = λ none. none; holds = refl; pending = refl; notices = refl }
+takes-none b = record { pins = λ x. refl; same = λ up. refl; live = λ x live some. live; moments = λ h. h; holds = refl; pending = refl; notices = refl }
 
 pub takes-then : (b c d : Board) → Takes b c → Takes c d → Takes b d
 takes-then b c d p q =
@@ -100,7 +101,7 @@ takes-then b c d p q =
       pins = λ x. q.pins x ∙ p.pins x;
       same = λ up. let first : c.pins ≡ b.pins = p.same up in q.same (subst (λ (l : List ℕ). IsUp l) (sym first) up) ∙ first;
       live = λ x live some. q.live x (p.live x live some) (omega (arith, some, p.pins x));
-      untimed = λ none. q.untimed (p.untimed none);
+      moments = λ h. q.moments (p.moments h);
       holds = q.holds ∙ p.holds;
       pending = q.pending ∙ p.pending;
       notices = q.notices ∙ p.notices;
@@ -165,7 +166,7 @@ takes-after b o =
       pins = λ x. ap (times x) (release-pins b o);
       same = λ up. release-pins b o;
       live = λ x live some. (held-after x b o (record { live = live; pinned = some })).live;
-      untimed = after-untimed b o;
+      moments = times-ends o b;
       holds = beside.holds;
       pending = beside.pending;
       notices = beside.notices;
@@ -178,7 +179,7 @@ takes-drop b n i =
       pins = λ x. refl;
       same = λ up. refl;
       live = λ x live some. drop-live b n i x ∙ live;
-      untimed = drop-untimed b n i;
+      moments = drop-times b n i;
       holds = refl;
       pending = refl;
       notices = refl;
@@ -190,7 +191,7 @@ takes-cut b n i =
     record {
       pins = λ x. refl;
       same = λ up. refl;
-      untimed = cut-untimed b n i;
+      moments = times-edits n (with_cut i) (λ r. refl) b;
       live = λ x live some. ap is_some (found-edited n (with_cut i) (λ r. refl) x b.records) ∙ is_some-map (edited n (with_cut i)) (record_of b x) ∙ live;
       holds = refl;
       pending = refl;
@@ -261,7 +262,7 @@ takes-unpinned b c d t =
           release-pins w (Some d)
           ∙ ap (without_first d) (t.same (put-up d b.pins up))
           ∙ put-back d b.pins up;
-      untimed = λ none. behind.untimed (t.untimed none);
+      moments = λ h. behind.moments (t.moments h);
       live = λ x live pinned. behind.live x (t.live x live (omega (arith, pinned, times-put x d b.pins))) (omega (arith, pinned, pins x));
       holds = behind.holds ∙ t.holds;
       pending = behind.pending ∙ t.pending;

@@ -1,11 +1,11 @@
 -- What stays of a board while it is unrealized: its tree, and what stands beside it.
-use Rattle.std.proofs.Common.{◌≡◌, refl, ap, ap₂, sym, ◌∙◌, ℕ, zero, suc, ◌==◌, cond, not, ◌&&◌, Bool, true, false, List, [], ◌∷◌, map, length, find}
+use Rattle.std.proofs.Common.{◌≡◌, refl, ap, ap₂, sym, subst, ◌∙◌, ℕ, zero, suc, ◌==◌, cond, not, ◌&&◌, Bool, true, false, List, [], ◌∷◌, map, length, find}
 use Rattle.std.proofs.Common.{slice_get, codes, Option, None, Some, option_map}
+use Rattle.std.specs.List.{AllByRecursion, IsDistinct}
 use Rattle.std.specs.Option.{option_and_then, option_map_or}
 use Rattle.std.specs.Str.{bytes_eq}
 use Rattle.std.proofs.lemmas.List.{length-map}
-use Rattle.qo_values.specs.Bodies.{body_act}
-use Rattle.qo_values.specs.Registers.{Registers, uart, timer, dimm, bridge, bare}
+use Rattle.qo_values.specs.Registers.{bare}
 use Rattle.qo_values.specs.declared.kinds.Act.TheVariants.{Unrealize}
 use Rattle.qo_values.specs.declared.kinds.TypeId.{TypeId}
 use Rattle.qo_values.specs.declared.properties.Val.{Val}
@@ -18,28 +18,61 @@ use Rattle.qo_model.specs.Objects.{place_from}
 use Rattle.qo_model.specs.Release.{edit, edited}
 use Rattle.qo_model.specs.Types.{is_a}
 use Rattle.qo_model.specs.Unplug.{disconnected, is_named, set_named, unseen, unseen_named}
-use Rattle.qo_unplug.specs.Unrealizing.{SameTree, bus_at, kid_in, kid_in_place, still, still_registers, still_slot, still_slots}
+use Rattle.qo_sound.proofs.FirmLemmas.{HasNames}
+use Rattle.qo_sound.proofs.RecordLemmas.{all-map, all-unmap}
+use Rattle.qo_sound.proofs.SlotLemmas.{names-each}
+use Rattle.qo_sound_clocks.proofs.FewerLemmas.{Fewer, fewer-acted, fewer-disconnected, fewer-none, fewer-set}
+use Rattle.qo_sound_clocks.proofs.GrownLemmas.{fewer-sound}
+use Rattle.qo_sound_clocks.proofs.LawLemmas.{clocks_kept_lem}
+use Rattle.qo_sound_clocks.proofs.LessLemmas.{OtherName}
+use Rattle.qo_sound_clocks.proofs.ReadLemmas.{named-reads}
+use Rattle.qo_unplug.specs.Unrealizing.{SameTree, Ticks, bus_at, kid_in, kid_in_place, still, still_slot, still_slots}
+
+-- who reads no more as a clock, and keeps the names of its slots, keeps the clocks sound
+
+still-named : (r : Record) → HasNames r → HasNames (still r)
+still-named r h = subst (IsDistinct bytes_eq) (sym (names-each still_slot r.slots)) h
+
+named-still : (r : Record) → HasNames (still r) → HasNames r
+named-still r h = subst (IsDistinct bytes_eq) (names-each still_slot r.slots) h
+
+ticks-fewer : (b c : Board) → map still c.records ≡ map still b.records → Fewer b c → Ticks b → Ticks c
+ticks-fewer b c same fewer h =
+    let named : AllByRecursion HasNames c.records =
+    all-unmap HasNames HasNames still named-still c.records
+    (subst (AllByRecursion HasNames) (sym same) (all-map HasNames HasNames still still-named b.records h.named)) in
+    record { clocks = fewer-sound b c (named-reads b h.named) (named-reads c named) h.clocks fewer; named = named }
 
 pub same-none : (b : Board) → SameTree b b
-same-none b = record { records = refl; pins = refl }
+same-none b = record { records = refl; pins = refl; ticks = λ h. h }
 
 pub same-then : (b c d : Board) → SameTree b c → SameTree c d → SameTree b d
-same-then b c d p q = record { records = q.records ∙ p.records; pins = q.pins ∙ p.pins }
+same-then b c d p q = record { records = q.records ∙ p.records; pins = q.pins ∙ p.pins; ticks = λ h. q.ticks (p.ticks h) }
 
--- a step that leaves the tree, the holds, the pending removals and the notices
-pub record Quiet (b c : Board) : Type 0 where
-  pub tree : SameTree b c
+-- what stands beside the objects is no part of it
+pub ticks-beside : (b c : Board) → c.records ≡ b.records → Ticks b → Ticks c
+ticks-beside b c same h =
+    record { clocks = clocks_kept_lem.beside b c same h.clocks; named = subst (AllByRecursion HasNames) (sym same) h.named }
+
+pub same-beside : (b c : Board) → c.records ≡ b.records → c.pins ≡ b.pins → SameTree b c
+same-beside b c same pins = record { records = ap (map still) same; pins = pins; ticks = ticks-beside b c same }
+
+-- a step that leaves the objects but for what may change, the pins, the holds, the pending removals and the notices
+record Leaves (b c : Board) : Type 0 where
+  pub records : map still c.records ≡ map still b.records
+  pub pins : c.pins ≡ b.pins
   pub holds : c.holds ≡ b.holds
   pub pending : c.pending ≡ b.pending
   pub notices : c.notices ≡ b.notices
 
-pub quiet-none : (b : Board) → Quiet b b
-quiet-none b = record { tree = same-none b; holds = refl; pending = refl; notices = refl }
+leaves-none : (b : Board) → Leaves b b
+leaves-none b = record { records = refl; pins = refl; holds = refl; pending = refl; notices = refl }
 
-quiet-then : (b c d : Board) → Quiet b c → Quiet c d → Quiet b d
-quiet-then b c d p q =
+leaves-then : (b c d : Board) → Leaves b c → Leaves c d → Leaves b d
+leaves-then b c d p q =
     record {
-      tree = same-then b c d p.tree q.tree;
+      records = q.records ∙ p.records;
+      pins = q.pins ∙ p.pins;
       holds = q.holds ∙ p.holds;
       pending = q.pending ∙ p.pending;
       notices = q.notices ∙ p.notices;
@@ -55,24 +88,20 @@ still-edited n change same (r ∷ rs) = ap₂ (λ (x : Record) (xs : List Record
     go true = same r
     go false = refl
 
-quiet-edit : (b : Board) (n : ℕ) (change : Record → Record) → ((r : Record) → still (change r) ≡ still r) → Quiet b (edit n change b)
-quiet-edit b n change same =
-    record { tree = record { records = still-edited n change same b.records; pins = refl }; holds = refl; pending = refl; notices = refl }
+leaves-edit : (b : Board) (n : ℕ) (change : Record → Record) → ((r : Record) → still (change r) ≡ still r) → Leaves b (edit n change b)
+leaves-edit b n change same = record { records = still-edited n change same b.records; pins = refl; holds = refl; pending = refl; notices = refl }
 
 -- an act
-registers-still : (now p : ℕ) (r : Registers) → still_registers (body_act Unrealize now p r) ≡ still_registers r
-registers-still now p (uart r) = refl
-registers-still now p (timer r) = refl
-registers-still now p (dimm r) = refl
-registers-still now p (bridge r) = refl
-registers-still now p bare = refl
-
-pub quiet-acted : (b : Board) (n p : ℕ) → Quiet b (acted Unrealize n p b)
+leaves-acted : (b : Board) (n p : ℕ) → Leaves b (acted Unrealize n p b)
 unfolding acted
-quiet-acted b n p =
-    let edits = quiet-edit b n (with_act_on Unrealize b.now p)
-    (λ r. ap (λ (x : Registers). record r { slots = still_slots r.slots; registers = x }) (registers-still b.now p r.registers)) in
-    record { tree = record { records = edits.tree.records; pins = refl }; holds = refl; pending = refl; notices = refl }
+leaves-acted b n p =
+    record {
+      records = still-edited n (with_act_on Unrealize b.now p) (λ r. refl) b.records;
+      pins = refl;
+      holds = refl;
+      pending = refl;
+      notices = refl;
+    }
 
 -- a slot
 still-changed : (f : Slot → Slot) → ((s : Slot) → still_slot (f s) ≡ still_slot s) → (i : ℕ) (slots : List (List ℕ × Slot))
@@ -81,10 +110,10 @@ still-changed f same i [] = refl
 still-changed f same zero (s ∷ slots) = ap (λ (x : Slot). (s.0, x) ∷ still_slots slots) (same s.1)
 still-changed f same (suc i) (s ∷ slots) = ap (λ (xs : List (List ℕ × Slot)). (s.0, still_slot s.1) ∷ xs) (still-changed f same i slots)
 
-quiet-changed : (b : Board) (n : ℕ) (f : Slot → Slot) → ((s : Slot) → still_slot (f s) ≡ still_slot s) → (i : ℕ) → Quiet b (edit n (with_changed f i) b)
-quiet-changed b n f same i =
-    quiet-edit b n (with_changed f i)
-    (λ r. ap (λ (slots : List (List ℕ × Slot)). record r { slots = slots; registers = still_registers r.registers }) (still-changed f same i r.slots))
+leaves-changed : (b : Board) (n : ℕ) (f : Slot → Slot) → ((s : Slot) → still_slot (f s) ≡ still_slot s) → (i : ℕ) → Leaves b (edit n (with_changed f i) b)
+leaves-changed b n f same i =
+    leaves-edit b n (with_changed f i)
+    (λ r. ap (λ (slots : List (List ℕ × Slot)). record r { slots = slots; registers = bare }) (still-changed f same i r.slots))
 
 still-val : (v : Val) (s : Slot) → still_slot (with_val v s) ≡ still_slot s
 still-val v (plain old) = refl
@@ -100,25 +129,54 @@ still-unseen (strong t target) = refl
 still-unseen (weak t target) = refl
 still-unseen (alias m name) = refl
 
-pub quiet-set_named : (b : Board) (n : ℕ) (name : List ℕ) (v : Val) → Quiet b (set_named n name v b)
+leaves-set_named : (b : Board) (n : ℕ) (name : List ℕ) (v : Val) → Leaves b (set_named n name v b)
 unfolding set
-quiet-set_named b n name v = go (place_from (is_named name) 0 (slots_at b n))
+leaves-set_named b n name v = go (place_from (is_named name) 0 (slots_at b n))
   where
-    go : (o : Option ℕ) → Quiet b (elim o as (λ _. Board) [ None ↦ b | Some i ↦ set n i v b ])
-    go None = quiet-none b
-    go (Some i) = quiet-changed b n (with_val v) (still-val v) i
+    go : (o : Option ℕ) → Leaves b (elim o as (λ _. Board) [ None ↦ b | Some i ↦ set n i v b ])
+    go None = leaves-none b
+    go (Some i) = leaves-changed b n (with_val v) (still-val v) i
 
-quiet-unseen : (b : Board) (n : ℕ) (name : List ℕ) → Quiet b (unseen_named n name b)
-quiet-unseen b n name = go (place_from (is_named name) 0 (slots_at b n))
+leaves-unseen : (b : Board) (n : ℕ) (name : List ℕ) → Leaves b (unseen_named n name b)
+leaves-unseen b n name = go (place_from (is_named name) 0 (slots_at b n))
   where
-    go : (o : Option ℕ) → Quiet b (elim o as (λ _. Board) [ None ↦ b | Some i ↦ edit n (with_changed unseen i) b ])
-    go None = quiet-none b
-    go (Some i) = quiet-changed b n unseen still-unseen i
+    go : (o : Option ℕ) → Leaves b (elim o as (λ _. Board) [ None ↦ b | Some i ↦ edit n (with_changed unseen i) b ])
+    go None = leaves-none b
+    go (Some i) = leaves-changed b n unseen still-unseen i
+
+leaves-disconnected : (b : Board) (n : ℕ) → Leaves b (disconnected (Some n) b)
+leaves-disconnected b n =
+    let c : Board = unseen_named n (codes "source") b in
+    leaves-then b c (disconnected (Some n) b) (leaves-unseen b n (codes "source")) (leaves-set_named c n (codes "period") (val.Uint 0))
+
+-- a step that leaves the tree, the holds, the pending removals and the notices
+pub record Quiet (b c : Board) : Type 0 where
+  pub tree : SameTree b c
+  pub holds : c.holds ≡ b.holds
+  pub pending : c.pending ≡ b.pending
+  pub notices : c.notices ≡ b.notices
+
+quiet-of : (b c : Board) → Leaves b c → Fewer b c → Quiet b c
+quiet-of b c leaves fewer =
+    record {
+      tree = record { records = leaves.records; pins = leaves.pins; ticks = ticks-fewer b c leaves.records fewer };
+      holds = leaves.holds;
+      pending = leaves.pending;
+      notices = leaves.notices;
+    }
+
+pub quiet-none : (b : Board) → Quiet b b
+quiet-none b = record { tree = same-none b; holds = refl; pending = refl; notices = refl }
+
+pub quiet-acted : (b : Board) (n p : ℕ) → Quiet b (acted Unrealize n p b)
+quiet-acted b n p = quiet-of b (acted Unrealize n p b) (leaves-acted b n p) (fewer-acted b Unrealize n p b (fewer-none b))
+
+pub quiet-set_named : (b : Board) (n : ℕ) (name : List ℕ) (v : Val) → OtherName name → Quiet b (set_named n name v b)
+quiet-set_named b n name v other = quiet-of b (set_named n name v b) (leaves-set_named b n name v) (fewer-set b n name v other b (fewer-none b))
 
 pub quiet-disconnected : (b : Board) (n : ℕ) → Quiet b (disconnected (Some n) b)
 quiet-disconnected b n =
-    let c : Board = unseen_named n (codes "source") b in
-    quiet-then b c (disconnected (Some n) b) (quiet-unseen b n (codes "source")) (quiet-set_named c n (codes "period") (val.Uint 0))
+    quiet-of b (disconnected (Some n) b) (leaves-disconnected b n) (fewer-disconnected b (Some n) b (fewer-none b))
 
 -- what is read off two boards of the same tree
 

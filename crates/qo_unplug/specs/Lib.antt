@@ -1,4 +1,3 @@
 pub mod Apart
 pub mod Beside
-pub mod Timerless
 pub mod Unrealizing

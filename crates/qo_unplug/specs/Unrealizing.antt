@@ -1,7 +1,9 @@
 -- How the parts of a board are unrealized: what stays of a board meanwhile, and each step to a depth.
 use Rattle.std.specs.Prelude.{◌≡◌, ℕ, List, map, take, filter_map, slice_get, Option, None, Some}
+use Rattle.std.specs.List.{AllByRecursion, IsDistinct}
 use Rattle.std.specs.Option.{option_and_then}
-use Rattle.qo_values.specs.Registers.{Registers, timer, bare, fresh_timer}
+use Rattle.std.specs.Str.{bytes_eq}
+use Rattle.qo_values.specs.Registers.{bare}
 use Rattle.qo_values.specs.declared.kinds.Act.TheVariants.{Unrealize}
 use Rattle.qo_values.specs.declared.properties.Val.TheVariants as val
 use Rattle.qo_slots.specs.declared.keys.Key.{Key}
@@ -12,12 +14,14 @@ use Rattle.qo_model.specs.Depth.{by_depth}
 use Rattle.qo_model.specs.Devices.{bus_in, clock_of, kids_of, strong_in}
 use Rattle.qo_model.specs.Unplug.{disconnected, each, unrealize_turn, unrealized_bus}
 use Rattle.qo_hotplug.specs.Asked.{Asked}
+use Rattle.qo_heap.specs.Board.{pins_in}
 use Rattle.qo_heap.specs.Objects.{Objects}
+use Rattle.qo_heap.specs.Timely.{Timely}
 use Rattle.qo_properties.specs.Claims.{KeepsBook}
+use Rattle.qo_sound_clocks.specs.SoundClocks.{SoundClocks}
 use Rattle.qo_unplug.specs.Beside.{Beside}
-use Rattle.qo_unplug.specs.Timerless.{Timerless}
 
--- an object without what unrealizing may change: its values, its weak links' targets, and its registers but that it is a timer
+-- an object without what unrealizing may change: its values, its weak links' targets, and its registers
 abbrev pub still_slot : Slot → Slot
 still_slot (plain v) = plain (val.Uint 0)
 still_slot (weak t target) = weak t None
@@ -26,17 +30,20 @@ still_slot s = s
 abbrev pub still_slots : List (List ℕ × Slot) → List (List ℕ × Slot)
 still_slots slots = map (λ (s : List ℕ × Slot). (s.0, still_slot s.1)) slots
 
-abbrev pub still_registers : Registers → Registers
-still_registers (timer t) = timer fresh_timer
-still_registers r = bare
-
 abbrev pub still : Record → Record
-still r = record r { slots = still_slots r.slots; registers = still_registers r.registers }
+still r = record r { slots = still_slots r.slots; registers = bare }
 
--- two boards have the same objects with the same children and strong links, and the same pins
+-- the clocks of a board are sound, and the names of each object's slots differ
+pub record Ticks (b : Board) : Type 0 where
+  pub clocks : SoundClocks b
+  pub named : AllByRecursion (λ (r : Record). IsDistinct bytes_eq (map (λ (s : List ℕ × Slot). s.0) r.slots)) b.records
+
+-- two boards have the same objects with the same children and strong links, and the same pins; where the clocks of the
+-- first are sound, those of the second are
 pub record SameTree (b c : Board) : Type 0 where
   pub records : map still c.records ≡ map still b.records
   pub pins : c.pins ≡ b.pins
+  pub ticks : Ticks b → Ticks c
 
 -- the parts of a board of which unrealizing changes something
 pub record Parts : Type 0 where
@@ -47,14 +54,15 @@ pub record Parts : Type 0 where
 abbrev pub parts : Objects → List ℕ → Asked → Parts
 parts v held asked = record { heap = v; held = held; asked = asked }
 
--- parts become others as a board does by a step, which may look at an earlier board of the same tree; who is there stays,
--- the book of claims stays right, and no timer comes
+-- parts become others as a board does by a step, which may look at an earlier board of the same tree, whose clocks are
+-- sound; who is there stays, the book of claims stays right, the pins stay, and no timer gets ahead of the time
 pub record Undoes (step : Board → Board → Board) (s t : Parts) : Type 0 where
-  pub shown : (b c : Board) → SameTree b c → Beside c s.heap s.held s.asked → Beside (step b c) t.heap t.held t.asked
-  pub tree : (b c : Board) → SameTree b c → Beside c s.heap s.held s.asked → SameTree b (step b c)
+  pub shown : (b c : Board) → Ticks b → SameTree b c → Beside c s.heap s.held s.asked → Beside (step b c) t.heap t.held t.asked
+  pub tree : (b c : Board) → Ticks b → SameTree b c → Beside c s.heap s.held s.asked → SameTree b (step b c)
   pub live : (key : Key) → IsLive s.heap.rows key → IsLive t.heap.rows key
   pub book : KeepsBook s.heap t.heap
-  pub timerless : Timerless s.heap → Timerless t.heap
+  pub pins : pins_in t.heap.rows ≡ pins_in s.heap.rows
+  pub timely : Timely s.heap → Timely t.heap
 
 -- the same of a heap alone, whatever stands beside it
 abbrev pub HeapUndoes : (Board → Board → Board) → Objects → Objects → Type 0

@@ -3,13 +3,15 @@
 ghost use Rattle.std.specs.Prelude.{◌≡◌, ℕ, ◌≤◌};
 ghost use Rattle.qo_model.specs.Board.{Board};
 ghost use Rattle.qo_model.specs.Unplug.{detach};
+ghost use Rattle.qo_sound.specs.Kept.{SoundTree};
+ghost use Rattle.qo_sound_clocks.specs.SoundClocks.{SoundClocks};
 ghost use Rattle.qo_table.specs.Rows.{IsLive};
 ghost use Rattle.qo_heap.specs.Board.{pins_in};
 ghost use Rattle.qo_heap.specs.Objects.{pins_of};
+ghost use Rattle.qo_heap.specs.Timely.{Timely};
 ghost use Rattle.qo_life.specs.Life.{KeepsNames};
 ghost use Rattle.qo_properties.specs.Claims.{KeepsBook};
 ghost use Rattle.qo_unplug.specs.Beside.{Beside};
-ghost use Rattle.qo_unplug.specs.Timerless.{Timerless};
 
 use crate::apart::take_out;
 use crate::unrealizing::unrealize;
@@ -22,8 +24,9 @@ use std::sync::ledger::Ledger;
 /// A device is unrealized, with all that is below it, and taken out of the tree, while it is held
 /// (include/hw/qdev-core.h, "Realization" and `unparent`; include/hw/hotplug.h; the order is the
 /// profile's). What nothing refers to any more is finalised. No hold, no pending removal and no
-/// notice is left of a device that was unrealized. There may be no timers, and each object may be
-/// held from outside the tree once at most. It always succeeds, and takes no memory.
+/// notice is left of a device that was unrealized. A timer stops at the heap's time, which none may be
+/// ahead of. Each object may be held from outside the tree once at most. It always succeeds, and
+/// takes no memory.
 pub fn detach<L: Ledger>(
     heap: &mut Heap,
     resets: &mut Resets,
@@ -32,17 +35,16 @@ pub fn detach<L: Ledger>(
     steps: &mut Steps<L>,
 )
     requires live { IsLive heap.old.rows dev }
-    requires still { Timerless heap.old }
+    requires timely { Timely heap.old }
     requires pins { (n : ℕ) → pins_of heap.old n ≤ 1 }
-    ensures shown { (b : Board) → Beside b heap.old resets.old.births hotplug.old →
+    ensures shown { (b : Board) → SoundTree b → SoundClocks b → Beside b heap.old resets.old.births hotplug.old →
         Beside (detach b dev.birth) heap.new resets.new.births hotplug.new }
     ensures book { KeepsBook heap.old heap.new }
     ensures names { KeepsNames heap.old heap.new }
     ensures pins { pins_in heap.new.rows ≡ pins_in heap.old.rows }
-    ensures still { Timerless heap.new }
+    ensures timely { Timely heap.new }
 {
     heap.facts();
-    heap.shown();
     let levels = heap.live();
     heap.pin(dev, steps);
     unrealize(heap, resets, hotplug, dev, steps);

@@ -1,7 +1,7 @@
 //! The own step of a bus, and of a device, that is unrealized (include/hw/qdev-core.h,
 //! "Realization").
 
-ghost use Rattle.std.specs.Prelude.{◌≡◌, ℕ, false, codes, Some, option_map};
+ghost use Rattle.std.specs.Prelude.{◌≡◌, false, codes, Some, option_map};
 ghost use Rattle.qo_values.specs.declared.kinds.Act.TheVariants.{Unrealize};
 ghost use Rattle.qo_values.specs.declared.properties.Val.TheVariants as val;
 ghost use Rattle.qo_kinds.specs.Bodies.{kept_of, none_kept};
@@ -10,46 +10,47 @@ ghost use Rattle.qo_model.specs.Unplug.{set_named, unrealized_bus, unrealized_de
 ghost use Rattle.qo_hotplug.specs.Asked.{Asked};
 ghost use Rattle.qo_table.specs.Rows.{IsLive};
 ghost use Rattle.qo_heap.specs.Objects.{content_of};
-ghost use Rattle.qo_unplug.specs.Timerless.{Timerless};
+ghost use Rattle.qo_heap.specs.Timely.{Timely};
 ghost use Rattle.qo_unplug.specs.Unrealizing.{HeapUndoes, Undoes, parts, stopped};
 
 use crate::claims::free_claims;
 use qo_buses::{clock_of, set_named};
-use qo_clocks::disconnect;
+use qo_clocks::{device_period, disconnect};
 use qo_heap::{Heap, Oid, Steps};
 use qo_hotplug::Hotplug;
 use qo_reset::Resets;
 use qo_values::{Act, Val};
 use std::sync::ledger::Ledger;
 
-/// The act of an object that is unrealized; without timers it needs no period.
-fn act<L: Ledger>(heap: &mut Heap, o: Oid, steps: &mut Steps<L>)
+/// The act of an object that is unrealized, where `period` is that of its clock.
+fn act<L: Ledger>(heap: &mut Heap, o: Oid, period: u64, steps: &mut Steps<L>)
     requires live { IsLive heap.old.rows o }
-    requires still { Timerless heap.old }
-    ensures { (period : ℕ) → HeapUndoes (λ _ c. acted Unrealize o.birth period c) heap.old heap.new }
+    requires timely { Timely heap.old }
+    ensures { HeapUndoes (λ _ c. acted Unrealize o.birth period c) heap.old heap.new }
 {
-    heap.act(o, Act::Unrealize, 0, steps);
+    heap.act(o, Act::Unrealize, period, steps);
 }
 
 /// A bus is unrealized, whose kids are; no hold is left on it.
 pub fn end_bus<L: Ledger>(heap: &mut Heap, resets: &mut Resets, bus: Oid, steps: &mut Steps<L>)
     requires live { IsLive heap.old.rows bus }
-    requires still { Timerless heap.old }
+    requires timely { Timely heap.old }
     ensures { (asked : Asked) → Undoes (λ _. unrealized_bus bus.birth)
         (parts heap.old resets.old.births asked) (parts heap.new resets.new.births asked) }
 {
-    act(heap, bus, steps);
+    act(heap, bus, 0, steps);
     resets.gone(bus);
 }
 
-/// A device acts, and its clock loses its source and stands still.
+/// A device acts with the period of its clock, which then loses its source and stands still.
 fn stop<L: Ledger>(heap: &mut Heap, dev: Oid, steps: &mut Steps<L>)
     requires live { IsLive heap.old.rows dev }
-    requires still { Timerless heap.old }
+    requires timely { Timely heap.old }
     ensures { HeapUndoes (λ _. stopped dev.birth) heap.old heap.new }
 {
     let clock = clock_of(heap, dev, steps);
-    act(heap, dev, steps);
+    let period = device_period(heap, dev, steps);
+    act(heap, dev, period, steps);
     if let Some(clock) = clock {
         disconnect(heap, clock, steps);
     }
@@ -73,7 +74,7 @@ pub fn end_device<L: Ledger>(
     steps: &mut Steps<L>,
 )
     requires live { IsLive heap.old.rows dev }
-    requires still { Timerless heap.old }
+    requires timely { Timely heap.old }
     ensures bare { option_map (λ c. kept_of c.body) (content_of heap.new dev.birth) ≡ Some none_kept }
     ensures undoes { Undoes (λ _. unrealized_device dev.birth)
         (parts heap.old resets.old.births hotplug.old) (parts heap.new resets.new.births hotplug.new) }

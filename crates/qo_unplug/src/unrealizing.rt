@@ -3,7 +3,7 @@
 
 ghost use Rattle.std.specs.Prelude.{◌≡◌, ◌+◌, length};
 ghost use Rattle.qo_table.specs.Rows.{IsLive};
-ghost use Rattle.qo_unplug.specs.Timerless.{Timerless};
+ghost use Rattle.qo_heap.specs.Timely.{Timely};
 ghost use Rattle.qo_unplug.specs.Unrealizing.{Undoes, bus_undone, bus_within, device_within, kid_undone, parts};
 
 use crate::ending::{end_bus, end_device};
@@ -25,7 +25,7 @@ fn unrealize_kid<L: Ledger>(
     steps: &mut Steps<L>,
 )
     requires live { IsLive heap.old.rows bus }
-    requires still { Timerless heap.old }
+    requires timely { Timely heap.old }
     ensures { Undoes (λ b. kid_undone b levels bus.birth at)
         (parts heap.old resets.old.births hotplug.old) (parts heap.new resets.new.births hotplug.new) }
 {
@@ -45,7 +45,7 @@ fn unrealize_bus<L: Ledger>(
     steps: &mut Steps<L>,
 )
     requires live { IsLive heap.old.rows bus }
-    requires still { Timerless heap.old }
+    requires timely { Timely heap.old }
     ensures { Undoes (λ b. bus_within b levels bus.birth)
         (parts heap.old resets.old.births hotplug.old) (parts heap.new resets.new.births hotplug.new) }
 {
@@ -68,7 +68,7 @@ fn unrealize_bus_at<L: Ledger>(
     steps: &mut Steps<L>,
 )
     requires live { IsLive heap.old.rows dev }
-    requires still { Timerless heap.old }
+    requires timely { Timely heap.old }
     ensures { Undoes (λ b. bus_undone b levels dev.birth at)
         (parts heap.old resets.old.births hotplug.old) (parts heap.new resets.new.births hotplug.new) }
 {
@@ -88,7 +88,7 @@ fn unrealize_device<L: Ledger>(
     steps: &mut Steps<L>,
 )
     requires live { IsLive heap.old.rows dev }
-    requires still { Timerless heap.old }
+    requires timely { Timely heap.old }
     ensures { Undoes (λ b. device_within b levels dev.birth)
         (parts heap.old resets.old.births hotplug.old) (parts heap.new resets.new.births hotplug.new) }
 {
@@ -111,7 +111,7 @@ pub fn unrealize<L: Ledger>(
     steps: &mut Steps<L>,
 )
     requires live { IsLive heap.old.rows dev }
-    requires still { Timerless heap.old }
+    requires timely { Timely heap.old }
     ensures { Undoes (λ b. device_within b (length heap.old.rows + 1) dev.birth)
         (parts heap.old resets.old.births hotplug.old) (parts heap.new resets.new.births hotplug.new) }
 {

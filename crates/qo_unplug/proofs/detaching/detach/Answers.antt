@@ -3,16 +3,16 @@ use Rattle.std.proofs.Common.{◌+◌, length}
 use Rattle.qo_unplug.specs.Apart.{taken_within}
 use Rattle.qo_unplug.specs.Unrealizing.{device_within}
 use Rattle.qo_unplug.proofs.ApartLemmas.{goes-pin, pin-live, pinned-of, taken-live, taken-pinned}
-use Rattle.qo_unplug.proofs.DetachLemmas.{beside-detached, book-detached, detach-room, names-detached, pin-timerless, pins-detached}
-use Rattle.qo_unplug.proofs.DetachLemmas.{timerless-detached, unrealized-pinned, unrealized-pins, unrealized-times}
+use Rattle.qo_unplug.proofs.DetachLemmas.{beside-detached, book-detached, detach-room, names-detached, pin-timely, pins-detached}
+use Rattle.qo_unplug.proofs.DetachLemmas.{timely-detached, unrealized-pinned}
 use Rattle.qo_unplug.proofs.TakesLemmas.{takes-taken_within}
 use Rattle.qo_unplug.proofs.detaching.detach.Goals as goal
 
 pub unrealize-requires-clause-live : goal.unrealize-requires-clause-live
 unrealize-requires-clause-live g c = pin-live c.args.heap.now c.pin.new.self c.args.dev.birth c.pin.ensures.now c.args.dev c.requires.live
 
-pub unrealize-requires-clause-still : goal.unrealize-requires-clause-still
-unrealize-requires-clause-still g c = pin-timerless c.args.heap.now c.pin.new.self c.args.dev.birth c.pin.ensures.now c.requires.still
+pub unrealize-requires-clause-timely : goal.unrealize-requires-clause-timely
+unrealize-requires-clause-timely g c = pin-timely c.args.heap.now c.pin.new.self c.args.dev.birth c.pin.ensures.now c.requires.timely
 
 pub take_out-requires-clause-live : goal.take_out-requires-clause-live
 take_out-requires-clause-live g c =
@@ -21,18 +21,14 @@ take_out-requires-clause-live g c =
 pub take_out-requires-clause-pinned : goal.take_out-requires-clause-pinned
 take_out-requires-clause-pinned g c =
     let pinned = goes-pin c.args.heap.now c.pin.new.self c.facts.ensures c.args.dev c.requires.live c.pin.ensures.now in
-    unrealized-pinned (λ b. device_within b (length c.pin.new.self.rows + 1) c.args.dev.birth) c.args.heap.now c.pin.new.self c.unrealize.new.heap
-    c.args.resets.now.births c.unrealize.new.resets.births c.args.hotplug.now c.unrealize.new.hotplug c.args.dev.birth c.shown.ensures.0 c.shown.ensures.1
-    pinned c.unrealize.ensures
+    unrealized-pinned c.args.heap.now c.pin.new.self c.unrealize.new.heap c.args.dev.birth pinned c.unrealize.ensures.pins
 
 pub take_out-requires-clause-room : goal.take_out-requires-clause-room
 take_out-requires-clause-room g c =
     let pinned = goes-pin c.args.heap.now c.pin.new.self c.facts.ensures c.args.dev c.requires.live c.pin.ensures.now in
     detach-room c.args.heap.now c.pin.new.self c.unrealize.new.heap c.facts.ensures c.args.dev.birth c.live-levels.result c.requires.pins
     c.live-levels.ensures pinned
-    (unrealized-times (λ b. device_within b (length c.pin.new.self.rows + 1) c.args.dev.birth) c.args.heap.now c.pin.new.self c.unrealize.new.heap
-    c.args.resets.now.births c.unrealize.new.resets.births c.args.hotplug.now c.unrealize.new.hotplug c.args.dev.birth c.shown.ensures.0 c.shown.ensures.1
-    pinned c.unrealize.ensures)
+    c.unrealize.ensures.pins
 
 pub drop_pin-requires-clause-live : goal.drop_pin-requires-clause-live
 drop_pin-requires-clause-live g c =
@@ -40,9 +36,7 @@ drop_pin-requires-clause-live g c =
     taken-live (taken_within c.live-levels.result c.args.dev.birth) c.unrealize.new.heap c.take_out.new.heap c.take_out.ensures
     (takes-taken_within c.live-levels.result c.args.dev.birth) c.args.dev
     (c.unrealize.ensures.live c.args.dev (pin-live c.args.heap.now c.pin.new.self c.args.dev.birth c.pin.ensures.now c.args.dev c.requires.live))
-    (unrealized-pinned (λ b. device_within b (length c.pin.new.self.rows + 1) c.args.dev.birth) c.args.heap.now c.pin.new.self c.unrealize.new.heap
-    c.args.resets.now.births c.unrealize.new.resets.births c.args.hotplug.now c.unrealize.new.hotplug c.args.dev.birth c.shown.ensures.0 c.shown.ensures.1
-    pinned c.unrealize.ensures)
+    (unrealized-pinned c.args.heap.now c.pin.new.self c.unrealize.new.heap c.args.dev.birth pinned c.unrealize.ensures.pins)
 
 pub drop_pin-requires-clause-pinned : goal.drop_pin-requires-clause-pinned
 drop_pin-requires-clause-pinned g c =
@@ -50,16 +44,14 @@ drop_pin-requires-clause-pinned g c =
     pinned-of c.take_out.new.heap c.facts-2.ensures c.args.dev.birth
     (taken-pinned (taken_within c.live-levels.result c.args.dev.birth) c.unrealize.new.heap c.take_out.new.heap c.take_out.ensures
     (takes-taken_within c.live-levels.result c.args.dev.birth) c.args.dev.birth
-    (unrealized-pinned (λ b. device_within b (length c.pin.new.self.rows + 1) c.args.dev.birth) c.args.heap.now c.pin.new.self c.unrealize.new.heap
-    c.args.resets.now.births c.unrealize.new.resets.births c.args.hotplug.now c.unrealize.new.hotplug c.args.dev.birth c.shown.ensures.0 c.shown.ensures.1
-    pinned c.unrealize.ensures))
+    (unrealized-pinned c.args.heap.now c.pin.new.self c.unrealize.new.heap c.args.dev.birth pinned c.unrealize.ensures.pins))
 
 pub returns-clause-shown : goal.returns-clause-shown
-returns-clause-shown g c = λ b beside.
+returns-clause-shown g c = λ b tree clocks beside.
     let pinned = goes-pin c.args.heap.now c.pin.new.self c.facts.ensures c.args.dev c.requires.live c.pin.ensures.now in
     beside-detached c.args.heap.now c.pin.new.self c.unrealize.new.heap c.take_out.new.heap c.drop_pin.new.heap c.args.resets.now.births
     c.unrealize.new.resets.births c.args.hotplug.now c.unrealize.new.hotplug c.args.dev.birth c.live-levels.result c.live-levels.ensures c.pin.ensures.now
-    pinned c.unrealize.ensures c.take_out.ensures c.drop_pin.ensures.goes b beside
+    pinned c.unrealize.ensures c.take_out.ensures c.drop_pin.ensures.goes b tree clocks beside
 
 pub returns-clause-book : goal.returns-clause-book
 returns-clause-book g c =
@@ -79,13 +71,11 @@ returns-clause-pins g c =
     let pinned = goes-pin c.args.heap.now c.pin.new.self c.facts.ensures c.args.dev c.requires.live c.pin.ensures.now in
     pins-detached c.args.heap.now c.pin.new.self c.unrealize.new.heap c.take_out.new.heap c.drop_pin.new.heap c.facts.ensures c.args.dev.birth
     c.live-levels.result pinned
-    (unrealized-pins (λ b. device_within b (length c.pin.new.self.rows + 1) c.args.dev.birth) c.args.heap.now c.pin.new.self c.unrealize.new.heap
-    c.args.resets.now.births c.unrealize.new.resets.births c.args.hotplug.now c.unrealize.new.hotplug c.args.dev.birth c.shown.ensures.0 c.shown.ensures.1
-    pinned c.unrealize.ensures)
+    c.unrealize.ensures.pins
     c.take_out.ensures c.drop_pin.ensures.goes
 
-pub returns-clause-still : goal.returns-clause-still
-returns-clause-still g c =
-    timerless-detached (λ b. device_within b (length c.pin.new.self.rows + 1) c.args.dev.birth) c.args.heap.now c.pin.new.self c.unrealize.new.heap
+pub returns-clause-timely : goal.returns-clause-timely
+returns-clause-timely g c =
+    timely-detached (λ b. device_within b (length c.pin.new.self.rows + 1) c.args.dev.birth) c.args.heap.now c.pin.new.self c.unrealize.new.heap
     c.take_out.new.heap c.drop_pin.new.heap c.args.resets.now.births c.unrealize.new.resets.births c.args.hotplug.now c.unrealize.new.hotplug
-    c.args.dev.birth c.live-levels.result c.pin.ensures.now c.unrealize.ensures c.take_out.ensures c.drop_pin.ensures.goes c.requires.still
+    c.args.dev.birth c.live-levels.result c.pin.ensures.now c.unrealize.ensures c.take_out.ensures c.drop_pin.ensures.goes c.requires.timely

@@ -1,10 +1,11 @@
--- Without timers an act needs no moment and no period.
+-- No timer is ahead of the time, so it may stop.
+use Rattle.qo_values.specs.declared.kinds.Act.TheVariants.{Unrealize}
+use Rattle.qo_clocks.proofs.SpreadLemmas.{may-act}
 use Rattle.qo_unplug.proofs.EndingLemmas.{undoes-act}
-use Rattle.qo_unplug.proofs.TimerLemmas.{may-act}
 use Rattle.qo_unplug.proofs.ending.act.Goals as goal
 
 pub act-requires-clause-timely : goal.act-requires-clause-timely
-act-requires-clause-timely g c = may-act c.args.heap.now c.args.o.birth c.requires.still
+act-requires-clause-timely g c = may-act Unrealize c.args.heap.now c.args.o.birth c.requires.timely
 
 pub returns : goal.returns
-returns g c = λ period held asked. undoes-act c.args.heap.now c.act.new.self c.args.o.birth c.requires.still c.act.ensures period held asked
+returns g c = λ held asked. undoes-act c.args.heap.now c.act.new.self c.args.o.birth c.args.period c.act.ensures held asked

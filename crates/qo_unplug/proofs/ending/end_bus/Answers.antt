@@ -11,5 +11,5 @@ returns g c = λ asked.
     let n = c.args.bus.birth in
     let held = c.args.resets.now.births in
     undoes-then (λ _ d. acted Unrealize n 0 d) (λ _. unheld n) (parts c.args.heap.now held asked) (parts c.act.new.heap held asked)
-    (parts c.act.new.heap c.gone.new.self.births asked) (c.act.ensures 0 held asked)
+    (parts c.act.new.heap c.gone.new.self.births asked) (c.act.ensures held asked)
     (undoes-unheld n c.act.new.heap held c.gone.new.self.births asked c.gone.ensures.holds)

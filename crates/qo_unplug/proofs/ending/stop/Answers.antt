@@ -7,15 +7,15 @@ use Rattle.qo_unplug.proofs.UndoesLemmas.{undoes-none}
 use Rattle.qo_unplug.proofs.ending.stop.Goals as goal
 
 pub disconnect-requires : goal.disconnect-requires
-disconnect-requires g c = (c.act.ensures 0 [] nothing_asked).live c.in-Some.clock c.in-Some.ensures.live
+disconnect-requires g c = (c.act.ensures [] nothing_asked).live c.in-Some.clock c.in-Some.ensures.live
 
 pub returns-in-Some : goal.returns-in-Some
 returns-in-Some g c = λ held asked.
     undoes-stop (parts c.args.heap.now held asked) (parts c.act.new.heap held asked) (parts c.disconnect.new.heap held asked) c.args.dev.birth
-    (Some c.in-Some.clock) (λ b s. c.in-Some.ensures.clock b s) (λ period. c.act.ensures period held asked)
+    c.device_period-period.result (Some c.in-Some.clock) (λ b s. c.in-Some.ensures.clock b s) c.device_period-period.ensures (c.act.ensures held asked)
     (undoes-disconnected c.act.new.heap c.disconnect.new.heap c.in-Some.clock.birth (λ b s. c.disconnect.ensures.shown b s) c.disconnect.ensures.now held asked)
 
 pub returns-in_default : goal.returns-in_default
 returns-in_default g c = λ held asked.
-    undoes-stop (parts c.args.heap.now held asked) (parts c.act.new.heap held asked) (parts c.act.new.heap held asked) c.args.dev.birth None
-    (λ b s. c.in_default.ensures.clock b s) (λ period. c.act.ensures period held asked) (undoes-none (parts c.act.new.heap held asked))
+    undoes-stop (parts c.args.heap.now held asked) (parts c.act.new.heap held asked) (parts c.act.new.heap held asked) c.args.dev.birth
+    c.device_period-period.result None (λ b s. c.in_default.ensures.clock b s) c.device_period-period.ensures (c.act.ensures held asked) (undoes-none (parts c.act.new.heap held asked))
