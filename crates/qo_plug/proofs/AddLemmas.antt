@@ -4,7 +4,6 @@ use Rattle.std.specs.List.{AllByRecursion}
 use Rattle.std.proofs.lemmas.Bool.Decides.{nat_tests}
 use Rattle.std.proofs.lemmas.Option.{same_Some}
 use Rattle.qo_values.specs.declared.kinds.TypeId.{TypeId}
-use Rattle.qo_values.specs.declared.kinds.TypeId.TheVariants.{SlotBridge}
 use Rattle.qo_model.specs.Board.{Board, Record, kind_of}
 use Rattle.qo_slots.specs.declared.keys.Key.{Key}
 use Rattle.qo_table.specs.Rows.{IsLive}
@@ -34,17 +33,14 @@ use Rattle.qo_plug.specs.Adding.{IsAdded, IsCut, IsOpen, IsPlugged, IsRefused, t
 use Rattle.qo_plug.specs.Drafts.{CutShort, held_draft}
 use Rattle.qo_plug.specs.Standing.{Stood, spot_in}
 use Rattle.qo_plug.proofs.AdmitLemmas.{added-late}
-use Rattle.qo_plug.proofs.JudgeLemmas.{built-is, late-given}
+use Rattle.qo_plug.proofs.JudgeLemmas.{built-by, late-given}
 use Rattle.qo_plug.proofs.PlugSteps.{counted-path, cut-whole, let-go, plugged-notices, plugged-pending, seat-holds, seat-notices, seated}
 use Rattle.qo_plug.proofs.StartBuses.{plugged-buses}
 
--- a bridge is a device
-bridge-device : is_a SlotBridge (codes "device") ≡ true
-unfolding types
-bridge-device = refl
-
+-- what is built is a device
 pub built-device : (t : TypeId) → is_built t ≡ true → is_a t (codes "device") ≡ true
-built-device t built = ap (λ (k : TypeId). is_a k (codes "device")) (sym (built-is t built)) ∙ bridge-device
+unfolding types
+built-device t built = built-by (λ k. is_a k (codes "device") ≡ true) refl refl t built
 
 -- all of it was made, and ended
 pub whole-cut : (b : Board) (t : TypeId) (bus : ℕ) (w : Objects) → Shows (plug_attempt b t bus 0) w → CutShort b t w

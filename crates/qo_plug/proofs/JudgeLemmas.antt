@@ -7,12 +7,14 @@ use Rattle.qo_values.specs.Placing.{least}
 use Rattle.qo_values.specs.declared.codes.Code.{Code}
 use Rattle.qo_values.specs.declared.codes.Code.TheVariants.{E28, E29, E30, E44}
 use Rattle.qo_values.specs.declared.kinds.TypeId.{TypeId}
-use Rattle.qo_values.specs.declared.kinds.TypeId.TheVariants.{SlotBridge}
+use Rattle.qo_values.specs.declared.kinds.TypeId.TheVariants.{SlotBridge, SlotTimer}
 use Rattle.qo_values.specs.declared.limits.TheConstants.{BUS_SLOTS, NOTICES_MAX}
+use Rattle.qo_values.specs.declared.ranges.Range.{Range}
 use Rattle.qo_model.specs.Board.{Board}
 use Rattle.qo_model.specs.Devices.{kid_name}
 use Rattle.qo_model.specs.Objects.{Given, has_slot, refusal_of}
-use Rattle.qo_model.specs.Plug.{Spot, at_stage, barred_late, first_of, is_free, kind_barred, notice_barred, number_for, place_barred, realize_barred, slot_for, spot_of}
+use Rattle.qo_model.specs.Plug.{at_stage, barred_late, first_of, is_free, kind_barred, notice_barred, number_for, ok_or_zero, place_barred, range_of}
+use Rattle.qo_model.specs.Plug.{realize_barred, slot_for, spot_of}
 use Rattle.qo_properties.specs.Changes.{refusal_in}
 use Rattle.qo_plug.specs.Added.{is_built}
 use Rattle.qo_plug.specs.Standing.{spot_in}
@@ -30,6 +32,19 @@ least-passes test first (suc n) k e = go (test first) refl (least-passes test (f
 flipped : (t : Bool) → not t ≡ true → t ≡ false
 flipped true e = absurd (let clash : false ≡ true = e in cc)
 flipped false e = refl
+
+-- timers and bridges alone are built
+pub built-by : (P : TypeId → Type 0) → P SlotTimer → P SlotBridge → (t : TypeId) → is_built t ≡ true → P t
+built-by P timer bridge SlotTimer e = timer
+built-by P timer bridge SlotBridge e = bridge
+built-by P timer bridge t e = absurd (let clash : false ≡ true = e in cc)
+
+-- no range of memory is theirs, and no ring
+built-range : (b : Board) (t : TypeId) → is_built t ≡ true → (props : List Given) → range_of b t props ≡ None
+built-range b t built props = built-by (λ k. range_of b k props ≡ None) refl refl t built
+
+built-ring : (b : Board) (t : TypeId) → is_built t ≡ true → (props : List Given) → realize_barred b t props ≡ None
+built-ring b t built props = built-by (λ k. realize_barred b k props ≡ None) refl refl t built
 
 module _ (b : Board) (bus : ℕ) where
   pub least-free : (slot : ℕ) → Some slot ≡ least (is_free b bus) 0 BUS_SLOTS → has_slot b bus (kid_name slot) ≡ false
@@ -51,25 +66,24 @@ module _ (b : Board) (bus : ℕ) where
   pub slot-least : (o : Option ℕ) → o ≡ least (is_free b bus) 0 BUS_SLOTS → slot_for b bus None ≡ (elim o as (λ _. Result ℕ Code) [ None ↦ Err E30 | Some slot ↦ Ok slot ])
   slot-least o e = ap (λ (p : Option ℕ). elim p as (λ _. Result ℕ Code) [ None ↦ Err E30 | Some slot ↦ Ok slot ]) (sym e)
 
-  -- the place of a bridge
-  module _ (props : List Given) where
+  -- the place of a device of a type that is built
+  module _ (t : TypeId) (props : List Given) where
     abbrev asked : Option ℕ
     asked = number_for props (codes "slot")
 
     abbrev place_as : Result ℕ Code → Option Code → Option Code
-    place_as slot deep = option_or (elim slot as (λ _. Option Code) [ Ok s ↦ None | Err code ↦ Some code ]) deep
+    place_as slot kind = option_or (elim slot as (λ _. Option Code) [ Ok s ↦ None | Err code ↦ Some code ]) kind
 
-    pub place-slot : (code : Code) → slot_for b bus asked ≡ Err code → Some code ≡ place_barred b SlotBridge bus props
-    place-slot code e = sym (ap (λ (r : Result ℕ Code). place_as r (kind_barred b SlotBridge bus props)) e)
+    pub place-slot : (code : Code) → slot_for b bus asked ≡ Err code → Some code ≡ place_barred b t bus props
+    place-slot code e = sym (ap (λ (r : Result ℕ Code). place_as r (kind_barred b t bus props)) e)
 
-    pub place-depth : (slot : ℕ) (o : Option Code) → slot_for b bus asked ≡ Ok slot → o ≡ kind_barred b SlotBridge bus props → o ≡ place_barred b SlotBridge bus props
-    place-depth slot o e deep = deep ∙ sym (ap (λ (r : Result ℕ Code). place_as r (kind_barred b SlotBridge bus props)) e)
+    pub place-kind : (slot : ℕ) (o : Option Code) → slot_for b bus asked ≡ Ok slot → o ≡ kind_barred b t bus props → o ≡ place_barred b t bus props
+    place-kind slot o e barred = barred ∙ sym (ap (λ (r : Result ℕ Code). place_as r (kind_barred b t bus props)) e)
 
-    abbrev spot_as : ℕ → Spot
-    spot_as s = record { bus = bus; slot = s; range = None }
-
-    pub spot-is : (slot : ℕ) → slot_for b bus asked ≡ Ok slot → spot_of b SlotBridge bus props ≡ record { bus = bus; slot = slot; range = None }
-    spot-is slot e = ap (λ (r : Result ℕ Code). spot_as (elim r as (λ _. ℕ) [ Ok s ↦ s | Err code ↦ 0 ])) e
+    pub spot-is : is_built t ≡ true → (slot : ℕ) → slot_for b bus asked ≡ Ok slot → spot_of b t bus props ≡ spot_in bus slot
+    spot-is built slot e =
+        ap (λ (range : Option Range). record { bus = bus; slot = ok_or_zero (slot_for b bus asked); range = range }) (built-range b t built props)
+        ∙ ap (λ (r : Result ℕ Code). spot_in bus (ok_or_zero r)) e
 
   -- what bars a device from its properties on, in order
   module _ (t : TypeId) (props : List Given) where
@@ -82,44 +96,34 @@ module _ (b : Board) (bus : ℕ) where
     pub late-place : (code : Code) → None ≡ refusal_of b t props → Some code ≡ place_barred b t bus props → Some (5, code) ≡ barred_late b t bus props
     late-place code given e = ap₂ late_by given e
 
--- only bridges are built
-pub built-is : (t : TypeId) → is_built t ≡ true → SlotBridge ≡ t
-built-is SlotBridge e = refl
-built-is t e = absurd (let clash : false ≡ true = e in cc)
-
 -- what bars it where the notices are full, or not
 abbrev pub notice_as : Bool → Option Code
 notice_as full = if full then Some E44 else None
 
 module _ (b : Board) (bus : ℕ) (props : List Given) where
-  -- of a bridge nothing but the notices is left
-  late-bridge : (full : Bool) → None ≡ refusal_of b SlotBridge props → None ≡ place_barred b SlotBridge bus props → nat_le NOTICES_MAX (length b.notices) ≡ full
-      → barred_late b SlotBridge bus props ≡ at_stage 8 (notice_as full)
-  late-bridge full given place e =
-      sym (ap₂ (λ (o p : Option Code). first_of (at_stage 4 o ∷ at_stage 5 p ∷ at_stage 6 None ∷ at_stage 8 (notice_barred b) ∷ [])) given place)
-      ∙ ap (λ (u : Bool). first_of (at_stage 8 (notice_as u) ∷ [])) e ∙ alone (notice_as full)
+  -- of a device that is built nothing but the notices is left
+  pub late-notices : (t : TypeId) → is_built t ≡ true → (full : Bool) → None ≡ refusal_of b t props → None ≡ place_barred b t bus props
+      → nat_le NOTICES_MAX (length b.notices) ≡ full → barred_late b t bus props ≡ at_stage 8 (notice_as full)
+  late-notices t built full given place e =
+      sym (ap₂ (λ (o p : Option Code). late_by o p (realize_barred b t props) (notice_barred b)) given place)
+      ∙ ap (λ (o : Option Code). late_by None None o (notice_barred b)) (built-ring b t built props)
+      ∙ ap (λ (u : Bool). late_by None None None (notice_as u)) e
+      ∙ alone (notice_as full)
     where
+      late_by : Option Code → Option Code → Option Code → Option Code → Option (ℕ × Code)
+      late_by given place ring notices = first_of (at_stage 4 given ∷ at_stage 5 place ∷ at_stage 6 ring ∷ at_stage 8 notices ∷ [])
+
       alone : (o : Option Code) → first_of (at_stage 8 o ∷ []) ≡ at_stage 8 o
       alone None = refl
       alone (Some code) = refl
 
-  abbrev LateBy : Bool → TypeId → Type 0
-  LateBy full t =
-      None ≡ refusal_of b t props → None ≡ place_barred b t bus props → nat_le NOTICES_MAX (length b.notices) ≡ full
-      → barred_late b t bus props ≡ at_stage 8 (notice_as full)
-
-  pub late-notices : (t : TypeId) → is_built t ≡ true → (full : Bool) → LateBy full t
-  late-notices t built full given place e = subst (LateBy full) (built-is t built) (late-bridge full) given place e
-
-  -- what was learnt of the place of a bridge is so of a device that is built
-  pub place-learnt : (t : TypeId) → is_built t ≡ true → (given : List Given) → given ≡ props → (r : Result ℕ Code)
-      → refusal_in r ≡ place_barred b SlotBridge bus props
+  -- what was learnt of the place of a device by the properties that are its own
+  pub place-learnt : (t : TypeId) (given : List Given) → given ≡ props → (r : Result ℕ Code)
+      → refusal_in r ≡ place_barred b t bus props
       → refusal_in r ≡ place_barred b t bus given
-  place-learnt t built given same r e = e ∙ ap₂ (λ (k : TypeId) (l : List Given). place_barred b k bus l) (built-is t built) (sym same)
+  place-learnt t given same r e = e ∙ ap (λ (l : List Given). place_barred b t bus l) (sym same)
 
-  pub spot-learnt : (t : TypeId) → is_built t ≡ true → (given : List Given) → given ≡ props → (r : Result ℕ Code)
-      → IfOk r (λ slot. spot_of b SlotBridge bus props ≡ spot_in bus slot)
+  pub spot-learnt : (t : TypeId) (given : List Given) → given ≡ props → (r : Result ℕ Code)
+      → IfOk r (λ slot. spot_of b t bus props ≡ spot_in bus slot)
       → IfOk r (λ slot. spot_of b t bus given ≡ spot_in bus slot)
-  spot-learnt t built given same r h =
-      let its : spot_of b SlotBridge bus props ≡ spot_of b t bus given = ap₂ (λ (k : TypeId) (l : List Given). spot_of b k bus l) (built-is t built) (sym same) in
-      subst (λ (spot : Spot). IfOk r (λ slot. spot ≡ spot_in bus slot)) its h
+  spot-learnt t given same r h = subst (λ (l : List Given). IfOk r (λ slot. spot_of b t bus l ≡ spot_in bus slot)) (sym same) h

@@ -4,7 +4,7 @@ use Rattle.std.specs.Option.{option_or}
 use Rattle.qo_values.specs.declared.codes.Code.{Code}
 use Rattle.qo_values.specs.declared.codes.Code.TheVariants.{E22}
 use Rattle.qo_values.specs.declared.kinds.TypeId.{TypeId}
-use Rattle.qo_values.specs.declared.kinds.TypeId.TheVariants.{SlotBridge}
+use Rattle.qo_values.specs.declared.kinds.TypeId.TheVariants.{SlotTimer, SlotBridge}
 use Rattle.qo_model.specs.Board.{Board}
 use Rattle.qo_model.specs.Objects.{Given}
 use Rattle.qo_model.specs.Plug.{Plugged, Wanted, barred_early, bus_for, name_for, parent_for, plug, type_barred}
@@ -17,6 +17,7 @@ use Rattle.qo_plug.specs.declared.refusals.Barred.{Barred}
 
 -- the devices that are built
 abbrev pub is_built : TypeId → Bool
+is_built SlotTimer = true
 is_built SlotBridge = true
 is_built t = false
 

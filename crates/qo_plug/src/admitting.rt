@@ -47,7 +47,7 @@ pub struct Site {
 pub(crate) fn is_built(kind: TypeId) -> bool
     ensures { result ≡ is_built kind }
 {
-    matches!(kind, TypeId::SlotBridge)
+    matches!(kind, TypeId::SlotTimer | TypeId::SlotBridge)
 }
 
 /// The type of a name, where it is one of devices that are built. `E20` comes where no type has the

@@ -17,7 +17,7 @@ ghost use Rattle.qo_plug.specs.Stages.{IsBegun, IsHeld};
 
 use crate::admitting::{Site, admit};
 use crate::drafting::{give_up, make_device};
-use crate::judging::bridge_slot;
+use crate::judging::device_slot;
 use crate::refusals::AddRefusal;
 use qo_heap::{Heap, Oid, Steps};
 use qo_hotplug::Hotplug;
@@ -82,7 +82,7 @@ fn make<L: Ledger>(
     ensures book { KeepsBook heap.old heap.new }
 {
     heap.facts();
-    let slot = bridge_slot(heap, site.bus, props, steps);
+    let slot = device_slot(heap, site.kind, site.bus, props, steps);
     let out = resets.count(heap, site.bus, steps) == 0;
     let plan = plan_of(heap, site.kind, props, alloc, steps)?;
     let device = make_device(heap, site.kind, alloc, steps)?;

@@ -1,6 +1,6 @@
 //! What bars a device in its place: its slot, and the depth of a bridge.
 
-ghost use Rattle.std.specs.Prelude.{◌≡◌, ◌<◌, List, false, codes, None, Some, IfOk};
+ghost use Rattle.std.specs.Prelude.{◌≡◌, ◌<◌, List, true, false, codes, None, Some, IfOk};
 ghost use Rattle.qo_values.specs.declared.kinds.TypeId.TheVariants.{SlotBridge};
 ghost use Rattle.qo_values.specs.declared.limits.TheConstants.{BUS_SLOTS};
 ghost use Rattle.qo_model.specs.Board.{Board};
@@ -11,11 +11,13 @@ ghost use Rattle.qo_model.specs.Objects.{Given};
 ghost use Rattle.qo_table.specs.Rows.{IsLive};
 ghost use Rattle.qo_heap.specs.Board.{Shows};
 ghost use Rattle.qo_properties.specs.Changes.{refusal_in};
+ghost use Rattle.qo_plug.specs.Added.{is_built};
+ghost use Rattle.qo_plug.specs.Standing.{spot_in};
 
 use qo_buses::{depth, has_kid_slot, least_free};
 use qo_heap::{Heap, Oid, Steps};
 use qo_properties::given_val;
-use qo_values::{BUS_DEPTH_MAX, BUS_SLOTS, Code, PropList, Val};
+use qo_values::{BUS_DEPTH_MAX, BUS_SLOTS, Code, PropList, TypeId, Val};
 use std::sync::ledger::Ledger;
 
 /// The slot of its bus that is given for a device, if one is.
@@ -80,17 +82,36 @@ fn check_depth<L: Ledger>(heap: &Heap, bus: Oid, steps: &mut Steps<L>) -> Result
     }
 }
 
-/// The slot of a bus where a bridge is to go, by the properties given. `E28`, `E29` and `E30` come of
-/// the slot, then `E42` where the bridge would be too deep.
-pub(crate) fn bridge_slot<L: Ledger>(
+/// What bars a device of a type from a bus that has a slot for it: `E42` comes where a bridge would
+/// be too deep. No other device that is built has to look at how deep the bus is.
+fn check_kind<L: Ledger>(
     heap: &Heap,
+    kind: TypeId,
+    bus: Oid,
+    steps: &mut Steps<L>,
+) -> Result<(), Code>
+    requires { is_built kind ≡ true }
+    ensures { (b : Board) (props : List Given) → Shows b heap.now → refusal_in result ≡ kind_barred b kind bus.birth props }
+{
+    match kind {
+        TypeId::SlotBridge => check_depth(heap, bus, steps),
+        _ => Ok(()),
+    }
+}
+
+/// The slot of a bus where a device of a type is to go, by the properties given. `E28`, `E29` and
+/// `E30` come of the slot, then `E42` where a bridge would be too deep.
+pub(crate) fn device_slot<L: Ledger>(
+    heap: &Heap,
+    kind: TypeId,
     bus: Oid,
     props: &PropList,
     steps: &mut Steps<L>,
 ) -> Result<u8, Code>
-    requires { IsLive heap.now.rows bus }
-    ensures refused { (b : Board) → Shows b heap.now → refusal_in result ≡ place_barred b SlotBridge bus.birth props.now }
-    ensures spot { (b : Board) → Shows b heap.now → IfOk result (λ s. spot_of b SlotBridge bus.birth props.now ≡ record { bus = bus.birth; slot = s; range = None }) }
+    requires built { is_built kind ≡ true }
+    requires live { IsLive heap.now.rows bus }
+    ensures refused { (b : Board) → Shows b heap.now → refusal_in result ≡ place_barred b kind bus.birth props.now }
+    ensures spot { (b : Board) → Shows b heap.now → IfOk result (λ s. spot_of b kind bus.birth props.now ≡ spot_in bus.birth s) }
     ensures within { IfOk result (λ s. s < BUS_SLOTS) }
     ensures free { (b : Board) → Shows b heap.now → IfOk result (λ s. has_slot b bus.birth (kid_name s) ≡ false) }
 {
@@ -98,7 +119,7 @@ pub(crate) fn bridge_slot<L: Ledger>(
         Ok(slot) => slot,
         Err(code) => return Err(code),
     };
-    match check_depth(heap, bus, steps) {
+    match check_kind(heap, kind, bus, steps) {
         Ok(()) => Ok(slot),
         Err(code) => Err(code),
     }

@@ -139,7 +139,8 @@ pub undoes-set : (v w : Objects) (n : ℕ) (name : List ℕ) (value : Val) → O
     → ((key : Key) → IsLive v.rows key → IsLive w.rows key) → (held : List ℕ) (asked : Asked)
     → Undoes (λ _. set_named n name value) (parts v held asked) (parts w held asked)
 undoes-set v w n name value other goes live held asked =
-    undoes-quiet (set_named n name value) v w held asked (goes-shows (set_named n name value) v w goes) (λ c. quiet-set_named c n name value other) live goes.book
+    undoes-quiet (set_named n name value) v w held asked (goes-shows (set_named n name value) v w goes) (λ c. quiet-set_named c n name value other) live
+    goes.book
     (sym (goes.shown (tree v) empty_log (tree-shows v)).pins ∙ (quiet-set_named (tree v) n name value other).tree.pins)
     (goes-timely (set_named n name value) v w goes (λ b h. step-set SoundTimes times-edits n name value b h))
 

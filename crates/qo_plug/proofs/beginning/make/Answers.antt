@@ -24,7 +24,7 @@ returns-clause-held g c =
       container = grows.names c.args.site.place.container c.requires.container;
       bus = grows.names c.args.site.bus c.requires.bus;
       older = omega (arith, born, low);
-      slot = c.bridge_slot-slot.ensures.within;
+      slot = c.device_slot-slot.ensures.within;
       pinned = c.in_ok-device.ensures.pinned;
       rest = made.rest;
       quiet = λ n le. grows.quiet n (unborn-quiet c.args.heap.now c.facts.ensures n (omega (arith, born, le)));
@@ -36,15 +36,15 @@ pub returns-clause-begun : goal.returns-clause-begun
 returns-clause-begun g c = λ b a s sound holds admitted props given.
     let made = c.in_ok-device.ensures.made in
     let bus = c.args.site.bus.birth in
-    let slot = c.bridge_slot-slot in
+    let slot = c.device_slot-slot in
     record {
       shown = c.in_ok-device.ensures.shown b s;
       sound = sound;
       admitted = admitted;
       given = given;
       birth = made.birth ∙ sym (ap (λ (k : ℕ). k + 1) s.born);
-      barred = place-learnt b bus c.args.props.now c.args.site.kind c.requires.built a.props props slot.result (slot.ensures.refused b s);
-      spot = spot-learnt b bus c.args.props.now c.args.site.kind c.requires.built a.props props slot.result (slot.ensures.spot b s);
+      barred = place-learnt b bus c.args.props.now c.args.site.kind a.props props slot.result (slot.ensures.refused b s);
+      spot = spot-learnt b bus c.args.props.now c.args.site.kind a.props props slot.result (slot.ensures.spot b s);
       out = cut-none c.count-out.result (count b c.args.site.bus.birth) (c.count-out.ensures b (s, holds));
       plan = subst (λ (slots : List Named). AllZip (IsGiven b a.props) c.in_ok-plan.plan.items slots) (sym made.own)
           (subst (λ (l : List Given). AllZip (IsGiven b l) c.in_ok-plan.plan.items (new_slots c.args.site.kind)) (sym props) (c.in_ok-plan.ensures.told b s));

@@ -18,4 +18,5 @@ returns-in-Some g c = λ held asked.
 pub returns-in_default : goal.returns-in_default
 returns-in_default g c = λ held asked.
     undoes-stop (parts c.args.heap.now held asked) (parts c.act.new.heap held asked) (parts c.act.new.heap held asked) c.args.dev.birth
-    c.device_period-period.result None (λ b s. c.in_default.ensures.clock b s) c.device_period-period.ensures (c.act.ensures held asked) (undoes-none (parts c.act.new.heap held asked))
+    c.device_period-period.result None (λ b s. c.in_default.ensures.clock b s) c.device_period-period.ensures (c.act.ensures held asked)
+    (undoes-none (parts c.act.new.heap held asked))
