@@ -1,47 +1,35 @@
 -- What stands where the guest lets a device go.
-use Rattle.std.proofs.Common.{◌≡◌, ◌≤◌, refl, ap, ap₂, sym, ◌∙◌, ℕ, Bool, true, false, ◌||◌, List, [], ◌∷◌, length, arith}
-use Rattle.std.specs.List.{AllByRecursion, list_any}
+use Rattle.std.proofs.Common.{◌≡◌, ◌≤◌, refl, ap, ◌∙◌, ℕ, Bool, true, false, List, [], ◌∷◌, length, arith}
 use Rattle.std.specs.Option.{option_map_or}
 use Rattle.std.specs.Prelude.{replicate, ◌++◌, ◌+◌, ◌==◌, zero, suc}
-use Rattle.qo_values.specs.Registers.{Registers, uart, timer, dimm, bridge, bare}
 use Rattle.qo_slots.specs.declared.keys.Key.{Key}
 use Rattle.qo_table.specs.Rows.{object_at}
 use Rattle.qo_object.specs.Content.{Content}
 use Rattle.qo_hotplug.specs.Asked.{Asked}
-use Rattle.qo_model.specs.Board.{Board, Record}
+use Rattle.qo_model.specs.Board.{Board}
 use Rattle.qo_model.specs.Depth.{among}
 use Rattle.qo_model.specs.Hotplug.{completed}
 use Rattle.qo_model.specs.Unplug.{detach}
 use Rattle.qo_heap.specs.Board.{pins_in}
 use Rattle.qo_heap.specs.Objects.{Objects, pins_of}
+use Rattle.qo_heap.specs.Timely.{Timely}
 use Rattle.qo_properties.specs.Claims.{KeepsBook}
 use Rattle.qo_properties.specs.Pinned.{OnlyRootPinned}
 use Rattle.qo_reset.specs.HoldList.{HoldList}
 use Rattle.qo_sound.specs.DevicesStay.{DetachLeaves}
-use Rattle.qo_sound.specs.Timerless as boards
+use Rattle.qo_sound.specs.Kept.{SoundTree}
 use Rattle.qo_sound.proofs.DevicesStayLemmas.{devices_stay_lem}
+use Rattle.qo_sound_clocks.specs.SoundClocks.{SoundClocks}
 use Rattle.qo_unplug.specs.Beside.{Beside}
-use Rattle.qo_unplug.specs.Timerless.{Timerless}
-use Rattle.qo_unplug.proofs.TimerLemmas.{timed, timer_in, untimed-shows}
+use Rattle.qo_unplug.proofs.TimelyLemmas.{times-timely}
 use Rattle.qo_realize.specs.Good.{Good}
 use Rattle.qo_realize.specs.Parts.{Parts, parts_of}
 use Rattle.qo_realize.specs.Stands.{Stands, StandsForGood}
 use Rattle.qo_realize.proofs.SoundLemmas.{completed-good, root-pinned}
 
--- no timer on the board is none on the heap
-same-timer : (r : Registers) → boards.is_timer r ≡ timer_in r
-same-timer (uart r) = refl
-same-timer (timer r) = refl
-same-timer (dimm r) = refl
-same-timer (bridge r) = refl
-same-timer bare = refl
-
-none-timed : (rs : List Record) → AllByRecursion (λ (r : Record). boards.is_timer r.registers ≡ false) rs → list_any timed rs ≡ false
-none-timed [] h = refl
-none-timed (r ∷ rs) h = ap₂ (λ (s t : Bool). s || t) (sym (same-timer r.registers) ∙ h.0) (none-timed rs h.1)
-
-pub timerless-heap : (p : Parts) → StandsForGood p → Timerless p.objects
-timerless-heap p (b, s, good) = untimed-shows b p.objects s.shows (none-timed b.records good.timerless)
+-- no timer of the heap is ahead of its time
+pub timely-heap : (p : Parts) → StandsForGood p → Timely p.objects
+timely-heap p (b, s, good) = times-timely b p.objects s.shows good.times
 
 -- each object is pinned once at most
 length-more : (k m : ℕ) (xs : List ℕ) → length (replicate k m ++ xs) ≡ k + length xs
@@ -84,9 +72,11 @@ completed-stands b n anonymous running held holds old new v w s beside keeps =
     }
 
 pub completed-sound : (n anonymous : ℕ) (running : Bool) (held holds : HoldList) (old new : Asked) (v w : Objects)
-    → among old.pending n ≡ true → StandsForGood (parts_of anonymous running held old v) → ((b : Board) → Beside b v held.births old → Beside (detach b n) w holds.births new) → KeepsBook v w
+    → among old.pending n ≡ true → StandsForGood (parts_of anonymous running held old v)
+    → ((b : Board) → SoundTree b → SoundClocks b → Beside b v held.births old → Beside (detach b n) w holds.births new) → KeepsBook v w
     → OnlyRootPinned w × StandsForGood (parts_of anonymous running holds new w)
 completed-sound n anonymous running held holds old new v w pending (b, s, good) detaches keeps =
     let behind : Good (completed b n) = completed-good b n (ap (λ (ns : List ℕ). among ns n) s.pending ∙ pending) good in
-    let stands : Stands (completed b n) (parts_of anonymous running holds new w) = completed-stands b n anonymous running held holds old new v w s (detaches b (is_beside b anonymous running held old v s)) keeps in
+    let stands : Stands (completed b n) (parts_of anonymous running holds new w) = completed-stands b n anonymous running held holds old new v w s
+    (detaches b good.devices.tree good.clocks (is_beside b anonymous running held old v s)) keeps in
     (root-pinned (completed b n) (parts_of anonymous running holds new w) stands behind, (completed b n, stands, behind))

@@ -1,12 +1,8 @@
 -- The board that stands is good behind each call.
 use Rattle.std.proofs.Common.{◌≡◌, ◌≤◌, arith, refl, ap, sym, subst, ◌∙◌, ℕ, Bool, true, false, List, [], ◌∷◌, drop, Option, None, Some, Result, Ok, Err, if◌then◌else◌}
 use Rattle.std.specs.Option.{option_map_or}
-use Rattle.std.proofs.lemmas.Bool.{true≢false}
-use Rattle.qo_values.specs.Registers.{fresh_registers}
 use Rattle.qo_values.specs.declared.codes.Code.{Code}
-use Rattle.qo_values.specs.declared.codes.Code.TheVariants.{E22}
 use Rattle.qo_values.specs.declared.kinds.TypeId.{TypeId}
-use Rattle.qo_values.specs.declared.kinds.TypeId.TheVariants as type
 use Rattle.qo_values.specs.declared.properties.Val.{Val}
 use Rattle.qo_model.specs.Access.{write_at}
 use Rattle.qo_model.specs.Board.{Board, Notice}
@@ -15,17 +11,15 @@ use Rattle.qo_model.specs.FinalNotesRuns.{Change, behind_write, changed, wrote}
 use Rattle.qo_model.specs.Hotplug.{asked, completed, refused}
 use Rattle.qo_model.specs.Objects.{attempted_as, barred_by, with_attempt}
 use Rattle.qo_model.specs.Opening.{opening_board}
-use Rattle.qo_model.specs.Plug.{Plugged, Wanted, barred_early, cut_attempt, objects_in, plug, plug_attempt, type_barred}
+use Rattle.qo_model.specs.Plug.{Plugged, Wanted, barred_early, cut_attempt, objects_in, plug, plug_attempt}
 use Rattle.qo_model.specs.Properties.{object_at, write}
 use Rattle.qo_model.specs.Reset.{held, pulse, released}
 use Rattle.qo_model.specs.SoundGraph.{graph_of}
 use Rattle.qo_model.specs.Types.{TypeRow, row_named}
-use Rattle.qo_plug.specs.Added.{added, driver_barred, is_built, unbuilt}
+use Rattle.qo_plug.specs.Added.{added, driver_barred}
 use Rattle.qo_plug.specs.Cuts.{cut_as, cut_of, cut_open}
 use Rattle.qo_plug.proofs.PlugSteps.{cut-whole}
 use Rattle.qo_properties.specs.Pinned.{OnlyRootPinned}
-use Rattle.qo_sound.specs.Timerless.{is_timer, makes_timer}
-use Rattle.qo_sound.proofs.TimerlessLemmas.{timerless_kept_lem}
 use Rattle.qo_sound_devices.specs.SoundDevices.{SoundDevices}
 use Rattle.qo_sound_devices.specs.SoundLists.{IsOn}
 use Rattle.qo_sound_devices.proofs.DevicesLawLemmas.{devices_kept_lem}
@@ -50,7 +44,6 @@ changed-good b change h =
       clocks = clocks_kept_lem.change b change h.devices.tree h.clocks;
       numbers = numbers_kept_lem.change b change h.devices.tree h.numbers;
       times = times_kept_lem.change b change h.times;
-      timerless = timerless_kept_lem.change b change h.timerless;
     }
 
 -- a value that was written
@@ -71,7 +64,6 @@ attempt-good b t h =
       clocks = clocks_kept_lem.attempt b t h.clocks;
       numbers = numbers_kept_lem.beside b (with_attempt b t) refl h.numbers;
       times = times_kept_lem.attempt b t h.times;
-      timerless = timerless_kept_lem.attempt b t h.timerless;
     }
 
 pub attempted-good : (b : Board) (driver id : List ℕ) → Good b → Good (attempted_as b driver id)
@@ -91,7 +83,6 @@ good-alike b c records born anonymous pins pending notices on h =
       clocks = clocks_kept_lem.beside b c records h.clocks;
       numbers = numbers_kept_lem.beside b c records h.numbers;
       times = times_kept_lem.beside b c records on h.times;
-      timerless = timerless_kept_lem.same b c records h.timerless;
     }
 
 -- the events are no matter to it
@@ -106,7 +97,6 @@ asked-good b id h =
       clocks = clocks_kept_lem.asked_for b id h.clocks;
       numbers = numbers_kept_lem.asked_for b id h.numbers;
       times = times_kept_lem.asked_for b id h.times;
-      timerless = timerless_kept_lem.asked_for b id h.timerless;
     }
 
 -- time that goes on, and a machine that runs or stands still
@@ -123,7 +113,6 @@ refused-good b n h =
       clocks = clocks_kept_lem.refused_by b n h.clocks;
       numbers = numbers_kept_lem.beside b (refused b n) refl h.numbers;
       times = times_kept_lem.refused_by b n h.times;
-      timerless = timerless_kept_lem.refused_by b n h.timerless;
     }
 
 pub polled-devices : (b : Board) → SoundDevices b → SoundDevices (polled b)
@@ -141,7 +130,6 @@ polled-good b h =
       clocks = clocks_kept_lem.beside b (polled b) refl h.clocks;
       numbers = numbers_kept_lem.beside b (polled b) refl h.numbers;
       times = times_kept_lem.beside b (polled b) refl (omega arith) h.times;
-      timerless = timerless_kept_lem.same b (polled b) refl h.timerless;
     }
 
 -- the beginning
@@ -152,59 +140,21 @@ opening-good =
       clocks = clocks_kept_lem.opening;
       numbers = numbers_kept_lem.opening;
       times = times_kept_lem.opening;
-      timerless = timerless_kept_lem.opening;
     }
-
--- a device that is built is no timer
-built-timerless : (t : TypeId) → is_built t ≡ true → is_timer (fresh_registers t) ≡ false
-built-timerless type.SlotBridge is = refl
-built-timerless type.Object is = absurd (true≢false (sym is))
-built-timerless type.Container is = absurd (true≢false (sym is))
-built-timerless type.Machine is = absurd (true≢false (sym is))
-built-timerless type.Device is = absurd (true≢false (sym is))
-built-timerless type.SlotDevice is = absurd (true≢false (sym is))
-built-timerless type.SlotUart is = absurd (true≢false (sym is))
-built-timerless type.SlotTimer is = absurd (true≢false (sym is))
-built-timerless type.MemDimm is = absurd (true≢false (sym is))
-built-timerless type.Bus is = absurd (true≢false (sym is))
-built-timerless type.SlotBus is = absurd (true≢false (sym is))
-built-timerless type.MemBus is = absurd (true≢false (sym is))
-built-timerless type.Clock is = absurd (true≢false (sym is))
-built-timerless type.MemoryBackend is = absurd (true≢false (sym is))
-built-timerless type.MemoryBackendRam is = absurd (true≢false (sym is))
-built-timerless type.Tag is = absurd (true≢false (sym is))
-
-row-built : (t : TypeId) → (if is_built t then None else Some E22) ≡ None → is_built t ≡ true
-row-built t e = go (is_built t) refl
-  where
-    go : (u : Bool) → is_built t ≡ u → is_built t ≡ true
-    go true is = is
-    go false is = absurd (let clash : Some E22 ≡ None = rw is at e in cc)
-
-no-timer : (driver : List ℕ) → driver_barred driver ≡ None → makes_timer driver ≡ false
-no-timer driver e = go (type_barred driver) (row_named driver) refl refl
-  where
-    go : (bar : Option Code) (row : Option TypeRow) → type_barred driver ≡ bar → row_named driver ≡ row → makes_timer driver ≡ false
-    go (Some code) row is named = absurd (let clash : Some code ≡ None = rw is at e in cc)
-    go None None is named = rw named refl
-    go None (Some row) is named =
-        let free : unbuilt driver ≡ None = rw is at e in
-        rw named (built-timerless row.id (row-built row.id (rw (named, unbuilt) at free)))
 
 -- a device is added, or not
 pub added-good : (b : Board) (a : Wanted) → Good b → Good (added b a).board
 unfolding added
-added-good b a good = by (driver_barred a.driver) refl
+added-good b a good = by (driver_barred a.driver)
   where
-    by : (bar : Option Code) → driver_barred a.driver ≡ bar → Good (elim bar as (λ o. Plugged) [ Some code ↦ record { refusal = Some (1, code); board = b } | None ↦ plug b a ]).board
-    by (Some code) is = good
-    by None is =
+    by : (bar : Option Code) → Good (elim bar as (λ o. Plugged) [ Some code ↦ record { refusal = Some (1, code); board = b } | None ↦ plug b a ]).board
+    by (Some code) = good
+    by None =
         record {
           devices = devices_kept_lem.plugged b a good.devices;
           clocks = clocks_kept_lem.plugged b a good.devices.tree good.clocks;
           numbers = numbers_kept_lem.plugged b a good.devices.tree good.numbers;
           times = times_kept_lem.plugged b a good.times;
-          timerless = timerless_kept_lem.plugged b a (no-timer a.driver is) good.timerless;
         }
 
 -- an attempt at one is cut
@@ -215,7 +165,6 @@ cut-good b t i joined good =
       clocks = clocks_kept_lem.cut b t i joined good.clocks;
       numbers = numbers_kept_lem.beside b (cut_attempt b t i joined) refl good.numbers;
       times = times_kept_lem.cut b t i joined good.times;
-      timerless = timerless_kept_lem.cut b t i joined good.timerless;
     }
 
 pub cut_as-good : (b : Board) (a : Wanted) (i : ℕ) (joined : Bool) → Good b → Good (cut_as b a i joined)
@@ -250,7 +199,6 @@ completed-good b d pending good =
       clocks = clocks_kept_lem.detached b d good.devices.tree good.clocks;
       numbers = numbers_kept_lem.detached b d good.devices.tree good.numbers;
       times = times_kept_lem.detached b d good.times;
-      timerless = timerless_kept_lem.detached b d good.timerless;
     }
 
 -- a hold of a reset, a hold less, and both
@@ -261,7 +209,6 @@ held-good b n good =
       clocks = clocks_kept_lem.held_so b n good.clocks;
       numbers = numbers_kept_lem.held_so b n good.numbers;
       times = times_kept_lem.held_so b n good.times;
-      timerless = timerless_kept_lem.held_so b n good.timerless;
     }
 
 pub released-good : (b : Board) (n : ℕ) → Good b → Good (released b n)
@@ -271,7 +218,6 @@ released-good b n good =
       clocks = clocks_kept_lem.released_so b n good.clocks;
       numbers = numbers_kept_lem.released_so b n good.numbers;
       times = times_kept_lem.released_so b n good.times;
-      timerless = timerless_kept_lem.released_so b n good.timerless;
     }
 
 pub pulsed-good : (b : Board) (n : ℕ) → Good b → Good (pulse b n)
@@ -281,7 +227,6 @@ pulsed-good b n good =
       clocks = clocks_kept_lem.pulsed b n good.clocks;
       numbers = numbers_kept_lem.pulsed b n good.numbers;
       times = times_kept_lem.pulsed b n good.times;
-      timerless = timerless_kept_lem.pulsed b n good.timerless;
     }
 
 -- each board that stands at the same parts as a good one is good

@@ -1,6 +1,5 @@
 -- What is so of each board that the machine stands at, beside what it shows.
 use Rattle.qo_model.specs.Board.{Board}
-use Rattle.qo_sound.specs.Timerless.{Timerless}
 use Rattle.qo_sound_devices.specs.SoundDevices.{SoundDevices}
 use Rattle.qo_sound_clocks.specs.SoundClocks.{SoundClocks}
 use Rattle.qo_sound_clocks.specs.SoundNumbers.{SoundNumbers}
@@ -13,5 +12,3 @@ pub record Good (b : Board) : Type 0 where
   pub clocks : SoundClocks b
   pub numbers : SoundNumbers b
   pub times : SoundTimes b
-  -- no object is a timer, since none is built yet
-  pub timerless : Timerless b

@@ -3,12 +3,13 @@ use Rattle.std.proofs.Common.{ap, sym, subst, ◌∙◌}
 use Rattle.qo_model.specs.Depth.{among}
 use Rattle.qo_realize.specs.Parts.{Parts, parts_of}
 use Rattle.qo_realize.specs.Stands.{Stands}
-use Rattle.qo_realize.proofs.CompleteLemmas.{completed-sound, completed-stands, is_beside, pinned-once, timerless-heap}
+use Rattle.qo_realize.proofs.CompleteLemmas.{completed-sound, completed-stands, is_beside, pinned-once, timely-heap}
+use Rattle.qo_realize.proofs.SoundLemmas.{good-of}
 use Rattle.qo_realize.proofs.board.Board.complete.Goals as goal
 
-pub detach-requires-clause-still : goal.detach-requires-clause-still
-detach-requires-clause-still g c =
-    let inside = c.self.inside in timerless-heap (parts_of inside.anonymous inside.running inside.resets inside.hotplug inside.heap) c.self.invariant.1
+pub detach-requires-clause-timely : goal.detach-requires-clause-timely
+detach-requires-clause-timely g c =
+    let inside = c.self.inside in timely-heap (parts_of inside.anonymous inside.running inside.resets inside.hotplug inside.heap) c.self.invariant.1
 
 pub detach-requires-clause-pins : goal.detach-requires-clause-pins
 detach-requires-clause-pins g c = pinned-once c.self.inside.heap c.self.invariant.0
@@ -23,5 +24,6 @@ pub returns : goal.returns
 returns g c = λ b s.
     let inside = c.self.inside in
     let seen = subst (λ (p : Parts). Stands b p) (sym c.self.view_is) s in
+    let good = good-of (parts_of inside.anonymous inside.running inside.resets inside.hotplug inside.heap) c.self.invariant.1 b seen in
     completed-stands b c.args.dev.birth inside.anonymous inside.running inside.resets c.detach.new.resets inside.hotplug c.detach.new.hotplug inside.heap c.detach.new.heap seen
-    (c.detach.ensures.shown b (is_beside b inside.anonymous inside.running inside.resets inside.hotplug inside.heap seen)) c.detach.ensures.book
+    (c.detach.ensures.shown b good.devices.tree good.clocks (is_beside b inside.anonymous inside.running inside.resets inside.hotplug inside.heap seen)) c.detach.ensures.book
