@@ -88,10 +88,10 @@ unpinned-kind v w u n is e = sym (ap (λ (x : Objects). option_map (λ (c : Cont
 
 -- objects that are not n and name no n
 
-abbrev Unnamed : ℕ → List Named → Type 0
+abbrev pub Unnamed : ℕ → List Named → Type 0
 Unnamed n slots = AllByRecursion (λ (s : Named). (key : Key) → target_of s.1 ≡ Some key → eqb key.birth n ≡ false) slots
 
-abbrev Apart : ℕ → List (Key × Content) → Type 0
+abbrev pub Apart : ℕ → List (Key × Content) → Type 0
 Apart n rows = AllByRecursion (λ (row : Key × Content). (eqb row.0.birth n ≡ false) × Unnamed n row.1.slots) rows
 
 upto : (m above last : ℕ) (rows : List (Key × Content)) (c : Content) → Rises above (births rows) last → object_at rows m ≡ Some c → m ≤ last
@@ -110,7 +110,7 @@ unnamed-all n P apart (s ∷ slots) all = go (target_of s.1) refl all (unnamed-a
     go None p given rest = ((λ key e. absurd (let clash : None ≡ Some key = sym p ∙ e in cc)), rest given)
     go (Some k) p given rest = ((λ key e. let same : k ≡ key = same_Some k key (sym p ∙ e) in ap (λ (x : Key). eqb x.birth n) (sym same) ∙ apart k given.0), rest given.1)
 
-apart-from : (v : Objects) (n : ℕ) → v.born < n → IsHeap v → Apart n v.rows
+pub apart-from : (v : Objects) (n : ℕ) → v.born < n → IsHeap v → Apart n v.rows
 apart-from v n high good = go 0 v.rows good.rising good.linked
   where
     below : (key : Key) → IsLive v.rows key → eqb key.birth n ≡ false
@@ -151,20 +151,20 @@ module _ (n : ℕ) where
       let none : cond {A = ℕ} (holds n s.1) 1 0 ≡ 0 = rw (holds-none s.1 all.0) refl in
       omega (arith, holding-none slots all.1, none, sum_by-cons (λ (x : Named). cond {A = ℕ} (holds n x.1) 1 0) s slots)
 
-  forgets-same : (slots : List Named) → Unnamed n slots → map {B = Named} (λ (s : Named). (s.0, forgotten_in n s.1)) slots ≡ slots
+  pub forgets-same : (slots : List Named) → Unnamed n slots → map {B = Named} (λ (s : Named). (s.0, forgotten_in n s.1)) slots ≡ slots
   forgets-same [] all = refl
   forgets-same (s ∷ slots) all = let here = forgets-none s.1 all.0 in let rest = forgets-same slots all.1 in λ j. (s.0, here j) ∷ rest j
 
-  sum-none : (rows : List (Key × Content)) → Apart n rows → sum_by (λ (row : Key × Content). holding n row.1) rows ≡ 0
+  pub sum-none : (rows : List (Key × Content)) → Apart n rows → sum_by (λ (row : Key × Content). holding n row.1) rows ≡ 0
   sum-none [] all = refl
   sum-none (row ∷ rows) all = omega (arith, sum-none rows all.1, holding-none row.1.slots all.0.1, sum_by-cons (λ (x : Key × Content). holding n x.1) row rows)
 
 -- rows of objects that are not n
 
-abbrev Others : ℕ → List (Key × Content) → Type 0
+abbrev pub Others : ℕ → List (Key × Content) → Type 0
 Others n rows = AllByRecursion (λ (row : Key × Content). eqb row.0.birth n ≡ false) rows
 
-others : (n : ℕ) (rows : List (Key × Content)) → Apart n rows → Others n rows
+pub others : (n : ℕ) (rows : List (Key × Content)) → Apart n rows → Others n rows
 others n [] all = tt
 others n (row ∷ rows) all = (all.0.0, others n rows all.1)
 
@@ -198,7 +198,7 @@ module _ (o : Key) (c : Content) where
       rw (all.0.0) (λ j. (row.0, record row.1 { slots = here j }) ∷ rest j)
 
 -- holding one object is holding some
-held-holds : (n : ℕ) (slots : List Named) → count_by (λ (s : Named). holds n s.1) slots ≤ count_by (λ (s : Named). is_some (held s.1)) slots
+pub held-holds : (n : ℕ) (slots : List Named) → count_by (λ (s : Named). holds n s.1) slots ≤ count_by (λ (s : Named). is_some (held s.1)) slots
 held-holds n [] = omega arith
 held-holds n (s ∷ slots) =
     omega (arith, held-holds n slots, one s.1, sum_by-cons (λ (x : Named). cond {A = ℕ} (holds n x.1) 1 0) s slots, sum_by-cons (λ (x : Named). cond {A = ℕ} (is_some (held x.1)) 1 0) s slots)

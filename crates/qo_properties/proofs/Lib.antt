@@ -1,4 +1,5 @@
 pub mod AddLemmas
+pub mod AttemptLemmas
 pub mod AnswerLemmas
 pub mod BarLemmas
 pub mod ClaimLemmas

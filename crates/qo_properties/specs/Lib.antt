@@ -1,4 +1,5 @@
 pub mod Adding
+pub mod Attempts
 pub mod Changes
 pub mod Claims
 pub mod Filling

@@ -8,6 +8,7 @@ mod reading;
 mod refusals;
 mod writing;
 
+pub use adding::attempts::attempt_whole;
 pub use adding::barring::{Admitted, admit};
 pub use adding::filling::{Fill, plan_of, settle};
 pub use adding::fresh::{add_fresh_slots, add_row, name_of};

@@ -1,5 +1,6 @@
 //! What makes objects.
 
+pub mod attempts;
 pub mod barring;
 pub mod filling;
 pub mod fresh;

@@ -26,7 +26,7 @@ use std::alloc::{AllocError, Global};
 use std::sync::ledger::Ledger;
 
 /// Ends an object that holds nothing, and that nothing holds but its one pin.
-fn give_up<L: Ledger>(heap: &mut Heap, o: Oid, steps: &mut Steps<L>)
+pub(crate) fn give_up<L: Ledger>(heap: &mut Heap, o: Oid, steps: &mut Steps<L>)
     requires live { IsLive heap.old.rows o }
     requires pinned { pins_of heap.old o.birth ≡ 1 }
     requires alone { refs_of heap.old o.birth ≡ 1 }
