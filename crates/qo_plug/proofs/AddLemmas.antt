@@ -8,10 +8,11 @@ use Rattle.qo_model.specs.Board.{Board, Record, kind_of}
 use Rattle.qo_slots.specs.declared.keys.Key.{Key}
 use Rattle.qo_table.specs.Rows.{IsLive}
 use Rattle.qo_values.specs.declared.codes.Code.{Code}
+use Rattle.qo_values.specs.declared.codes.Code.TheVariants.{E44}
 use Rattle.qo_model.specs.Objects.{refusal_of}
 use Rattle.qo_model.specs.Devices.{buses_of}
 use Rattle.qo_model.specs.Paths.{canonical}
-use Rattle.qo_model.specs.Plug.{Plugged, Spot, Wanted, barred_late, bus_births, bus_for, clocked, counted, objects_in, parent_for, plug_attempt, plug_late, source_for, spot_of, started, stood, with_plugged}
+use Rattle.qo_model.specs.Plug.{Plugged, Spot, Wanted, barred_late, bus_births, bus_for, clocked, counted, objects_in, parent_for, place_barred, plug_attempt, plug_late, source_for, spot_of, started, stood, with_plugged}
 use Rattle.qo_model.specs.Release.{unpin}
 use Rattle.qo_model.specs.Types.{TypeRow, is_a, row_named, types}
 use Rattle.qo_sound.proofs.PlugLemmas.{IsPlace, place-of}
@@ -28,12 +29,13 @@ use Rattle.qo_plug.specs.declared.adding.Added.{Added}
 use Rattle.qo_plug.specs.declared.admitting.Site.{Site}
 use Rattle.qo_plug.specs.declared.refusals.AddRefusal.{AddRefusal}
 use Rattle.qo_plug.specs.declared.refusals.AddRefusal.TheVariants.{Refused, Memory}
-use Rattle.qo_plug.specs.Added.{IfRefused, IsAdmitted, added, is_built}
+use Rattle.qo_plug.specs.declared.refusals.Barred.{Barred}
+use Rattle.qo_plug.specs.Added.{IfRefused, IsAdmitted, added, barred_in, is_built}
 use Rattle.qo_plug.specs.Adding.{IsAdded, IsCut, IsOpen, IsPlugged, IsRefused, turned_down}
 use Rattle.qo_plug.specs.Drafts.{CutShort, held_draft}
 use Rattle.qo_plug.specs.Standing.{Stood, spot_in}
 use Rattle.qo_plug.proofs.AdmitLemmas.{added-late}
-use Rattle.qo_plug.proofs.JudgeLemmas.{built-by, late-given}
+use Rattle.qo_plug.proofs.JudgeLemmas.{built-by, late-given, late-place}
 use Rattle.qo_plug.proofs.PlugSteps.{counted-path, cut-whole, let-go, plugged-notices, plugged-pending, seat-holds, seat-notices, seated}
 use Rattle.qo_plug.proofs.StartBuses.{plugged-buses}
 
@@ -127,6 +129,33 @@ module _ (b : Board) (a : Wanted) where
       pub turned-cut : (r : AddRefusal) → turned_down b site.kind site.bus.birth (record { stage = 4; code = code }) r w → r ≡ Memory → IsCut b a w
       turned-cut (Refused stage told) h e = cc
       turned-cut Memory h e = cut-late h
+
+    -- or as it has no slot of its bus
+    module _ (code : Code) (given : None ≡ refusal_of b site.kind a.props) (barred : Some code ≡ place_barred b site.kind site.bus.birth a.props) where
+      pub slot-refused : (T : Type 0) (r : AddRefusal) → turned_down b site.kind site.bus.birth (record { stage = 5; code = code }) r w
+          → IfRefused {T = T} (Err r) (λ stage code. IsRefused b a stage code w)
+      slot-refused T (Refused stage told) h =
+          let its_stage : stage ≡ 5 = h.0 in
+          let its_code : told ≡ code = h.1 in
+          rw (its_stage, its_code) (is-refused 5 code (late-place b site.bus.birth site.kind a.props code given barred) h.2)
+      slot-refused T Memory h = tt
+
+      pub slot-cut : (r : AddRefusal) → turned_down b site.kind site.bus.birth (record { stage = 5; code = code }) r w → r ≡ Memory → IsCut b a w
+      slot-cut (Refused stage told) h e = cc
+      slot-cut Memory h e = cut-late h
+
+-- a refusal at a stage is one
+pub refused-at : (b : Board) (a : Wanted) (at : ℕ) (T U : Type 0) (r : AddRefusal) (w : Objects) → IfRefused {T = T} (Err r) (λ stage code. (stage ≡ at) × IsRefused b a stage code w)
+    → IfRefused {T = U} (Err r) (λ stage code. IsRefused b a stage code w)
+refused-at b a at T U (Refused stage code) w h = h.1
+refused-at b a at T U Memory w h = tt
+
+-- so is that of the notices
+pub refused-last : (b : Board) (a : Wanted) (T U : Type 0) (bar : Barred) (w : Objects) → barred_in {T = T} (Err bar) ≡ Some (8, E44) → IsRefused b a 8 E44 w
+    → IfRefused {T = U} (Err (Refused bar.stage bar.code)) (λ stage code. IsRefused b a stage code w)
+refused-last b a T U bar w is h =
+    let same : (bar.stage, bar.code) ≡ (8, E44) = same_Some (bar.stage, bar.code) (8, E44) is in
+    subst (λ (x : ℕ × Code). IsRefused b a x.0 x.1 w) (sym same) h
 
 -- what a plan names stays
 pub plan-live : (v w : Objects) → KeepsNames v w → (fs : List Fill) → AllByRecursion (λ (f : Fill). IfSome (target_in f) (IsLive v.rows)) fs → AllByRecursion (λ (f : Fill). IfSome (target_in f) (IsLive w.rows)) fs

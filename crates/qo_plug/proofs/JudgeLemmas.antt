@@ -1,6 +1,6 @@
 -- What bars a device from its properties on, stage by stage.
-use Rattle.std.proofs.Common.{◌≡◌, refl, ap, ap₂, sym, ◌∙◌, ℕ, zero, suc, ◌+◌, Bool, true, false, not, List, [], ◌∷◌, codes, nat_le, nat_lt, length, subst, Option, Some, None, Result, Ok, Err}
-use Rattle.std.specs.Prelude.{IfOk, if◌then◌else◌}
+use Rattle.std.proofs.Common.{◌≡◌, refl, ap, ap₂, sym, ◌∙◌, ℕ, zero, suc, ◌+◌, Bool, true, false, not, List, [], ◌∷◌, codes, nat_le, nat_lt, length, Option, Some, None, Result, Ok, Err}
+use Rattle.std.specs.Prelude.{if◌then◌else◌}
 use Rattle.std.specs.Option.{option_or}
 use Rattle.std.proofs.lemmas.Option.{same_Some}
 use Rattle.qo_values.specs.Placing.{least}
@@ -15,7 +15,6 @@ use Rattle.qo_model.specs.Devices.{kid_name}
 use Rattle.qo_model.specs.Objects.{Given, has_slot, refusal_of}
 use Rattle.qo_model.specs.Plug.{at_stage, barred_late, first_of, is_free, kind_barred, notice_barred, number_for, ok_or_zero, place_barred, range_of}
 use Rattle.qo_model.specs.Plug.{realize_barred, slot_for, spot_of}
-use Rattle.qo_properties.specs.Changes.{refusal_in}
 use Rattle.qo_plug.specs.Added.{is_built}
 use Rattle.qo_plug.specs.Standing.{spot_in}
 
@@ -116,14 +115,3 @@ module _ (b : Board) (bus : ℕ) (props : List Given) where
       alone : (o : Option Code) → first_of (at_stage 8 o ∷ []) ≡ at_stage 8 o
       alone None = refl
       alone (Some code) = refl
-
-  -- what was learnt of the place of a device by the properties that are its own
-  pub place-learnt : (t : TypeId) (given : List Given) → given ≡ props → (r : Result ℕ Code)
-      → refusal_in r ≡ place_barred b t bus props
-      → refusal_in r ≡ place_barred b t bus given
-  place-learnt t given same r e = e ∙ ap (λ (l : List Given). place_barred b t bus l) (sym same)
-
-  pub spot-learnt : (t : TypeId) (given : List Given) → given ≡ props → (r : Result ℕ Code)
-      → IfOk r (λ slot. spot_of b t bus props ≡ spot_in bus slot)
-      → IfOk r (λ slot. spot_of b t bus given ≡ spot_in bus slot)
-  spot-learnt t given same r h = subst (λ (l : List Given). IfOk r (λ slot. spot_of b t bus l ≡ spot_in bus slot)) (sym same) h

@@ -16,3 +16,4 @@ pub mod StandLemmas
 pub mod StandSteps
 pub mod StartBuses
 pub mod StartLemmas
+pub mod TurnLemmas

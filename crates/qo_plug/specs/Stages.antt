@@ -1,10 +1,11 @@
 -- Adding a device in stages: how it is begun, which is made and stands nowhere, and how it is placed.
-use Rattle.std.specs.Prelude.{◌≡◌, ℕ, ◌+◌, ◌<◌, ◌≤◌, ◌==◌, List, true, Some, None, IfOk, IfSome, length, option_and_then, option_map}
+use Rattle.std.specs.Prelude.{◌≡◌, ℕ, ◌+◌, ◌<◌, ◌≤◌, ◌==◌, List, true, Some, None, IfOk, IfSome, Result, length, option_and_then, option_map}
 use Rattle.std.specs.List.{AllByRecursion, AllZip}
 use Rattle.qo_values.specs.declared.codes.Code.TheVariants.{E44}
 use Rattle.qo_values.specs.declared.limits.TheConstants.{BUS_SLOTS, NOTICES_MAX}
 use Rattle.qo_model.specs.Board.{Board}
-use Rattle.qo_model.specs.Objects.{refusal_of}
+use Rattle.qo_values.specs.declared.codes.Code.{Code}
+use Rattle.qo_model.specs.Objects.{Given, refusal_of}
 use Rattle.qo_model.specs.Plug.{Wanted, barred_late, place_barred, spot_of}
 use Rattle.qo_model.specs.Reset.{count}
 use Rattle.qo_sound.specs.Kept.{SoundTree}
@@ -24,6 +25,12 @@ use Rattle.qo_plug.specs.Added.{IsAdmitted, is_built}
 use Rattle.qo_plug.specs.Adding.{IsOpen}
 use Rattle.qo_plug.specs.Drafts.{IsQuiet, bare, held_draft, own_slots_of}
 use Rattle.qo_plug.specs.Standing.{Stood, spot_in}
+
+-- what was judged of the slot of a device on its bus is so on each board that is shown
+pub record IsJudged (s : Site) (slot : Result ℕ Code) (props : List Given) (v : Objects) : Type 0 where
+  pub within : IfOk slot (λ slot. slot < BUS_SLOTS)
+  pub refused : (b : Board) → Shows b v → refusal_in slot ≡ place_barred b s.kind s.bus.birth props
+  pub spot : (b : Board) → Shows b v → IfOk slot (λ slot. spot_of b s.kind s.bus.birth props ≡ spot_in s.bus.birth slot)
 
 -- a heap has a device that was begun, as it was made and held once, with its container, its older bus, and what its plan names
 pub record IsHeld (d : Begun) (v : Objects) : Type 0 where

@@ -7,8 +7,9 @@ ghost use Rattle.qo_plug.specs.declared.refusals.AddRefusal.TheVariants.{Memory}
 ghost use Rattle.qo_plug.specs.Added.{IfRefused, wanted};
 ghost use Rattle.qo_plug.specs.Adding.{IsAdded, IsCut, IsRefused, IsShown};
 
-use crate::beginning::begin;
+use crate::beginning::{choose, make, turn_down};
 use crate::finishing::finish;
+use crate::judging::device_slot;
 use crate::placing::place;
 use crate::refusals::{AddRefusal, Barred};
 use qo_heap::{Heap, Steps};
@@ -28,10 +29,11 @@ pub struct Added {
 }
 
 /// Adds a device of a type's name, with an id, the path of its bus and properties, where these are
-/// given: by the stages of `begin`, `place` and `finish`. `anonymous` is how many devices without an
-/// id were added before. A refusal is the first in the order of the stages: those of `admit`, before
-/// which nothing of the device is made, and then the others, behind which its births and notes are
-/// left. Want of memory leaves all as it was, or an attempt that was cut.
+/// given: by the stages of `begin`, `place` and `finish`, but that a device which has no slot of its
+/// bus is not furnished first. `anonymous` is how many devices without an id were added before. A
+/// refusal is the first in the order of the stages: those of `admit`, before which nothing of the
+/// device is made, and then the others, behind which its births and notes are left. Want of memory
+/// leaves all as it was, or an attempt that was cut.
 pub fn add<L: Ledger>(
     heap: &mut Heap,
     resets: &Resets,
@@ -50,11 +52,19 @@ pub fn add<L: Ledger>(
     ensures asked { OnErr result (hotplug.new ≡ hotplug.old) }
     ensures book { KeepsBook heap.old heap.new }
 {
-    let begun = match begin(
-        heap, resets, hotplug, anonymous, driver, id, bus, props, alloc, steps,
+    let site = match choose(
+        heap, hotplug, anonymous, driver, id, bus, props, alloc, steps,
     ) {
-        Ok(begun) => begun,
+        Ok(site) => site,
         Err(refusal) => return Err(refusal),
+    };
+    let slot = device_slot(heap, site.kind, site.bus, props, steps);
+    if let Err(code) = slot {
+        return Err(turn_down(heap, site.kind, 5, code, alloc, steps));
+    }
+    let begun = match make(heap, resets, site, slot, props, alloc, steps) {
+        Ok(begun) => begun,
+        Err(_) => return Err(AddRefusal::Memory),
     };
     let placed = match place(heap, hotplug, begun, alloc, steps) {
         Ok(placed) => placed,

@@ -1,7 +1,7 @@
 //! Beginning a device, the stages 1 to 4 of adding: it is admitted, what is given for its properties
 //! is looked at, and it is made; or an attempt at it is given up. It stands nowhere yet.
 
-ghost use Rattle.std.specs.Prelude.{◌≡◌, ◌≤◌, ℕ, true, Err, IfOk, None, OnErr, option_map};
+ghost use Rattle.std.specs.Prelude.{◌≡◌, ◌≤◌, ◌==◌, ℕ, List, true, false, Err, IfOk, None, OnErr, OnOk, option_map};
 ghost use Rattle.qo_model.specs.Board.{Board};
 ghost use Rattle.qo_model.specs.Objects.{refusal_of};
 ghost use Rattle.qo_model.specs.Plug.{Wanted, plug_attempt};
@@ -13,7 +13,7 @@ ghost use Rattle.qo_plug.specs.declared.refusals.AddRefusal.TheVariants.{Memory}
 ghost use Rattle.qo_plug.specs.Added.{IfRefused, IsAdmitted, is_built, wanted};
 ghost use Rattle.qo_plug.specs.Adding.{IsCut, IsRefused, IsShown, turned_down};
 ghost use Rattle.qo_plug.specs.Drafts.{CutShort};
-ghost use Rattle.qo_plug.specs.Stages.{IsBegun, IsHeld};
+ghost use Rattle.qo_plug.specs.Stages.{IsBegun, IsHeld, IsJudged};
 
 use crate::admitting::{Site, admit};
 use crate::drafting::{give_up, make_device};
@@ -21,7 +21,7 @@ use crate::judging::device_slot;
 use crate::refusals::AddRefusal;
 use qo_heap::{Heap, Oid, Steps};
 use qo_hotplug::Hotplug;
-use qo_properties::{Fill, check_given, plan_of};
+use qo_properties::{Fill, attempt_whole, check_given, plan_of};
 use qo_reset::Resets;
 use qo_values::{Code, PropList, TypeId};
 use std::alloc::{AllocError, Global};
@@ -42,33 +42,33 @@ pub struct Begun {
     pub out: bool,
 }
 
-/// Makes a device of a type and gives it up, as what is given for a property is refused: this is the
-/// refusal, but for want of memory.
-fn turn_down<L: Ledger>(
+/// An attempt at a device of a type that is refused before it takes a place, at a stage and with a
+/// code: its objects are made and end at once. This is the refusal, but for want of memory.
+pub(crate) fn turn_down<L: Ledger>(
     heap: &mut Heap,
     kind: TypeId,
+    stage: u8,
     code: Code,
     alloc: Global,
     steps: &mut Steps<L>,
 ) -> AddRefusal
-    ensures down { (b : Board) (bus : ℕ) → Shows b heap.old → SoundTree b → turned_down b kind bus (record { stage = 4; code = code }) result heap.new }
+    ensures down { (b : Board) (bus : ℕ) → Shows b heap.old → (stage == 8) ≡ false → turned_down b kind bus (record { stage = stage; code = code }) result heap.new }
     ensures book { KeepsBook heap.old heap.new }
 {
-    match make_device(heap, kind, alloc, steps) {
-        Ok(device) => {
-            give_up(heap, device, steps);
-            AddRefusal::Refused { stage: 4, code }
-        }
+    match attempt_whole(heap, kind, alloc, steps) {
+        Ok(()) => AddRefusal::Refused { stage, code },
         Err(_) => AddRefusal::Memory,
     }
 }
 
-/// Makes an admitted device. What its slots are to be filled with, and what is judged of its bus, is
-/// learnt before. The error is want of memory: an attempt was cut.
-fn make<L: Ledger>(
+/// Makes an admitted device, for which this was judged of its slot. What its slots are to be filled
+/// with, and what is learnt of its bus, is learnt before. The error is want of memory: an attempt was
+/// cut.
+pub(crate) fn make<L: Ledger>(
     heap: &mut Heap,
     resets: &Resets,
     site: Site,
+    slot: Result<u8, Code>,
     props: &PropList,
     alloc: Global,
     steps: &mut Steps<L>,
@@ -76,13 +76,13 @@ fn make<L: Ledger>(
     requires built { is_built site.kind ≡ true }
     requires container { IsLive heap.old.rows site.place.container }
     requires bus { IsLive heap.old.rows site.bus }
+    requires slot { IsJudged site slot props.now heap.old }
     ensures begun { (b : Board) (a : Wanted) → Shows b heap.old → SoundTree b → b.holds ≡ resets.now.births → IsAdmitted b a site → a.props ≡ props.now → refusal_of b site.kind a.props ≡ None → IfOk result (λ d. IsBegun b a d heap.new) }
     ensures held { IfOk result (λ d. IsHeld d heap.new) }
     ensures err { OnErr result ((b : Board) → Shows b heap.old → SoundTree b → CutShort b site.kind heap.new) }
     ensures book { KeepsBook heap.old heap.new }
 {
     heap.facts();
-    let slot = device_slot(heap, site.kind, site.bus, props, steps);
     let out = resets.count(heap, site.bus, steps) == 0;
     let plan = plan_of(heap, site.kind, props, alloc, steps)?;
     let device = make_device(heap, site.kind, alloc, steps)?;
@@ -93,6 +93,49 @@ fn make<L: Ledger>(
         slot,
         out,
     })
+}
+
+/// Where a device that is asked for is to go, where neither what bars it before an attempt nor what is
+/// given for its properties refuses it. A refusal is the first in the order of the stages: those of
+/// `admit`, before which nothing of the device is made, and then those of `check_given` (stage 4),
+/// behind which its births and notes are left. Want of memory leaves all as it was, or an attempt that
+/// was cut.
+pub(crate) fn choose<L: Ledger>(
+    heap: &mut Heap,
+    hotplug: &Hotplug,
+    anonymous: u64,
+    driver: &str,
+    id: Option<&str>,
+    bus: Option<&str>,
+    props: &PropList,
+    alloc: Global,
+    steps: &mut Steps<L>,
+) -> Result<Site, AddRefusal>
+    ensures live { IfOk result (λ s. IsLive heap.new.rows s.place.container × IsLive heap.new.rows s.bus) }
+    ensures built { IfOk result (λ s. is_built s.kind ≡ true) }
+    ensures same { OnOk result (heap.new ≡ heap.old) }
+    ensures admitted { (b : Board) (holds : List ℕ) → IsShown b anonymous holds hotplug.now heap.old → IfOk result (λ s. IsAdmitted b (wanted driver.now (option_map (λ t. t.now) id.entry) (option_map (λ t. t.now) bus.entry) props.now) s × (refusal_of b s.kind props.now ≡ None)) }
+    ensures refused { (b : Board) (holds : List ℕ) → IsShown b anonymous holds hotplug.now heap.old → IfRefused result (λ stage code. (1 ≤ stage) × (stage ≤ 4) × IsRefused b (wanted driver.now (option_map (λ t. t.now) id.entry) (option_map (λ t. t.now) bus.entry) props.now) stage code heap.new) }
+    ensures memory { (b : Board) (holds : List ℕ) → IsShown b anonymous holds hotplug.now heap.old → result ≡ Err Memory → IsCut b (wanted driver.now (option_map (λ t. t.now) id.entry) (option_map (λ t. t.now) bus.entry) props.now) heap.new }
+    ensures book { KeepsBook heap.old heap.new }
+{
+    let site = match admit(
+        heap,
+        hotplug.pending(),
+        anonymous,
+        driver,
+        id,
+        bus,
+        alloc,
+        steps,
+    ) {
+        Ok(site) => site,
+        Err(refusal) => return Err(refusal),
+    };
+    match check_given(heap, site.kind, props, steps) {
+        Ok(()) => Ok(site),
+        Err(code) => Err(turn_down(heap, site.kind, 4, code, alloc, steps)),
+    }
 }
 
 /// Begins a device of a type's name, with an id, the path of its bus and properties, where these are
@@ -118,23 +161,14 @@ pub fn begin<L: Ledger>(
     ensures memory { (b : Board) → IsShown b anonymous resets.now.births hotplug.now heap.old → result ≡ Err Memory → IsCut b (wanted driver.now (option_map (λ t. t.now) id.entry) (option_map (λ t. t.now) bus.entry) props.now) heap.new }
     ensures book { KeepsBook heap.old heap.new }
 {
-    let site = match admit(
-        heap,
-        hotplug.pending(),
-        anonymous,
-        driver,
-        id,
-        bus,
-        alloc,
-        steps,
+    let site = match choose(
+        heap, hotplug, anonymous, driver, id, bus, props, alloc, steps,
     ) {
         Ok(site) => site,
         Err(refusal) => return Err(refusal),
     };
-    if let Err(code) = check_given(heap, site.kind, props, steps) {
-        return Err(turn_down(heap, site.kind, code, alloc, steps));
-    }
-    match make(heap, resets, site, props, alloc, steps) {
+    let slot = device_slot(heap, site.kind, site.bus, props, steps);
+    match make(heap, resets, site, slot, props, alloc, steps) {
         Ok(begun) => Ok(begun),
         Err(_) => Err(AddRefusal::Memory),
     }

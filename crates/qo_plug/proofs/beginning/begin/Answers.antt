@@ -1,38 +1,31 @@
--- The device is admitted, what is given for its properties is looked at, and it is made.
-use Rattle.std.proofs.Common.{refl, sym, ◌∙◌, ℕ, option_map}
+-- It is chosen where the device goes, its slot is judged, and it is made.
+use Rattle.std.proofs.Common.{refl, ap, sym, subst, ◌∙◌, option_map, Err}
 use Rattle.qo_model.specs.Plug.{Wanted}
-use Rattle.qo_plug.specs.Added.{IsAdmitted, wanted}
-use Rattle.qo_plug.proofs.AddLemmas.{cut-late, refused-early, turned-cut, turned-refused}
+use Rattle.qo_heap.specs.Board.{Shows}
+use Rattle.qo_plug.specs.Added.{wanted}
+use Rattle.qo_plug.proofs.AddLemmas.{cut-late}
 use Rattle.qo_plug.proofs.beginning.begin.Goals as goal
 
-pub returns-in-Err-clause-refused : goal.returns-in-Err-clause-refused
-returns-in-Err-clause-refused g c = λ b is.
-    let a : Wanted = wanted c.args.driver.now (option_map (λ t. t.now) c.args.id) (option_map (λ t. t.now) c.args.bus) c.args.props.now in
-    refused-early b a ℕ ℕ c.in-Err.refusal c.args.heap.now is.shown
-    (c.in-Err.ensures.refused b c.args.props.now is.shown (is.pending ∙ sym c.pending.ensures) is.anonymous_is)
+pub make-requires-clause-slot : goal.make-requires-clause-slot
+make-requires-clause-slot g c = record { within = c.device_slot-slot.ensures.within; refused = c.device_slot-slot.ensures.refused; spot = c.device_slot-slot.ensures.spot }
 
-pub returns-in-Err-check_given-clause-refused : goal.returns-in-Err-check_given-clause-refused
-returns-in-Err-check_given-clause-refused g c = λ b is.
-    let a : Wanted = wanted c.args.driver.now (option_map (λ t. t.now) c.args.id) (option_map (λ t. t.now) c.args.bus) c.args.props.now in
-    let admitted : IsAdmitted b a c.in-Ok.site = c.in-Ok.ensures.admitted b c.args.props.now is.shown (is.pending ∙ sym c.pending.ensures) is.anonymous_is in
-    turned-refused b a c.in-Ok.site admitted c.turn_down.new.heap c.in-Err-check_given.code (c.in-Err-check_given.ensures b is.shown) ℕ c.turn_down.result
-    (c.turn_down.ensures.down b c.in-Ok.site.bus.birth is.shown is.sound)
-
-pub returns-in-Err-check_given-clause-memory : goal.returns-in-Err-check_given-clause-memory
-returns-in-Err-check_given-clause-memory g c = λ b is e.
-    let a : Wanted = wanted c.args.driver.now (option_map (λ t. t.now) c.args.id) (option_map (λ t. t.now) c.args.bus) c.args.props.now in
-    let admitted : IsAdmitted b a c.in-Ok.site = c.in-Ok.ensures.admitted b c.args.props.now is.shown (is.pending ∙ sym c.pending.ensures) is.anonymous_is in
-    turned-cut b a c.in-Ok.site admitted c.turn_down.new.heap c.in-Err-check_given.code (c.in-Err-check_given.ensures b is.shown) c.turn_down.result
-    (c.turn_down.ensures.down b c.in-Ok.site.bus.birth is.shown is.sound) (cc e)
+pub returns-in-Err-clause-memory : goal.returns-in-Err-clause-memory
+returns-in-Err-clause-memory g c = λ b is e. c.choose.ensures.memory b c.args.resets.now.births is (c.in-Err.is ∙ ap (λ r. Err r) (cc e))
 
 pub returns-in-Ok-make-clause-begun : goal.returns-in-Ok-make-clause-begun
 returns-in-Ok-make-clause-begun g c = λ b is.
     let a : Wanted = wanted c.args.driver.now (option_map (λ t. t.now) c.args.id) (option_map (λ t. t.now) c.args.bus) c.args.props.now in
-    let admitted : IsAdmitted b a c.in-Ok.site = c.in-Ok.ensures.admitted b c.args.props.now is.shown (is.pending ∙ sym c.pending.ensures) is.anonymous_is in
-    c.in-Ok-make.ensures.begun b a is.shown is.sound is.holds_are admitted refl (sym (c.in_default.ensures b is.shown))
+    let (admitted, given) = c.in-Ok.ensures.admitted b c.args.resets.now.births is in
+    c.in-Ok-make.ensures.begun b a (subst (Shows b) (sym c.in-Ok.ensures.same) is.shown) is.sound is.holds_are admitted refl given
+
+pub returns-in-Ok-make-clause-book : goal.returns-in-Ok-make-clause-book
+returns-in-Ok-make-clause-book g c = λ out h. c.make.ensures.book out (c.choose.ensures.book out h)
 
 pub returns-in-Err-make-clause-memory : goal.returns-in-Err-make-clause-memory
 returns-in-Err-make-clause-memory g c = λ b is e.
     let a : Wanted = wanted c.args.driver.now (option_map (λ t. t.now) c.args.id) (option_map (λ t. t.now) c.args.bus) c.args.props.now in
-    let admitted : IsAdmitted b a c.in-Ok.site = c.in-Ok.ensures.admitted b c.args.props.now is.shown (is.pending ∙ sym c.pending.ensures) is.anonymous_is in
-    cut-late b a c.in-Ok.site admitted c.make.new.heap (c.in-Err-make.ensures.err b is.shown is.sound)
+    let (admitted, given) = c.in-Ok.ensures.admitted b c.args.resets.now.births is in
+    cut-late b a c.in-Ok.site admitted c.make.new.heap (c.in-Err-make.ensures.err b (subst (Shows b) (sym c.in-Ok.ensures.same) is.shown) is.sound)
+
+pub returns-in-Err-make-clause-book : goal.returns-in-Err-make-clause-book
+returns-in-Err-make-clause-book g c = λ out h. c.make.ensures.book out (c.choose.ensures.book out h)

@@ -1,13 +1,15 @@
 -- The device is new, and what was learnt before it was made stays so.
 use Rattle.std.proofs.Common.{◌≡◌, ◌≤◌, ◌+◌, ap, sym, subst, ◌∙◌, ℕ, List, arith}
+use Rattle.std.specs.Prelude.{IfOk}
 use Rattle.std.specs.List.{AllZip}
 use Rattle.qo_model.specs.Objects.{Given}
+use Rattle.qo_model.specs.Plug.{place_barred, spot_of}
 use Rattle.qo_model.specs.Reset.{count}
 use Rattle.qo_object.specs.Slots.{Named}
 use Rattle.qo_properties.specs.Filling.{Fits, IsGiven}
 use Rattle.qo_properties.specs.Fresh.{new_slots}
+use Rattle.qo_plug.specs.Standing.{spot_in}
 use Rattle.qo_plug.proofs.AddLemmas.{plan-live}
-use Rattle.qo_plug.proofs.JudgeLemmas.{place-learnt, spot-learnt}
 use Rattle.qo_plug.proofs.GrowsLemmas.{live-low, unborn-quiet}
 use Rattle.qo_plug.proofs.PassLemmas.{cut-none}
 use Rattle.qo_plug.proofs.beginning.make.Goals as goal
@@ -24,7 +26,7 @@ returns-clause-held g c =
       container = grows.names c.args.site.place.container c.requires.container;
       bus = grows.names c.args.site.bus c.requires.bus;
       older = omega (arith, born, low);
-      slot = c.device_slot-slot.ensures.within;
+      slot = c.requires.slot.within;
       pinned = c.in_ok-device.ensures.pinned;
       rest = made.rest;
       quiet = λ n le. grows.quiet n (unborn-quiet c.args.heap.now c.facts.ensures n (omega (arith, born, le)));
@@ -36,15 +38,15 @@ pub returns-clause-begun : goal.returns-clause-begun
 returns-clause-begun g c = λ b a s sound holds admitted props given.
     let made = c.in_ok-device.ensures.made in
     let bus = c.args.site.bus.birth in
-    let slot = c.device_slot-slot in
     record {
       shown = c.in_ok-device.ensures.shown b s;
       sound = sound;
       admitted = admitted;
       given = given;
       birth = made.birth ∙ sym (ap (λ (k : ℕ). k + 1) s.born);
-      barred = place-learnt b bus c.args.props.now c.args.site.kind a.props props slot.result (slot.ensures.refused b s);
-      spot = spot-learnt b bus c.args.props.now c.args.site.kind a.props props slot.result (slot.ensures.spot b s);
+      barred = c.requires.slot.refused b s ∙ ap (place_barred b c.args.site.kind bus) (sym props);
+      spot =
+          subst (λ (l : List Given). IfOk c.args.slot (λ slot. spot_of b c.args.site.kind bus l ≡ spot_in bus slot)) (sym props) (c.requires.slot.spot b s);
       out = cut-none c.count-out.result (count b c.args.site.bus.birth) (c.count-out.ensures b (s, holds));
       plan = subst (λ (slots : List Named). AllZip (IsGiven b a.props) c.in_ok-plan.plan.items slots) (sym made.own)
           (subst (λ (l : List Given). AllZip (IsGiven b l) c.in_ok-plan.plan.items (new_slots c.args.site.kind)) (sym props) (c.in_ok-plan.ensures.told b s));
