@@ -13,10 +13,11 @@ use Rattle.qo_slots.specs.declared.keys.Key.{Key}
 use Rattle.qo_object.specs.declared.slots.Slot.{Slot}
 use Rattle.qo_object.specs.declared.slots.Slot.TheVariants.{Plain, Child, Link, Alias}
 use Rattle.qo_object.specs.Content.{Content}
-use Rattle.qo_object.specs.Shown.{shown_slot}
+use Rattle.qo_object.specs.Shown.{birth_of, shown_slot}
 use Rattle.qo_object.specs.Slots.{Named, with_val}
 use Rattle.qo_model.specs.Board as board
 use Rattle.qo_model.specs.ClockProperties.{in_slot, is_set, kind_written, led_by, led_to, number_written, only_set, own_property, set_property, set_row, typed_written}
+use Rattle.qo_model.specs.Clocks.{derived_period, period}
 use Rattle.qo_model.specs.Properties.{row_of_property}
 use Rattle.qo_model.specs.declared.properties.Mark.{Mark}
 use Rattle.qo_model.specs.declared.properties.Mark.TheVariants as mark
@@ -32,7 +33,9 @@ use Rattle.qo_heap.proofs.ActsReads.{acts-pins}
 use Rattle.qo_heap.proofs.ShowsReads.{shows-kind}
 use Rattle.qo_clocks.specs.declared.errors.ClockError.{ClockError}
 use Rattle.qo_clocks.specs.Links.{changed_named, place_on, with_slot_changed}
+use Rattle.qo_clocks.specs.Reads.{source_on}
 use Rattle.qo_clocks.specs.Writes.{Answers, with_period, with_scale}
+use Rattle.qo_clocks.proofs.ReadLemmas.{shows-source}
 use Rattle.qo_properties.specs.ClockWrites.{refused_as}
 use Rattle.qo_properties.specs.Writes.{Writes}
 use Rattle.qo_properties.proofs.PinLemmas.{edited-pins}
@@ -53,10 +56,10 @@ pub only-none : (p : Property) → (p.mark ≡ mark.Set → ⊥) → only_set p 
 only-none p other = go p.mark other
   where
     go : (m : Mark) → (m ≡ mark.Set → ⊥) → cond (is_set m) (Some p) None ≡ None
-    go mark.Set no = absurd (no refl)
-    go mark.Never no = refl
-    go mark.Add no = refl
-    go mark.Both no = refl
+    go mark.Set h = absurd (h refl)
+    go mark.Never h = refl
+    go mark.Add h = refl
+    go mark.Both h = refl
 
 -- the property that a name leads to
 
@@ -102,9 +105,9 @@ clock-writes v (Err e) (Err code) h = ap (λ (k : Code). Err k) (sym h)
 clock-writes v (Ok done) (Err code) h = absurd h
 clock-writes v (Err e) (Ok b) h = absurd h
 
-pub clock-err : {T P : Type 0} (r : Result T ClockError) → OnErr r P → OnErr (refused_as r) P
-clock-err (Ok done) h = tt
-clock-err (Err e) h = h
+pub clock-err : {T : Type 0} (P : Type 0) (r : Result T ClockError) → OnErr r P → OnErr (refused_as r) P
+clock-err P (Ok done) h = tt
+clock-err P (Err e) h = h
 
 -- the same pins
 
@@ -128,25 +131,8 @@ scale-pins v c mul div =
     named-pins (changed_named c (codes "mul") (with_val (val.Uint mul)) v) c (codes "div") (with_val (val.Uint div))
     ∙ named-pins v c (codes "mul") (with_val (val.Uint mul))
 
--- what refuses a write
+-- what is read of a clock with a source
 
-pub no-number : (b : board.Board) (c : ℕ) (name : PropertyName) (n : ℕ) → (name ≡ prop.Period → ⊥) → (name ≡ prop.Mul → ⊥) → (name ≡ prop.Div → ⊥)
-    → number_written b c name n ≡ Err E18
-no-number b c prop.Period n p m d = absurd (p refl)
-no-number b c prop.Mul n p m d = absurd (m refl)
-no-number b c prop.Div n p m d = absurd (d refl)
-no-number b c name n p m d = refl
-
-pub no-kind : (b : board.Board) (c : ℕ) (name : PropertyName) (kind : RowKind) (v : Val) → ((t : PropType) (first : _) → kind ≡ row.Plain t first → ⊥)
-    → kind_written b c name kind v ≡ Err E18
-no-kind b c name (row.Plain t first) v other = absurd (other t first refl)
-no-kind b c name (row.Child t) v other = refl
-no-kind b c name (row.Link t holds) v other = refl
-no-kind b c name (row.Alias of on) v other = refl
-
-pub no-uint : (b : board.Board) (c : ℕ) (name : PropertyName) (t : PropType) (v : Val) → ((n : ℕ) → v ≡ val.Uint n → ⊥) → typed_written b c name t v ≡ Err E19
-no-uint b c name t (val.Uint n) other = absurd (other n refl)
-no-uint b c name t (val.Bool x) other = refl
-no-uint b c name t (val.Int x) other = refl
-no-uint b c name t (val.Text x) other = refl
-no-uint b c name t val.Nothing other = refl
+pub derived-is : (b : board.Board) (v : Objects) → Shows b v → (n : ℕ) (o : Option Key) → o ≡ source_on v n
+    → derived_period b n ≡ option_map (λ (k : ℕ). period b n) (birth_of o)
+derived-is b v s n o e = ap (option_map (λ (k : ℕ). period b n)) (shows-source b v s n ∙ ap birth_of (sym e))
