@@ -3,6 +3,7 @@ pub mod AttemptLemmas
 pub mod AnswerLemmas
 pub mod BarLemmas
 pub mod ClaimLemmas
+pub mod ClockLemmas
 pub mod FillingLemmas
 pub mod FreshLemmas
 pub mod GivenLemmas

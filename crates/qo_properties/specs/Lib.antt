@@ -2,6 +2,7 @@ pub mod Adding
 pub mod Attempts
 pub mod Changes
 pub mod Claims
+pub mod ClockWrites
 pub mod Filling
 pub mod Fresh
 pub mod Given
