@@ -1,15 +1,21 @@
 -- The board that stands is good behind each call.
-use Rattle.std.proofs.Common.{◌≡◌, ◌≤◌, arith, refl, ap, sym, subst, ◌∙◌, ℕ, Bool, true, false, List, [], ◌∷◌, drop, Option, None, Some, Result, Ok, Err, if◌then◌else◌}
+use Rattle.std.proofs.Common.{◌≡◌, ◌≤◌, arith, refl, ap, sym, subst, ◌∙◌, ℕ, Bool, true, false, List, [], ◌∷◌, drop, map, ◌%◌, ◌==◌, ◌&&◌, not, option_map, Option, None, Some, Result, Ok, Err, if◌then◌else◌}
+use Rattle.std.specs.List.{AllByRecursion}
 use Rattle.std.specs.Option.{option_map_or}
 use Rattle.std.proofs.lemmas.Bool.{true≢false}
-use Rattle.qo_values.specs.Registers.{fresh_registers}
+use Rattle.qo_values.specs.Bodies.{Effect, body_write, effect_of, nothing}
+use Rattle.qo_values.specs.Bodies as effect
+use Rattle.qo_values.specs.Dimm.{dimm_read}
+use Rattle.qo_values.specs.Registers.{Registers, UartRegisters, bare, bridge, dimm, fresh_registers, timer, uart}
+use Rattle.qo_values.specs.Uart.{uart_write}
 use Rattle.qo_values.specs.declared.codes.Code.{Code}
 use Rattle.qo_values.specs.declared.codes.Code.TheVariants.{E22}
 use Rattle.qo_values.specs.declared.kinds.TypeId.{TypeId}
 use Rattle.qo_values.specs.declared.kinds.TypeId.TheVariants as type
 use Rattle.qo_values.specs.declared.properties.Val.{Val}
 use Rattle.qo_model.specs.Access.{write_at}
-use Rattle.qo_model.specs.Board.{Board, Notice}
+use Rattle.qo_model.specs.Board.{Board, Notice, Record, record_of}
+use Rattle.qo_model.specs.Clocks.{device_period}
 use Rattle.qo_model.specs.Depth.{among}
 use Rattle.qo_model.specs.FinalNotesRuns.{Change, behind_write, changed, wrote}
 use Rattle.qo_model.specs.Hotplug.{asked, completed, refused}
@@ -17,6 +23,7 @@ use Rattle.qo_model.specs.Objects.{attempted_as, barred_by, with_attempt}
 use Rattle.qo_model.specs.Opening.{opening_board}
 use Rattle.qo_model.specs.Plug.{Plugged, Wanted, barred_early, cut_attempt, objects_in, plug, plug_attempt, type_barred}
 use Rattle.qo_model.specs.Properties.{object_at, write}
+use Rattle.qo_model.specs.Release.{edited}
 use Rattle.qo_model.specs.Reset.{held, pulse, released}
 use Rattle.qo_model.specs.SoundGraph.{graph_of}
 use Rattle.qo_model.specs.Types.{TypeRow, row_named}
@@ -24,20 +31,25 @@ use Rattle.qo_plug.specs.Added.{added, driver_barred, is_built, unbuilt}
 use Rattle.qo_plug.specs.Cuts.{cut_as, cut_of, cut_open}
 use Rattle.qo_plug.proofs.PlugSteps.{cut-whole}
 use Rattle.qo_properties.specs.Pinned.{OnlyRootPinned}
-use Rattle.qo_sound.specs.Timerless.{is_timer, makes_timer}
+use Rattle.qo_sound.specs.Timerless.{Timerless, is_timer, makes_timer}
 use Rattle.qo_sound.proofs.TimerlessLemmas.{timerless_kept_lem}
 use Rattle.qo_sound_devices.specs.SoundDevices.{SoundDevices}
 use Rattle.qo_sound_devices.specs.SoundLists.{IsOn}
 use Rattle.qo_sound_devices.proofs.DevicesLawLemmas.{devices_kept_lem}
 use Rattle.qo_sound_devices.proofs.PlugLemmas.{among-all}
+use Rattle.qo_sound_clocks.specs.RegistersKept.{registers_set, with_registers}
+use Rattle.qo_sound_clocks.specs.SoundTimes.{IsTimely, SoundTimes}
 use Rattle.qo_sound_clocks.proofs.LawLemmas.{clocks_kept_lem}
 use Rattle.qo_sound_clocks.proofs.NumbersLemmas.{numbers_kept_lem}
+use Rattle.qo_sound_clocks.proofs.RegisterLemmas.{registers_kept_lem}
 use Rattle.qo_sound_clocks.proofs.TimesLemmas.{times_kept_lem}
 use Rattle.qo_realize.specs.Good.{Good}
 use Rattle.qo_realize.specs.Guest.{polled}
 use Rattle.qo_realize.specs.Parts.{Parts}
+use Rattle.qo_realize.specs.Registers.{guest_written, registers_at, registers_written}
 use Rattle.qo_realize.specs.Stands.{Stands, StandsForGood}
 use Rattle.qo_realize.specs.Time.{at_time, with_running}
+use Rattle.qo_realize.proofs.WrittenLemmas.{written-all}
 
 le-of-eq : {m n : ℕ} → m ≡ n → m ≤ n
 le-of-eq {m} e = subst (λ (n : ℕ). m ≤ n) e (omega arith)
@@ -283,6 +295,85 @@ pulsed-good b n good =
       times = times_kept_lem.pulsed b n good.times;
       timerless = timerless_kept_lem.pulsed b n good.timerless;
     }
+
+-- the guest writes to a register
+
+pub registers-timely : (b : Board) (n : ℕ) → SoundTimes b → IsTimely b.now (registers_at b n)
+registers-timely b n h = go (record_of b n) refl
+  where
+    go : (o : Option Record) → record_of b n ≡ o → IsTimely b.now (option_map_or (λ (r : Record). r.registers) o bare)
+    go None e = tt
+    go (Some r) e = times_kept_lem.there b n r e h
+
+-- it makes no timer of what is none
+
+timer_in : Option (Registers × Effect) → Bool
+timer_in o = option_map_or (λ (w : Registers × Effect). is_timer w.0) o false
+
+no_timer-written : (r : Registers) (reg value : ℕ) (ring : Bool) (now period : ℕ) → is_timer r ≡ false → timer_in (body_write r reg value ring now period) ≡ false
+unfolding timer_in
+no_timer-written (uart u) reg value ring now period none = go (uart_write u reg value ring)
+  where
+    go : (o : Option (UartRegisters × Option ℕ)) → timer_in (option_map (λ (p : UartRegisters × Option ℕ). (uart p.0, effect_of p.1)) o) ≡ false
+    go None = refl
+    go (Some p) = refl
+no_timer-written (timer t) reg value ring now period none = absurd (true≢false none)
+no_timer-written (dimm d) reg value ring now period none = go (dimm_read d reg)
+  where
+    go : (o : Option ℕ) → timer_in (option_map (λ (n : ℕ). (dimm d, nothing)) o) ≡ false
+    go None = refl
+    go (Some n) = refl
+no_timer-written (bridge g) reg value ring now period none = go (reg == 0) (reg == 1)
+  where
+    to : Registers × Effect
+    to = (bridge (record g { raised = value % 2 == 1 }), if (value % 2 == 1) && not g.raised then effect.pulse else nothing)
+
+    go : (t u : Bool) → timer_in (if t then Some to else if u then Some (bridge g, nothing) else None) ≡ false
+    go true u = refl
+    go false true = refl
+    go false false = refl
+no_timer-written bare reg value ring now period none = refl
+
+registers-no_timer : (b : Board) (n : ℕ) → Timerless b → is_timer (registers_at b n) ≡ false
+registers-no_timer b n h = go (record_of b n) refl
+  where
+    go : (o : Option Record) → record_of b n ≡ o → is_timer (option_map_or (λ (r : Record). r.registers) o bare) ≡ false
+    go None e = refl
+    go (Some r) e = timerless_kept_lem.there b n r e h
+
+set-timerless : (n : ℕ) (registers : Registers) → is_timer registers ≡ false → (rs : List Record) → AllByRecursion (λ (r : Record). is_timer r.registers ≡ false) rs
+    → AllByRecursion (λ (r : Record). is_timer r.registers ≡ false) (map (edited n (with_registers registers)) rs)
+set-timerless n registers none [] h = tt
+set-timerless n registers none (r ∷ rs) h = (go (r.birth == n) refl, set-timerless n registers none rs h.1)
+  where
+    go : (t : Bool) → (r.birth == n) ≡ t → is_timer (edited n (with_registers registers) r).registers ≡ false
+    go true e = rw (edited, e) none
+    go false e = rw (edited, e) h.0
+
+set-good : (b : Board) (d reg value : ℕ) (registers : Registers) (e : Effect) → registers_written b d reg value ≡ Some (registers, e) → Good b
+    → Good (registers_set b d registers)
+unfolding timer_in
+set-good b d reg value registers e is good =
+    record {
+      devices = registers_kept_lem.devices b d registers good.devices;
+      clocks = registers_kept_lem.clocks b d registers good.clocks;
+      numbers = registers_kept_lem.numbers b d registers good.numbers;
+      times = registers_kept_lem.times b d registers timely good.times;
+      timerless = set-timerless d registers none b.records good.timerless;
+    }
+  where
+    timely : IsTimely b.now registers
+    timely = times_kept_lem.wrote (registers_at b d) registers e reg value false b.now (device_period b d) is (registers-timely b d good.times)
+
+    none : is_timer registers ≡ false
+    none =
+        sym (ap timer_in is)
+        ∙ no_timer-written (registers_at b d) reg value false b.now (device_period b d) (registers-no_timer b d good.timerless)
+
+pub written-good : (b : Board) (d reg value : ℕ) (c : Board) → guest_written b d reg value ≡ Some c → Good b → Good c
+written-good b d reg value c is good =
+    written-all Good b d reg value (λ registers e by. set-good b d reg value registers e by good)
+    (λ x m is h. pulsed-good x m h) c is
 
 -- each board that stands at the same parts as a good one is good
 pub good-of : (p : Parts) → StandsForGood p → (b : Board) → Stands b p → Good b
