@@ -11,6 +11,7 @@ use Rattle.qo_heap.specs.Acts.{Acts}
 use Rattle.qo_heap.specs.Objects.{Objects}
 use Rattle.qo_heap.proofs.ActsLemmas.{acts-book}
 use Rattle.qo_hotplug.specs.Asked.{Asked}
+use Rattle.qo_properties.specs.Claims.{KeepsBook}
 use Rattle.qo_properties.specs.Pinned.{OnlyRootPinned}
 use Rattle.qo_properties.specs.declared.refusals.Refusal.{Refusal}
 use Rattle.qo_properties.specs.declared.refusals.Refusal.TheVariants.{Refused, Memory}
@@ -78,7 +79,11 @@ released_at-good b path good = released_at-all Good b path good (λ n. released-
 
 -- with other holds, behind acts
 
-module _ (anonymous : ℕ) (running : Bool) (old new : HoldList) (asked : Asked) (v w : Objects) (acts : Acts v w) where
+-- acts keep the book right
+pub acts-keep : (v w : Objects) → Acts v w → KeepsBook v w
+acts-keep v w acts out = acts-book out v w acts
+
+module _ (anonymous : ℕ) (running : Bool) (old new : HoldList) (asked : Asked) (v w : Objects) (book : KeepsBook v w) where
   abbrev before : Parts
   before = parts_of anonymous running old asked v
 
@@ -95,13 +100,13 @@ module _ (anonymous : ℕ) (running : Bool) (old new : HoldList) (asked : Asked)
         pending = l.pending ∙ s.pending;
         notices = l.notices ∙ s.notices;
         rings = l.rings ∙ s.rings;
-        book = acts-book [] v w acts s.book;
+        book = book [] s.book;
       }
 
   same-parts : (w ≡ v) × (new.births ≡ old.births) → behind ≡ before
   same-parts h = ap₂ (λ (x : Objects) (holds : List ℕ). parts_of anonymous running (record { births = holds; spare = 0 }) asked x) h.0 h.1
 
-  left-stands : (b : Board) → Stands b before → (w ≡ v) × (new.births ≡ old.births) → Stands b behind
+  pub left-stands : (b : Board) → Stands b before → (w ≡ v) × (new.births ≡ old.births) → Stands b behind
   left-stands b s h = subst (λ (p : Parts). Stands b p) (sym (same-parts h)) s
 
   changes : (b : Board) (change : Changed) (result : Result Unit Refusal) → Stands b before → ResetLeaves b change.board → Resets b change result new.births w

@@ -5,9 +5,11 @@ pub mod GuestLemmas
 pub mod HoldLemmas
 pub mod PlugLemmas
 pub mod RefuseLemmas
+pub mod RegisterLemmas
 pub mod ResetLemmas
 pub mod SoundLemmas
 pub mod StageLemmas
 pub mod StandsLemmas
 pub mod TimeLemmas
 pub mod WriteLemmas
+pub mod WrittenLemmas

@@ -1,11 +1,14 @@
 -- The board that stands is good behind each call.
 use Rattle.std.proofs.Common.{◌≡◌, ◌≤◌, arith, refl, ap, sym, subst, ◌∙◌, ℕ, Bool, true, false, List, [], ◌∷◌, drop, Option, None, Some, Result, Ok, Err, if◌then◌else◌}
 use Rattle.std.specs.Option.{option_map_or}
+use Rattle.qo_values.specs.Bodies.{Effect}
+use Rattle.qo_values.specs.Registers.{Registers, bare}
 use Rattle.qo_values.specs.declared.codes.Code.{Code}
 use Rattle.qo_values.specs.declared.kinds.TypeId.{TypeId}
 use Rattle.qo_values.specs.declared.properties.Val.{Val}
 use Rattle.qo_model.specs.Access.{write_at}
-use Rattle.qo_model.specs.Board.{Board, Notice}
+use Rattle.qo_model.specs.Board.{Board, Notice, Record, record_of}
+use Rattle.qo_model.specs.Clocks.{device_period}
 use Rattle.qo_model.specs.Depth.{among}
 use Rattle.qo_model.specs.FinalNotesRuns.{Change, behind_write, changed, wrote}
 use Rattle.qo_model.specs.Hotplug.{asked, completed, refused}
@@ -24,14 +27,19 @@ use Rattle.qo_sound_devices.specs.SoundDevices.{SoundDevices}
 use Rattle.qo_sound_devices.specs.SoundLists.{IsOn}
 use Rattle.qo_sound_devices.proofs.DevicesLawLemmas.{devices_kept_lem}
 use Rattle.qo_sound_devices.proofs.PlugLemmas.{among-all}
+use Rattle.qo_sound_clocks.specs.RegistersKept.{registers_set, with_registers}
+use Rattle.qo_sound_clocks.specs.SoundTimes.{IsTimely, SoundTimes}
 use Rattle.qo_sound_clocks.proofs.LawLemmas.{clocks_kept_lem}
 use Rattle.qo_sound_clocks.proofs.NumbersLemmas.{numbers_kept_lem}
+use Rattle.qo_sound_clocks.proofs.RegisterLemmas.{registers_kept_lem}
 use Rattle.qo_sound_clocks.proofs.TimesLemmas.{times_kept_lem}
 use Rattle.qo_realize.specs.Good.{Good}
 use Rattle.qo_realize.specs.Guest.{polled}
 use Rattle.qo_realize.specs.Parts.{Parts}
+use Rattle.qo_realize.specs.Registers.{guest_written, registers_at, registers_written}
 use Rattle.qo_realize.specs.Stands.{Stands, StandsForGood}
 use Rattle.qo_realize.specs.Time.{at_time, with_running}
+use Rattle.qo_realize.proofs.WrittenLemmas.{written-all}
 
 le-of-eq : {m n : ℕ} → m ≡ n → m ≤ n
 le-of-eq {m} e = subst (λ (n : ℕ). m ≤ n) e (omega arith)
@@ -218,6 +226,33 @@ pulsed-good b n good =
       numbers = numbers_kept_lem.pulsed b n good.numbers;
       times = times_kept_lem.pulsed b n good.times;
     }
+
+-- the guest writes to a register
+
+pub registers-timely : (b : Board) (n : ℕ) → SoundTimes b → IsTimely b.now (registers_at b n)
+registers-timely b n h = go (record_of b n) refl
+  where
+    go : (o : Option Record) → record_of b n ≡ o → IsTimely b.now (option_map_or (λ (r : Record). r.registers) o bare)
+    go None e = tt
+    go (Some r) e = times_kept_lem.there b n r e h
+
+set-good : (b : Board) (d reg value : ℕ) (registers : Registers) (e : Effect) → registers_written b d reg value ≡ Some (registers, e) → Good b
+    → Good (registers_set b d registers)
+set-good b d reg value registers e is good =
+    record {
+      devices = registers_kept_lem.devices b d registers good.devices;
+      clocks = registers_kept_lem.clocks b d registers good.clocks;
+      numbers = registers_kept_lem.numbers b d registers good.numbers;
+      times = registers_kept_lem.times b d registers timely good.times;
+    }
+  where
+    timely : IsTimely b.now registers
+    timely = times_kept_lem.wrote (registers_at b d) registers e reg value false b.now (device_period b d) is (registers-timely b d good.times)
+
+pub written-good : (b : Board) (d reg value : ℕ) (c : Board) → guest_written b d reg value ≡ Some c → Good b → Good c
+written-good b d reg value c is good =
+    written-all Good b d reg value (λ registers e by. set-good b d reg value registers e by good)
+    (λ x m is h. pulsed-good x m h) c is
 
 -- each board that stands at the same parts as a good one is good
 pub good-of : (p : Parts) → StandsForGood p → (b : Board) → Stands b p → Good b

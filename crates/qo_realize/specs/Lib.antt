@@ -2,6 +2,7 @@ pub mod Answers
 pub mod Good
 pub mod Guest
 pub mod Parts
+pub mod Registers
 pub mod Removals
 pub mod Resets
 pub mod Stages

@@ -4,6 +4,7 @@
 
 mod board;
 mod guests;
+mod registers;
 mod removals;
 mod resets;
 mod stages;

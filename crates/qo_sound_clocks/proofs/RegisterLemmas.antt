@@ -8,6 +8,7 @@ use Rattle.qo_model.specs.Devices.{is_true, number_in, plain_in, strong_in}
 use Rattle.qo_model.specs.Release.{edited}
 use Rattle.qo_model.proofs.FinalNotesLemmas.{edit-keeps}
 use Rattle.qo_model.proofs.StepLemmas.{found-edited}
+use Rattle.qo_sound.specs.Kept.{SoundTree}
 use Rattle.qo_sound.proofs.CutLemmas.{near-same_slots}
 use Rattle.qo_sound.proofs.FirmLemmas.{Firm}
 use Rattle.qo_sound.proofs.ViewLemmas.{AtRest, rest-from_sound, sound-from_rest}
@@ -75,6 +76,11 @@ module _ (b : Board) (n : ℕ) (registers : Registers) where
   near-set : Nearly None b → Nearly None set
   near-set near = near-same_slots n (with_registers registers) (λ r. refl) (λ r. refl) (λ r. refl) None b near
 
+  tree-set : SoundTree b → SoundTree set
+  tree-set h =
+      let rest : AtRest b = rest-from_sound b h in
+      sound-from_rest set (record { used = near-set rest.used; pinned = rest.pinned })
+
   places-set : (depth : ℕ → ℕ) → Firm set → PlacesBut depth None (λ x. false) b → PlacesBut depth None (λ x. false) set
   places-set depth firm h =
       let d : Dims b set = dims-set in
@@ -88,7 +94,7 @@ module _ (b : Board) (n : ℕ) (registers : Registers) where
       let near : Nearly None set = near-set rest.used in
       let d : Dims b set = dims-set in
       record {
-        tree = sound-from_rest set (record { used = near; pinned = rest.pinned });
+        tree = tree-set h.tree;
         places = (h.places.0, places-set h.places.0 near.firm h.places.1);
         lists = lists-same b set refl refl (λ x on. (stands-dimmed b set d.dimmed x ∙ on.0, d.same x ∙ on.1)) h.lists;
       }
@@ -96,6 +102,7 @@ module _ (b : Board) (n : ℕ) (registers : Registers) where
 pub registers_kept_lem : RegistersKeptLaw
 registers_kept_lem =
     record {
+      tree = tree-set;
       devices = devices-set;
       clocks = λ b n registers h. same-sound b (registers_set b n registers) (slots-set b n registers) h;
       numbers = λ b n registers h. same-numbers b (registers_set b n registers) (slots-set b n registers) h;

@@ -4,6 +4,7 @@ use Rattle.qo_values.specs.Registers.{Registers}
 use Rattle.qo_model.specs.Board.{Board, Record}
 use Rattle.qo_model.specs.FinalNotes.{NotesInOrder}
 use Rattle.qo_model.specs.Release.{edit}
+use Rattle.qo_sound.specs.Kept.{SoundTree}
 use Rattle.qo_sound_devices.specs.SoundDevices.{SoundDevices}
 use Rattle.qo_sound_clocks.specs.SoundClocks.{SoundClocks}
 use Rattle.qo_sound_clocks.specs.SoundNumbers.{SoundNumbers}
@@ -16,8 +17,9 @@ with_registers registers r = record r { registers = registers }
 abbrev pub registers_set : Board → ℕ → Registers → Board
 registers_set b n registers = edit n (with_registers registers) b
 
--- whatever they are, they leave where devices stand and the lists that name them, the clocks with their numbers, and the notes in order
+-- whatever they are, they leave the tree, where devices stand and the lists that name them, the clocks with their numbers, and the notes in order
 pub record RegistersKeptLaw : Type 0 where
+  pub tree : (b : Board) (n : ℕ) (registers : Registers) → SoundTree b → SoundTree (registers_set b n registers)
   pub devices : (b : Board) (n : ℕ) (registers : Registers) → SoundDevices b → SoundDevices (registers_set b n registers)
   pub clocks : (b : Board) (n : ℕ) (registers : Registers) → SoundClocks b → SoundClocks (registers_set b n registers)
   pub numbers : (b : Board) (n : ℕ) (registers : Registers) → SoundNumbers b → SoundNumbers (registers_set b n registers)

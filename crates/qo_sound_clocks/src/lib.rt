@@ -42,9 +42,9 @@ pub fn law_writes_keep()
     ensures { WritesKeepLaw }
 {}
 
-/// Other registers of an object leave the places of devices and the lists that name them sound, the
-/// clocks with their numbers, and the notes in order; and the moments of timers, where no moment in
-/// them is ahead of the time.
+/// Other registers of an object leave the tree sound, the places of devices and the lists that name
+/// them, the clocks with their numbers, and the notes in order; and the moments of timers, where no
+/// moment in them is ahead of the time.
 #[tactic(auto, using(crate::proofs::RegisterLemmas::registers_kept_lem))]
 pub fn law_registers_kept()
     ensures { RegistersKeptLaw }

@@ -3,14 +3,14 @@ use Rattle.std.proofs.Common.{sym, subst, ℕ}
 use Rattle.qo_model.specs.Reset.{pulse}
 use Rattle.qo_realize.specs.Parts.{Parts, parts_of}
 use Rattle.qo_realize.specs.Stands.{Stands}
-use Rattle.qo_realize.proofs.HoldLemmas.{pulse-keeps, pulse-stands}
+use Rattle.qo_realize.proofs.HoldLemmas.{acts-keep, pulse-keeps, pulse-stands}
 use Rattle.qo_realize.proofs.ResetLemmas.{machine-there, none-said}
 use Rattle.qo_realize.proofs.board.Board.pulse_machine.Goals as goal
 
 pub invariant_of-self : goal.invariant_of-self
 invariant_of-self g c =
     let inside = c.self.inside in
-    pulse-keeps inside.anonymous inside.running inside.resets c.pulse.new.self inside.hotplug inside.heap c.pulse.new.heap c.pulse.ensures.acts c.in-Some.machine.birth
+    pulse-keeps inside.anonymous inside.running inside.resets c.pulse.new.self inside.hotplug inside.heap c.pulse.new.heap (acts-keep inside.heap c.pulse.new.heap c.pulse.ensures.acts) c.in-Some.machine.birth
     c.self.invariant.1 c.pulse.ensures.shown
 
 pub returns-in-Some : goal.returns-in-Some
@@ -18,7 +18,7 @@ returns-in-Some g c = λ b s.
     let inside = c.self.inside in
     let seen = subst (λ (p : Parts). Stands b p) (sym c.self.view_is) s in
     subst (λ (n : ℕ). Stands (pulse b n) (parts_of inside.anonymous inside.running c.pulse.new.self inside.hotplug c.pulse.new.heap)) c.in-Some.ensures.born
-    (pulse-stands inside.anonymous inside.running inside.resets c.pulse.new.self inside.hotplug inside.heap c.pulse.new.heap c.pulse.ensures.acts b c.in-Some.machine.birth seen
+    (pulse-stands inside.anonymous inside.running inside.resets c.pulse.new.self inside.hotplug inside.heap c.pulse.new.heap (acts-keep inside.heap c.pulse.new.heap c.pulse.ensures.acts) b c.in-Some.machine.birth seen
     (c.pulse.ensures.shown b (seen.shows, seen.holds)))
 
 pub returns-in_default : goal.returns-in_default

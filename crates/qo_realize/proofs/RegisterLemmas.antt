@@ -1,0 +1,172 @@
+-- The registers of a device as the guest reads and writes them: what the heap's body has is the board's, and what stands behind a write.
+use Rattle.std.proofs.Common.{◌≡◌, refl, ap, sym, subst, ◌∙◌, ℕ, Bool, false, List, [], count_by, Option, None, Some, IfNone, IfSome, option_map, arith}
+use Rattle.std.specs.Option.{option_map_or}
+use Rattle.std.proofs.lemmas.Option.{same_Some}
+use Rattle.qo_values.specs.Bodies.{Effect, body_write}
+use Rattle.qo_values.specs.Registers.{Registers, bare}
+use Rattle.qo_kinds.specs.Bodies.{IsTimely, kept_of, registers_of}
+use Rattle.qo_kinds.specs.declared.bodies.Body.{Body}
+use Rattle.qo_kinds.specs.declared.bodies.Body.TheVariants.{Uart, Timer, Dimm, Bridge, Bus, Clock, Backend, Plain}
+use Rattle.qo_kinds.specs.declared.bodies.Effect as told
+use Rattle.qo_slots.specs.declared.keys.Key.{Key}
+use Rattle.qo_table.specs.Rows.{IsLive}
+use Rattle.qo_object.specs.Content.{Content}
+use Rattle.qo_object.specs.Shown.{shown}
+use Rattle.qo_model.specs.Board.{Board, Record, record_of}
+use Rattle.qo_model.specs.Clocks.{ClocksFit, device_period}
+use Rattle.qo_heap.specs.Board.{Shows}
+use Rattle.qo_heap.specs.Book.{claim_eq, kept_times}
+use Rattle.qo_heap.specs.Objects.{IsHeap, Objects, content_of, with_edit}
+use Rattle.qo_heap.proofs.BookLemmas.{book-put}
+use Rattle.qo_heap.proofs.HeapLemmas.{edit-is, edit-same, live-edit}
+use Rattle.qo_heap.proofs.ShowsEdits.{shows-edit}
+use Rattle.qo_heap.proofs.ShowsLive.{live-content}
+use Rattle.qo_heap.proofs.ShowsReads.{shows-record}
+use Rattle.qo_hotplug.specs.Asked.{Asked}
+use Rattle.qo_properties.specs.Claims.{KeepsBook}
+use Rattle.qo_properties.specs.Pinned.{OnlyRootPinned}
+use Rattle.qo_registers.specs.Effects.{effect_told}
+use Rattle.qo_reset.specs.HoldList.{HoldList}
+use Rattle.qo_reset.specs.Phases.{Holds}
+use Rattle.qo_sound_clocks.specs.RegistersKept.{registers_set, with_registers}
+use Rattle.qo_sound_clocks.specs.SoundTimes as boards
+use Rattle.qo_sound_clocks.proofs.TimesLemmas.{times_kept_lem}
+use Rattle.qo_realize.specs.Parts.{Parts, parts_of}
+use Rattle.qo_realize.specs.Registers.{GuestWrites, HasWritten, Written, behind_effect, guest_written, registers_at, registers_written}
+use Rattle.qo_realize.specs.Stands.{Stands, StandsForGood}
+use Rattle.qo_realize.proofs.SoundLemmas.{written-good}
+use Rattle.qo_realize.proofs.WrittenLemmas.{written-leaves}
+use Rattle.qo_realize.proofs.HoldLemmas.{good-pinned, left-stands, reset-stands}
+
+-- the body of an object that is there
+body-there : (v : Objects) (o : Key) (body : Body) → IsLive v.rows o → option_map (λ (c : Content). c.body) (content_of v o.birth) ≡ Some body
+    → (c : Content) × (content_of v o.birth ≡ Some c) × (c.body ≡ body)
+body-there v o body live is =
+    let (c, there) = live-content v o live in
+    (c, there, same_Some c.body body (sym (ap (option_map (λ (d : Content). d.body)) there) ∙ is))
+
+-- no timer is ahead of the heap's time
+
+same-timely : (now : ℕ) (body : Body) → boards.IsTimely now (registers_of body) → IsTimely now body
+same-timely now (Uart u k) h = tt
+same-timely now (Timer t k) h = h
+same-timely now (Dimm d k) h = tt
+same-timely now (Bridge raised holds k) h = tt
+same-timely now Bus h = tt
+same-timely now Clock h = tt
+same-timely now Backend h = tt
+same-timely now Plain h = tt
+
+pub timely-there : (p : Parts) → StandsForGood p → (n : ℕ) → IfSome (content_of p.objects n) (λ c. IsTimely p.objects.time c.body)
+timely-there p (b, s, good) n = go (content_of p.objects n) refl
+  where
+    go : (o : Option Content) → content_of p.objects n ≡ o → IfSome o (λ c. IsTimely p.objects.time c.body)
+    go None e = tt
+    go (Some c) e =
+        let there : record_of b n ≡ Some (shown n c) = shows-record b p.objects s.shows n ∙ ap (option_map (shown n)) e in
+        same-timely p.objects.time c.body
+        (subst (λ (now : ℕ). boards.IsTimely now (registers_of c.body)) s.shows.now (times_kept_lem.there b n (shown n c) there good.times))
+
+pub body-timely : (time : ℕ) (v : Objects) (o : Key) (body : Body) → IsLive v.rows o → option_map (λ (c : Content). c.body) (content_of v o.birth) ≡ Some body
+    → IfSome (content_of v o.birth) (λ c. IsTimely time c.body) → IsTimely time body
+body-timely time v o body live is h =
+    let (c, there, same) = body-there v o body live is in
+    let at : IsTimely time c.body = subst (λ (x : Option Content). IfSome x (λ c. IsTimely time c.body)) there h in
+    subst (IsTimely time) same at
+
+-- the registers of the body are the board's
+body-registers : (b : Board) (v : Objects) → Shows b v → (o : Key) (body : Body) → IsLive v.rows o
+    → option_map (λ (c : Content). c.body) (content_of v o.birth) ≡ Some body → registers_at b o.birth ≡ registers_of body
+body-registers b v s o body live is =
+    let (c, there, same) = body-there v o body live is in
+    ap (λ (x : Option Record). option_map_or (λ (r : Record). r.registers) x bare) (shows-record b v s o.birth ∙ ap (option_map (shown o.birth)) there)
+    ∙ ap registers_of same
+
+-- so a call of the body at the heap's time, with the period of the device's clock, is one of the board's
+pub board-call : {T : Type 0} (f : Registers → ℕ → ℕ → T) (b : Board) (v : Objects) → Shows b v → (o : Key) (body : Body) → IsLive v.rows o
+    → option_map (λ (c : Content). c.body) (content_of v o.birth) ≡ Some body → (time period : ℕ) → time ≡ v.time → period ≡ device_period b o.birth
+    → f (registers_of body) time period ≡ f (registers_at b o.birth) b.now (device_period b o.birth)
+board-call f b v s o body live is time period at by =
+    ap (λ (r : Registers). f r time period) (sym (body-registers b v s o body live is))
+    ∙ ap (λ (now : ℕ). f (registers_at b o.birth) now period) (at ∙ sym s.now)
+    ∙ ap (f (registers_at b o.birth) b.now) by
+
+-- a write to the body is one of the board's
+
+abbrev put : Body → Content → Content
+put body c = record c { body = body }
+
+shows-put : (b : Board) (v : Objects) → Shows b v → (n : ℕ) (body : Body) → Shows (registers_set b n (registers_of body)) (with_edit n (put body) v)
+shows-put b v s n body = shows-edit n (put body) b v s (with_registers (registers_of body)) (λ m c. refl) (λ c. refl)
+
+pub has-written : (b : Board) (v : Objects) → Shows b v → (o : Key) (old new : Body) (reg value : ℕ) → IsLive v.rows o
+    → option_map (λ (c : Content). c.body) (content_of v o.birth) ≡ Some old → (time period : ℕ) → time ≡ v.time → period ≡ device_period b o.birth
+    → (result : Option told.Effect)
+    → option_map (λ (e : told.Effect). (registers_of new, effect_told e)) result ≡ body_write (registers_of old) reg value false time period
+    → HasWritten b o.birth (registers_written b o.birth reg value) result (with_edit o.birth (put new) v)
+has-written b v s o old new reg value live is time period at by result came =
+    go result (sym (came ∙ board-call (λ (r : Registers) (now p : ℕ). body_write r reg value false now p) b v s o old live is time period at by))
+  where
+    go : (r : Option told.Effect) → registers_written b o.birth reg value ≡ option_map (λ (e : told.Effect). (registers_of new, effect_told e)) r
+        → HasWritten b o.birth (registers_written b o.birth reg value) r (with_edit o.birth (put new) v)
+    go None e = e
+    go (Some x) e = (registers_of new, e, shows-put b v s o.birth new)
+
+-- and it keeps the claims
+pub put-book : (v : Objects) → IsHeap v → (o : Key) (old new : Body) → IsLive v.rows o → option_map (λ (c : Content). c.body) (content_of v o.birth) ≡ Some old
+    → kept_of new ≡ kept_of old → KeepsBook v (with_edit o.birth (put new) v)
+put-book v good o old new live is kept out h =
+    let (c, there, same) = body-there v o old live is in
+    book-put [] out v good o.birth (put new) c there
+    (λ x.
+    let times : kept_times x (kept_of new) ≡ kept_times x (kept_of c.body) = ap (kept_times x) (kept ∙ ap kept_of (sym same)) in
+    let none : count_by (claim_eq x) [] ≡ 0 = refl in
+    omega (arith, times, none))
+    h
+
+-- a write of what is there leaves all
+pub put-none : (v : Objects) → IsHeap v → (o : Key) (old new : Body) → IsLive v.rows o → option_map (λ (c : Content). c.body) (content_of v o.birth) ≡ Some old
+    → (result : Option told.Effect) → IfNone result (new ≡ old) → IfNone result (with_edit o.birth (put new) v ≡ v)
+put-none v good o old new live is None same =
+    let (c, there, here) = body-there v o old live is in
+    sym (edit-is v good o.birth (put new) c c there (ap (λ (b : Body). record c { body = b }) (here ∙ sym same)))
+    ∙ edit-is v good o.birth (λ (d : Content). d) c c there refl
+    ∙ edit-same o.birth v
+put-none v good o old new live is (Some e) same = tt
+
+pub put-live : (v : Objects) (o : Key) (new : Body) → IsLive v.rows o → IsLive (with_edit o.birth (put new) v).rows o
+put-live v o new live = live-edit o.birth (put new) v.rows o live
+
+-- the board behind the write
+pub was-written : (b : Board) (d reg value : ℕ) (e : told.Effect) (holds next : List ℕ) (v w : Objects) → b.holds ≡ holds
+    → HasWritten b d (registers_written b d reg value) (Some e) v → ((c : Board) → Holds c holds v → Holds (behind_effect d (effect_told e) c) next w)
+    → Written (guest_written b d reg value) (Some tt) next w
+was-written b d reg value e holds next v w held (registers, is, shows) through = (
+  behind_effect d (effect_told e) (registers_set b d registers),
+  ap (option_map (λ (x : Registers × Effect). behind_effect d x.1 (registers_set b d x.0))) is,
+  through (registers_set b d registers) (shows, held),
+)
+
+-- what stands behind it
+
+module _ (anonymous : ℕ) (running : Bool) (old new : HoldList) (asked : Asked) (v w : Objects) (book : KeepsBook v w) (d reg value : ℕ) where
+  abbrev before : Parts
+  before = parts_of anonymous running old asked v
+
+  abbrev behind : Parts
+  behind = parts_of anonymous running new asked w
+
+  pub write-stands : (b : Board) (result : Option (Unit {0})) → Stands b before → Written (guest_written b d reg value) result new.births w
+      → GuestWrites (guest_written b d reg value) result behind
+  write-stands b (Some u) s (c, is, holds) = (c, is, reset-stands anonymous running old new asked v w book b c s (written-leaves b d reg value c is) holds)
+  write-stands b None s is = is
+
+  pub write-keeps : (result : Option (Unit {0})) → StandsForGood before
+      → ((b : Board) → Holds b old.births v → ClocksFit b → Written (guest_written b d reg value) result new.births w)
+      → IfNone result ((w ≡ v) × (new.births ≡ old.births)) → OnlyRootPinned w × StandsForGood behind
+  write-keeps None (b, s, good) h same =
+      good-pinned anonymous running old new asked v w book b (left-stands anonymous running old new asked v w book b s same) good
+  write-keeps (Some u) (b, s, good) h same =
+      let (c, is, holds) = h b (s.shows, s.holds) good.clocks.fit in
+      good-pinned anonymous running old new asked v w book c
+      (reset-stands anonymous running old new asked v w book b c s (written-leaves b d reg value c is) holds) (written-good b d reg value c is good)

@@ -1,0 +1,54 @@
+-- What a write of the guest to a register keeps.
+use Rattle.std.proofs.Common.{◌≡◌, refl, subst, ◌∙◌, ℕ, Option, None, Some}
+use Rattle.std.specs.Option.{option_map_or}
+use Rattle.std.proofs.lemmas.Option.{same_Some}
+use Rattle.qo_values.specs.Bodies.{Effect, byte, nothing}
+use Rattle.qo_values.specs.Bodies as effect
+use Rattle.qo_values.specs.Registers.{Registers}
+use Rattle.qo_model.specs.Board.{Board}
+use Rattle.qo_model.specs.Devices.{first_bus}
+use Rattle.qo_model.specs.Reset.{pulse}
+use Rattle.qo_sound.specs.DevicesStay.{ResetLeaves}
+use Rattle.qo_sound.proofs.DevicesStayLemmas.{devices_stay_lem}
+use Rattle.qo_sound_clocks.specs.RegistersKept.{registers_set}
+use Rattle.qo_realize.specs.Registers.{behind_effect, guest_written, registers_written}
+
+-- what the board with the registers has, and a pulse of a device's bus keeps, the board behind the write has
+pub written-all : (P : Board → Type 0) (b : Board) (d reg value : ℕ)
+    → ((registers : Registers) (e : Effect) → registers_written b d reg value ≡ Some (registers, e) → P (registers_set b d registers))
+    → ((x : Board) (m : ℕ) → first_bus x d ≡ Some m → P x → P (pulse x m)) → (c : Board) → guest_written b d reg value ≡ Some c → P c
+written-all P b d reg value set pulsed c is = go (registers_written b d reg value) refl
+  where
+    beside : (x : Board) (e : Effect) → P x → P (behind_effect d e x)
+    beside x nothing h = h
+    beside x (byte n) h = h
+    beside x effect.pulse h = by (first_bus x d) refl
+      where
+        by : (bus : Option ℕ) → first_bus x d ≡ bus → P (option_map_or (pulse x) bus x)
+        by None is = h
+        by (Some m) is = pulsed x m is h
+
+    go : (o : Option (Registers × Effect)) → registers_written b d reg value ≡ o → P c
+    go None e = absurd (let clash : None ≡ Some c = rw (guest_written, e) at is in cc)
+    go (Some w) e =
+        let its : Some (behind_effect d w.1 (registers_set b d w.0)) ≡ Some c = rw (guest_written, e) at is in
+        subst P (same_Some (behind_effect d w.1 (registers_set b d w.0)) c its) (beside (registers_set b d w.0) w.1 (set w.0 w.1 e))
+
+leaves-then : (b x c : Board) → ResetLeaves b x → ResetLeaves x c → ResetLeaves b c
+leaves-then b x c h k =
+    record {
+      anonymous = k.anonymous ∙ h.anonymous;
+      now = k.now ∙ h.now;
+      running = k.running ∙ h.running;
+      pending = k.pending ∙ h.pending;
+      notices = k.notices ∙ h.notices;
+      rings = k.rings ∙ h.rings;
+      events = k.events ∙ h.events;
+    }
+
+-- what stands beside the objects stays
+pub written-leaves : (b : Board) (d reg value : ℕ) (c : Board) → guest_written b d reg value ≡ Some c → ResetLeaves b c
+written-leaves b d reg value =
+    written-all (ResetLeaves b) b d reg value
+    (λ registers e is. record { anonymous = refl; now = refl; running = refl; pending = refl; notices = refl; rings = refl; events = refl })
+    (λ x m is h. leaves-then b x (pulse x m) h (devices_stay_lem.pulsed x m))
