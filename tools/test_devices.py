@@ -2,8 +2,8 @@
 """Has the proved program refuse devices, at each stage and for each property, and holds the whole tree, what is detached,
 the notes, the notices and the claims to those before. It prints nothing where all is well.
 
-Each row of ATTEMPTS is refused with its code on a board of its own. Any two rows of different stages, with the arguments
-of both, are refused with the code of the earlier one. Behind a refusal an add under the same id and in the same slot is
+Each row of ATTEMPTS and TIMERS is refused with its code on a board of its own. Any two rows of ATTEMPTS of different
+stages, with the arguments of both, are refused with the code of the earlier one. Behind a refusal an add under the same id and in the same slot is
 done, which the claims of the refused one would bar. The program is built by `rt ci`, or by `rt run` in
 crates/compose_program.
 """
@@ -17,6 +17,7 @@ import sys
 TOP = pathlib.Path(__file__).resolve().parent.parent
 PROGRAM = TOP / "crates" / "compose_program" / "out" / "compose_program"
 BRIDGE = "slot-bridge"
+TIMER = "slot-timer"
 
 
 def command(name, **arguments):
@@ -89,6 +90,18 @@ ATTEMPTS = [
     (5, "E42", {"bus": "b8/bus.0"}, []),
     (8, "E44", {}, NOTICES),
 ]
+# the same of timers, which have no bus, and are two objects: so there is room for one at 4,094
+TIMERS = [
+    (3, "E26", {"driver": TIMER, "bus": "/machine/mem.0"}, []),
+    (4, "E43", {"driver": TIMER}, [*CROWD, command("object-add", **{"qom-type": "tag", "id": "last"})]),
+    (4, "E17", {"driver": TIMER, "bus.0": "/machine/root.0"}, []),
+    (4, "E18", {"driver": TIMER, "clk": "/machine/sysclk"}, []),
+    (4, "E31", {"driver": TIMER, "peer": "/objects/t"}, []),
+    (5, "E28", {"driver": TIMER, "slot": 8}, []),
+    (5, "E29", {"driver": TIMER, "slot": 0}, []),
+    (5, "E30", {"driver": TIMER}, FULL),
+    (8, "E44", {"driver": TIMER}, NOTICES),
+]
 
 
 def replies(commands):
@@ -141,18 +154,17 @@ def births_of(commands):
     return made + 1, total
 
 
-def notes_of(stage, code, birth):
+def notes_of(stage, code, birth, driver):
     """The notes of an attempt whose first object has this birth: none where nothing is made."""
     if stage < 4 or code == "E43":
         return []
-    clock, bus = birth + 1, birth + 2
-    made = [f"init {birth} {it}" for it in ("device", "slot-device", BRIDGE)]
-    made += [f"init {clock} clock", f"init {bus} bus", f"init {bus} slot-bus"]
-    started = [f"realize {birth}", f"realize {bus}"]
-    started += [f"{phase} {it}" for phase in ("enter", "hold", "exit") for it in (bus, birth)]
-    started += [f"unrealize {bus}", f"unrealize {birth}"]
-    ended = [f"final {clock} clock", f"final {bus} slot-bus", f"final {bus} bus"]
-    ended += [f"final {birth} {it}" for it in (BRIDGE, "slot-device", "device")]
+    clock, buses = birth + 1, [birth + 2] if driver == BRIDGE else []
+    made = [*(f"init {birth} {it}" for it in ("device", "slot-device", driver)), f"init {clock} clock"]
+    made += [f"init {bus} {it}" for bus in buses for it in ("bus", "slot-bus")]
+    started = [f"realize {it}" for it in (birth, *buses)]
+    started += [f"{act} {it}" for act in ("enter", "hold", "exit", "unrealize") for it in (*buses, birth)]
+    ended = [f"final {clock} clock", *(f"final {bus} {it}" for bus in buses for it in ("slot-bus", "bus"))]
+    ended += [f"final {birth} {it}" for it in (driver, "slot-device", "device")]
     return made + (started if stage == 8 else []) + ended
 
 
@@ -178,7 +190,7 @@ def leaves_a_trace(row):
         return told(row, f"it is answered {refused}")
     if new[: len(look)] != old:
         return told(row, "the tree is not as before")
-    if notes != notes_of(stage, code, birth):
+    if notes != notes_of(stage, code, birth, arguments.get("driver", BRIDGE)):
         return told(row, f"the notes are {notes}")
     if notices != replies([*start, *polls])[len(start) :]:
         return told(row, "the notices are not as before")
@@ -208,7 +220,7 @@ def comes_first(early, late):
 
 def main():
     """Tries all rows, and returns the exit status."""
-    alone = [leaves_a_trace(row) or keeps_a_claim(row) for row in ATTEMPTS]
+    alone = [leaves_a_trace(row) or keeps_a_claim(row) for row in [*ATTEMPTS, *TIMERS]]
     pairs = [comes_first(*pair) for pair in itertools.combinations(ATTEMPTS, 2)]
     return 1 if any(alone) or any(pairs) else 0
 

@@ -708,3 +708,41 @@ fn a_bridge_is_plugged_in_and_let_go(rt: HostRuntime) -> Result<(), Fail> {
     assert!(rt; gives(rt.alloc(), record.as_slice(), want.as_bytes())?);
     Ok(())
 }
+
+/// Commands on a timer, and for each the event that is told before its reply, if there is one.
+const TIMER: [(&str, &str, &str); 6] = [
+    (
+        "device_add {\"driver\":\"slot-timer\",\"id\":\"t\",\"bus\":\"root.0\"}",
+        "",
+        "R",
+    ),
+    (
+        "x-query-notes {\"from\":0}",
+        "",
+        "{\"first\":0,\"notes\":[\"init 9 device\",\"init 9 slot-device\",\"init 9 slot-timer\",\"init 10 clock\",\"realize 9\",\"enter 9\",\"hold 9\",\"exit 9\"],\"total\":8}",
+    ),
+    ("device_del {\"id\":\"t\"}", "", "R"),
+    (
+        "x-guest {\"line\":\"ack 0\"}",
+        "0 {\"data\":{\"device\":\"t\",\"path\":\"/machine/peripheral/t\"},\"event\":\"DEVICE_DELETED\",\"timestamp\":{\"microseconds\":0,\"seconds\":1}}\r\n",
+        "{\"answer\":\"ok\"}",
+    ),
+    (
+        "x-query-notes {\"from\":8}",
+        "",
+        "{\"first\":8,\"notes\":[\"unrealize 9\",\"final 10 clock\",\"final 9 slot-timer\",\"final 9 slot-device\",\"final 9 device\"],\"total\":13}",
+    ),
+    ("device_del {\"id\":\"t\"}", "", "E33"),
+];
+
+#[test]
+fn a_timer_is_plugged_in_and_let_go(rt: HostRuntime) -> Result<(), Fail> {
+    let mut record = opening(rt.alloc())?;
+    let mut want = greeted(rt.alloc())?;
+    for (command, event, reply) in TIMER {
+        want.push_str(event)?;
+        add_row(rt.alloc(), &mut record, &mut want, command, reply)?;
+    }
+    assert!(rt; gives(rt.alloc(), record.as_slice(), want.as_bytes())?);
+    Ok(())
+}
