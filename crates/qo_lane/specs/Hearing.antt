@@ -1,11 +1,10 @@
 -- What a line of the guest does to the board, and what it is answered (docs/PROFILE.md, guest lines).
 use Rattle.std.specs.Prelude.{◌≡◌, ℕ, Bool, true, false, if◌then◌else◌, List, [], ◌∷◌, option_to_list, Option, Some, None}
 use Rattle.qo_guest.specs.Lines.{guest_line}
-use Rattle.qo_guest.specs.declared.addresses.Addr.{Addr}
 use Rattle.qo_guest.specs.declared.answers.GuestAnswer.{GuestAnswer}
-use Rattle.qo_guest.specs.declared.answers.GuestAnswer.TheVariants.{Fine, Plug, Unplug, NoNotice, NoLine, NoStopped, NoDevice, NoPending}
+use Rattle.qo_guest.specs.declared.answers.GuestAnswer.TheVariants.{Fine, Plug, Unplug, NoNotice, Value, NoLine, NoStopped, NoDevice, NoPending, NoRegister}
 use Rattle.qo_guest.specs.declared.lines.GuestAct.{GuestAct}
-use Rattle.qo_guest.specs.declared.lines.GuestAct.TheVariants.{Ack, Nack, Poll, Reset as start_over, Shutdown as power_off}
+use Rattle.qo_guest.specs.declared.lines.GuestAct.TheVariants.{Ack, Nack, Poll, Read, Write, Reset as start_over, Shutdown as power_off}
 use Rattle.qo_model.specs.Board.{Board, Notice}
 use Rattle.qo_model.specs.Depth.{among}
 use Rattle.qo_model.specs.Hotplug.{completed, refused, reset_whole}
@@ -14,6 +13,7 @@ use Rattle.qo_replies.specs.declared.events.Event.{Event}
 use Rattle.qo_replies.specs.declared.events.Event.TheVariants.{Reset, Shutdown}
 use Rattle.qo_realize.specs.Guest.{address_of, first_notice, polled}
 use Rattle.qo_realize.specs.Parts.{Parts}
+use Rattle.qo_realize.specs.Registers.{guest_read, guest_written}
 use Rattle.qo_realize.specs.Stands.{Stands}
 use Rattle.qo_lane.specs.declared.hearing.Heard.{Heard}
 
@@ -54,6 +54,24 @@ told_by b (Some notice) = if notice.plug then Plug (address_of b notice.birth) e
 abbrev pub polled_by : Board → Outcome
 polled_by b = answered (polled b) (told_by b (first_notice b))
 
+-- it reads a register of a device
+abbrev pub value_told : Option ℕ → GuestAnswer
+value_told None = NoRegister
+value_told (Some value) = Value value
+
+abbrev pub read_by : Board → ℕ → Option ℕ → Outcome
+read_by b reg None = answered b NoDevice
+read_by b reg (Some d) = answered b (value_told (guest_read b d reg))
+
+-- or writes one
+abbrev pub if_written : Board → Option Board → Outcome
+if_written b None = answered b NoRegister
+if_written b (Some behind) = fine behind
+
+abbrev pub written_by : Board → ℕ → ℕ → Option ℕ → Outcome
+written_by b reg value None = answered b NoDevice
+written_by b reg value (Some d) = if_written b (guest_written b d reg value)
+
 -- it resets the whole board, and sessions are told that it did
 abbrev pub reset_by : Board → Outcome
 reset_by b = record { answer = Fine; board = reset_whole b; events = Reset true ∷ []; ends = false }
@@ -62,27 +80,15 @@ reset_by b = record { answer = Fine; board = reset_whole b; events = Reset true 
 abbrev pub shut_down : Board → Outcome
 shut_down b = record { answer = Fine; board = b; events = Shutdown true ∷ []; ends = true }
 
--- what an act of the guest comes to where the machine runs; registers are not built, and such a line is none
+-- what an act of the guest comes to where the machine runs
 abbrev pub acted : Board → GuestAct → Outcome
 acted b (Ack at) = acked b (addressed b at)
 acted b (Nack at) = nacked b (addressed b at)
 acted b Poll = polled_by b
+acted b (Read at reg) = read_by b reg (addressed b at)
+acted b (Write at reg value) = written_by b reg value (addressed b at)
 acted b start_over = reset_by b
 acted b power_off = shut_down b
-acted b act = answered b NoLine
-
-abbrev pub is_built : GuestAct → Bool
-is_built (Ack at) = true
-is_built (Nack at) = true
-is_built Poll = true
-is_built start_over = true
-is_built power_off = true
-is_built act = false
-
--- the act of a line that is built
-abbrev pub act_in : Option GuestAct → Option GuestAct
-act_in None = None
-act_in (Some act) = if is_built act then Some act else None
 
 -- what a line comes to, without its line end
 abbrev pub heard_act : Board → Option GuestAct → Outcome
@@ -90,7 +96,7 @@ heard_act b None = answered b NoLine
 heard_act b (Some act) = if b.running then acted b act else answered b NoStopped
 
 unfoldable pub heard : Board → List ℕ → Outcome
-heard b line = heard_act b (act_in (guest_line line))
+heard b line = heard_act b (guest_line line)
 
 -- the outcome that the code tells, where this board stands behind it
 abbrev pub outcome_of : Board → Heard → Outcome

@@ -1,11 +1,12 @@
 //! One line of the guest.
 
 ghost use Rattle.std.specs.Prelude.{◌≡◌, false, IfOk, None, OnErr, option_map};
+ghost use Rattle.std.specs.Result.{result_ok};
 ghost use Rattle.qo_guest.specs.Lines.{guest_line};
 ghost use Rattle.qo_model.specs.Board.{Board as Tree};
 ghost use Rattle.qo_realize.specs.Stands.{Stands};
 ghost use Rattle.qo_buses.specs.Addresses.{addressed};
-ghost use Rattle.qo_lane.specs.Hearing.{Came, act_in, acked, acted, heard, is_built, nacked, outcome_of, polled_by, reset_by, shut_down, told_by};
+ghost use Rattle.qo_lane.specs.Hearing.{Came, acked, acted, heard, nacked, outcome_of, polled_by, read_by, reset_by, shut_down, told_by, value_told, written_by};
 
 use qo_guest::{Addr, GuestAct, GuestAnswer, read_line};
 use qo_heap::Steps;
@@ -95,6 +96,45 @@ fn poll<L: Ledger>(board: &mut Board, steps: &mut Steps<L>) -> Heard
     answered(told_by(board, notice.as_ref(), steps))
 }
 
+/// What the guest is told that a register reads.
+fn value_told(value: Option<u32>) -> GuestAnswer
+    ensures { result ≡ value_told value }
+{
+    match value {
+        Some(value) => GuestAnswer::Value(value),
+        None => GuestAnswer::NoRegister,
+    }
+}
+
+/// The guest reads a register of the device at an address. It takes no memory.
+fn read<L: Ledger>(board: &Board, at: &Addr, reg: u8, steps: &mut Steps<L>) -> Heard
+    ensures { (b : Tree) → Stands b board.now → outcome_of b result ≡ read_by b reg (addressed b at.now) }
+{
+    let Some(dev) = board.guest_find(at, steps) else {
+        return answered(GuestAnswer::NoDevice);
+    };
+    answered(value_told(board.guest_read(dev, reg, steps)))
+}
+
+/// The guest writes to a register of the device at an address. It takes no memory.
+fn write<L: Ledger>(
+    board: &mut Board,
+    at: &Addr,
+    reg: u8,
+    value: u32,
+    steps: &mut Steps<L>,
+) -> Heard
+    ensures { (b : Tree) → Stands b board.old → Came (written_by b reg value (addressed b at.now)) result board.new }
+{
+    let Some(dev) = board.guest_find(at, steps) else {
+        return answered(GuestAnswer::NoDevice);
+    };
+    match board.guest_write(dev, reg, value, steps) {
+        Some(()) => answered(GuestAnswer::Fine),
+        None => answered(GuestAnswer::NoRegister),
+    }
+}
+
 /// The guest resets the whole board. It takes no memory.
 fn reset<L: Ledger>(board: &mut Board, steps: &mut Steps<L>) -> Heard
     ensures { (b : Tree) → Stands b board.old → Came (reset_by b) result board.new }
@@ -133,40 +173,18 @@ fn act<L: Ledger>(
         GuestAct::Ack(at) => Ok(ack(board, at, steps)),
         GuestAct::Nack(at) => nack(board, at, alloc, steps),
         GuestAct::Poll => Ok(poll(board, steps)),
+        GuestAct::Read(at, reg) => Ok(read(board, at, *reg, steps)),
+        GuestAct::Write(at, reg, value) => Ok(write(board, at, *reg, *value, steps)),
         GuestAct::Reset => Ok(reset(board, steps)),
         GuestAct::Shutdown => Ok(shut_down()),
-        GuestAct::Read(_, _) | GuestAct::Write(_, _, _) => Ok(answered(GuestAnswer::NoLine)),
-    }
-}
-
-/// Whether an act of the guest is built.
-fn is_built(act: &GuestAct) -> bool
-    ensures { result ≡ is_built act.now }
-{
-    match act {
-        GuestAct::Ack(_)
-        | GuestAct::Nack(_)
-        | GuestAct::Poll
-        | GuestAct::Reset
-        | GuestAct::Shutdown => true,
-        GuestAct::Read(_, _) | GuestAct::Write(_, _, _) => false,
-    }
-}
-
-/// The act that a line is, if it is one that is built.
-fn act_in(line: &[u8]) -> Option<GuestAct>
-    ensures { result ≡ act_in (guest_line line.now) }
-{
-    match read_line(line) {
-        Ok(act) => { if is_built(&act) { Some(act) } else { None } }
-        Err(_) => None,
     }
 }
 
 /// What one line of the guest does, without its line end, and what it is answered: `no line` where it
 /// is none, `no stopped` where the machine does not run, `no device` where none is at its address, `no
-/// pending` where no removal of that one is pending. Events on devices wait on the board behind it. The
-/// error is want of memory, and leaves the board as it was.
+/// pending` where no removal of that one is pending, and `no register` where that one has none of its
+/// number. Events on devices wait on the board behind it. The error is want of memory, and leaves the
+/// board as it was.
 pub fn hear<L: Ledger>(
     board: &mut Board,
     line: &[u8],
@@ -176,7 +194,7 @@ pub fn hear<L: Ledger>(
     ensures came { (b : Tree) → Stands b board.old → IfOk result (λ h. Came (heard b line.now) h board.new) }
     ensures err { OnErr result (board.new ≡ board.old) }
 {
-    let Some(read) = act_in(line) else {
+    let Ok(read) = read_line(line) else {
         return Ok(answered(GuestAnswer::NoLine));
     };
     if !board.running() {

@@ -1,7 +1,6 @@
 -- The run ends.
-use Rattle.std.proofs.Common.{sym, subst, ap}
-use Rattle.qo_guest.specs.declared.lines.GuestAct.{GuestAct}
-use Rattle.qo_lane.specs.Hearing.{Came, acted, shut_down}
+use Rattle.std.proofs.Common.{ap}
+use Rattle.qo_lane.specs.Hearing.{acted, shut_down}
 use Rattle.qo_lane.proofs.HearLemmas.{came-as}
 use Rattle.qo_lane.proofs.hearing.act.Goals as goal
 

@@ -1,9 +1,7 @@
 -- What is told of the notice that was taken.
-use Rattle.std.proofs.Common.{rules, ◌≡◌, ap, sym, ◌∙◌, Option}
+use Rattle.std.proofs.Common.{rules, ◌≡◌, ap, ◌∙◌}
 use Rattle.std.specs.Prelude.{option_map}
-use Rattle.qo_model.specs.Board.{Notice}
-use Rattle.qo_guest.specs.declared.answers.GuestAnswer.{GuestAnswer}
-use Rattle.qo_realize.specs.Guest.{first_notice, polled}
+use Rattle.qo_realize.specs.Guest.{polled}
 use Rattle.qo_lane.specs.Hearing.{answered, outcome_of, told_by}
 use Rattle.qo_lane.proofs.HearLemmas.{told-polled}
 use Rattle.qo_lane.proofs.hearing.poll.Goals as goal
