@@ -7,7 +7,7 @@ use Rattle.qo_unplug.proofs.TimelyLemmas.{times-timely}
 use Rattle.qo_realize.proofs.board.Board.qom_set.Goals as goal
 
 pub set-requires : goal.set-requires
-set-requires g c = let (b, s, good) = c.self.invariant.1 in times-timely b _ s.shows good.times
+set-requires g c = let (b, s, good) = c.self.invariant.1 in record { timely = times-timely b _ s.shows good.times }
 
 pub returns-clause-written : goal.returns-clause-written
 returns-clause-written g c = λ b s.
