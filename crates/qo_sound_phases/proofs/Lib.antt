@@ -5,3 +5,5 @@ pub mod BelowLemmas
 pub mod ShapeLemmas
 pub mod ReachedLemmas
 pub mod HoldLemmas
+pub mod FrameLemmas
+pub mod QuietLemmas
