@@ -7,3 +7,4 @@ pub mod ReachedLemmas
 pub mod HoldLemmas
 pub mod FrameLemmas
 pub mod QuietLemmas
+pub mod AttemptLemmas

@@ -44,7 +44,7 @@ pub quiet-then : (b c d : Board) → Quiet b c → Quiet c d → Quiet b d
 quiet-then b c d h k n = k n ∙ h n
 
 -- notes of one kind of deed that is no phase
-phases-made : (m : ℕ) (deed : TypeId → Deed) → ((t : TypeId) → phase_of (deed t) ≡ None) → (ts : List TypeId) (n : ℕ)
+pub phases-made : (m : ℕ) (deed : TypeId → Deed) → ((t : TypeId) → phase_of (deed t) ≡ None) → (ts : List TypeId) (n : ℕ)
     → phases_of n (map (λ (t : TypeId). record { birth = m; deed = deed t }) ts) ≡ []
 phases-made m deed none [] n = refl
 phases-made m deed none (t ∷ ts) n =
