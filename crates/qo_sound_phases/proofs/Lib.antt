@@ -8,3 +8,4 @@ pub mod HoldLemmas
 pub mod FrameLemmas
 pub mod QuietLemmas
 pub mod AttemptLemmas
+pub mod PlugLemmas
