@@ -9,3 +9,4 @@ pub mod FrameLemmas
 pub mod QuietLemmas
 pub mod AttemptLemmas
 pub mod PlugLemmas
+pub mod FixedLemmas
