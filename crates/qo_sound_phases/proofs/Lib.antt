@@ -10,3 +10,4 @@ pub mod QuietLemmas
 pub mod AttemptLemmas
 pub mod PlugLemmas
 pub mod FixedLemmas
+pub mod CommandLemmas
