@@ -11,3 +11,4 @@ pub mod AttemptLemmas
 pub mod PlugLemmas
 pub mod FixedLemmas
 pub mod CommandLemmas
+pub mod UnrealizeLemmas
