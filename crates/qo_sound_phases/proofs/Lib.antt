@@ -12,3 +12,4 @@ pub mod PlugLemmas
 pub mod FixedLemmas
 pub mod CommandLemmas
 pub mod UnrealizeLemmas
+pub mod ApartLemmas
