@@ -13,3 +13,4 @@ pub mod FixedLemmas
 pub mod CommandLemmas
 pub mod UnrealizeLemmas
 pub mod ApartLemmas
+pub mod DetachLemmas

@@ -28,7 +28,7 @@ pub record Still (b c : Board) : Type 0 where
 pub still-none : (b : Board) → Still b b
 still-none b = record { born = refl; holds = refl; quiet = λ n. refl }
 
-still-edits : (b : Board) → KeepsEdits (Still b)
+pub still-edits : (b : Board) → KeepsEdits (Still b)
 still-edits b n change leaves c h = record { born = h.born; holds = h.holds; quiet = h.quiet }
 
 still-unseen : (b : Board) (n : ℕ) (name : List ℕ) (c : Board) → Still b c → Still b (unseen_named n name c)
