@@ -37,6 +37,7 @@ use Rattle.qo_sound_phases.proofs.BelowLemmas.{Placed, placed}
 use Rattle.qo_sound_phases.proofs.FixedLemmas.{Fixed, fixed-after, fixed-let_go, fixed-none, fixed-then, fixed-write, same-record, SameAt}
 use Rattle.qo_sound_phases.proofs.FrameLemmas.{Frame}
 use Rattle.qo_sound_phases.proofs.ListLemmas.{clash, clash-back, decide}
+use Rattle.qo_sound_phases.proofs.LoneLemmas.{lone-changed}
 use Rattle.qo_sound_phases.proofs.QuietLemmas.{frame-phases, quiet-changed}
 use Rattle.qo_sound_phases.proofs.ReachedLemmas.{machines-listed}
 
@@ -305,4 +306,4 @@ module _ (b : Board) (change : Change) (d : SoundDevices b) where
           (kin.kind r (of-live b (codes "bus") r is) live)
 
   pub change-phases : SoundPhases b → SoundPhases (changed b change)
-  change-phases h = frame-phases b c kb kc frame reached-on (changed-stays b change).holds kin.older (quiet-changed b change) h
+  change-phases h = frame-phases b c kb kc frame reached-on (changed-stays b change).holds kin.older (quiet-changed b change) (lone-changed b change) h

@@ -19,6 +19,7 @@ use Rattle.qo_model.specs.Types.{is_a}
 use Rattle.qo_model.specs.Unplug.{apart_within, detach, left_bus, lost_buses, unrealize}
 use Rattle.qo_model.proofs.ReleaseLeavesLemmas.{release_leaves}
 use Rattle.qo_model.proofs.ReleaseLemmas.{found-within}
+use Rattle.qo_model.proofs.StepLemmas.{is_some-map}
 use Rattle.qo_sound.proofs.DetachStepsLemmas.{step-detach}
 use Rattle.qo_sound.proofs.FirmLemmas.{parents_in}
 use Rattle.qo_sound.proofs.RecordLemmas.{all-both, all-imply}
@@ -384,6 +385,7 @@ module _ (b : Board) (d : ℕ) (s : SoundDevices b) (e : stands b d ≡ true) wh
         unborn = λ n high. quiet n ∙ h.unborn n (subst (λ (m : ℕ). m < n) born high);
         reached = λ n i. quiet n ∙ h.reached n (frame-reached b (detach b d) kb kz frame n i) ∙ ap (λ (m : ℕ). Some (if m == 0 then stage.out else stage.held)) (sym (counts n i));
         holds = subst (AllByRecursion (IsReached (detach b d))) (sym still.holds) left;
+        lone = λ n i. h.lone n (sym (kinds n (sym (is_some-map (λ (r : Record). r.kind) (record_of (detach b d) n)) ∙ ap is_some i) ∙ pin-kind n) ∙ i);
       }
     where
       on : AllByRecursion (IsReached b) (unrealize (pin b d) d).holds

@@ -14,3 +14,4 @@ pub mod CommandLemmas
 pub mod UnrealizeLemmas
 pub mod ApartLemmas
 pub mod DetachLemmas
+pub mod LoneLemmas

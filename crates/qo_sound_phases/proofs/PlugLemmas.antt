@@ -39,12 +39,13 @@ use Rattle.qo_sound_devices.proofs.PluggedLemmas.{accepted-joined}
 use Rattle.qo_sound_devices.proofs.TakeLemmas.{aside-apart}
 use Rattle.qo_sound_phases.specs.Phases.{Stage, stage_of}
 use Rattle.qo_sound_phases.specs.Phases as stage
-use Rattle.qo_sound_phases.specs.SoundPhases.{IsReached, machine, device, bus, SoundPhases, stage_now}
+use Rattle.qo_sound_phases.specs.SoundPhases.{IsReached, machine, device, bus, LoneMachine, SoundPhases, stage_now}
 use Rattle.qo_sound_phases.proofs.AttemptLemmas.{plug_attempt-phases}
 use Rattle.qo_sound_phases.proofs.BelowLemmas.{bus-leads, leads-cases, Placed, placed, post-once, post-reach, reach-post, stands-no_bus}
 use Rattle.qo_sound_phases.proofs.ForestLemmas.{Reach, itself, further}
 use Rattle.qo_sound_phases.proofs.FrameLemmas.{Frame, frame-count}
 use Rattle.qo_sound_phases.proofs.ListLemmas.{among-filter, clash, clash-back, decide, distinct-filter}
+use Rattle.qo_sound_phases.proofs.LoneLemmas.{lone-plugged}
 use Rattle.qo_sound_phases.proofs.QuietLemmas.{Quiet, quiet-acted_all, quiet-device, quiet-then}
 use Rattle.qo_sound_phases.proofs.ReachedLemmas.{live-born, machines-listed, reach-below, reached-live}
 use Rattle.qo_sound_phases.proofs.ShapeLemmas.{PhasedSo, phased-so, SameShape, shape-count, shape-edit, shape-post, shape-records, shape-then}
@@ -239,7 +240,7 @@ module _ (b : Board) (kb : Placed b) (h : SoundPhases b) (n on slot : ℕ) (id :
       let own : owns c n o ≡ true = subst (λ (x : ℕ). owns c x o ≡ true) new w in
       clash (sym (reach-post c kc n o (further itself (bus-leads c kc n o (stands-no_bus c kc n new-there) is own))) ∙ apart))
 
-  module _ (f : Board) (s : StartedSo f n c) (younger : (x : ℕ) → is_live c x ≡ true → is_live b x ≡ false → b.born < x) (older : b.born ≤ c.born) (holds : c.holds ≡ b.holds) (quiet : Quiet b f) where
+  module _ (f : Board) (s : StartedSo f n c) (younger : (x : ℕ) → is_live c x ≡ true → is_live b x ≡ false → b.born < x) (older : b.born ≤ c.born) (holds : c.holds ≡ b.holds) (quiet : Quiet b f) (lone : LoneMachine c) where
     same_post : post c n ≡ post f n
     same_post = shape-post f c s.shape n
 
@@ -301,6 +302,7 @@ module _ (b : Board) (kb : Placed b) (h : SoundPhases b) (n on slot : ℕ) (id :
           unborn = λ o high. decide (among (post f n) o) (λ e. absurd (live-born c kc o (reached-live c kc o (is-reached o e)) high)) (λ e. out-stage o e ∙ h.unborn o (omega (arith, older, high)));
           reached = λ o i. decide (among (post f n) o) (in-stage o) (λ e. old o e (reached-old o i (ap (λ (xs : List ℕ). among xs o) same_post ∙ e)));
           holds = subst (AllByRecursion (IsReached c)) (sym holds) (all-imply (IsReached b) (IsReached c) reached-on b.holds h.holds);
+          lone = lone;
         }
       where
         old : (o : ℕ) → among (post f n) o ≡ false → IsReached b o → stage_of o c.notes ≡ Some (stage_now c o)
@@ -315,7 +317,7 @@ accepted-phases : (b : Board) (a : Wanted) → SoundDevices b → SoundPhases b 
 unfolding Younger
 accepted-phases b a d h t at k =
     device-phases b kb h (b.born + 1) at spot.slot a.id t c kc j f so (λ x e gone. younger x e gone) (omega (arith, so.born, acts.born, young.0)) stays.holds
-    (quiet-then b made f (quiet-device b t a spot) quiet)
+    (quiet-then b made f (quiet-device b t a spot) quiet) (lone-plugged b t a spot k.device h.lone)
   where
     spot : Spot
     spot = spot_of b t at a.props

@@ -28,7 +28,7 @@ use Rattle.qo_sound.proofs.DetachStepsLemmas.{KeepsEnds, KeepsPins}
 use Rattle.qo_sound.proofs.MakeStepsLemmas.{any-rows, new_with, KeepsEdits, KeepsNew, step-drafted, step-stood}
 use Rattle.qo_sound.proofs.RecordLemmas.{all-imply}
 use Rattle.qo_sound_phases.specs.Phases.{held, out, passed_all, phase_in, phase_of, phases_of, stage_of}
-use Rattle.qo_sound_phases.specs.SoundPhases.{IsReached, SoundPhases}
+use Rattle.qo_sound_phases.specs.SoundPhases.{IsReached, LoneMachine, SoundPhases}
 use Rattle.qo_sound_phases.proofs.BelowLemmas.{Placed}
 use Rattle.qo_sound_phases.proofs.FrameLemmas.{Frame, frame-count, frame-reached}
 use Rattle.qo_sound_phases.proofs.ListLemmas.{decide}
@@ -156,13 +156,14 @@ quiet-device b t a spot = count_in a.id _ (step-stood (Quiet b) (edits b) b (b.b
 
 -- what leaves the objects that a reset reaches, the holds and the phases
 pub frame-phases : (b c : Board) → Placed b → Placed c → Frame b c → ((r : ℕ) → IsReached b r → IsReached c r) → c.holds ≡ b.holds → b.born ≤ c.born
-    → Quiet b c → SoundPhases b → SoundPhases c
-frame-phases b c kb kc f stay holds older quiet h =
+    → Quiet b c → (LoneMachine b → LoneMachine c) → SoundPhases b → SoundPhases c
+frame-phases b c kb kc f stay holds older quiet lone h =
     record {
       in_turn = λ n. ap is_some (quiet n) ∙ h.in_turn n;
       unborn = λ n high. quiet n ∙ h.unborn n (omega (arith, older, high));
       reached = λ n i. quiet n ∙ h.reached n (frame-reached b c kb kc f n i) ∙ ap (λ (k : ℕ). Some (if k == 0 then out else held)) (sym (frame-count b c kb kc f n i holds));
       holds = subst (AllByRecursion (IsReached c)) (sym holds) (all-imply (IsReached b) (IsReached c) stay b.holds h.holds);
+      lone = lone h.lone;
     }
 
 -- what changes no object: births may pass that have their phases in turn
@@ -174,20 +175,27 @@ pub record Aside (b c : Board) : Type 0 where
   pub in_turn : (n : ℕ) → b.born < n → is_some (stage_of n c.notes) ≡ true
   pub unborn : (n : ℕ) → c.born < n → stage_of n c.notes ≡ Some out
 
+not-over : (n m : ℕ) → leb n m ≡ true → n ≤ m
+not-over n m e = grind (arith, e)
+
+over : (n m : ℕ) → leb n m ≡ false → m < n
+over n m e = grind (arith, e)
+
 pub aside-phases : (b c : Board) → Placed b → Aside b c → SoundPhases b → SoundPhases c
 aside-phases b c k a h =
     record {
-      in_turn = λ n. decide (leb n b.born) (λ e. ap is_some (a.quiet n (grind (arith, e))) ∙ h.in_turn n) (λ e. a.in_turn n (grind (arith, e)));
+      in_turn = λ n. decide (leb n b.born) (λ e. ap is_some (a.quiet n (not-over n b.born e)) ∙ h.in_turn n) (λ e. a.in_turn n (over n b.born e));
       unborn = a.unborn;
       reached = λ n i. a.quiet n (old n (back n i)) ∙ h.reached n (back n i) ∙ ap (λ (m : ℕ). Some (if m == 0 then out else held)) (sym (shape-count b c a.shape a.holds n));
       holds = subst (AllByRecursion (IsReached c)) (sym a.holds) (all-imply (IsReached b) (IsReached c) (shape-reached b c a.shape) b.holds h.holds);
+      lone = λ x e. h.lone x (sym (a.shape.kind x) ∙ e);
     }
   where
     back : (n : ℕ) → IsReached c n → IsReached b n
     back = shape-reached c b (shape-back b c a.shape)
 
     old : (n : ℕ) → IsReached b n → n ≤ b.born
-    old n i = decide (leb n b.born) (λ e. grind (arith, e)) (λ e. absurd (live-born b k n (reached-live b k n i) (grind (arith, e))))
+    old n i = decide (leb n b.born) (λ e. not-over n b.born e) (λ e. absurd (live-born b k n (reached-live b k n i) (over n b.born e)))
 
 -- what notes no phase either
 pub quiet-aside : (b c : Board) → SameShape b c → c.holds ≡ b.holds → b.born ≤ c.born → Quiet b c → SoundPhases b → Aside b c

@@ -2,7 +2,8 @@
 use Rattle.std.specs.Prelude.{◌≡◌, ℕ, ◌<◌, true, is_some, codes, if◌then◌else◌, Some}
 use Rattle.std.specs.List.{AllByRecursion}
 use Rattle.qo_values.specs.declared.births.TheConstants.{MACHINE_BIRTH}
-use Rattle.qo_model.specs.Board.{Board}
+use Rattle.qo_values.specs.declared.kinds.TypeId.TheVariants.{Machine}
+use Rattle.qo_model.specs.Board.{Board, kind_of}
 use Rattle.qo_model.specs.Paths.{is_of}
 use Rattle.qo_model.specs.Reset.{is_out}
 use Rattle.qo_sound_devices.specs.SoundPlaces.{HasOwner, stands}
@@ -18,6 +19,10 @@ pub data IsReached (b : Board) (n : ℕ) : Type 0 where
 abbrev pub stage_now : Board → ℕ → Stage
 stage_now b n = if is_out b n then out else held
 
+-- there is one machine
+abbrev pub LoneMachine : Board → Type 0
+LoneMachine b = (n : ℕ) → kind_of b n ≡ Some Machine → n ≡ MACHINE_BIRTH
+
 -- the phases are sound
 pub record SoundPhases (b : Board) : Type 0 where
   -- those of every birth are in turn, and who is not born went through none
@@ -26,3 +31,5 @@ pub record SoundPhases (b : Board) : Type 0 where
   -- what a reset reaches is in its reset where a hold is on it or above it, and nowhere else; and holds are on nothing else
   pub reached : (n : ℕ) → IsReached b n → stage_of n b.notes ≡ Some (stage_now b n)
   pub holds : AllByRecursion (IsReached b) b.holds
+  -- no other object is a machine
+  pub lone : LoneMachine b
