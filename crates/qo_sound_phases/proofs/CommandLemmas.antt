@@ -203,10 +203,12 @@ kin-pins b ps c h = h
 
 kin-ends : (b : Board) → KeepsEnds (Kin b)
 unfolding Kin
-kin-ends b o c h =
-    (subst (λ (n : ℕ). b.born ≤ n) (sym (born o)) h.0, λ x e.
+kin-ends b o c h = (
+  subst (λ (n : ℕ). b.born ≤ n) (sym (born o)) h.0,
+  λ x e.
       let was : (is_live b x ≡ true) × (kind_of c x ≡ kind_of b x) = h.1 x ((steps-after c o).live x e) in
-      (was.0, kind-alike c (after finalise c o) x ((steps-after c o).body x e) ∙ was.1))
+      (was.0, kind-alike c (after finalise c o) x ((steps-after c o).body x e) ∙ was.1),
+)
   where
     born : (u : Option ℕ) → (after finalise c u).born ≡ c.born
     born None = refl

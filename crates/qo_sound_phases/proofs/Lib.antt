@@ -15,3 +15,5 @@ pub mod UnrealizeLemmas
 pub mod ApartLemmas
 pub mod DetachLemmas
 pub mod LoneLemmas
+pub mod LawLemmas
+pub mod RunLemmas

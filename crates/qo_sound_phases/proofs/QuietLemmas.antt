@@ -114,7 +114,7 @@ pins b ps c h = h
 ends : (b : Board) → KeepsEnds (Quiet b)
 ends b o c h = quiet-then b c (after finalise c o) h (quiet-after c o)
 
-quiet-attempt : (b : Board) (t : TypeId) → Quiet b (with_attempt b t)
+pub quiet-attempt : (b : Board) (t : TypeId) → Quiet b (with_attempt b t)
 quiet-attempt b t n =
     noted-none n (b.notes ++ init_notes (b.born + 1) t) (final_notes (fresh-end b t)) (phases-final (fresh-end b t) n)
     ∙ noted-none n b.notes (init_notes (b.born + 1) t) (phases-init (b.born + 1) t n)
