@@ -60,7 +60,8 @@ module _ (b : Board) (Stays : ℕ → Type 0) where
     pub still : (x : ℕ) → Stays x → is_live c x ≡ true → child_entries c x ≡ child_entries b x
 
   pub walked-none : Walked b
-  walked-none = record { children = λ x. within-all (child_entries b x); kids = λ x. within-all (kid_entries b x); kin = λ x e. (e, refl); still = λ x s e. refl }
+  walked-none =
+      record { children = λ x. within-all (child_entries b x); kids = λ x. within-all (kid_entries b x); kin = λ x e. (e, refl); still = λ x s e. refl }
 
   walked-after : (c : Board) (o : Option ℕ) → Walked c → Walked (after finalise c o)
   walked-after c o h =
@@ -113,7 +114,8 @@ module _ (b : Board) (Stays : ℕ → Type 0) where
           → Within (filter_map f (slots_at (edit n change c) x)) (filter_map f (slots_at c x))
       entries f few x =
           decide (x == n)
-          (λ p. subst (λ (y : ℕ). Within (filter_map f (slots_at (edit n change c) y)) (filter_map f (slots_at c y))) (sym (eqb-true x n p)) (own (record_of c n) refl))
+          (λ p. subst (λ (y : ℕ). Within (filter_map f (slots_at (edit n change c) y)) (filter_map f (slots_at c y))) (sym (eqb-true x n p))
+          (own (record_of c n) refl))
           (λ p. within-same (ap (filter_map f) (other x p)))
         where
           own : (o : Option Record) → record_of c n ≡ o → Within (filter_map f (slots_at (edit n change c) n)) (filter_map f (slots_at c n))
@@ -152,7 +154,9 @@ module _ (b : Board) (Stays : ℕ → Type 0) where
       go None e = rw (let_go, e) h
       go (Some s) e =
           rw (let_go, e)
-          (walked-after (edit n (with_dropped i) c) (held s) (walked-edit n (with_dropped i) (λ r. refl) (λ r. refl) c (λ r q. record { children = children-fewer i r.slots; kids = kids-fewer i r.slots }) (λ at r q. absurd (apart at)) h))
+          (walked-after (edit n (with_dropped i) c) (held s)
+          (walked-edit n (with_dropped i) (λ r. refl) (λ r. refl) c (λ r q. record { children = children-fewer i r.slots; kids = kids-fewer i r.slots })
+          (λ at r q. absurd (apart at)) h))
 
   pub walked-where : (p : List ℕ × Slot → Bool) (n : ℕ) → (Stays n → ⊥) → (c : Board) → Walked c → Walked (let_go_where p n c)
   walked-where p n apart c h = go (place_from p 0 (slots_at c n)) refl
@@ -211,7 +215,10 @@ module _ (b : Board) (Stays : ℕ → Type 0) where
             where
               stays : (r : Record) → record_of (edit m (with_dropped i) c) m ≡ Some r → (o : Option Record) → record_of c m ≡ o
                   → filter_map child_entry (remove r.slots i) ≡ filter_map child_entry r.slots
-              stays r q None w = absurd (let bad : None ≡ Some r = sym (found-edited m (with_dropped i) (λ y. refl) m c.records ∙ ap (option_map (edited m (with_dropped i))) w) ∙ q in cc)
+              stays r q None w =
+                  absurd
+                  (let bad : None ≡ Some r = sym (found-edited m (with_dropped i) (λ y. refl) m c.records ∙ ap (option_map (edited m (with_dropped i))) w)
+                  ∙ q in cc)
               stays r q (Some y) w =
                   let now : slots_at (edit m (with_dropped i) c) m ≡ without_hold i y.slots = edited-slots c m (with_dropped i) (λ z. refl) y w in
                   let its : r.slots ≡ without_hold i y.slots = sym (ap (λ (o : Option Record). option_map_or (λ (z : Record). z.slots) o []) q) ∙ now in
@@ -326,7 +333,13 @@ pub times-within : (d : ℕ) {xs ys : List (List ℕ × ℕ)} → Within xs ys �
 unfolding times
 times-within d (nothing ys) = omega arith
 times-within d (same {xs} {ys} x w) =
-    omega (arith, times-within d w, sum_by-cons (λ (y : List ℕ × ℕ). cond {A = ℕ} (names_it d y) 1 0) x xs, sum_by-cons (λ (y : List ℕ × ℕ). cond {A = ℕ} (names_it d y) 1 0) x ys)
+    omega (
+      arith,
+      times-within d w,
+      sum_by-cons (λ (y : List ℕ × ℕ). cond {A = ℕ} (names_it d y) 1 0) x xs,
+      sum_by-cons
+          (λ (y : List ℕ × ℕ). cond {A = ℕ} (names_it d y) 1 0) x ys,
+    )
 times-within d (more {xs} {ys} y w) =
     omega (arith, times-within d w, sum_by-cons (λ (x : List ℕ × ℕ). cond {A = ℕ} (names_it d x) 1 0) y ys)
 
@@ -349,7 +362,13 @@ times-children d ((name, strong t target) ∷ slots) = omega (arith, times-child
 times-children d ((name, weak t target) ∷ slots) = omega (arith, times-children d slots, sum_by-cons (one_child d) (name, weak t target) slots)
 times-children d ((name, alias m property) ∷ slots) = omega (arith, times-children d slots, sum_by-cons (one_child d) (name, alias m property) slots)
 times-children d ((name, child m) ∷ slots) =
-    omega (arith, times-children d slots, sum_by-cons (one_child d) (name, child m) slots, sum_by-cons (λ (x : List ℕ × ℕ). cond {A = ℕ} (names_it d x) 1 0) (name, m) (filter_map child_entry slots))
+    omega (
+      arith,
+      times-children d slots,
+      sum_by-cons (one_child d) (name, child m) slots,
+      sum_by-cons (λ (x : List ℕ × ℕ). cond {A = ℕ} (names_it d x) 1 0)
+          (name, m) (filter_map child_entry slots),
+    )
 
 -- a child slot of it that is let go is one less
 times-dropped : (d i : ℕ) (slots : List (List ℕ × Slot)) (s : List ℕ × Slot) → slice_get slots i ≡ Some s → is_child_slot d s ≡ true
@@ -374,7 +393,14 @@ times-dropped d (suc i) (x ∷ slots) s e k = go (child_entry x) refl (times-dro
         → suc (times d (filter_map child_entry (x ∷ without_hold i slots))) ≤ times d (filter_map child_entry (x ∷ slots))
     go None q rest = rw q rest
     go (Some y) q rest =
-        rw q (omega (arith, rest, sum_by-cons (λ (z : List ℕ × ℕ). cond {A = ℕ} (names_it d z) 1 0) y (filter_map child_entry (without_hold i slots)), sum_by-cons (λ (z : List ℕ × ℕ). cond {A = ℕ} (names_it d z) 1 0) y (filter_map child_entry slots)))
+        rw q
+        (omega (
+          arith,
+          rest,
+          sum_by-cons (λ (z : List ℕ × ℕ). cond {A = ℕ} (names_it d z) 1 0) y (filter_map child_entry (without_hold i slots)),
+          sum_by-cons
+              (λ (z : List ℕ × ℕ). cond {A = ℕ} (names_it d z) 1 0) y (filter_map child_entry slots),
+        ))
 
 none-child : (d k : ℕ) (slots : List (List ℕ × Slot)) → place_from (is_child_slot d) k slots ≡ None → listed d (filter_map child_entry slots) ≡ false
 none-child d k [] e = refl
@@ -453,7 +479,8 @@ left-none d c few also = rw (third, fourth) refl
     behind-two : Walked two (λ x. ⊥) (unpin two d)
     behind-two = walked-unpin two (λ x. ⊥) d two (walked-none two (λ x. ⊥))
 
-    none-behind : (w z : Board) (n : ℕ) → Within (child_entries z n) (child_entries w n) → listed d (child_entries w n) ≡ false → listed d (child_entries z n) ≡ false
+    none-behind : (w z : Board) (n : ℕ) → Within (child_entries z n) (child_entries w n) → listed d (child_entries w n) ≡ false
+        → listed d (child_entries z n) ≡ false
     none-behind w z n less e = decide (listed d (child_entries z n)) (λ l. clash (sym (within-listed d less l) ∙ e)) (λ l. l)
 
     third : listed d (child_entries (unpin two d) PERIPHERAL_BIRTH) ≡ false

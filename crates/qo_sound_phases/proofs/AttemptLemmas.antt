@@ -126,7 +126,8 @@ module _ (b : Board) (bus : ℕ) (t : TypeId) (its : is_a t (codes "device") ≡
   reshape : (xs a c d e f : List Note) → xs ++ (a ++ c ++ d ++ e ++ f) ≡ ((((xs ++ a) ++ c) ++ d) ++ e) ++ f
   reshape xs a c d e f =
       sym (append_assoc xs (a ++ c ++ d ++ e) f)
-      ∙ ap (λ ys. ys ++ f) (sym (append_assoc xs (a ++ c ++ d) e) ∙ ap (λ ys. ys ++ e) (sym (append_assoc xs (a ++ c) d) ∙ ap (λ ys. ys ++ d) (sym (append_assoc xs a c))))
+      ∙ ap (λ ys. ys ++ f)
+      (sym (append_assoc xs (a ++ c ++ d) e) ∙ ap (λ ys. ys ++ e) (sym (append_assoc xs (a ++ c) d) ∙ ap (λ ys. ys ++ d) (sym (append_assoc xs a c))))
 
   exits-once : IsDistinct eqb exits
   unfolding IsDistinct
@@ -137,9 +138,13 @@ module _ (b : Board) (bus : ℕ) (t : TypeId) (its : is_a t (codes "device") ≡
       noted-none x first (map (did Realize) (suc b.born ∷ bus_births (suc b.born) t)) (phases-none Realize refl x (suc b.born ∷ bus_births (suc b.born) t))
       ∙ noted-none x b.notes (begun_notes made) (phases-begun made x)
 
-  shaped : (x : ℕ) → stage_of x (first ++ passed_notes b bus (suc b.born) t) ≡ stage_of x ((((first ++ map (did Realize) (suc b.born ∷ bus_births (suc b.born) t)) ++ map (did Enter) os) ++ map (did Hold) os) ++ map (did Exit) exits)
+  shaped : (x : ℕ)
+      → stage_of x (first ++ passed_notes b bus (suc b.born) t) ≡ stage_of x
+      ((((first ++ map (did Realize) (suc b.born ∷ bus_births (suc b.born) t)) ++ map (did Enter) os) ++ map (did Hold) os) ++ map (did Exit) exits)
   shaped x =
-      ap (stage_of x) (reshape first (map (did Realize) (suc b.born ∷ bus_births (suc b.born) t)) (map (did Enter) os) (map (did Hold) os) (map (did Exit) exits) (map (did Unrealize) os))
+      ap (stage_of x)
+      (reshape first (map (did Realize) (suc b.born ∷ bus_births (suc b.born) t)) (map (did Enter) os) (map (did Hold) os) (map (did Exit) exits)
+      (map (did Unrealize) os))
       ∙ noted-none x _ (map (did Unrealize) os) (phases-none Unrealize refl x os)
 
   -- others note nothing
@@ -158,12 +163,16 @@ module _ (b : Board) (bus : ℕ) (t : TypeId) (its : is_a t (codes "device") ≡
   own : (x : ℕ) → among os x ≡ true → b.born < x → is_some (stage_of x (first ++ passed_notes b bus (suc b.born) t)) ≡ true
   own x e high = ap is_some (shaped x) ∙ ends
     where
-      at_hold : stage_of x (((first ++ map (did Realize) (suc b.born ∷ bus_births (suc b.born) t)) ++ map (did Enter) os) ++ map (did Hold) os) ≡ Some stage.held
+      at_hold : stage_of x
+          (((first ++ map (did Realize) (suc b.born ∷ bus_births (suc b.born) t)) ++ map (did Enter) os) ++ map (did Hold) os) ≡ Some stage.held
       at_hold =
           noted-in Hold refl os (objects-once (suc b.born) t its) _ x e stage.entered stage.held
           (noted-in Enter refl os (objects-once (suc b.born) t its) _ x e stage.out stage.entered (begun x ∙ h.unborn x high) refl) refl
 
-      ends : is_some (stage_of x ((((first ++ map (did Realize) (suc b.born ∷ bus_births (suc b.born) t)) ++ map (did Enter) os) ++ map (did Hold) os) ++ map (did Exit) exits)) ≡ true
+      ends : is_some
+          (stage_of x
+          ((((first ++ map (did Realize) (suc b.born ∷ bus_births (suc b.born) t)) ++ map (did Enter) os) ++ map (did Hold) os) ++ map
+          (did Exit) exits)) ≡ true
       ends =
           decide (among exits x) (λ q. ap is_some (noted-in Exit refl exits exits-once _ x q stage.held stage.out at_hold refl))
           (λ q. ap is_some (noted-out Exit refl exits exits-once _ x q ∙ at_hold))
@@ -186,8 +195,12 @@ module _ (b : Board) (bus : ℕ) (t : TypeId) (its : is_a t (codes "device") ≡
         shape = shape-records b c refl;
         holds = refl;
         older = omega arith;
-        quiet = λ x low. around b made (passed_notes b bus (suc b.born) t) (device_last made) x ∙ others x (decide (among os x) (λ e. absurd (let r : b.born < x = (in-range x e).0 in omega (arith, r, low))) (λ e. e));
-        in_turn = λ x high. ap is_some (around b made (passed_notes b bus (suc b.born) t) (device_last made) x) ∙ decide (among os x) (λ e. own x e high) (λ e. ap is_some (others x e) ∙ h.in_turn x);
+        quiet = λ x low.
+            around b made (passed_notes b bus (suc b.born) t) (device_last made) x
+            ∙ others x (decide (among os x) (λ e. absurd (let r : b.born < x = (in-range x e).0 in omega (arith, r, low))) (λ e. e));
+        in_turn = λ x high.
+            ap is_some (around b made (passed_notes b bus (suc b.born) t) (device_last made) x)
+            ∙ decide (among os x) (λ e. own x e high) (λ e. ap is_some (others x e) ∙ h.in_turn x);
         unborn = λ x high. around b made (passed_notes b bus (suc b.born) t) (device_last made) x ∙ beyond x high;
       }
     where
@@ -212,4 +225,5 @@ plug_attempt-phases b t bus at its k h = go (at == 8) refl
     go false e =
         rw e (aside-phases b none k
         (quiet-aside b none (shape-records b none refl) refl (omega arith)
-        (λ n. around b os [] (device_last os) n ∙ noted-none n (b.notes ++ begun_notes os) [] refl ∙ noted-none n b.notes (begun_notes os) (phases-begun os n)) h) h)
+        (λ n. around b os [] (device_last os) n ∙ noted-none n (b.notes ++ begun_notes os) [] refl
+        ∙ noted-none n b.notes (begun_notes os) (phases-begun os n)) h) h)

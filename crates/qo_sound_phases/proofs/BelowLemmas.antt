@@ -249,8 +249,11 @@ module _ (b : Board) (k : Placed b) where
 
   rises : (p m : ℕ) → leads (below b) p m ≡ true → rank p < rank m
   rises p m e =
-      leads-cases p m e (λ bus s on. let low : rank p ≡ 2 * k.depth p + 1 = rank-bus p bus in let high : rank m ≡ 2 * k.depth p + 2 = rank-device m p s on in omega (arith, low, high))
-      (λ apart is o. decide (stands b p) (λ s. deeper s is o) (λ s. let low : rank p ≡ 0 = rank-other p apart s in let high : rank m ≡ 2 * k.depth m + 1 = rank-bus m is in omega (arith, low, high)))
+      leads-cases p m e
+      (λ bus s on. let low : rank p ≡ 2 * k.depth p + 1 = rank-bus p bus in let high : rank m ≡ 2 * k.depth p + 2 = rank-device m p s on in omega
+      (arith, low, high))
+      (λ apart is o. decide (stands b p) (λ s. deeper s is o)
+      (λ s. let low : rank p ≡ 0 = rank-other p apart s in let high : rank m ≡ 2 * k.depth m + 1 = rank-bus m is in omega (arith, low, high)))
     where
       deeper : stands b p ≡ true → is_of b (codes "bus") m ≡ true → owns b p m ≡ true → rank p < rank m
       deeper s is o =
@@ -293,7 +296,8 @@ module _ (b : Board) (k : Placed b) where
   there : (p m : ℕ) → leads (below b) p m ≡ true → among (births b) m ≡ true
   there p m e =
       sym (live-among b m)
-      ∙ leads-cases p m e (λ bus s on. of-live b (codes "device") m (stands-device k.depth None (λ x. false) b k.places m s)) (λ apart is o. of-live b (codes "bus") m is)
+      ∙ leads-cases p m e (λ bus s on. of-live b (codes "device") m (stands-device k.depth None (λ x. false) b k.places m s))
+      (λ apart is o. of-live b (codes "bus") m is)
 
   pub forest : IsForest (below b) (births b)
   forest = record { rank = rank; rises = rises; one_above = one_above; once = once; there = there }

@@ -110,7 +110,8 @@ fixed-severed b d n = go (is_live b n) refl (attached b n) refl
         let c : Board = severed_from (length (slots_at b n)) 0 n (pin b n) in
         rw (sever, p, q)
         (fixed-then (IsKeeper b) b c (unpin c n)
-        (fixed-then (IsKeeper b) b (pin b n) c (fixed-pin (IsKeeper b) n b) (severed-fixed (IsKeeper b) n (λ i. clash (sym (home i) ∙ q)) (length (slots_at b n)) 0 (pin b n)))
+        (fixed-then (IsKeeper b) b (pin b n) c (fixed-pin (IsKeeper b) n b)
+        (severed-fixed (IsKeeper b) n (λ i. clash (sym (home i) ∙ q)) (length (slots_at b n)) 0 (pin b n)))
         (fixed-unpin (IsKeeper b) n c))
 
 -- `object-add`
@@ -124,10 +125,12 @@ behind-add b t id props x live = go (record_of b x) refl
     r : Record
     r = record { birth = b.born + 1; kind = t; slots = given_slots b t props; registers = fresh_registers t; device_id = None; kept_path = None }
 
-    found : record_of (with_object b t id props) x ≡ option_or (option_map (edited OBJECTS_BIRTH (with_added id (child (b.born + 1)))) (record_of b x)) (found_at x (r ∷ []))
+    found : record_of (with_object b t id props) x ≡ option_or (option_map (edited OBJECTS_BIRTH (with_added id (child (b.born + 1)))) (record_of b x))
+        (found_at x (r ∷ []))
     found =
         find-append (λ (y : Record). y.birth == x) (map (edited OBJECTS_BIRTH (with_added id (child (b.born + 1)))) b.records) (r ∷ [])
-        ∙ ap (λ (o : Option Record). option_or o (found_at x (r ∷ []))) (found-edited OBJECTS_BIRTH (with_added id (child (b.born + 1))) (λ y. refl) x b.records)
+        ∙ ap (λ (o : Option Record). option_or o (found_at x (r ∷ [])))
+        (found-edited OBJECTS_BIRTH (with_added id (child (b.born + 1))) (λ y. refl) x b.records)
 
     go : (o : Option Record) → record_of b x ≡ o
         → record_of (with_object b t id props) x ≡ option_map (edited OBJECTS_BIRTH (with_added id (child (b.born + 1)))) (record_of b x)
@@ -137,7 +140,8 @@ behind-add b t id props x live = go (record_of b x) refl
         ∙ ap (λ (o : Option Record). option_or (option_map (edited OBJECTS_BIRTH change) o) (found_at x (r ∷ []))) q
         ∙ sym (ap (option_map (edited OBJECTS_BIRTH change)) q)
 
-fixed-added : (b : Board) → Placed b → (t : TypeId) (id : List ℕ) (props : List Given) (refusal : Option Code) → Fixed (IsKeeper b) b (added_as b t id props refusal).board
+fixed-added : (b : Board) → Placed b → (t : TypeId) (id : List ℕ) (props : List Given) (refusal : Option Code)
+    → Fixed (IsKeeper b) b (added_as b t id props refusal).board
 fixed-added b k t id props (Some code) x on e = same-record b (with_attempt b t) x refl e
 fixed-added b k t id props None x on e = same-record b (with_object b t id props) x same e
   where
@@ -194,7 +198,8 @@ kin-edits b n change leaves c h = (h.0, kinds)
 
     kinds : (x : ℕ) → is_live (edit n change c) x ≡ true → (is_live b x ≡ true) × (kind_of (edit n change c) x ≡ kind_of b x)
     kinds x e =
-        let before : (is_live b x ≡ true) × (kind_of c x ≡ kind_of b x) = h.1 x (sym (ap is_some (found x) ∙ is_some-map (edited n change) (record_of c x)) ∙ e) in
+        let before : (is_live b x ≡ true) × (kind_of c x ≡ kind_of b x) =
+        h.1 x (sym (ap is_some (found x) ∙ is_some-map (edited n change) (record_of c x)) ∙ e) in
         (before.0, ap (option_map (λ (r : Record). r.kind)) (found x) ∙ same_kind (record_of c x) ∙ before.1)
 
 kin-pins : (b : Board) → KeepsPins (Kin b)
@@ -229,7 +234,8 @@ kin-at b c h = record { older = h.0; kind = λ x e g. (h.1 x g).1 }
 
 kin-added : (b : Board) (t : TypeId) (id : List ℕ) (props : List Given) (refusal : Option Code) → KinAt b (added_as b t id props refusal).board
 kin-added b t id props (Some code) = record { older = omega arith; kind = λ x e g. refl }
-kin-added b t id props None = record { older = omega arith; kind = λ x e g. ap (option_map (λ (r : Record). r.kind)) (behind-add b t id props x e) ∙ same (record_of b x) }
+kin-added b t id props None =
+    record { older = omega arith; kind = λ x e g. ap (option_map (λ (r : Record). r.kind)) (behind-add b t id props x e) ∙ same (record_of b x) }
   where
     kind_in : (r : Record) (u : Bool) → (r.birth == OBJECTS_BIRTH) ≡ u → (edited OBJECTS_BIRTH (with_added id (child (b.born + 1))) r).kind ≡ r.kind
     kind_in r true p = rw (edited, p) refl

@@ -68,7 +68,8 @@ still-ends b (Some m) c h = go (refs c m == 0) refl
 -- a list with its own members
 members : (xs : List ℕ) → AllByRecursion (λ x. among xs x ≡ true) xs
 members [] = tt
-members (x ∷ xs) = (rw (eq-eqb x x refl) refl, all-imply (λ y. among xs y ≡ true) (λ y. among (x ∷ xs) y ≡ true) (λ y e. rw e (or-true (eqb y x))) xs (members xs))
+members (x ∷ xs) =
+    (rw (eq-eqb x x refl) refl, all-imply (λ y. among xs y ≡ true) (λ y. among (x ∷ xs) y ≡ true) (λ y e. rw e (or-true (eqb y x))) xs (members xs))
 
 put-one : (n : ℕ) → among (put_in_order n (1 ∷ [])) 1 ≡ true
 put-one n = go (leb 1 n) refl
@@ -110,7 +111,9 @@ module _ (b : Board) (d : ℕ) (s : SoundDevices b) (e : stands b d ≡ true) wh
   kp =
       record {
         depth = s.places.0;
-        places = (goes-pins s.places.0 None (λ x. false) b (put_in_order d b.pins) kb.firm (ap (λ (ps : List ℕ). among (put_in_order d ps) 1) rest.pinned ∙ put-one d) s.places.1).places;
+        places =
+            (goes-pins s.places.0 None (λ x. false) b (put_in_order d b.pins) kb.firm
+            (ap (λ (ps : List ℕ). among (put_in_order d ps) 1) rest.pinned ∙ put-one d) s.places.1).places;
         firm =
             record {
               rising = kb.firm.rising;
@@ -189,7 +192,8 @@ module _ (b : Board) (d : ℕ) (s : SoundDevices b) (e : stands b d ≡ true) wh
   once-before : (n : ℕ) → times d (child_entries before n) ≤ 1
   unfolding times
   once-before n =
-      let few : times d (child_entries (unrealize (pin b d) d) n) ≤ 1 = subst (λ (xs : List (List ℕ × ℕ)). times d xs ≤ 1) (sym (dims.children n ∙ pin-children n)) (at_record (record_of b n) refl) in
+      let few : times d (child_entries (unrealize (pin b d) d) n) ≤ 1 =
+      subst (λ (xs : List (List ℕ × ℕ)). times d xs ≤ 1) (sym (dims.children n ∙ pin-children n)) (at_record (record_of b n) refl) in
       omega (arith, few, times-within d (walked-before.children n))
     where
       at_record : (o : Option Record) → record_of b n ≡ o → times d (child_entries b n) ≤ 1
@@ -206,7 +210,8 @@ module _ (b : Board) (d : ℕ) (s : SoundDevices b) (e : stands b d ≡ true) wh
   still : Still (unrealize (pin b d) d) (detach b d)
   still =
       step-detach (Still (unrealize (pin b d) d)) (still-edits (unrealize (pin b d) d))
-      (λ ps c h. record { born = h.born; holds = h.holds; quiet = h.quiet }) (λ o c h. still-ends (unrealize (pin b d) d) o c h) b d (still-none (unrealize (pin b d) d))
+      (λ ps c h. record { born = h.born; holds = h.holds; quiet = h.quiet }) (λ o c h. still-ends (unrealize (pin b d) d) o c h) b d
+      (still-none (unrealize (pin b d) d))
 
   -- what was, of what is
   stood : (x : ℕ) → stands (detach b d) x ≡ true → stands (pin b d) x ≡ true
@@ -332,7 +337,8 @@ module _ (b : Board) (d : ℕ) (s : SoundDevices b) (e : stands b d ≡ true) wh
   counts o i =
       counted-same (λ r. among (post (detach b d) r) o) (λ r. among (post b r) o) (λ r. frame-post b (detach b d) kb kz frame r o i) (detach b d).holds
       ∙ ap (count_by (λ r. among (post b r) o)) still.holds
-      ∙ unrealize-count (λ r. among (post b r) o) (pin b d) d (λ x v. none-above x o i (unreached-device x v)) (λ x m v im. none-above m o i (unreached-bus x m v im))
+      ∙ unrealize-count (λ r. among (post b r) o) (pin b d) d (λ x v. none-above x o i (unreached-device x v))
+      (λ x m v im. none-above m o i (unreached-bus x m v im))
       ∙ ap (count_by (λ r. among (post b r) o)) pin-still.holds
 
   -- a hold that is left is on what is still reached
@@ -383,7 +389,9 @@ module _ (b : Board) (d : ℕ) (s : SoundDevices b) (e : stands b d ≡ true) wh
       record {
         in_turn = λ n. ap is_some (quiet n) ∙ h.in_turn n;
         unborn = λ n high. quiet n ∙ h.unborn n (subst (λ (m : ℕ). m < n) born high);
-        reached = λ n i. quiet n ∙ h.reached n (frame-reached b (detach b d) kb kz frame n i) ∙ ap (λ (m : ℕ). Some (if m == 0 then stage.out else stage.held)) (sym (counts n i));
+        reached = λ n i.
+            quiet n ∙ h.reached n (frame-reached b (detach b d) kb kz frame n i)
+            ∙ ap (λ (m : ℕ). Some (if m == 0 then stage.out else stage.held)) (sym (counts n i));
         holds = subst (AllByRecursion (IsReached (detach b d))) (sym still.holds) left;
         lone = λ n i. h.lone n (sym (kinds n (sym (is_some-map (λ (r : Record). r.kind) (record_of (detach b d) n)) ∙ ap is_some i) ∙ pin-kind n) ∙ i);
       }

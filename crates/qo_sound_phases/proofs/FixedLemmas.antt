@@ -77,7 +77,10 @@ same-record b c x e live =
     record {
       live = sym (ap is_some e) ∙ live;
       children = ap (λ (o : Option Record). filter_map child_entry (option_map_or (λ (r : Record). r.slots) o [])) e;
-      bus = ap (λ (o : Option Record). option_and_then strong_in (option_map (λ (s : List ℕ × Slot). s.1) (find (λ s. bytes_eq s.0 (codes "parent_bus")) (option_map_or (λ (r : Record). r.slots) o [])))) e;
+      bus =
+          ap
+          (λ (o : Option Record). option_and_then strong_in
+          (option_map (λ (s : List ℕ × Slot). s.1) (find (λ s. bytes_eq s.0 (codes "parent_bus")) (option_map_or (λ (r : Record). r.slots) o [])))) e;
       kind = ap (option_map (λ (r : Record). r.kind)) e;
     }
 
@@ -180,7 +183,8 @@ unlinked : (b : Board) (n : ℕ) (name : List ℕ) (row : Property) → option_a
     → may_set row.mark ≡ true → bytes_eq name (codes "parent_bus") ≡ false
 unlinked b n name row e may = decide (bytes_eq name (codes "parent_bus")) (λ q. go (kind_of b n) e ((bytes_eq-Decides name (codes "parent_bus")).0 q)) (λ q. q)
   where
-    go : (o : Option TypeId) → option_and_then (λ t. row_of_property t name) o ≡ Some row → name ≡ codes "parent_bus" → bytes_eq name (codes "parent_bus") ≡ false
+    go : (o : Option TypeId) → option_and_then (λ t. row_of_property t name) o ≡ Some row → name ≡ codes "parent_bus"
+        → bytes_eq name (codes "parent_bus") ≡ false
     go None k q = absurd (let bad : None ≡ Some row = k in cc)
     go (Some t) k q =
         let its : row_of_property t (codes "parent_bus") ≡ Some row = ap (row_of_property t) (sym q) ∙ k in
@@ -291,13 +295,17 @@ module _ (On : ℕ → Type 0) (b : Board) (firm : Firm b) (n i : ℕ) (other : 
           let now : slots_at (edit n (with_dropped i) b) n ≡ without_hold i at.owner.slots = edited-slots b n (with_dropped i) (λ x. refl) at.owner at.found in
           let is : slots_at (edit n (with_dropped i) b) n ≡ r.slots = ap (λ (o : Option Record). option_map_or (λ (x : Record). x.slots) o []) q in
           let there : slice_get (without_hold i at.owner.slots) i ≡ Some y = ap (λ (xs : List (List ℕ × Slot)). slice_get xs i) (sym now ∙ is) ∙ k in
-          subst (λ (name : List ℕ). bytes_eq name (codes "parent_bus") ≡ false) (sym (name-at i at.owner.slots at.entry y at.at (ap child_of at.is ∙ none) there))
+          subst (λ (name : List ℕ). bytes_eq name (codes "parent_bus") ≡ false)
+          (sym (name-at i at.owner.slots at.entry y at.at (ap child_of at.is ∙ none) there))
           (other.named at.owner at.entry at.found at.at)
 
   fixed-relinked : (s : Slot) → slot_at b n i ≡ Some s → child_of s ≡ None → (target : Option ℕ) → Fixed On b (relinked b n i target)
   unfolding point
   fixed-relinked s e none target =
-      rw (relinked, e) (fixed-then On b (pointed_at target n i (drop_slot b n i)) (after finalise (pointed_at target n i (drop_slot b n i)) (held s)) (fixed-then On b (drop_slot b n i) (pointed_at target n i (drop_slot b n i)) (fixed-drop s e none) (points target)) (fixed-after On (pointed_at target n i (drop_slot b n i)) (held s)))
+      rw (relinked, e)
+      (fixed-then On b (pointed_at target n i (drop_slot b n i)) (after finalise (pointed_at target n i (drop_slot b n i)) (held s))
+      (fixed-then On b (drop_slot b n i) (pointed_at target n i (drop_slot b n i)) (fixed-drop s e none) (points target))
+      (fixed-after On (pointed_at target n i (drop_slot b n i)) (held s)))
     where
       points : (to : Option ℕ) → Fixed On (drop_slot b n i) (pointed_at to n i (drop_slot b n i))
       points None = fixed-none On (drop_slot b n i)
@@ -354,8 +362,10 @@ fixed-write On b firm n name v = go (position (λ (s : List ℕ × Slot). bytes_
             named r s found at =
                 let was : slots_at b n ≡ r.slots = ap (λ (o : Option Record). option_map_or (λ (x : Record). x.slots) o []) found in
                 let d : List ℕ × Slot = ([], plain val.Nothing) in
-                let its : position (λ (x : List ℕ × Slot). bytes_eq x.0 name) r.slots ≡ Some i = ap (position (λ (x : List ℕ × Slot). bytes_eq x.0 name)) (sym was) ∙ p in
-                let k : (i < length r.slots) × (bytes_eq (get_or r.slots i d).0 name ≡ true) × ((m : ℕ) → m < i → bytes_eq (get_or r.slots m d).0 name ≡ false) =
+                let its : position (λ (x : List ℕ × Slot). bytes_eq x.0 name) r.slots ≡ Some i =
+                ap (position (λ (x : List ℕ × Slot). bytes_eq x.0 name)) (sym was) ∙ p in
+                let k : (i < length r.slots) × (bytes_eq (get_or r.slots i d).0 name ≡ true) ×
+                ((m : ℕ) → m < i → bytes_eq (get_or r.slots m d).0 name ≡ false) =
                 position-Some (λ (x : List ℕ × Slot). bytes_eq x.0 name) r.slots i d its in
                 let is : get_or r.slots i d ≡ s = same_Some (get_or r.slots i d) s (sym (slice-of r.slots i d k.0) ∙ at) in
                 let same : s.0 ≡ name = sym (ap (λ (x : List ℕ × Slot). x.0) is) ∙ (bytes_eq-Decides (get_or r.slots i d).0 name).0 k.1 in

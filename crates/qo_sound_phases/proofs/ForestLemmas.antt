@@ -111,7 +111,8 @@ module _ (next : ℕ → List ℕ) where
             let is : h.rank o ≡ h.rank r = ap h.rank (among-one o r j) in
             omega (arith, low, up, is)
 
-        go : ((m : ℕ) → IsDistinct eqb (by_depth (turn next) (λ _. []) depth m)) → IsDistinct eqb (flat_map (by_depth (turn next) (λ _. []) depth) (next r) ++ r ∷ [])
+        go : ((m : ℕ) → IsDistinct eqb (by_depth (turn next) (λ _. []) depth m))
+            → IsDistinct eqb (flat_map (by_depth (turn next) (λ _. []) depth) (next r) ++ r ∷ [])
         go rest =
             distinct-append (flat_map (by_depth (turn next) (λ _. []) depth) (next r)) (r ∷ [])
             (distinct-joined (by_depth (turn next) (λ _. []) depth) (next r) (h.once r) (λ m e. rest m)
@@ -128,7 +129,8 @@ module _ (next : ℕ → List ℕ) where
     own : (n : ℕ) → among (by_objects (turn next) (λ _. []) all n) n ≡ true
     own n = ap (λ (xs : List ℕ). among xs n) (is-turn n) ∙ among-right n (flat_map whole (next n)) (n ∷ []) (one-among n)
 
-    step : (n m o : ℕ) → leads next n m ≡ true → among (by_objects (turn next) (λ _. []) all m) o ≡ true → among (by_objects (turn next) (λ _. []) all n) o ≡ true
+    step : (n m o : ℕ) → leads next n m ≡ true → among (by_objects (turn next) (λ _. []) all m) o ≡ true
+        → among (by_objects (turn next) (λ _. []) all n) o ≡ true
     step n m o e i =
         ap (λ (xs : List ℕ). among xs o) (is-turn n) ∙ among-left o (flat_map whole (next n)) (n ∷ []) (joined-among whole (next n) m o e i)
 

@@ -97,7 +97,9 @@ held-so b r =
     let first : PhasedSo Enter os b (phased Enter os b) = phased-so Enter os b in
     let second : PhasedSo Hold os (phased Enter os b) (phased Hold os (phased Enter os b)) = phased-so Hold os (phased Enter os b) in
     record {
-      shape = shape-then b (phased Enter os b) (held b r) first.shape (shape-then (phased Enter os b) (phased Hold os (phased Enter os b)) (held b r) second.shape (shape-records _ _ refl));
+      shape =
+          shape-then b (phased Enter os b) (held b r) first.shape
+          (shape-then (phased Enter os b) (phased Hold os (phased Enter os b)) (held b r) second.shape (shape-records _ _ refl));
       holds = refl;
       born = second.born ∙ first.born;
       notes = second.notes ∙ ap (λ (xs : List Note). xs ++ map (did Hold) os) first.notes;
@@ -136,9 +138,17 @@ module _ (b : Board) (r : ℕ) (k : Placed b) (reached : IsReached b r) (h : Sou
     held-phases =
         record {
           in_turn = λ o. decide (among (filter (is_out b) (post b r)) o) (λ e. ap is_some (in-stage o e)) (λ e. ap is_some (out-stage o e) ∙ h.in_turn o);
-          unborn = λ o high. decide (among (filter (is_out b) (post b r)) o) (λ e. absurd (young o e (subst (λ (x : ℕ). x < o) s.born high))) (λ e. out-stage o e ∙ h.unborn o (subst (λ (x : ℕ). x < o) s.born high));
-          reached = λ o i. decide (among (filter (is_out b) (post b r)) o) (λ e. in-stage o e ∙ ap Some (sym (now-held c o (some-in c o (more o e))))) (λ e. out-stage o e ∙ h.reached o (back o i) ∙ ap Some (same o e));
-          holds = subst (AllByRecursion (IsReached c)) (sym s.holds) (all-append (IsReached c) b.holds (r ∷ []) (all-imply (IsReached b) (IsReached c) (shape-reached b c s.shape) b.holds h.holds) (shape-reached b c s.shape r reached, tt));
+          unborn = λ o high.
+              decide (among (filter (is_out b) (post b r)) o)
+              (λ e. absurd (young o e (subst (λ (x : ℕ). x < o) s.born high)))
+              (λ e. out-stage o e ∙ h.unborn o (subst (λ (x : ℕ). x < o) s.born high));
+          reached = λ o i.
+              decide (among (filter (is_out b) (post b r)) o) (λ e. in-stage o e ∙ ap Some (sym (now-held c o (some-in c o (more o e)))))
+              (λ e. out-stage o e ∙ h.reached o (back o i) ∙ ap Some (same o e));
+          holds =
+              subst (AllByRecursion (IsReached c)) (sym s.holds)
+              (all-append (IsReached c) b.holds (r ∷ []) (all-imply (IsReached b) (IsReached c) (shape-reached b c s.shape) b.holds h.holds)
+              (shape-reached b c s.shape r reached, tt));
           lone = λ x e. h.lone x (sym (s.shape.kind x) ∙ e);
         }
       where
@@ -235,9 +245,18 @@ module _ (b : Board) (r : ℕ) (k : Placed b) (on : among b.holds r ≡ true) (h
   released-phases =
       record {
         in_turn = λ o. decide (among (filter (is_out s.less) (post s.less r)) o) (λ e. ap is_some (less-in o e)) (λ e. ap is_some (less-out o e) ∙ h.in_turn o);
-        unborn = λ o high. decide (among (filter (is_out s.less) (post s.less r)) o) (λ e. absurd (live-born b k o (reached-live b k o (post-reached b k r o on-reached (went o e).0)) (subst (λ (x : ℕ). x < o) s.born high))) (λ e. less-out o e ∙ h.unborn o (subst (λ (x : ℕ). x < o) s.born high));
-        reached = λ o i. decide (among (filter (is_out s.less) (post s.less r)) o) (λ e. less-in o e ∙ ap Some (sym (now-out c o (none-out c o (count-same o ∙ out-none s.less o (went o e).1))))) (λ e. less-out o e ∙ h.reached o (back o i) ∙ ap Some (still o e));
-        holds = subst (AllByRecursion (IsReached c)) (sym (s.holds ∙ s.fewer)) (still-all (IsReached c) r b.holds (all-imply (IsReached b) (IsReached c) (λ x i. shape-reached s.less c s.shape x (shape-reached b s.less s.same x i)) b.holds h.holds));
+        unborn = λ o high.
+            decide (among (filter (is_out s.less) (post s.less r)) o)
+            (λ e. absurd (live-born b k o (reached-live b k o (post-reached b k r o on-reached (went o e).0)) (subst (λ (x : ℕ). x < o) s.born high)))
+            (λ e. less-out o e ∙ h.unborn o (subst (λ (x : ℕ). x < o) s.born high));
+        reached = λ o i.
+            decide (among (filter (is_out s.less) (post s.less r)) o)
+            (λ e. less-in o e ∙ ap Some (sym (now-out c o (none-out c o (count-same o ∙ out-none s.less o (went o e).1)))))
+            (λ e. less-out o e ∙ h.reached o (back o i) ∙ ap Some (still o e));
+        holds =
+            subst (AllByRecursion (IsReached c)) (sym (s.holds ∙ s.fewer))
+            (still-all (IsReached c) r b.holds
+            (all-imply (IsReached b) (IsReached c) (λ x i. shape-reached s.less c s.shape x (shape-reached b s.less s.same x i)) b.holds h.holds));
         lone = λ x e. h.lone x (sym (s.same.kind x) ∙ sym (s.shape.kind x) ∙ e);
       }
     where

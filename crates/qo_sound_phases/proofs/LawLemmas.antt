@@ -49,7 +49,9 @@ shape-phases b c shape born holds quiet h =
     record {
       in_turn = λ n. ap is_some (quiet n) ∙ h.in_turn n;
       unborn = λ n high. quiet n ∙ h.unborn n (subst (λ (m : ℕ). m < n) born high);
-      reached = λ n i. quiet n ∙ h.reached n (shape-reached c b (shape-back b c shape) n i) ∙ ap (λ (m : ℕ). Some (if m == 0 then out else held)) (sym (shape-count b c shape holds n));
+      reached = λ n i.
+          quiet n ∙ h.reached n (shape-reached c b (shape-back b c shape) n i)
+          ∙ ap (λ (m : ℕ). Some (if m == 0 then out else held)) (sym (shape-count b c shape holds n));
       holds = subst (AllByRecursion (IsReached c)) (sym holds) (all-imply (IsReached b) (IsReached c) (shape-reached b c shape) b.holds h.holds);
       lone = λ n e. h.lone n (sym (shape.kind n) ∙ e);
     }
@@ -67,7 +69,8 @@ asked-phases b id h = go (device_at b id) refl
     of : (d : ℕ) → SoundPhases (asked_of b d).board
     of d =
         decide (attached b d)
-        (λ e. decide (among b.pending d) (λ f. rw (asked_of, e, f) h) (λ f. decide (is_some (notice_barred b)) (λ g. rw (asked_of, e, f, g) h) (λ g. rw (asked_of, e, f, g) (beside-phases b _ refl refl refl refl h))))
+        (λ e. decide (among b.pending d) (λ f. rw (asked_of, e, f) h)
+        (λ f. decide (is_some (notice_barred b)) (λ g. rw (asked_of, e, f, g) h) (λ g. rw (asked_of, e, f, g) (beside-phases b _ refl refl refl refl h))))
         (λ e. rw (asked_of, e) h)
 
     go : (o : Option ℕ) → device_at b id ≡ o → SoundPhases (asked b id).board

@@ -99,7 +99,8 @@ among-apart n (x ∷ xs) e = go (eqb n x) refl (among-apart n xs)
     go false p rest = (p, rest (rw p at e))
 
 -- lists without repeats, one behind another, with nothing in both
-pub distinct-append : (xs ys : List ℕ) → IsDistinct eqb xs → IsDistinct eqb ys → ((n : ℕ) → among xs n ≡ true → among ys n ≡ true → ⊥) → IsDistinct eqb (xs ++ ys)
+pub distinct-append : (xs ys : List ℕ) → IsDistinct eqb xs → IsDistinct eqb ys → ((n : ℕ) → among xs n ≡ true → among ys n ≡ true → ⊥)
+    → IsDistinct eqb (xs ++ ys)
 unfolding IsDistinct
 distinct-append [] ys h k apart = k
 distinct-append (x ∷ xs) ys h k apart = (

@@ -38,7 +38,11 @@ no-machine : (t : TypeId) → Other t → t ≡ Machine → ⊥
 no-machine t o e = subst Other e o
 
 edits : KeepsEdits LoneMachine
-edits n change leaves c h = λ x e. h x (ap (λ (kinds : ℕ → Option TypeId). kinds x) (sym (edited-kinds n change (λ r. ap (λ (y : Record). y.birth) (leaves r)) (λ r. ap (λ (y : Record). y.kind) (leaves r)) c)) ∙ e)
+edits n change leaves c h = λ x e.
+    h x
+    (ap (λ (kinds : ℕ → Option TypeId). kinds x)
+    (sym (edited-kinds n change (λ r. ap (λ (y : Record). y.birth) (leaves r)) (λ r. ap (λ (y : Record). y.kind) (leaves r)) c))
+    ∙ e)
 
 pins : KeepsPins LoneMachine
 pins ps c h = h
@@ -60,7 +64,11 @@ last-is : (x : ℕ) (r y : Record) → found_at x (r ∷ []) ≡ Some y → r �
 last-is x r y e = decide (r.birth == x) (λ p. same_Some r y (rw p at e)) (λ p. absurd (let bad : None ≡ Some y = rw p at e in cc))
 
 new : KeepsNew Other LoneMachine
-new k slots made c h = λ x e. h x (lone-more (record_of c x) (found_at x (new_with c k slots ∷ [])) (λ r q. subst (λ (y : Record). Other y.kind) (last-is x (new_with c k slots) r q) made) (ap (option_map (λ (r : Record). r.kind)) (sym (find-append (λ (y : Record). y.birth == x) c.records (new_with c k slots ∷ []))) ∙ e))
+new k slots made c h = λ x e.
+    h x
+    (lone-more (record_of c x) (found_at x (new_with c k slots ∷ []))
+    (λ r q. subst (λ (y : Record). Other y.kind) (last-is x (new_with c k slots) r q) made)
+    (ap (option_map (λ (r : Record). r.kind)) (sym (find-append (λ (y : Record). y.birth == x) c.records (new_with c k slots ∷ []))) ∙ e))
 
 -- a device is none, and has none
 device-other : (t : TypeId) → is_a t (codes "device") ≡ true → Other t
@@ -127,7 +135,11 @@ lone-plugged b t a spot its h =
 
 -- commands on objects
 lone-object : (b : Board) (t : TypeId) (id : List ℕ) (props : List Given) → Other t → LoneMachine b → LoneMachine (with_object b t id props)
-lone-object b t id props other h = λ x e. h x (before x (lone-more (option_map (edited OBJECTS_BIRTH change) (record_of b x)) (found_at x (r ∷ [])) (λ y q. subst (λ (z : Record). Other z.kind) (last-is x r y q) other) (ap (option_map (λ (y : Record). y.kind)) (sym (found x)) ∙ e)))
+lone-object b t id props other h = λ x e.
+    h x
+    (before x
+    (lone-more (option_map (edited OBJECTS_BIRTH change) (record_of b x)) (found_at x (r ∷ []))
+    (λ y q. subst (λ (z : Record). Other z.kind) (last-is x r y q) other) (ap (option_map (λ (y : Record). y.kind)) (sym (found x)) ∙ e)))
   where
     change : Record → Record
     change = with_added id (child (b.born + 1))
@@ -144,10 +156,12 @@ lone-object b t id props other h = λ x e. h x (before x (lone-more (option_map 
     kind_in y true p = rw (edited, p) refl
     kind_in y false p = rw (edited, p) refl
 
-    before : (x : ℕ) → option_map (λ (y : Record). y.kind) (option_map (edited OBJECTS_BIRTH change) (record_of b x)) ≡ Some Machine → kind_of b x ≡ Some Machine
+    before : (x : ℕ) → option_map (λ (y : Record). y.kind) (option_map (edited OBJECTS_BIRTH change) (record_of b x)) ≡ Some Machine
+        → kind_of b x ≡ Some Machine
     before x = go (record_of b x)
       where
-        go : (o : Option Record) → option_map (λ (y : Record). y.kind) (option_map (edited OBJECTS_BIRTH change) o) ≡ Some Machine → option_map (λ (y : Record). y.kind) o ≡ Some Machine
+        go : (o : Option Record) → option_map (λ (y : Record). y.kind) (option_map (edited OBJECTS_BIRTH change) o) ≡ Some Machine
+            → option_map (λ (y : Record). y.kind) o ≡ Some Machine
         go None e = e
         go (Some y) e = ap Some (sym (kind_in y (y.birth == OBJECTS_BIRTH) refl)) ∙ e
 

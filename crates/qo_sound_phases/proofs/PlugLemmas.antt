@@ -99,7 +99,11 @@ younger-new b k slots made c h = (omega (arith, h.0), λ x e apart. new x e apar
 
 younger-device : (b : Board) (t : TypeId) (a : Wanted) (spot : Spot) → Younger b (with_device b t a spot)
 unfolding Younger
-younger-device b t a spot = count_in a.id _ (step-stood (Younger b) (younger-edits b) b (b.born + 1) a spot (λ c h. younger-edit b (b.born + 1) (with_body_of a.id spot.range) (λ r. refl) c h) (drafted b t) (step-drafted (Younger b) (younger-edits b) (λ k. ⊤) (younger-new b) t tt (any-rows (slots_of t)) b (omega arith, λ x e apart. clash (sym e ∙ apart))))
+younger-device b t a spot =
+    count_in a.id _
+    (step-stood (Younger b) (younger-edits b) b (b.born + 1) a spot (λ c h. younger-edit b (b.born + 1) (with_body_of a.id spot.range) (λ r. refl) c h)
+    (drafted b t)
+    (step-drafted (Younger b) (younger-edits b) (λ k. ⊤) (younger-new b) t tt (any-rows (slots_of t)) b (omega arith, λ x e apart. clash (sym e ∙ apart))))
   where
     count_in : (id : Option (List ℕ)) (c : Board) → Younger b c → Younger b (counted id c)
     count_in None c h = h
@@ -154,7 +158,8 @@ numbered-only : (b : Board) (id : Option (List ℕ)) (n d : ℕ) → listed d (n
 numbered-only b None n d e = one-entry (anonymous_name b.anonymous) n d e
 numbered-only b (Some id) n d e = clash-back e
 
-module _ (b : Board) (kb : Placed b) (h : SoundPhases b) (n on slot : ℕ) (id : Option (List ℕ)) (t : TypeId) (c : Board) (kc : Placed c) (j : Joined kb.depth b n on slot id t (done b on slot id) c) where
+module _ (b : Board) (kb : Placed b) (h : SoundPhases b) (n on slot : ℕ) (id : Option (List ℕ)) (t : TypeId) (c : Board) (kc : Placed c)
+    (j : Joined kb.depth b n on slot id t (done b on slot id) c) where
   shelf-apart : (p : ℕ) → stands b p ≡ true → among (PERIPHERAL_BIRTH ∷ ANONYMOUS_BIRTH ∷ []) p ≡ false
   shelf-apart p s =
       aside-apart b (PERIPHERAL_BIRTH ∷ ANONYMOUS_BIRTH ∷ []) (kb.places.aside.1.1.0, (kb.places.aside.1.1.1.0, tt)) p s
@@ -176,7 +181,8 @@ module _ (b : Board) (kb : Placed b) (h : SoundPhases b) (n on slot : ℕ) (id :
   stands-cases : (d : ℕ) → stands c d ≡ true → {A : Type 0} → (stands b d ≡ true → A) → (d ≡ n → A) → A
   stands-cases d e f g =
       or-cases (listed d (child_entries c PERIPHERAL_BIRTH)) (listed d (child_entries c ANONYMOUS_BIRTH)) e
-      (λ i. any-last d (child_entries b PERIPHERAL_BIRTH) (named_entry id n) (sym (ap (listed d) j.third) ∙ i) (λ k. f (rw k refl)) (λ k. g (named-only id n d k)))
+      (λ i. any-last d (child_entries b PERIPHERAL_BIRTH) (named_entry id n) (sym (ap (listed d) j.third) ∙ i) (λ k. f (rw k refl))
+      (λ k. g (named-only id n d k)))
       (λ i.
       any-last d (child_entries b ANONYMOUS_BIRTH) (numbered_entry b id n) (sym (ap (listed d) j.fourth) ∙ i)
       (λ k. f (rw k (or-true (listed d (child_entries b PERIPHERAL_BIRTH))))) (λ k. g (numbered-only b id n d k)))
@@ -188,7 +194,9 @@ module _ (b : Board) (kb : Placed b) (h : SoundPhases b) (n on slot : ℕ) (id :
     where
       owner : HasOwner b o → HasOwner c o
       owner (machines u) = machines u
-      owner (bridges p s w) = bridges p (old-stands kb.depth b n on slot id t c j kb.firm kb.places p s) (ap (list_any (owns_it o)) (j.children p (its-live p s) (shelf-apart p s)) ∙ w)
+      owner (bridges p s w) =
+          bridges p (old-stands kb.depth b n on slot id t c j kb.firm kb.places p s)
+          (ap (list_any (owns_it o)) (j.children p (its-live p s) (shelf-apart p s)) ∙ w)
 
   new-there : stands c n ≡ true
   new-there = new-stands kb.depth b n on slot id t c j kb.firm kb.places
@@ -240,7 +248,8 @@ module _ (b : Board) (kb : Placed b) (h : SoundPhases b) (n on slot : ℕ) (id :
       let own : owns c n o ≡ true = subst (λ (x : ℕ). owns c x o ≡ true) new w in
       clash (sym (reach-post c kc n o (further itself (bus-leads c kc n o (stands-no_bus c kc n new-there) is own))) ∙ apart))
 
-  module _ (f : Board) (s : StartedSo f n c) (younger : (x : ℕ) → is_live c x ≡ true → is_live b x ≡ false → b.born < x) (older : b.born ≤ c.born) (holds : c.holds ≡ b.holds) (quiet : Quiet b f) (lone : LoneMachine c) where
+  module _ (f : Board) (s : StartedSo f n c) (younger : (x : ℕ) → is_live c x ≡ true → is_live b x ≡ false → b.born < x) (older : b.born ≤ c.born)
+      (holds : c.holds ≡ b.holds) (quiet : Quiet b f) (lone : LoneMachine c) where
     same_post : post c n ≡ post f n
     same_post = shape-post f c s.shape n
 
@@ -273,13 +282,17 @@ module _ (b : Board) (kb : Placed b) (h : SoundPhases b) (n on slot : ℕ) (id :
             noted-in Hold refl (post f n) once (f.notes ++ map (did Enter) (post f n)) o e stage.entered stage.held
             (noted-in Enter refl (post f n) once f.notes o e stage.out stage.entered (quiet o ∙ h.unborn o (fresh o e)) refl) refl
 
-        leaves : is_out f o ≡ true → stage_of o (((f.notes ++ map (did Enter) (post f n)) ++ map (did Hold) (post f n)) ++ map (did Exit) (filter (is_out f) (post f n))) ≡ Some (stage_now c o)
+        leaves : is_out f o ≡ true
+            → stage_of o (((f.notes ++ map (did Enter) (post f n)) ++ map (did Hold) (post f n)) ++ map (did Exit) (filter (is_out f) (post f n))) ≡ Some
+            (stage_now c o)
         leaves q =
             let both : among (filter (is_out f) (post f n)) o ≡ true = among-filter (is_out f) o (post f n) ∙ rw (e, q) refl in
             noted-in Exit refl (filter (is_out f) (post f n)) out-once _ o both stage.held stage.out at_hold refl
             ∙ ap (λ (u : Bool). Some (if u then stage.out else stage.held)) (sym (same-out o ∙ q))
 
-        stays : is_out f o ≡ false → stage_of o (((f.notes ++ map (did Enter) (post f n)) ++ map (did Hold) (post f n)) ++ map (did Exit) (filter (is_out f) (post f n))) ≡ Some (stage_now c o)
+        stays : is_out f o ≡ false
+            → stage_of o (((f.notes ++ map (did Enter) (post f n)) ++ map (did Hold) (post f n)) ++ map (did Exit) (filter (is_out f) (post f n))) ≡ Some
+            (stage_now c o)
         stays q =
             let none : among (filter (is_out f) (post f n)) o ≡ false = among-filter (is_out f) o (post f n) ∙ rw (e, q) refl in
             noted-out Exit refl (filter (is_out f) (post f n)) out-once _ o none
@@ -299,7 +312,9 @@ module _ (b : Board) (kb : Placed b) (h : SoundPhases b) (n on slot : ℕ) (id :
     device-phases =
         record {
           in_turn = λ o. decide (among (post f n) o) (λ e. ap is_some (in-stage o e)) (λ e. ap is_some (out-stage o e) ∙ h.in_turn o);
-          unborn = λ o high. decide (among (post f n) o) (λ e. absurd (live-born c kc o (reached-live c kc o (is-reached o e)) high)) (λ e. out-stage o e ∙ h.unborn o (omega (arith, older, high)));
+          unborn = λ o high.
+              decide (among (post f n) o) (λ e. absurd (live-born c kc o (reached-live c kc o (is-reached o e)) high))
+              (λ e. out-stage o e ∙ h.unborn o (omega (arith, older, high)));
           reached = λ o i. decide (among (post f n) o) (in-stage o) (λ e. old o e (reached-old o i (ap (λ (xs : List ℕ). among xs o) same_post ∙ e)));
           holds = subst (AllByRecursion (IsReached c)) (sym holds) (all-imply (IsReached b) (IsReached c) reached-on b.holds h.holds);
           lone = lone;

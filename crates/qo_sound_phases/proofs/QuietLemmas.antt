@@ -145,10 +145,14 @@ quiet-changed b (severed n) = step-sever (Quiet b) (edits b) (pins b) (ends b) b
 
 -- a device as it is made
 new : (b : Board) → KeepsNew (λ k. ⊤) (Quiet b)
-new b k slots made c h = quiet-then b c (with_new (new_with c k slots) c) h (λ n. noted-none n c.notes (init_notes (c.born + 1) k) (phases-init (c.born + 1) k n))
+new b k slots made c h =
+    quiet-then b c (with_new (new_with c k slots) c) h (λ n. noted-none n c.notes (init_notes (c.born + 1) k) (phases-init (c.born + 1) k n))
 
 pub quiet-device : (b : Board) (t : TypeId) (a : Wanted) (spot : Spot) → Quiet b (with_device b t a spot)
-quiet-device b t a spot = count_in a.id _ (step-stood (Quiet b) (edits b) b (b.born + 1) a spot (λ c h. h) (drafted b t) (step-drafted (Quiet b) (edits b) (λ k. ⊤) (new b) t tt (any-rows (slots_of t)) b (λ n. refl)))
+quiet-device b t a spot =
+    count_in a.id _
+    (step-stood (Quiet b) (edits b) b (b.born + 1) a spot (λ c h. h) (drafted b t)
+    (step-drafted (Quiet b) (edits b) (λ k. ⊤) (new b) t tt (any-rows (slots_of t)) b (λ n. refl)))
   where
     count_in : (id : Option (List ℕ)) (c : Board) → Quiet b c → Quiet b (counted id c)
     count_in None c h = h
@@ -161,7 +165,9 @@ frame-phases b c kb kc f stay holds older quiet lone h =
     record {
       in_turn = λ n. ap is_some (quiet n) ∙ h.in_turn n;
       unborn = λ n high. quiet n ∙ h.unborn n (omega (arith, older, high));
-      reached = λ n i. quiet n ∙ h.reached n (frame-reached b c kb kc f n i) ∙ ap (λ (k : ℕ). Some (if k == 0 then out else held)) (sym (frame-count b c kb kc f n i holds));
+      reached = λ n i.
+          quiet n ∙ h.reached n (frame-reached b c kb kc f n i)
+          ∙ ap (λ (k : ℕ). Some (if k == 0 then out else held)) (sym (frame-count b c kb kc f n i holds));
       holds = subst (AllByRecursion (IsReached c)) (sym holds) (all-imply (IsReached b) (IsReached c) stay b.holds h.holds);
       lone = lone h.lone;
     }
@@ -186,7 +192,9 @@ aside-phases b c k a h =
     record {
       in_turn = λ n. decide (leb n b.born) (λ e. ap is_some (a.quiet n (not-over n b.born e)) ∙ h.in_turn n) (λ e. a.in_turn n (over n b.born e));
       unborn = a.unborn;
-      reached = λ n i. a.quiet n (old n (back n i)) ∙ h.reached n (back n i) ∙ ap (λ (m : ℕ). Some (if m == 0 then out else held)) (sym (shape-count b c a.shape a.holds n));
+      reached = λ n i.
+          a.quiet n (old n (back n i)) ∙ h.reached n (back n i)
+          ∙ ap (λ (m : ℕ). Some (if m == 0 then out else held)) (sym (shape-count b c a.shape a.holds n));
       holds = subst (AllByRecursion (IsReached c)) (sym a.holds) (all-imply (IsReached b) (IsReached c) (shape-reached b c a.shape) b.holds h.holds);
       lone = λ x e. h.lone x (sym (a.shape.kind x) ∙ e);
     }

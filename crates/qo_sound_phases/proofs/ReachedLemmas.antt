@@ -135,4 +135,5 @@ module _ (b c : Board) (h : SameShape b c) where
   shape-reached o (machine at) = machine at
   shape-reached o (device s) = device (same-stands o ∙ s)
   shape-reached o (bus is (machines u)) = bus (shape-of b c h (codes "bus") o ∙ is) (machines u)
-  shape-reached o (bus is (bridges p s own)) = bus (shape-of b c h (codes "bus") o ∙ is) (bridges p (same-stands p ∙ s) (ap (list_any (owns_it o)) (same-children p) ∙ own))
+  shape-reached o (bus is (bridges p s own)) =
+      bus (shape-of b c h (codes "bus") o ∙ is) (bridges p (same-stands p ∙ s) (ap (list_any (owns_it o)) (same-children p) ∙ own))

@@ -64,7 +64,8 @@ shape-edit n change birth kind slots b =
     kind_in r true p = rw (edited, p) (kind r)
     kind_in r false p = rw (edited, p) refl
 
-    same_slots : (o : Option Record) → option_map_or (λ (r : Record). r.slots) (option_map (edited n change) o) [] ≡ option_map_or (λ (r : Record). r.slots) o []
+    same_slots : (o : Option Record)
+        → option_map_or (λ (r : Record). r.slots) (option_map (edited n change) o) [] ≡ option_map_or (λ (r : Record). r.slots) o []
     same_slots None = refl
     same_slots (Some r) = slots_in r (r.birth == n) refl
 
@@ -77,7 +78,8 @@ pub counted-same : (f g : ℕ → Bool) → ((r : ℕ) → f r ≡ g r) → (rs 
 counted-same f g same [] = refl
 counted-same f g same (r ∷ rs) =
     let one : cond {A = ℕ} (f r) 1 0 ≡ cond {A = ℕ} (g r) 1 0 = ap (λ (t : Bool). cond {A = ℕ} t 1 0) (same r) in
-    sum_by-cons (λ x. cond {A = ℕ} (f x) 1 0) r rs ∙ ap₂ (λ (x y : ℕ). x + y) one (counted-same f g same rs) ∙ sym (sum_by-cons (λ x. cond {A = ℕ} (g x) 1 0) r rs)
+    sum_by-cons (λ x. cond {A = ℕ} (f x) 1 0) r rs ∙ ap₂ (λ (x y : ℕ). x + y) one (counted-same f g same rs)
+    ∙ sym (sum_by-cons (λ x. cond {A = ℕ} (g x) 1 0) r rs)
 
 module _ (b c : Board) (h : SameShape b c) where
   pub shape-of : (name : List ℕ) (x : ℕ) → is_of c name x ≡ is_of b name x
@@ -116,7 +118,9 @@ module _ (b c : Board) (h : SameShape b c) where
   shape-post r = ap (λ (size : ℕ). by_depth (post_turn c) (λ _. []) (suc size) r) h.size ∙ turns-same (suc (length (births b))) r
 
   pub shape-count : c.holds ≡ b.holds → (o : ℕ) → count c o ≡ count b o
-  shape-count e o = counted-same (λ r. among (post c r) o) (λ r. among (post b r) o) (λ r. ap (λ (xs : List ℕ). among xs o) (shape-post r)) c.holds ∙ ap (count_by (λ r. among (post b r) o)) e
+  shape-count e o =
+      counted-same (λ r. among (post c r) o) (λ r. among (post b r) o) (λ r. ap (λ (xs : List ℕ). among xs o) (shape-post r)) c.holds
+      ∙ ap (count_by (λ r. among (post b r) o)) e
 
 -- acts leave the shape, and note what was done
 pub shape-acted : (act : Act) (n period : ℕ) (b : Board) → SameShape b (acted act n period b)

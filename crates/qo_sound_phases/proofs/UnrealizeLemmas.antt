@@ -101,7 +101,8 @@ under-more b d x m k here im ik = down m k im ik here
 under-more b d x m k (down n j jn jk u) im ik = down n j jn jk (under-more b j x m k u im ik)
 
 -- the steps on the device, on what is below it, and on the buses there
-module _ (b : Board) (d : ℕ) (P : Board → Type 0) (device : (x : ℕ) (c : Board) → Under b d x → P c → P (unrealized_device x c)) (bus : (x m : ℕ) (c : Board) → Under b d x → among (buses_of b x) m ≡ true → P c → P (unrealized_bus m c)) where
+module _ (b : Board) (d : ℕ) (P : Board → Type 0) (device : (x : ℕ) (c : Board) → Under b d x → P c → P (unrealized_device x c))
+    (bus : (x m : ℕ) (c : Board) → Under b d x → among (buses_of b x) m ≡ true → P c → P (unrealized_bus m c)) where
   walk : (depth x : ℕ) (c : Board) → Under b d x → P c → P (by_depth (unrealize_turn b) (λ d c. c) depth x c)
   walk zero x c u h = h
   walk (suc depth) x c u h = turn (walk depth)
@@ -112,7 +113,8 @@ module _ (b : Board) (d : ℕ) (P : Board → Type 0) (device : (x : ℕ) (c : B
           device x _ u
           (each-keeps P _ (buses_of b x)
           (λ m im e k.
-          bus x m _ u im (each-keeps P (by_depth (unrealize_turn b) (λ d c. c) depth) (kids_of b m) (λ n jn f j. keeps n f (under-more b d x m n u im jn) j) e k))
+          bus x m _ u im
+          (each-keeps P (by_depth (unrealize_turn b) (λ d c. c) depth) (kids_of b m) (λ n jn f j. keeps n f (under-more b d x m n u im jn) j) e k))
           c h)
 
   pub unrealize-walk : P b → P (unrealize b d)
@@ -143,7 +145,8 @@ none-stays b (suc depth) x r c h = turn (none-stays b depth)
     turn keeps =
         gone-device x _
         (each-keeps (λ e. among e.holds r ≡ false) _ (buses_of b x)
-        (λ m im e k. gone-bus m _ (each-keeps (λ f. among f.holds r ≡ false) (by_depth (unrealize_turn b) (λ d c. c) depth) (kids_of b m) (λ n jn f j. keeps n r f j) e k)) c h)
+        (λ m im e k. gone-bus m _
+        (each-keeps (λ f. among f.holds r ≡ false) (by_depth (unrealize_turn b) (λ d c. c) depth) (kids_of b m) (λ n jn f j. keeps n r f j) e k)) c h)
       where
         gone-device : (n : ℕ) (e : Board) → among e.holds r ≡ false → among (unrealized_device n e).holds r ≡ false
         gone-device n e k = ap (λ (hs : List ℕ). among hs r) (lets-device n e).holds ∙ without-other n r e.holds k
@@ -169,7 +172,8 @@ module _ (b : Board) (q r : ℕ) (its : among (buses_of b q) r ≡ true) where
       cleared : x ≡ q
           → among (each (λ m. λ e. unrealized_bus m (each (by_depth (unrealize_turn b) (λ d c. c) depth) (kids_of b m) e)) (buses_of b x) c).holds r ≡ false
       cleared is =
-          each-makes (λ e. among e.holds r ≡ false) (λ m. λ e. unrealized_bus m (each (by_depth (unrealize_turn b) (λ d c. c) depth) (kids_of b m) e)) (buses_of b x) r (subst (λ (y : ℕ). among (buses_of b y) r ≡ true) (sym is) its)
+          each-makes (λ e. among e.holds r ≡ false) (λ m. λ e. unrealized_bus m (each (by_depth (unrealize_turn b) (λ d c. c) depth) (kids_of b m) e))
+          (buses_of b x) r (subst (λ (y : ℕ). among (buses_of b y) r ≡ true) (sym is) its)
           (λ e. own-bus _)
           (λ n e k. gone-bus n _ (none-each (kids_of b n) e k))
           c
@@ -185,7 +189,9 @@ module _ (b : Board) (q r : ℕ) (its : among (buses_of b q) r ≡ true) where
           loose =
               each-keeps (IsLoose q r) (λ m. λ e. unrealized_bus m (each (by_depth (unrealize_turn b) (λ d c. c) depth) (kids_of b m) e)) (buses_of b x)
               (λ m im e k.
-              λ dim. gone-bus m _ (each-keeps (IsLoose q r) (by_depth (unrealize_turn b) (λ d c. c) depth) (kids_of b m) (λ n jn f j. keeps n f j) e k (sym ((dims-bus m _).same q) ∙ dim)))
+              λ dim. gone-bus m _
+              (each-keeps (IsLoose q r) (by_depth (unrealize_turn b) (λ d c. c) depth) (kids_of b m) (λ n jn f j. keeps n f j) e k
+              (sym ((dims-bus m _).same q) ∙ dim)))
               c h
 
           before : is_realized (unrealized_device x inner) q ≡ false → among inner.holds r ≡ false
@@ -199,7 +205,9 @@ pub device-loose : (b : Board) (d r : ℕ) → is_realized b r ≡ true → is_r
 device-loose b d r lit dim = unrealize-walk b d (IsLoose r r) device bus (λ no. clash (sym lit ∙ no)) dim
   where
     device : (x : ℕ) (c : Board) → Under b d x → IsLoose r r c → IsLoose r r (unrealized_device x c)
-    device x c u h = λ no. ap (λ (hs : List ℕ). among hs r) (lets-device x c).holds ∙ decide (r == x) (λ e. own (eqb-true r x e)) (λ e. without-other x r c.holds (h (sym ((fades-device x c).same r e) ∙ no)))
+    device x c u h = λ no.
+        ap (λ (hs : List ℕ). among hs r) (lets-device x c).holds
+        ∙ decide (r == x) (λ e. own (eqb-true r x e)) (λ e. without-other x r c.holds (h (sym ((fades-device x c).same r e) ∙ no)))
       where
         own : r ≡ x → among (without_all x c.holds) r ≡ false
         own is = ap (among (without_all x c.holds)) is ∙ without-own x c.holds

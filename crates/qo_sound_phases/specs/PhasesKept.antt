@@ -34,7 +34,8 @@ pub record PhasesKeptLaw : Type 0 where
   pub attempt : (b : Board) (t : TypeId) → SoundDevices b → SoundPhases b → SoundPhases (with_attempt b t)
   -- adding a device, taken or refused at any stage; and an attempt at it that was given up or cut
   pub plugged : (b : Board) (a : Wanted) → SoundDevices b → SoundPhases b → SoundPhases (plug b a).board
-  pub given_up : (b : Board) (t : TypeId) (bus stage : ℕ) → is_a t (codes "device") ≡ true → SoundDevices b → SoundPhases b → SoundPhases (plug_attempt b t bus stage)
+  pub given_up : (b : Board) (t : TypeId) (bus stage : ℕ) → is_a t (codes "device") ≡ true → SoundDevices b → SoundPhases b
+      → SoundPhases (plug_attempt b t bus stage)
   pub cut : (b : Board) (t : TypeId) (i : ℕ) (joined : Bool) → SoundDevices b → SoundPhases b → SoundPhases (cut_attempt b t i joined)
   -- a removal that is asked for, or refused by the guest; and a device that stands in a container and is detached
   pub asked_for : (b : Board) (id : List ℕ) → SoundPhases b → SoundPhases (asked b id).board

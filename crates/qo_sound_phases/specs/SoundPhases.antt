@@ -1,4 +1,4 @@
--- When the phases of a board are sound: each object that a reset reaches is where the holds on it and above it say (docs/devel/reset.rst, "Multi-phase mechanism").
+-- When the phases of a board are sound: each object that a reset reaches is where its holds say (docs/devel/reset.rst, "Multi-phase mechanism").
 use Rattle.std.specs.Prelude.{◌≡◌, ℕ, ◌<◌, true, is_some, codes, if◌then◌else◌, Some}
 use Rattle.std.specs.List.{AllByRecursion}
 use Rattle.qo_values.specs.declared.births.TheConstants.{MACHINE_BIRTH}
@@ -25,7 +25,7 @@ LoneMachine b = (n : ℕ) → kind_of b n ≡ Some Machine → n ≡ MACHINE_BIR
 
 -- the phases are sound
 pub record SoundPhases (b : Board) : Type 0 where
-  -- those of every birth are in turn, and who is not born went through none
+  -- those of every birth are in turn, and who is not born is in no reset
   pub in_turn : (n : ℕ) → is_some (stage_of n b.notes) ≡ true
   pub unborn : (n : ℕ) → b.born < n → stage_of n b.notes ≡ Some out
   -- what a reset reaches is in its reset where a hold is on it or above it, and nowhere else; and holds are on nothing else
