@@ -32,7 +32,7 @@ use Rattle.qo_sound_phases.specs.PhasesKept.{may_reset, PhasesKeptLaw}
 use Rattle.qo_sound_phases.specs.PhasesSay.{PhasesSayLaw}
 use Rattle.qo_sound_phases.specs.SoundPhases.{IsReached, LoneMachine, machine, device, bus, SoundPhases}
 use Rattle.qo_sound_phases.proofs.AttemptLemmas.{cut-phases, plug_attempt-phases}
-use Rattle.qo_sound_phases.proofs.BelowLemmas.{placed}
+use Rattle.qo_sound_phases.proofs.BelowLemmas.{placed, post-once}
 use Rattle.qo_sound_phases.proofs.CommandLemmas.{change-phases}
 use Rattle.qo_sound_phases.proofs.DetachLemmas.{detach-phases}
 use Rattle.qo_sound_phases.proofs.HoldLemmas.{hold-phases, pulse-phases, release-phases}
@@ -198,5 +198,6 @@ pub phases_say_lem : PhasesSayLaw
 phases_say_lem =
     record {
       in_turn = λ b h n. turns-some n b.notes (h.in_turn n);
+      once = λ b d n. post-once b (placed b d) n;
       in_reset = λ b d h n e. h.reached n (may-reached b d h n e);
     }

@@ -18,8 +18,8 @@ pub fn law_phases_kept()
 {}
 
 /// On such a board the phases noted of each birth are the beginning of enter, hold, exit, repeated;
-/// and a machine, a bus or a device that is in the tree is held by its notes where a hold is on it
-/// or above it, and nowhere else.
+/// a phase goes to no object twice; and a machine, a bus or a device that is in the tree is held by
+/// its notes where a hold is on it or above it, and nowhere else.
 #[tactic(auto, using(crate::proofs::LawLemmas::phases_say_lem))]
 pub fn law_phases_say()
     ensures { PhasesSayLaw }
