@@ -31,7 +31,7 @@ use Rattle.qo_sound_devices.proofs.AttachedLemmas.{owns-listed}
 use Rattle.qo_sound_devices.proofs.CommandLemmas.{goes-pins}
 use Rattle.qo_sound_devices.proofs.DetachLemmas.{detach-lit}
 use Rattle.qo_sound_devices.proofs.DevicesLawLemmas.{devices_kept_lem}
-use Rattle.qo_sound_devices.proofs.LowLemmas.{is-bus_of, IsBusOf, kid-of, kids-listed, stands-dimmed, under-stands, unrealize-all, unrealize-dimmed}
+use Rattle.qo_sound_devices.proofs.LowLemmas.{is-bus_of, IsBusOf, kid-of, kids-listed, stands-dimmed, under-stands, unrealize-dimmed}
 use Rattle.qo_sound_devices.proofs.MovedLemmas.{within-listed}
 use Rattle.qo_sound_devices.proofs.PlacesLemmas.{child-live, of-live, or-cases, kind-alike, stands-live}
 use Rattle.qo_sound_devices.proofs.StepsLemmas.{within-any}
@@ -161,12 +161,6 @@ module _ (b : Board) (d : ℕ) (s : SoundDevices b) (e : stands b d ≡ true) wh
 
   there : stands (pin b d) d ≡ true
   there = pin-stands d ∙ e
-
-  its : IsHome (pin b d) d
-  its = kp.places.home d there (λ x. cc)
-
-  dark : (y : ℕ) → Under (pin b d) d y → is_realized (unrealize (pin b d) d) y ≡ false
-  dark y v = unrealize-all kp.depth None (λ x. false) (pin b d) kp.firm kp.places d its.bus there its.on y v
 
   below-stands : (y : ℕ) → Under (pin b d) d y → stands (pin b d) y ≡ true
   below-stands y v = under-stands kp.depth None (λ x. false) (pin b d) kp.places d y v there

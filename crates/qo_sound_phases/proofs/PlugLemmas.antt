@@ -274,9 +274,6 @@ module _ (b : Board) (kb : Placed b) (h : SoundPhases b) (n on slot : ℕ) (id :
     in-stage : (o : ℕ) → among (post f n) o ≡ true → stage_of o c.notes ≡ Some (stage_now c o)
     in-stage o e = ap (stage_of o) s.notes ∙ decide (is_out f o) leaves stays
       where
-        begins : List Note
-        begins = (f.notes ++ map (did Enter) (post f n)) ++ map (did Hold) (post f n)
-
         at_hold : stage_of o ((f.notes ++ map (did Enter) (post f n)) ++ map (did Hold) (post f n)) ≡ Some stage.held
         at_hold =
             noted-in Hold refl (post f n) once (f.notes ++ map (did Enter) (post f n)) o e stage.entered stage.held
