@@ -1,0 +1,317 @@
+-- Commands on objects keep phases sound: they leave the devices and the buses that a reset reaches.
+use Rattle.std.proofs.Common.{◌≡◌, refl, ap, sym, subst, ◌∙◌, ℕ, zero, suc, ◌+◌, ◌≤◌, Bool, true, false, ◌==◌, List, [], ◌∷◌, length, map, nat_eq, Option, Some, None, is_some, option_map, arith, codes}
+use Rattle.std.specs.List.{list_any}
+use Rattle.std.specs.Option.{option_map_or, option_or}
+use Rattle.std.proofs.lemmas.Bool.{eq-eqb, eqb-true}
+use Rattle.std.proofs.lemmas.List.Folds.{find-append}
+use Rattle.qo_values.specs.Registers.{fresh_registers}
+use Rattle.qo_values.specs.declared.births.TheConstants.{MACHINE_BIRTH, OBJECTS_BIRTH}
+use Rattle.qo_values.specs.declared.codes.Code.{Code}
+use Rattle.qo_values.specs.declared.kinds.TypeId.{TypeId}
+use Rattle.qo_model.specs.Board.{Board, Record, Slot, plain, child, strong, weak, alias, record_of, kind_of, is_live, slots_at, slot_at}
+use Rattle.qo_model.specs.Changes.{with_added}
+use Rattle.qo_model.specs.FinalNotesRuns.{Change, added, changed, deleted, severed, wrote}
+use Rattle.qo_model.specs.Objects.{Given, added_as, added_by, barred, given_slots, is_object_named, object_add, object_del, place_from, refusal_of, sever, severed_from, with_attempt, with_object}
+use Rattle.qo_model.specs.Paths.{attached, is_of}
+use Rattle.qo_model.specs.Release.{after, edit, edited, finalise, let_go, pin, put_in_order, unpin, without_first, without_pin}
+use Rattle.qo_model.specs.References.{refs}
+use Rattle.qo_model.specs.Types.{TypeRow, is_a, row_named}
+use Rattle.qo_model.proofs.ReleaseLeavesLemmas.{release_leaves}
+use Rattle.qo_model.proofs.StaysLemmas.{changed-stays}
+use Rattle.qo_model.proofs.StepLemmas.{found_at, found-edited, is_some-map}
+use Rattle.qo_model.proofs.TreeLemmas.{paths_lem}
+use Rattle.qo_sound.proofs.ChangeStepsLemmas.{step-object_del, step-sever, step-write}
+use Rattle.qo_sound.proofs.DetachStepsLemmas.{KeepsEnds, KeepsPins}
+use Rattle.qo_sound.proofs.MakeStepsLemmas.{KeepsEdits}
+use Rattle.qo_sound.proofs.ViewLemmas.{rest-from_sound}
+use Rattle.qo_sound_devices.specs.SoundDevices.{SoundDevices}
+use Rattle.qo_sound_devices.specs.SoundPlaces.{child_entries, HasOwner, machines, bridges, owns_it, stands}
+use Rattle.qo_sound_devices.proofs.AlikeLemmas.{other-record}
+use Rattle.qo_sound_devices.proofs.AttachedLemmas.{child-attached, owns-listed, stands-attached}
+use Rattle.qo_sound_devices.proofs.DevicesLawLemmas.{devices_kept_lem}
+use Rattle.qo_sound_devices.proofs.LawLemmas.{changed-keeps}
+use Rattle.qo_sound_devices.proofs.PlacesLemmas.{child-live, Keeps, kind-alike, of-live, stands-live}
+use Rattle.qo_sound_devices.proofs.StepsLemmas.{steps-after}
+use Rattle.qo_sound_phases.specs.SoundPhases.{IsReached, machine, device, bus, SoundPhases}
+use Rattle.qo_sound_phases.proofs.BelowLemmas.{Placed, placed}
+use Rattle.qo_sound_phases.proofs.FixedLemmas.{Fixed, fixed-after, fixed-let_go, fixed-none, fixed-then, fixed-write, same-record, SameAt}
+use Rattle.qo_sound_phases.proofs.FrameLemmas.{Frame}
+use Rattle.qo_sound_phases.proofs.ListLemmas.{clash, clash-back, decide}
+use Rattle.qo_sound_phases.proofs.LoneLemmas.{lone-changed}
+use Rattle.qo_sound_phases.proofs.QuietLemmas.{frame-phases, quiet-changed}
+use Rattle.qo_sound_phases.proofs.ReachedLemmas.{machines-listed}
+
+-- the machine, and the devices in their places
+data IsKeeper (b : Board) (x : ℕ) : Type 0 where
+  at_machine : x ≡ MACHINE_BIRTH → IsKeeper b x
+  in_place : stands b x ≡ true → IsKeeper b x
+
+-- `object-del`
+no-objects : (b : Board) → Placed b → IsKeeper b OBJECTS_BIRTH → ⊥
+no-objects b k (at_machine e) = clash-back (eq-eqb OBJECTS_BIRTH MACHINE_BIRTH e)
+no-objects b k (in_place s) = clash (sym s ∙ k.places.aside.1.1.1.1.1.1.0)
+
+fixed-deleted : (b : Board) → Placed b → (id : List ℕ) → Fixed (IsKeeper b) b (object_del b id).board
+fixed-deleted b k id = go (place_from (is_object_named id) 0 (slots_at b OBJECTS_BIRTH)) refl
+  where
+    go : (o : Option ℕ) → place_from (is_object_named id) 0 (slots_at b OBJECTS_BIRTH) ≡ o → Fixed (IsKeeper b) b (object_del b id).board
+    go None e = rw (object_del, e) (fixed-none (IsKeeper b) b)
+    go (Some i) e = rw (object_del, e) (fixed-let_go (IsKeeper b) OBJECTS_BIRTH i b (no-objects b k))
+
+-- `x-sever`
+fixed-pins : (On : ℕ → Type 0) (b : Board) (ps : List ℕ) → Fixed On b (record b { pins = ps })
+fixed-pins On b ps x on e = same-record b (record b { pins = ps }) x refl e
+
+severed-fixed : (On : ℕ → Type 0) (n : ℕ) → (On n → ⊥) → (places i : ℕ) (c : Board) → Fixed On c (severed_from places i n c)
+severed-fixed On n apart zero i c = fixed-none On c
+severed-fixed On n apart (suc places) i c = go (slot_at c n i) refl (severed-fixed On n apart places (suc i))
+  where
+    go : (s : Option Slot) → slot_at c n i ≡ s → ((d : Board) → Fixed On d (severed_from places (suc i) n d)) → Fixed On c (severed_from (suc places) i n c)
+    go None p rest = rw (severed_from, p) (rest c)
+    go (Some (plain v)) p rest = rw (severed_from, p) (rest c)
+    go (Some (child m)) p rest = rw (severed_from, p) (rest c)
+    go (Some (strong t target)) p rest =
+        rw (severed_from, p)
+        (fixed-then On c (let_go c n i) (severed_from places (suc i) n (let_go c n i)) (fixed-let_go On n i c apart) (rest (let_go c n i)))
+    go (Some (weak t target)) p rest = rw (severed_from, p) (rest c)
+    go (Some (alias m property)) p rest = rw (severed_from, p) (rest c)
+
+fixed-unpin : (On : ℕ → Type 0) (n : ℕ) (c : Board) → Fixed On c (unpin c n)
+unfolding unpin
+fixed-unpin On n c = go (list_any (nat_eq n) c.pins) refl
+  where
+    go : (u : Bool) → list_any (nat_eq n) c.pins ≡ u → Fixed On c (unpin c n)
+    go true e =
+        rw (unpin, e)
+        (fixed-then On c (without_pin c n) (after finalise (without_pin c n) (Some n)) (fixed-pins On c (without_first n c.pins))
+        (fixed-after On (without_pin c n) (Some n)))
+    go false e = rw (unpin, e) (fixed-none On c)
+
+fixed-pin : (On : ℕ → Type 0) (n : ℕ) (c : Board) → Fixed On c (pin c n)
+unfolding pin
+fixed-pin On n c = fixed-pins On c (put_in_order n c.pins)
+
+fixed-severed : (b : Board) → SoundDevices b → (n : ℕ) → Fixed (IsKeeper b) b (sever b n).board
+fixed-severed b d n = go (is_live b n) refl (attached b n) refl
+  where
+    k : Placed b
+    k = placed b d
+
+    home : IsKeeper b n → attached b n ≡ true
+    home (in_place s) = stands-attached b d.tree.0 k.firm k.depth None (λ x. false) k.places n s
+    home (at_machine e) =
+        subst (λ (x : ℕ). attached b x ≡ true) (sym e)
+        (child-attached b d.tree.0 k.firm 1 MACHINE_BIRTH k.places.machine (paths_lem.attached_by_parent b d.tree.0 1))
+
+    go : (there : Bool) → is_live b n ≡ there → (at_home : Bool) → attached b n ≡ at_home → Fixed (IsKeeper b) b (sever b n).board
+    go false p at_home q = rw (sever, p) (fixed-none (IsKeeper b) b)
+    go true p true q = rw (sever, p, q) (fixed-none (IsKeeper b) b)
+    go true p false q =
+        let c : Board = severed_from (length (slots_at b n)) 0 n (pin b n) in
+        rw (sever, p, q)
+        (fixed-then (IsKeeper b) b c (unpin c n)
+        (fixed-then (IsKeeper b) b (pin b n) c (fixed-pin (IsKeeper b) n b)
+        (severed-fixed (IsKeeper b) n (λ i. clash (sym (home i) ∙ q)) (length (slots_at b n)) 0 (pin b n)))
+        (fixed-unpin (IsKeeper b) n c))
+
+-- `object-add`
+behind-add : (b : Board) (t : TypeId) (id : List ℕ) (props : List Given) (x : ℕ) → is_live b x ≡ true
+    → record_of (with_object b t id props) x ≡ option_map (edited OBJECTS_BIRTH (with_added id (child (b.born + 1)))) (record_of b x)
+behind-add b t id props x live = go (record_of b x) refl
+  where
+    change : Record → Record
+    change = with_added id (child (b.born + 1))
+
+    r : Record
+    r = record { birth = b.born + 1; kind = t; slots = given_slots b t props; registers = fresh_registers t; device_id = None; kept_path = None }
+
+    found : record_of (with_object b t id props) x ≡ option_or (option_map (edited OBJECTS_BIRTH (with_added id (child (b.born + 1)))) (record_of b x))
+        (found_at x (r ∷ []))
+    found =
+        find-append (λ (y : Record). y.birth == x) (map (edited OBJECTS_BIRTH (with_added id (child (b.born + 1)))) b.records) (r ∷ [])
+        ∙ ap (λ (o : Option Record). option_or o (found_at x (r ∷ [])))
+        (found-edited OBJECTS_BIRTH (with_added id (child (b.born + 1))) (λ y. refl) x b.records)
+
+    go : (o : Option Record) → record_of b x ≡ o
+        → record_of (with_object b t id props) x ≡ option_map (edited OBJECTS_BIRTH (with_added id (child (b.born + 1)))) (record_of b x)
+    go None q = clash-back (sym (ap is_some q) ∙ live)
+    go (Some y) q =
+        found
+        ∙ ap (λ (o : Option Record). option_or (option_map (edited OBJECTS_BIRTH change) o) (found_at x (r ∷ []))) q
+        ∙ sym (ap (option_map (edited OBJECTS_BIRTH change)) q)
+
+fixed-added : (b : Board) → Placed b → (t : TypeId) (id : List ℕ) (props : List Given) (refusal : Option Code)
+    → Fixed (IsKeeper b) b (added_as b t id props refusal).board
+fixed-added b k t id props (Some code) x on e = same-record b (with_attempt b t) x refl e
+fixed-added b k t id props None x on e = same-record b (with_object b t id props) x same e
+  where
+    live : IsKeeper b x → is_live b x ≡ true
+    live (in_place s) = stands-live b k.firm x s
+    live (at_machine is) = subst (λ (y : ℕ). is_live b y ≡ true) (sym is) (child-live b k.firm 1 MACHINE_BIRTH k.places.machine)
+
+    apart : (x == OBJECTS_BIRTH) ≡ false
+    apart = decide (x == OBJECTS_BIRTH) (λ q. absurd (no-objects b k (subst (IsKeeper b) (eqb-true x OBJECTS_BIRTH q) on))) (λ q. q)
+
+    same : record_of (with_object b t id props) x ≡ record_of b x
+    same = behind-add b t id props x (live on) ∙ other-record OBJECTS_BIRTH x (with_added id (child (b.born + 1))) b refl apart (record_of b x) refl
+
+-- what a command leaves
+fixed-changed : (b : Board) → SoundDevices b → (change : Change) → Fixed (IsKeeper b) b (changed b change)
+fixed-changed b d (deleted id) = fixed-deleted b (placed b d) id
+fixed-changed b d (wrote n name v) = fixed-write (IsKeeper b) b (placed b d).firm n name v
+fixed-changed b d (severed n) = fixed-severed b d n
+fixed-changed b d (added driver id props) = go (row_named driver) refl
+  where
+    by : (row : TypeRow) (refusal : Option Code) → Fixed (IsKeeper b) b (added_by b row id props refusal).board
+    by row None = fixed-added b (placed b d) row.id id props (refusal_of b row.id props)
+    by row (Some code) = fixed-none (IsKeeper b) b
+
+    go : (row : Option TypeRow) → row_named driver ≡ row → Fixed (IsKeeper b) b (object_add b driver id props).board
+    go None e = rw (object_add, e) (fixed-none (IsKeeper b) b)
+    go (Some row) e = rw (object_add, e) (by row (barred b row id))
+
+-- types and births
+Kin : Board → Board → Type 0
+Kin b c = (b.born ≤ c.born) × ((x : ℕ) → is_live c x ≡ true → (is_live b x ≡ true) × (kind_of c x ≡ kind_of b x))
+
+kin-none : (b : Board) → Kin b b
+unfolding Kin
+kin-none b = (omega arith, λ x e. (e, refl))
+
+kin-edits : (b : Board) → KeepsEdits (Kin b)
+unfolding Kin
+kin-edits b n change leaves c h = (h.0, kinds)
+  where
+    birth : (r : Record) → (change r).birth ≡ r.birth
+    birth r = ap (λ (y : Record). y.birth) (leaves r)
+
+    found : (x : ℕ) → record_of (edit n change c) x ≡ option_map (edited n change) (record_of c x)
+    found x = found-edited n change birth x c.records
+
+    kind_in : (r : Record) (t : Bool) → (r.birth == n) ≡ t → (edited n change r).kind ≡ r.kind
+    kind_in r true p = rw (edited, p) (ap (λ (y : Record). y.kind) (leaves r))
+    kind_in r false p = rw (edited, p) refl
+
+    same_kind : (o : Option Record) → option_map (λ (r : Record). r.kind) (option_map (edited n change) o) ≡ option_map (λ (r : Record). r.kind) o
+    same_kind None = refl
+    same_kind (Some r) = ap Some (kind_in r (r.birth == n) refl)
+
+    kinds : (x : ℕ) → is_live (edit n change c) x ≡ true → (is_live b x ≡ true) × (kind_of (edit n change c) x ≡ kind_of b x)
+    kinds x e =
+        let before : (is_live b x ≡ true) × (kind_of c x ≡ kind_of b x) =
+        h.1 x (sym (ap is_some (found x) ∙ is_some-map (edited n change) (record_of c x)) ∙ e) in
+        (before.0, ap (option_map (λ (r : Record). r.kind)) (found x) ∙ same_kind (record_of c x) ∙ before.1)
+
+kin-pins : (b : Board) → KeepsPins (Kin b)
+unfolding Kin
+kin-pins b ps c h = h
+
+kin-ends : (b : Board) → KeepsEnds (Kin b)
+unfolding Kin
+kin-ends b o c h = (
+  subst (λ (n : ℕ). b.born ≤ n) (sym (born o)) h.0,
+  λ x e.
+      let was : (is_live b x ≡ true) × (kind_of c x ≡ kind_of b x) = h.1 x ((steps-after c o).live x e) in
+      (was.0, kind-alike c (after finalise c o) x ((steps-after c o).body x e) ∙ was.1),
+)
+  where
+    born : (u : Option ℕ) → (after finalise c u).born ≡ c.born
+    born None = refl
+    born (Some m) = go (refs c m == 0) refl
+      where
+        go : (t : Bool) → (refs c m == 0) ≡ t → (after finalise c (Some m)).born ≡ c.born
+        go true e = rw (after, e) (release_leaves c m).born
+        go false e = rw (after, e) refl
+
+-- what is read of types where objects may be added
+record KinAt (b c : Board) : Type 0 where
+  older : b.born ≤ c.born
+  kind : (x : ℕ) → is_live b x ≡ true → is_live c x ≡ true → kind_of c x ≡ kind_of b x
+
+kin-at : (b c : Board) → Kin b c → KinAt b c
+unfolding Kin
+kin-at b c h = record { older = h.0; kind = λ x e g. (h.1 x g).1 }
+
+kin-added : (b : Board) (t : TypeId) (id : List ℕ) (props : List Given) (refusal : Option Code) → KinAt b (added_as b t id props refusal).board
+kin-added b t id props (Some code) = record { older = omega arith; kind = λ x e g. refl }
+kin-added b t id props None =
+    record { older = omega arith; kind = λ x e g. ap (option_map (λ (r : Record). r.kind)) (behind-add b t id props x e) ∙ same (record_of b x) }
+  where
+    kind_in : (r : Record) (u : Bool) → (r.birth == OBJECTS_BIRTH) ≡ u → (edited OBJECTS_BIRTH (with_added id (child (b.born + 1))) r).kind ≡ r.kind
+    kind_in r true p = rw (edited, p) refl
+    kind_in r false p = rw (edited, p) refl
+
+    same : (o : Option Record)
+        → option_map (λ (r : Record). r.kind) (option_map (edited OBJECTS_BIRTH (with_added id (child (b.born + 1)))) o) ≡ option_map (λ (r : Record). r.kind) o
+    same None = refl
+    same (Some r) = ap Some (kind_in r (r.birth == OBJECTS_BIRTH) refl)
+
+kin-changed : (b : Board) (change : Change) → KinAt b (changed b change)
+kin-changed b (deleted id) = kin-at b _ (step-object_del (Kin b) (kin-edits b) (kin-pins b) (kin-ends b) b id (kin-none b))
+kin-changed b (wrote n name v) = kin-at b _ (step-write (Kin b) (kin-edits b) (kin-pins b) (kin-ends b) b n name v (kin-none b))
+kin-changed b (severed n) = kin-at b _ (step-sever (Kin b) (kin-edits b) (kin-pins b) (kin-ends b) b n (kin-none b))
+kin-changed b (added driver id props) = go (row_named driver) refl
+  where
+    by : (row : TypeRow) (refusal : Option Code) → KinAt b (added_by b row id props refusal).board
+    by row None = kin-added b row.id id props (refusal_of b row.id props)
+    by row (Some code) = kin-at b b (kin-none b)
+
+    go : (row : Option TypeRow) → row_named driver ≡ row → KinAt b (object_add b driver id props).board
+    go None e = rw (object_add, e) (kin-at b b (kin-none b))
+    go (Some row) e = rw (object_add, e) (by row (barred b row id))
+
+-- so a reset reaches the same
+module _ (b : Board) (change : Change) (d : SoundDevices b) where
+  abbrev c : Board
+  c = changed b change
+
+  kb : Placed b
+  kb = placed b d
+
+  kc : Placed (changed b change)
+  kc = placed (changed b change) (devices_kept_lem.change b change d)
+
+  keeps : Keeps d.places.0 b (changed b change)
+  keeps = changed-keeps d.places.0 b change (rest-from_sound b d.tree) d.places.1
+
+  kin : KinAt b (changed b change)
+  kin = kin-changed b change
+
+  at-place : (x : ℕ) → stands (changed b change) x ≡ true → SameAt b (changed b change) x
+  at-place x s = fixed-changed b d change x (in_place (sym (keeps.stood x) ∙ s)) (stands-live c kc.firm x s)
+
+  at-top : SameAt b (changed b change) MACHINE_BIRTH
+  at-top = fixed-changed b d change MACHINE_BIRTH (at_machine refl) (child-live c kc.firm 1 MACHINE_BIRTH kc.places.machine)
+
+  frame : Frame b (changed b change)
+  frame =
+      record {
+        kind = kin.kind;
+        stood = λ x s. sym (keeps.stood x) ∙ s;
+        bus = λ x s. (at-place x s).bus;
+        children = λ x s. (at-place x s).children;
+        machine = at-top.children;
+      }
+
+  reached-on : (r : ℕ) → IsReached b r → IsReached (changed b change) r
+  reached-on r (machine at) = machine at
+  reached-on r (device s) = device (keeps.stood r ∙ s)
+  reached-on r (bus is its) = bus (same (there (owner its)) ∙ is) (owner its)
+    where
+      owner : HasOwner b r → HasOwner (changed b change) r
+      owner (machines u) = machines u
+      owner (bridges p s w) =
+          let stays : stands (changed b change) p ≡ true = keeps.stood p ∙ s in
+          bridges p stays (ap (list_any (owns_it r)) (at-place p stays).children ∙ w)
+
+      there : HasOwner (changed b change) r → is_live (changed b change) r ≡ true
+      there (machines u) = child-live c kc.firm MACHINE_BIRTH r (machines-listed c kc r u)
+      there (bridges p s w) = child-live c kc.firm p r (owns-listed r (child_entries c p) w)
+
+      same : is_live (changed b change) r ≡ true → is_of (changed b change) (codes "bus") r ≡ is_of b (codes "bus") r
+      same live =
+          ap (λ (o : Option TypeId). option_map_or (λ (t : TypeId). is_a t (codes "bus")) o false)
+          (kin.kind r (of-live b (codes "bus") r is) live)
+
+  pub change-phases : SoundPhases b → SoundPhases (changed b change)
+  change-phases h = frame-phases b c kb kc frame reached-on (changed-stays b change).holds kin.older (quiet-changed b change) (lone-changed b change) h

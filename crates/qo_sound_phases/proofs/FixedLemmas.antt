@@ -1,0 +1,380 @@
+-- Objects that steps leave where they are: each that is still there has the same children, bus and type.
+use Rattle.std.proofs.Common.{inr, ◌≡◌, refl, ap, sym, subst, ◌∙◌, ℕ, zero, suc, ◌<◌, Bool, true, false, ◌==◌, List, [], ◌∷◌, filter_map, find, length, position, slice_get, Option, Some, None, is_some, option_map, option_and_then, arith, codes}
+use Rattle.std.specs.Prelude.{get_or}
+use Rattle.std.specs.List.{cons_option}
+use Rattle.std.specs.Option.{option_map_or}
+use Rattle.std.specs.Str.{bytes_eq}
+use Rattle.std.proofs.lemmas.Bool.{eqb-true}
+use Rattle.std.proofs.lemmas.List.Quantifiers.{position-Some}
+use Rattle.std.proofs.lemmas.Option.{same_Some}
+use Rattle.std.proofs.lemmas.Slice.Eq.{bytes_eq-Decides}
+use Rattle.qo_values.specs.Properties.{admits}
+use Rattle.qo_values.specs.declared.codes.Code.{Code}
+use Rattle.qo_values.specs.declared.kinds.TypeId.{TypeId}
+use Rattle.qo_values.specs.declared.kinds.TypeId.TheVariants.{Object, Container, Machine, Device, SlotDevice, SlotUart, SlotTimer, SlotBridge, MemDimm, Bus, SlotBus, MemBus, Clock, MemoryBackend, MemoryBackendRam, Tag}
+use Rattle.qo_values.specs.declared.properties.Val.{Val}
+use Rattle.qo_values.specs.declared.properties.Val.TheVariants as val
+use Rattle.std.specs.Prelude.{Result, Ok, Err}
+use Rattle.qo_model.specs.Board.{Board, Record, Slot, plain, child, strong, weak, alias, record_of, kind_of, is_live, slots_at, slot_at, held}
+use Rattle.qo_model.specs.Changes.{changed_at, point, pointed, set, with_changed, with_val}
+use Rattle.qo_model.specs.Devices.{bus_of, strong_in}
+use Rattle.qo_model.specs.FinalNotesRuns.{behind_write}
+use Rattle.qo_model.specs.Paths.{child_of}
+use Rattle.qo_model.specs.Properties.{link_target, link_written, linked, may_set, pointed_at, relinked, row_of_property, write, written, written_by}
+use Rattle.qo_model.specs.Release.{after, drop_slot, edit, edited, finalise, let_go, with_dropped, without_hold}
+use Rattle.qo_model.specs.Types.{types}
+use Rattle.qo_model.specs.declared.properties.Property.{Property}
+use Rattle.qo_model.specs.declared.properties.RowKind.{RowKind}
+use Rattle.qo_model.specs.declared.properties.RowKind.TheVariants as row
+use Rattle.qo_model.proofs.EditLemmas.{StandsAt, stands-at}
+use Rattle.qo_model.proofs.StepLemmas.{found-edited, is_some-map}
+use Rattle.qo_sound.proofs.FirmLemmas.{Firm}
+use Rattle.qo_sound_devices.specs.SoundPlaces.{child_entries, child_entry}
+use Rattle.qo_sound_devices.proofs.AlikeLemmas.{after-alike, other-record}
+use Rattle.qo_sound_devices.proofs.DropLemmas.{children-kept, edited-slots, names-at, strong-dropped}
+use Rattle.qo_sound_devices.proofs.PlacesLemmas.{kind-alike}
+use Rattle.qo_sound_devices.proofs.StepsLemmas.{steps-after}
+use Rattle.qo_sound_devices.proofs.UnrealizeLemmas.{named-other}
+use Rattle.qo_sound_phases.proofs.ListLemmas.{clash, clash-back, decide}
+
+-- an object as it was
+pub record SameAt (b c : Board) (x : ℕ) : Type 0 where
+  pub live : is_live b x ≡ true
+  pub children : child_entries c x ≡ child_entries b x
+  pub bus : bus_of c x ≡ bus_of b x
+  pub kind : kind_of c x ≡ kind_of b x
+
+-- so is each of some that is still there
+abbrev pub Fixed : (ℕ → Type 0) → Board → Board → Type 0
+Fixed On b c = (x : ℕ) → On x → is_live c x ≡ true → SameAt b c x
+
+pub fixed-none : (On : ℕ → Type 0) (b : Board) → Fixed On b b
+fixed-none On b x on e = record { live = e; children = refl; bus = refl; kind = refl }
+
+pub fixed-then : (On : ℕ → Type 0) (b c d : Board) → Fixed On b c → Fixed On c d → Fixed On b d
+fixed-then On b c d h k x on e =
+    let second : SameAt c d x = k x on e in
+    let first : SameAt b c x = h x on second.live in
+    record {
+      live = first.live;
+      children = second.children ∙ first.children;
+      bus = second.bus ∙ first.bus;
+      kind = second.kind ∙ first.kind;
+    }
+
+pub fixed-after : (On : ℕ → Type 0) (b : Board) (o : Option ℕ) → Fixed On b (after finalise b o)
+fixed-after On b o x on e =
+    record {
+      live = (steps-after b o).live x e;
+      children = (after-alike b o x e).children;
+      bus = (after-alike b o x e).bus;
+      kind = kind-alike b (after finalise b o) x (after-alike b o x e).body;
+    }
+
+-- the same record
+pub same-record : (b c : Board) (x : ℕ) → record_of c x ≡ record_of b x → is_live c x ≡ true → SameAt b c x
+same-record b c x e live =
+    record {
+      live = sym (ap is_some e) ∙ live;
+      children = ap (λ (o : Option Record). filter_map child_entry (option_map_or (λ (r : Record). r.slots) o [])) e;
+      bus =
+          ap
+          (λ (o : Option Record). option_and_then strong_in
+          (option_map (λ (s : List ℕ × Slot). s.1) (find (λ s. bytes_eq s.0 (codes "parent_bus")) (option_map_or (λ (r : Record). r.slots) o [])))) e;
+      kind = ap (option_map (λ (r : Record). r.kind)) e;
+    }
+
+abbrev named_in : List ℕ → List (List ℕ × Slot) → Option Slot
+named_in name slots = option_map (λ (s : List ℕ × Slot). s.1) (find (λ s. bytes_eq s.0 name) slots)
+
+-- slots with the same children and bus
+pub record SameSlots (xs ys : List (List ℕ × Slot)) : Type 0 where
+  pub children : filter_map child_entry ys ≡ filter_map child_entry xs
+  pub bus : option_and_then strong_in (named_in (codes "parent_bus") ys) ≡ option_and_then strong_in (named_in (codes "parent_bus") xs)
+
+-- an edit of one object
+pub fixed-edit : (On : ℕ → Type 0) (n : ℕ) (change : Record → Record) → ((r : Record) → (change r).birth ≡ r.birth)
+    → ((r : Record) → (change r).kind ≡ r.kind) → (b : Board) → (On n → (r : Record) → record_of b n ≡ Some r → SameSlots r.slots (change r).slots)
+    → Fixed On b (edit n change b)
+fixed-edit On n change birth kind b same x on e = decide (x == n) own other
+  where
+    c : Board
+    c = edit n change b
+
+    found : record_of (edit n change b) x ≡ option_map (edited n change) (record_of b x)
+    found = found-edited n change birth x b.records
+
+    was : is_live b x ≡ true
+    was = sym (ap is_some found ∙ is_some-map (edited n change) (record_of b x)) ∙ e
+
+    other : (x == n) ≡ false → SameAt b (edit n change b) x
+    other p = same-record b (edit n change b) x (found ∙ other-record n x change b refl p (record_of b x) refl) e
+
+    own : (x == n) ≡ true → SameAt b (edit n change b) x
+    own p = subst (λ (y : ℕ). On y → is_live (edit n change b) y ≡ true → SameAt b (edit n change b) y) (sym (eqb-true x n p)) here on e
+      where
+        here : On n → is_live (edit n change b) n ≡ true → SameAt b (edit n change b) n
+        here its live = at_record (record_of b n) refl
+          where
+            found_own : record_of (edit n change b) n ≡ option_map (edited n change) (record_of b n)
+            found_own = found-edited n change birth n b.records
+
+            kind_in : (y : Record) (t : Bool) → (y.birth == n) ≡ t → (edited n change y).kind ≡ y.kind
+            kind_in y true w = rw (edited, w) (kind y)
+            kind_in y false w = rw (edited, w) refl
+
+            kinds : (o : Option Record) → option_map (λ (y : Record). y.kind) (option_map (edited n change) o) ≡ option_map (λ (y : Record). y.kind) o
+            kinds None = refl
+            kinds (Some y) = ap Some (kind_in y (y.birth == n) refl)
+
+            at_record : (o : Option Record) → record_of b n ≡ o → SameAt b (edit n change b) n
+            at_record None q = clash-back (sym (ap is_some (found_own ∙ ap (option_map (edited n change)) q)) ∙ live)
+            at_record (Some r) q =
+                let now : slots_at (edit n change b) n ≡ (change r).slots = edited-slots b n change birth r q in
+                let before : slots_at b n ≡ r.slots = ap (λ (o : Option Record). option_map_or (λ (y : Record). y.slots) o []) q in
+                let s : SameSlots r.slots (change r).slots = same its r q in
+                record {
+                  live = ap is_some q;
+                  children = ap (filter_map child_entry) now ∙ s.children ∙ sym (ap (filter_map child_entry) before);
+                  bus =
+                      ap (λ (ss : List (List ℕ × Slot)). option_and_then strong_in (named_in (codes "parent_bus") ss)) now
+                      ∙ s.bus
+                      ∙ sym (ap (λ (ss : List (List ℕ × Slot)). option_and_then strong_in (named_in (codes "parent_bus") ss)) before);
+                  kind = ap (option_map (λ (y : Record). y.kind)) found_own ∙ kinds (record_of b n);
+                }
+
+-- an edit of none of them
+pub fixed-apart : (On : ℕ → Type 0) (n : ℕ) (change : Record → Record) → ((r : Record) → (change r).birth ≡ r.birth)
+    → ((r : Record) → (change r).kind ≡ r.kind) → (b : Board) → (On n → ⊥) → Fixed On b (edit n change b)
+fixed-apart On n change birth kind b apart = fixed-edit On n change birth kind b (λ on r e. absurd (apart on))
+
+pub fixed-let_go : (On : ℕ → Type 0) (n i : ℕ) (b : Board) → (On n → ⊥) → Fixed On b (let_go b n i)
+unfolding let_go drop_slot
+fixed-let_go On n i b apart = go (slot_at b n i) refl
+  where
+    go : (o : Option Slot) → slot_at b n i ≡ o → Fixed On b (let_go b n i)
+    go None e = rw (let_go, e) (fixed-none On b)
+    go (Some s) e =
+        rw (let_go, e)
+        (fixed-then On b (drop_slot b n i) (after finalise (drop_slot b n i) (held s)) (fixed-apart On n (with_dropped i) (λ r. refl) (λ r. refl) b apart)
+        (fixed-after On (drop_slot b n i) (held s)))
+
+-- `qom-set`: it writes no link to a bus
+link-unset : (t : TypeId) → option_map_or (λ (row : Property). may_set row.mark) (row_of_property t (codes "parent_bus")) false ≡ false
+unfolding types
+link-unset Object = refl
+link-unset Container = refl
+link-unset Machine = refl
+link-unset Device = refl
+link-unset SlotDevice = refl
+link-unset SlotUart = refl
+link-unset SlotTimer = refl
+link-unset SlotBridge = refl
+link-unset MemDimm = refl
+link-unset Bus = refl
+link-unset SlotBus = refl
+link-unset MemBus = refl
+link-unset Clock = refl
+link-unset MemoryBackend = refl
+link-unset MemoryBackendRam = refl
+link-unset Tag = refl
+
+unlinked : (b : Board) (n : ℕ) (name : List ℕ) (row : Property) → option_and_then (λ t. row_of_property t name) (kind_of b n) ≡ Some row
+    → may_set row.mark ≡ true → bytes_eq name (codes "parent_bus") ≡ false
+unlinked b n name row e may = decide (bytes_eq name (codes "parent_bus")) (λ q. go (kind_of b n) e ((bytes_eq-Decides name (codes "parent_bus")).0 q)) (λ q. q)
+  where
+    go : (o : Option TypeId) → option_and_then (λ t. row_of_property t name) o ≡ Some row → name ≡ codes "parent_bus"
+        → bytes_eq name (codes "parent_bus") ≡ false
+    go None k q = absurd (let bad : None ≡ Some row = k in cc)
+    go (Some t) k q =
+        let its : row_of_property t (codes "parent_bus") ≡ Some row = ap (row_of_property t) (sym q) ∙ k in
+        clash (sym (ap (λ (o : Option Property). option_map_or (λ (r : Property). may_set r.mark) o false) its ∙ may) ∙ link-unset t)
+
+-- a slot of another name is changed
+entries-changed : (g : Slot → Slot) → ((s : List ℕ × Slot) → child_entry (s.0, g s.1) ≡ child_entry s) → (i : ℕ) (slots : List (List ℕ × Slot))
+    → filter_map child_entry (changed_at g i slots) ≡ filter_map child_entry slots
+entries-changed g same i [] = refl
+entries-changed g same zero (s ∷ slots) = ap (λ (o : Option (List ℕ × ℕ)). cons_option o (filter_map child_entry slots)) (same s)
+entries-changed g same (suc i) (s ∷ slots) = ap (cons_option (child_entry s)) (entries-changed g same i slots)
+
+child-val : (v : Val) (s : List ℕ × Slot) → child_entry (s.0, with_val v s.1) ≡ child_entry s
+child-val v (name, plain w) = refl
+child-val v (name, child m) = refl
+child-val v (name, strong t target) = refl
+child-val v (name, weak t target) = refl
+child-val v (name, alias m property) = refl
+
+child-points : (m : ℕ) (s : List ℕ × Slot) → child_entry (s.0, pointed m s.1) ≡ child_entry s
+child-points m (name, plain w) = refl
+child-points m (name, child k) = refl
+child-points m (name, strong t target) = refl
+child-points m (name, weak t target) = refl
+child-points m (name, alias k property) = refl
+
+changed-slots : (g : Slot → Slot) → ((s : List ℕ × Slot) → child_entry (s.0, g s.1) ≡ child_entry s) → (i : ℕ) (slots : List (List ℕ × Slot))
+    → (s : List ℕ × Slot) → slice_get slots i ≡ Some s → bytes_eq s.0 (codes "parent_bus") ≡ false → SameSlots slots (changed_at g i slots)
+changed-slots g same i slots s at apart =
+    record { children = entries-changed g same i slots; bus = ap (option_and_then strong_in) (named-other g (codes "parent_bus") i slots s at apart) }
+
+-- the slot at a place, which is under another name
+record Other (b : Board) (n i : ℕ) : Type 0 where
+  named : (r : Record) (s : List ℕ × Slot) → record_of b n ≡ Some r → slice_get r.slots i ≡ Some s → bytes_eq s.0 (codes "parent_bus") ≡ false
+
+fixed-changed : (On : ℕ → Type 0) (g : Slot → Slot) → ((s : List ℕ × Slot) → child_entry (s.0, g s.1) ≡ child_entry s) → (n i : ℕ) (b : Board)
+    → Other b n i → Fixed On b (edit n (with_changed g i) b)
+fixed-changed On g same n i b other = fixed-edit On n (with_changed g i) (λ r. refl) (λ r. refl) b slots
+  where
+    past : (g : Slot → Slot) (i : ℕ) (xs : List (List ℕ × Slot)) → slice_get xs i ≡ None → changed_at g i xs ≡ xs
+    past g i [] e = refl
+    past g zero (x ∷ xs) e = absurd (let bad : Some x ≡ None = e in cc)
+    past g (suc i) (x ∷ xs) e = ap (λ (ys : List (List ℕ × Slot)). x ∷ ys) (past g i xs e)
+
+    slots : On n → (r : Record) → record_of b n ≡ Some r → SameSlots r.slots (changed_at g i r.slots)
+    slots on r q = go (slice_get r.slots i) refl
+      where
+        go : (o : Option (List ℕ × Slot)) → slice_get r.slots i ≡ o → SameSlots r.slots (changed_at g i r.slots)
+        go None e = subst (SameSlots r.slots) (sym (past g i r.slots e)) (record { children = refl; bus = refl })
+        go (Some s) e = changed-slots g same i r.slots s e (other.named r s q e)
+
+module _ (On : ℕ → Type 0) (b : Board) (firm : Firm b) (n i : ℕ) (other : Other b n i) where
+  fixed-set : (v : Val) → Fixed On b (set n i v b)
+  unfolding set
+  fixed-set v = fixed-changed On (with_val v) (child-val v) n i b other
+
+  -- a slot that is no child is let go
+  fixed-drop : (s : Slot) → slot_at b n i ≡ Some s → child_of s ≡ None → Fixed On b (drop_slot b n i)
+  unfolding drop_slot
+  fixed-drop s e none = fixed-edit On n (with_dropped i) (λ r. refl) (λ r. refl) b slots
+    where
+      at : StandsAt b n i s
+      at = stands-at b n i s e
+
+      slots : On n → (r : Record) → record_of b n ≡ Some r → SameSlots r.slots (without_hold i r.slots)
+      slots on r q =
+          let is : at.owner ≡ r = same_Some at.owner r (sym at.found ∙ q) in
+          let here : slice_get r.slots i ≡ Some at.entry = subst (λ (y : Record). slice_get y.slots i ≡ Some at.entry) is at.at in
+          record {
+            children = children-kept i r.slots at.entry here (ap child_of at.is ∙ none);
+            bus = strong-dropped (codes "parent_bus") i r.slots (names-at b firm n r q) at.entry here (inr (other.named r at.entry q here));
+          }
+
+  still-other : (s : Slot) → slot_at b n i ≡ Some s → child_of s ≡ None → Other (drop_slot b n i) n i
+  unfolding drop_slot
+  still-other s e none = record { named = named }
+    where
+      at : StandsAt b n i s
+      at = stands-at b n i s e
+
+      name-at : (j : ℕ) (xs : List (List ℕ × Slot)) (x y : List ℕ × Slot) → slice_get xs j ≡ Some x → child_of x.1 ≡ None
+          → slice_get (without_hold j xs) j ≡ Some y → y.0 ≡ x.0
+      name-at j [] x y p q r = absurd (let bad : None ≡ Some x = p in cc)
+      name-at (suc j) (z ∷ xs) x y p q r = name-at j xs x y p q r
+      name-at zero ((name, plain v) ∷ xs) x y p q r =
+          let one : (name, plain v) ≡ x = same_Some (name, plain v) x p in
+          let two : (name, plain v) ≡ y = same_Some (name, plain v) y r in
+          sym (ap (λ (z : List ℕ × Slot). z.0) two) ∙ ap (λ (z : List ℕ × Slot). z.0) one
+      name-at zero ((name, child m) ∷ xs) x y p q r =
+          let one : (name, child m) ≡ x = same_Some (name, child m) x p in
+          absurd (let bad : Some m ≡ None = ap (λ (z : List ℕ × Slot). child_of z.1) one ∙ q in cc)
+      name-at zero ((name, strong t target) ∷ xs) x y p q r =
+          let one : (name, strong t target) ≡ x = same_Some (name, strong t target) x p in
+          let two : (name, strong t None) ≡ y = same_Some (name, strong t None) y r in
+          sym (ap (λ (z : List ℕ × Slot). z.0) two) ∙ ap (λ (z : List ℕ × Slot). z.0) one
+      name-at zero ((name, weak t target) ∷ xs) x y p q r =
+          let one : (name, weak t target) ≡ x = same_Some (name, weak t target) x p in
+          let two : (name, weak t None) ≡ y = same_Some (name, weak t None) y r in
+          sym (ap (λ (z : List ℕ × Slot). z.0) two) ∙ ap (λ (z : List ℕ × Slot). z.0) one
+      name-at zero ((name, alias m property) ∷ xs) x y p q r =
+          let one : (name, alias m property) ≡ x = same_Some (name, alias m property) x p in
+          let two : (name, alias m property) ≡ y = same_Some (name, alias m property) y r in
+          sym (ap (λ (z : List ℕ × Slot). z.0) two) ∙ ap (λ (z : List ℕ × Slot). z.0) one
+
+      named : (r : Record) (y : List ℕ × Slot) → record_of (edit n (with_dropped i) b) n ≡ Some r → slice_get r.slots i ≡ Some y
+          → bytes_eq y.0 (codes "parent_bus") ≡ false
+      named r y q k =
+          let now : slots_at (edit n (with_dropped i) b) n ≡ without_hold i at.owner.slots = edited-slots b n (with_dropped i) (λ x. refl) at.owner at.found in
+          let is : slots_at (edit n (with_dropped i) b) n ≡ r.slots = ap (λ (o : Option Record). option_map_or (λ (x : Record). x.slots) o []) q in
+          let there : slice_get (without_hold i at.owner.slots) i ≡ Some y = ap (λ (xs : List (List ℕ × Slot)). slice_get xs i) (sym now ∙ is) ∙ k in
+          subst (λ (name : List ℕ). bytes_eq name (codes "parent_bus") ≡ false)
+          (sym (name-at i at.owner.slots at.entry y at.at (ap child_of at.is ∙ none) there))
+          (other.named at.owner at.entry at.found at.at)
+
+  fixed-relinked : (s : Slot) → slot_at b n i ≡ Some s → child_of s ≡ None → (target : Option ℕ) → Fixed On b (relinked b n i target)
+  unfolding point
+  fixed-relinked s e none target =
+      rw (relinked, e)
+      (fixed-then On b (pointed_at target n i (drop_slot b n i)) (after finalise (pointed_at target n i (drop_slot b n i)) (held s))
+      (fixed-then On b (drop_slot b n i) (pointed_at target n i (drop_slot b n i)) (fixed-drop s e none) (points target))
+      (fixed-after On (pointed_at target n i (drop_slot b n i)) (held s)))
+    where
+      points : (to : Option ℕ) → Fixed On (drop_slot b n i) (pointed_at to n i (drop_slot b n i))
+      points None = fixed-none On (drop_slot b n i)
+      points (Some m) = fixed-changed On (pointed m) (child-points m) n i (drop_slot b n i) (still-other s e none)
+
+  fixed-linked : (s : Slot) → slot_at b n i ≡ Some s → child_of s ≡ None → (target : Result (Option ℕ) Code) → Fixed On b (behind_write b (linked b n i target))
+  fixed-linked s e none (Ok target) = fixed-relinked s e none target
+  fixed-linked s e none (Err code) = fixed-none On b
+
+  fixed-link : (s : Slot) → slot_at b n i ≡ Some s → child_of s ≡ None → (t : TypeId) (v : Val) → Fixed On b (behind_write b (link_written b n i t v))
+  fixed-link s e none t (val.Text path) = fixed-linked s e none (link_target b t path)
+  fixed-link s e none t (val.Bool v) = fixed-none On b
+  fixed-link s e none t (val.Int v) = fixed-none On b
+  fixed-link s e none t (val.Uint v) = fixed-none On b
+  fixed-link s e none t val.Nothing = fixed-none On b
+
+  fixed-written : (kind : RowKind) (s : Option Slot) → slot_at b n i ≡ s → (v : Val) → Fixed On b (behind_write b (written b n i kind s v))
+  fixed-written (row.Plain type first) (Some (plain old)) e v = go (admits type v) refl
+    where
+      go : (t : Bool) → admits type v ≡ t → Fixed On b (behind_write b (written b n i (row.Plain type first) (Some (plain old)) v))
+      go true p = rw (written, p) (fixed-set v)
+      go false p = rw (written, p) (fixed-none On b)
+  fixed-written (row.Link t holds) (Some (strong to target)) e v = fixed-link (strong to target) e refl to v
+  fixed-written (row.Link t holds) (Some (weak to target)) e v = fixed-link (weak to target) e refl to v
+  fixed-written (row.Plain type first) None e v = fixed-none On b
+  fixed-written (row.Plain type first) (Some (child m)) e v = fixed-none On b
+  fixed-written (row.Plain type first) (Some (strong to target)) e v = fixed-none On b
+  fixed-written (row.Plain type first) (Some (weak to target)) e v = fixed-none On b
+  fixed-written (row.Plain type first) (Some (alias m property)) e v = fixed-none On b
+  fixed-written (row.Link t holds) None e v = fixed-none On b
+  fixed-written (row.Link t holds) (Some (plain old)) e v = fixed-none On b
+  fixed-written (row.Link t holds) (Some (child m)) e v = fixed-none On b
+  fixed-written (row.Link t holds) (Some (alias m property)) e v = fixed-none On b
+  fixed-written (row.Child t) s e v = fixed-none On b
+  fixed-written (row.Alias owner property) s e v = fixed-none On b
+
+slice-of : (xs : List (List ℕ × Slot)) (j : ℕ) (d : List ℕ × Slot) → j < length xs → slice_get xs j ≡ Some (get_or xs j d)
+slice-of [] j d low = absurd (omega (arith, low))
+slice-of (x ∷ xs) zero d low = refl
+slice-of (x ∷ xs) (suc j) d low = slice-of xs j d (omega (arith, low))
+
+pub fixed-write : (On : ℕ → Type 0) (b : Board) → Firm b → (n : ℕ) (name : List ℕ) (v : Val) → Fixed On b (behind_write b (write b n name v))
+fixed-write On b firm n name v = go (position (λ (s : List ℕ × Slot). bytes_eq s.0 name) (slots_at b n)) refl
+  where
+    by : (i : ℕ) → position (λ (s : List ℕ × Slot). bytes_eq s.0 name) (slots_at b n) ≡ Some i → (row : Option Property)
+        → option_and_then (λ t. row_of_property t name) (kind_of b n) ≡ row → Fixed On b (behind_write b (written_by b n i row v))
+    by i p None e = fixed-none On b
+    by i p (Some row) e = may (may_set row.mark) refl
+      where
+        other : may_set row.mark ≡ true → Other b n i
+        other q = record { named = λ r s found at. named r s found at }
+          where
+            named : (r : Record) (s : List ℕ × Slot) → record_of b n ≡ Some r → slice_get r.slots i ≡ Some s → bytes_eq s.0 (codes "parent_bus") ≡ false
+            named r s found at =
+                let was : slots_at b n ≡ r.slots = ap (λ (o : Option Record). option_map_or (λ (x : Record). x.slots) o []) found in
+                let d : List ℕ × Slot = ([], plain val.Nothing) in
+                let its : position (λ (x : List ℕ × Slot). bytes_eq x.0 name) r.slots ≡ Some i =
+                ap (position (λ (x : List ℕ × Slot). bytes_eq x.0 name)) (sym was) ∙ p in
+                let k : (i < length r.slots) × (bytes_eq (get_or r.slots i d).0 name ≡ true) ×
+                ((m : ℕ) → m < i → bytes_eq (get_or r.slots m d).0 name ≡ false) =
+                position-Some (λ (x : List ℕ × Slot). bytes_eq x.0 name) r.slots i d its in
+                let is : get_or r.slots i d ≡ s = same_Some (get_or r.slots i d) s (sym (slice-of r.slots i d k.0) ∙ at) in
+                let same : s.0 ≡ name = sym (ap (λ (x : List ℕ × Slot). x.0) is) ∙ (bytes_eq-Decides (get_or r.slots i d).0 name).0 k.1 in
+                subst (λ (x : List ℕ). bytes_eq x (codes "parent_bus") ≡ false) (sym same) (unlinked b n name row e q)
+
+        may : (t : Bool) → may_set row.mark ≡ t → Fixed On b (behind_write b (written_by b n i (Some row) v))
+        may true q = rw (written_by, q) (fixed-written On b firm n i (other q) row.kind (slot_at b n i) refl v)
+        may false q = rw (written_by, q) (fixed-none On b)
+
+    go : (place : Option ℕ) → position (λ (s : List ℕ × Slot). bytes_eq s.0 name) (slots_at b n) ≡ place → Fixed On b (behind_write b (write b n name v))
+    go None p = rw (write, p) (fixed-none On b)
+    go (Some i) p = rw (write, p) (by i p (option_and_then (λ t. row_of_property t name) (kind_of b n)) refl)

@@ -1,0 +1,203 @@
+-- The laws: what keeps phases sound, and what that says.
+use Rattle.std.proofs.Common.{◌≡◌, refl, ap, sym, subst, ◌∙◌, ◌<◌, ◌==◌, not, option_map, rules, ℕ, zero, suc, Bool, true, false, ◌||◌, List, length, Option, Some, None, is_some, arith, codes}
+use Rattle.std.specs.List.{AllByRecursion}
+use Rattle.std.specs.Prelude.{if◌then◌else◌}
+use Rattle.std.specs.Option.{option_map_or}
+use Rattle.std.proofs.lemmas.Bool.{and_parts, eqb-true}
+use Rattle.std.proofs.lemmas.Option.{same_Some}
+use Rattle.qo_values.specs.declared.births.TheConstants.{MACHINE_BIRTH}
+use Rattle.qo_values.specs.declared.kinds.Act.{Act}
+use Rattle.qo_values.specs.declared.kinds.TypeId.{TypeId}
+use Rattle.qo_values.specs.declared.kinds.TypeId.TheVariants.{Object, Container, Machine, Device, SlotDevice, SlotUart, SlotTimer, SlotBridge, MemDimm, Bus, SlotBus, MemBus, Clock, MemoryBackend, MemoryBackendRam, Tag}
+use Rattle.qo_model.specs.declared.notes.Deed.TheVariants.{Did}
+use Rattle.qo_model.specs.Board.{Board, Record, kind_of, record_of}
+use Rattle.qo_model.specs.Clocks.{acted}
+use Rattle.qo_model.specs.Depth.{among}
+use Rattle.qo_model.specs.Hotplug.{all_completed, asked, asked_of, completed, device_at, refused, reset_whole}
+use Rattle.qo_model.specs.Objects.{with_attempt}
+use Rattle.qo_model.specs.Opening.{opening_board}
+use Rattle.qo_model.specs.Paths.{attached, is_of}
+use Rattle.qo_model.specs.Plug.{notice_barred}
+use Rattle.qo_model.specs.Types.{is_a, types}
+use Rattle.qo_model.specs.Unplug.{first_of}
+use Rattle.qo_sound.proofs.RecordLemmas.{all-imply, found-birth}
+use Rattle.qo_sound.proofs.ViewLemmas.{AtRest, rest-from_sound}
+use Rattle.qo_sound_devices.specs.SoundDevices.{SoundDevices}
+use Rattle.qo_sound_devices.specs.SoundLists.{IsOn}
+use Rattle.qo_sound_devices.proofs.PlacesLemmas.{all-found}
+use Rattle.qo_sound_devices.proofs.ResetLemmas.{detached-below, first-on}
+use Rattle.qo_sound_devices.proofs.WhereLemmas.{attached-owner, attached-stands}
+use Rattle.qo_sound_phases.specs.Phases.{held, out, phase_of, stage_of}
+use Rattle.qo_sound_phases.specs.PhasesKept.{may_reset, PhasesKeptLaw}
+use Rattle.qo_sound_phases.specs.PhasesSay.{PhasesSayLaw}
+use Rattle.qo_sound_phases.specs.SoundPhases.{IsReached, LoneMachine, machine, device, bus, SoundPhases}
+use Rattle.qo_sound_phases.proofs.AttemptLemmas.{cut-phases, plug_attempt-phases}
+use Rattle.qo_sound_phases.proofs.BelowLemmas.{placed, post-once}
+use Rattle.qo_sound_phases.proofs.CommandLemmas.{change-phases}
+use Rattle.qo_sound_phases.proofs.DetachLemmas.{detach-phases}
+use Rattle.qo_sound_phases.proofs.HoldLemmas.{hold-phases, pulse-phases, release-phases}
+use Rattle.qo_sound_phases.proofs.ListLemmas.{clash-back, decide}
+use Rattle.qo_sound_phases.proofs.PlugLemmas.{plug-phases}
+use Rattle.qo_sound_phases.proofs.QuietLemmas.{aside-phases, Quiet, quiet-acted, quiet-aside, quiet-attempt}
+use Rattle.qo_sound_phases.proofs.ReachedLemmas.{shape-reached}
+use Rattle.qo_sound_phases.proofs.ShapeLemmas.{SameShape, shape-acted, shape-back, shape-count, shape-records}
+use Rattle.qo_sound_phases.proofs.StageLemmas.{turns-some}
+
+-- a board of one shape, with the same births, holds and phases
+shape-phases : (b c : Board) → SameShape b c → c.born ≡ b.born → c.holds ≡ b.holds → Quiet b c → SoundPhases b → SoundPhases c
+shape-phases b c shape born holds quiet h =
+    record {
+      in_turn = λ n. ap is_some (quiet n) ∙ h.in_turn n;
+      unborn = λ n high. quiet n ∙ h.unborn n (subst (λ (m : ℕ). m < n) born high);
+      reached = λ n i.
+          quiet n ∙ h.reached n (shape-reached c b (shape-back b c shape) n i)
+          ∙ ap (λ (m : ℕ). Some (if m == 0 then out else held)) (sym (shape-count b c shape holds n));
+      holds = subst (AllByRecursion (IsReached c)) (sym holds) (all-imply (IsReached b) (IsReached c) (shape-reached b c shape) b.holds h.holds);
+      lone = λ n e. h.lone n (sym (shape.kind n) ∙ e);
+    }
+
+beside-phases : (b c : Board) → c.records ≡ b.records → c.born ≡ b.born → c.holds ≡ b.holds → c.notes ≡ b.notes → SoundPhases b → SoundPhases c
+beside-phases b c records born holds notes h = shape-phases b c (shape-records b c records) born holds (λ n. ap (stage_of n) notes) h
+
+acted-phases : (act : Act) (n period : ℕ) (b : Board) → phase_of (Did act) ≡ None → SoundPhases b → SoundPhases (acted act n period b)
+unfolding acted
+acted-phases act n period b none h = shape-phases b (acted act n period b) (shape-acted act n period b) refl refl (quiet-acted act n period none b) h
+
+asked-phases : (b : Board) (id : List ℕ) → SoundPhases b → SoundPhases (asked b id).board
+asked-phases b id h = go (device_at b id) refl
+  where
+    of : (d : ℕ) → SoundPhases (asked_of b d).board
+    of d =
+        decide (attached b d)
+        (λ e. decide (among b.pending d) (λ f. rw (asked_of, e, f) h)
+        (λ f. decide (is_some (notice_barred b)) (λ g. rw (asked_of, e, f, g) h) (λ g. rw (asked_of, e, f, g) (beside-phases b _ refl refl refl refl h))))
+        (λ e. rw (asked_of, e) h)
+
+    go : (o : Option ℕ) → device_at b id ≡ o → SoundPhases (asked b id).board
+    go None e = rw (asked, e) h
+    go (Some d) e = rw (asked, e) (of d)
+
+-- no phase, no hold, and one machine
+abbrev is_machine : TypeId → Bool
+is_machine Machine = true
+is_machine t = false
+
+abbrev fits_lone : Record → Bool
+fits_lone r = not (is_machine r.kind) || r.birth == MACHINE_BIRTH
+
+all-lone : AllByRecursion (λ (r : Record). fits_lone r ≡ true) opening_board.records
+unfolding opening_board types
+all-lone = search rules
+
+opening-lone : LoneMachine opening_board
+opening-lone n e = go (record_of opening_board n) refl e
+  where
+    fits : (r : Record) → r.kind ≡ Machine → fits_lone r ≡ true → r.birth ≡ MACHINE_BIRTH
+    fits r k f = eqb-true r.birth MACHINE_BIRTH (let its : is_machine r.kind ≡ true = ap is_machine k in rw its at f)
+
+    go : (o : Option Record) → record_of opening_board n ≡ o → option_map (λ (r : Record). r.kind) o ≡ Some Machine → n ≡ MACHINE_BIRTH
+    go None q k = absurd (let bad : None ≡ Some Machine = k in cc)
+    go (Some r) q k =
+        sym (found-birth n opening_board.records r q)
+        ∙ fits r (same_Some r.kind Machine k) (all-found (λ (x : Record). fits_lone x ≡ true) n opening_board.records all-lone r q)
+
+opening-phases : SoundPhases opening_board
+unfolding opening_board
+opening-phases =
+    record {
+      in_turn = λ n. refl;
+      unborn = λ n high. refl;
+      reached = λ n i. refl;
+      holds = tt;
+      lone = opening-lone;
+    }
+
+-- what may be held in reset is what a reset reaches
+resettable-cases : (t : TypeId) → is_a t (codes "resettable") ≡ true → {A : Type 0} → (t ≡ Machine → A) → (is_a t (codes "device") ≡ true → A)
+    → (is_a t (codes "bus") ≡ true → A) → A
+unfolding types
+resettable-cases Object e f g h = clash-back e
+resettable-cases Container e f g h = clash-back e
+resettable-cases Machine e f g h = f refl
+resettable-cases Device e f g h = g refl
+resettable-cases SlotDevice e f g h = g refl
+resettable-cases SlotUart e f g h = g refl
+resettable-cases SlotTimer e f g h = g refl
+resettable-cases SlotBridge e f g h = g refl
+resettable-cases MemDimm e f g h = g refl
+resettable-cases Bus e f g h = h refl
+resettable-cases SlotBus e f g h = h refl
+resettable-cases MemBus e f g h = h refl
+resettable-cases Clock e f g h = clash-back e
+resettable-cases MemoryBackend e f g h = clash-back e
+resettable-cases MemoryBackendRam e f g h = clash-back e
+resettable-cases Tag e f g h = clash-back e
+
+pub may-reached : (b : Board) → SoundDevices b → SoundPhases b → (n : ℕ) → may_reset b n ≡ true → IsReached b n
+may-reached b d h n e = go (kind_of b n) refl both.1
+  where
+    both : (attached b n ≡ true) × (is_of b (codes "resettable") n ≡ true)
+    both = and_parts (attached b n) (is_of b (codes "resettable") n) e
+
+    rest : AtRest b
+    rest = rest-from_sound b d.tree
+
+    is : (t : TypeId) → kind_of b n ≡ Some t → (name : List ℕ) → is_a t name ≡ true → is_of b name n ≡ true
+    is t q name k = ap (λ (o : Option TypeId). option_map_or (λ (u : TypeId). is_a u name) o false) q ∙ k
+
+    go : (o : Option TypeId) → kind_of b n ≡ o → option_map_or (λ (t : TypeId). is_a t (codes "resettable")) o false ≡ true → IsReached b n
+    go None q k = clash-back k
+    go (Some t) q k =
+        resettable-cases t k (λ m. machine (h.lone n (q ∙ ap Some m)))
+        (λ v. device (attached-stands b d.tree.0 rest.used.firm d.places.0 None (λ x. false) d.places.1 n (is t q (codes "device") v) both.0))
+        (λ v. bus (is t q (codes "bus") v) (attached-owner b d.tree.0 rest.used.firm d.places.0 None (λ x. false) d.places.1 n (is t q (codes "bus") v) both.0))
+
+-- the removals that are pending come to their end, and the machine is reset
+completed-phases : (times : ℕ) (b : Board) → SoundDevices b → SoundPhases b → SoundDevices (all_completed times b) × SoundPhases (all_completed times b)
+completed-phases zero b d h = (d, h)
+completed-phases (suc times) b d h = go (first_of b.pending) refl (completed-phases times)
+  where
+    go : (o : Option ℕ) → first_of b.pending ≡ o
+        → ((c : Board) → SoundDevices c → SoundPhases c → SoundDevices (all_completed times c) × SoundPhases (all_completed times c))
+        → SoundDevices (all_completed (suc times) b) × SoundPhases (all_completed (suc times) b)
+    go None e rest = rw (all_completed, e) (d, h)
+    go (Some n) e rest =
+        let on : IsOn b n = first-on (IsOn b) b.pending d.lists.pending n e in
+        rw (all_completed, e) (rest (completed b n) (detached-below b n d on.0) (detach-phases b n d on.0 h))
+
+reset-phases : (b : Board) → SoundDevices b → SoundPhases b → SoundPhases (reset_whole b)
+unfolding reset_whole
+reset-phases b d h =
+    let k : SoundDevices (all_completed (length b.pending) b) × SoundPhases (all_completed (length b.pending) b) =
+    completed-phases (length b.pending) b d h in
+    pulse-phases (all_completed (length b.pending) b) MACHINE_BIRTH k.0 (machine refl) k.1
+
+pub phases_kept_lem : PhasesKeptLaw
+phases_kept_lem =
+    record {
+      opening = opening-phases;
+      beside = beside-phases;
+      change = λ b change d h. change-phases b change d h;
+      attempt = λ b t d h.
+          aside-phases b (with_attempt b t) (placed b d)
+          (quiet-aside b (with_attempt b t) (shape-records b (with_attempt b t) refl) refl (omega arith) (quiet-attempt b t) h) h;
+      plugged = λ b a d h. plug-phases b a d h;
+      given_up = λ b t bus stage its d h. plug_attempt-phases b t bus stage its (placed b d) h;
+      cut = λ b t i joined d h. cut-phases b t i joined (placed b d) h;
+      asked_for = asked-phases;
+      refused_by = λ b d h. beside-phases b (refused b d) refl refl refl refl h;
+      detached = λ b d s e h. detach-phases b d s e h;
+      acts = acted-phases;
+      held_so = λ b n e d h. hold-phases b n d (may-reached b d h n e) h;
+      released_so = λ b n e d h. release-phases b n d e h;
+      pulsed = λ b n e d h. pulse-phases b n d (may-reached b d h n e) h;
+      reset = reset-phases;
+    }
+
+pub phases_say_lem : PhasesSayLaw
+phases_say_lem =
+    record {
+      in_turn = λ b h n. turns-some n b.notes (h.in_turn n);
+      once = λ b d n. post-once b (placed b d) n;
+      in_reset = λ b d h n e. h.reached n (may-reached b d h n e);
+    }

@@ -1,0 +1,44 @@
+-- Runs of a board by steps that the machine makes, and the phases over them.
+use Rattle.std.specs.Prelude.{ℕ, Bool, true, false, if◌then◌else◌, List, [], ◌∷◌}
+use Rattle.qo_model.specs.Board.{Board}
+use Rattle.qo_model.specs.Depth.{among}
+use Rattle.qo_model.specs.Opening.{opening_board}
+use Rattle.qo_model.specs.Reset.{pulse}
+use Rattle.qo_sound_devices.specs.DeviceRuns.{Step, acts, holds, releases, stepped}
+use Rattle.qo_sound_devices.specs.SoundDevices.{SoundDevices}
+use Rattle.qo_sound_phases.specs.Phases.{IsInTurn, phases_of}
+use Rattle.qo_sound_phases.specs.PhasesKept.{may_reset}
+use Rattle.qo_sound_phases.specs.SoundPhases.{SoundPhases}
+
+-- a step: one as devices have it; or an object is held in reset and let go at once
+pub data PhaseStep : Type 0 where
+  goes : Step → PhaseStep
+  pulses : ℕ → PhaseStep
+
+-- whether a machine makes a step of devices: it holds what may be held in reset, lets go where a hold is, and makes no act by itself
+abbrev pub is_made : Board → Step → Bool
+is_made b (acts act n period) = false
+is_made b (holds n) = may_reset b n
+is_made b (releases n) = among b.holds n
+is_made b step = true
+
+-- the board behind a step; one that no machine makes leaves it
+abbrev pub phase_stepped : Board → PhaseStep → Board
+phase_stepped b (goes step) = if is_made b step then stepped b step else b
+phase_stepped b (pulses n) = if may_reset b n then pulse b n else b
+
+-- and behind some, in order
+abbrev pub behind_phase_steps : Board → List PhaseStep → Board
+behind_phase_steps b [] = b
+behind_phase_steps b (step ∷ steps) = behind_phase_steps (phase_stepped b step) steps
+
+-- a board that is sound as far as devices and phases go
+pub record SoundRun (b : Board) : Type 0 where
+  pub devices : SoundDevices b
+  pub phases : SoundPhases b
+
+-- each step keeps it so, and so it is behind any steps of the opening board: over every run the phases of each birth are in turn
+pub record PhaseRunsLaw : Type 0 where
+  pub step : (b : Board) (step : PhaseStep) → SoundRun b → SoundRun (phase_stepped b step)
+  pub run : (steps : List PhaseStep) → SoundRun (behind_phase_steps opening_board steps)
+  pub in_turn : (steps : List PhaseStep) (n : ℕ) → IsInTurn (phases_of n (behind_phase_steps opening_board steps).notes)

@@ -1,0 +1,18 @@
+-- What the soundness of phases says of objects.
+use Rattle.std.specs.Prelude.{◌≡◌, ℕ, true, nat_eq, Some}
+use Rattle.std.specs.List.{IsDistinct}
+use Rattle.qo_model.specs.Board.{Board}
+use Rattle.qo_model.specs.Reset.{post}
+use Rattle.qo_sound_devices.specs.SoundDevices.{SoundDevices}
+use Rattle.qo_sound_phases.specs.Phases.{IsInTurn, phases_of, stage_of}
+use Rattle.qo_sound_phases.specs.PhasesKept.{may_reset}
+use Rattle.qo_sound_phases.specs.SoundPhases.{SoundPhases, stage_now}
+
+-- on a board that is sound so
+pub record PhasesSayLaw : Type 0 where
+  -- the phases of every birth are in turn: enter, hold, exit, and so on
+  pub in_turn : (b : Board) → SoundPhases b → (n : ℕ) → IsInTurn (phases_of n b.notes)
+  -- a phase goes to no object twice
+  pub once : (b : Board) → SoundDevices b → (n : ℕ) → IsDistinct nat_eq (post b n)
+  -- an object that may be held in reset is held by its notes where a hold is on it or above it, and nowhere else
+  pub in_reset : (b : Board) → SoundDevices b → SoundPhases b → (n : ℕ) → may_reset b n ≡ true → stage_of n b.notes ≡ Some (stage_now b n)
