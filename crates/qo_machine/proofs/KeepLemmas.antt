@@ -1,5 +1,5 @@
 -- What each command keeps of the board, and each attempt that is given up, a step and a run keep.
-use Rattle.std.proofs.Common.{◌^◌, ◌<◌, ap, ◌≡◌, ℕ, ◌+◌, nat_lt, not, ◌==◌, Bool, true, false, if◌then◌else◌, List, [], ◌∷◌, map, refl, subst, sym, Option, None, Some, Result, Ok, Err, codes}
+use Rattle.std.proofs.Common.{◌^◌, ◌<◌, ◌≤◌, ap, arith, ◌≡◌, ℕ, ◌+◌, nat_lt, not, ◌==◌, Bool, true, false, if◌then◌else◌, List, [], ◌∷◌, map, refl, subst, sym, Option, None, Some, Result, Ok, Err, codes}
 use Rattle.std.specs.Option.{option_map_or}
 use Rattle.qo_causes.specs.declared.inputs.Input.{Input}
 use Rattle.qo_causes.specs.declared.inputs.Moment.{Moment}
@@ -33,11 +33,12 @@ use Rattle.qo_guest.specs.declared.addresses.Addr.{Addr}
 use Rattle.qo_guest.specs.declared.answers.GuestAnswer.TheVariants.{NoPending, NoStopped}
 use Rattle.qo_guest.specs.declared.lines.GuestAct.{GuestAct}
 use Rattle.qo_guest.specs.declared.lines.GuestAct.TheVariants.{Ack, Nack, Poll, Read, Write, Reset, Shutdown}
-use Rattle.qo_lane.specs.Hearing.{act_in, acked, acted, fine, heard, heard_act, if_pending, nacked}
+use Rattle.qo_lane.specs.Hearing.{acked, acted, fine, heard, heard_act, if_pending, if_written, nacked, read_by, written_by}
 use Rattle.qo_lane.specs.Hearing as hearing
 use Rattle.qo_lane.specs.Lines.{lines_of, without_return}
 use Rattle.qo_plug.specs.Added.{added, driver_barred, wanted}
 use Rattle.qo_realize.specs.Guest.{polled}
+use Rattle.qo_realize.specs.Registers.{guest_written}
 use Rattle.qo_realize.specs.Resets.{at_path, held_at, held_of, released_at, released_of, resettable_at}
 use Rattle.qo_realize.specs.Stands.{Stands}
 use Rattle.qo_realize.specs.Time.{advanced, at_time, with_running}
@@ -75,12 +76,14 @@ pub record KeepsBoard (P : Board → Type 0) : Type 0 where
   pub completed : (b : Board) (at : Addr) (d : ℕ) → addressed b at ≡ Some d → among b.pending d ≡ true → P b → P (completed b d)
   pub refused : (b : Board) (d : ℕ) → P b → P (refused_removal b d)
   pub polled : (b : Board) → P b → P (polled b)
-  -- it comes to another moment, and runs or stands still
-  pub timed : (b : Board) (now : ℕ) → P b → P (at_time now b)
+  -- the guest writes to a register of the device at an address
+  pub written : (b : Board) (at : Addr) (d reg value : ℕ) (c : Board) → addressed b at ≡ Some d → guest_written b d reg value ≡ Some c → P b → P c
+  -- it comes to a later moment, and runs or stands still
+  pub timed : (b : Board) (now : ℕ) → b.now ≤ now → P b → P (at_time now b)
   pub switched : (b : Board) (on : Bool) → P b → P (with_running on b)
-  -- an object that may be is held in reset, and released; and the whole board is reset
-  pub held_so : (b : Board) (n : ℕ) → is_of b (codes "resettable") n ≡ true → P b → P (held b n)
-  pub released_so : (b : Board) (n : ℕ) → is_of b (codes "resettable") n ≡ true → P b → P (released b n)
+  -- an attached object that may be is held in reset, and one that is held is released; and the whole board is reset
+  pub held_so : (b : Board) (n : ℕ) → is_of b (codes "resettable") n ≡ true → attached b n ≡ true → P b → P (held b n)
+  pub released_so : (b : Board) (n : ℕ) → is_of b (codes "resettable") n ≡ true → among b.holds n ≡ true → P b → P (released b n)
   pub reset : (b : Board) → P b → P (reset_whole b)
 
 -- what each command keeps of the board, and each attempt
@@ -148,6 +151,14 @@ pending_keeps P b c d p q = by (among b.pending d) refl
     by true is = q is
     by false is = p
 
+written_keeps : (P : Board → Type 0) → KeepsBoard P → (b : Board) (at : Addr) (d reg value : ℕ) → addressed b at ≡ Some d → P b
+    → P (if_written b (guest_written b d reg value)).board
+written_keeps P k b at d reg value there p = by (guest_written b d reg value) refl
+  where
+    by : (o : Option Board) → guest_written b d reg value ≡ o → P (if_written b o).board
+    by None is = p
+    by (Some c) is = k.written b at d reg value c there is p
+
 acted_keeps : (P : Board → Type 0) → KeepsBoard P → (b : Board) (act : GuestAct) → P b → P (acted b act).board
 acted_keeps P k b (Ack at) p = by (addressed b at) refl
   where
@@ -160,14 +171,22 @@ acted_keeps P k b (Nack at) p = by (addressed b at)
     by None = p
     by (Some d) = pending_keeps P b (refused_removal b d) d p (λ pending. k.refused b d p)
 acted_keeps P k b Poll p = k.polled b p
-acted_keeps P k b (Read at register) p = p
-acted_keeps P k b (Write at register value) p = p
+acted_keeps P k b (Read at reg) p = by (addressed b at)
+  where
+    by : (o : Option ℕ) → P (read_by b reg o).board
+    by None = p
+    by (Some d) = p
+acted_keeps P k b (Write at reg value) p = by (addressed b at) refl
+  where
+    by : (o : Option ℕ) → addressed b at ≡ o → P (written_by b reg value o).board
+    by None is = p
+    by (Some d) is = written_keeps P k b at d reg value is p
 acted_keeps P k b Reset p = k.reset b p
 acted_keeps P k b Shutdown p = p
 
 pub heard_keeps : (P : Board → Type 0) → KeepsBoard P → (b : Board) (line : List ℕ) → P b → P (heard b line).board
 unfolding heard
-heard_keeps P k b line p = by (act_in (guest_line line))
+heard_keeps P k b line p = by (guest_line line)
   where
     runs : (act : GuestAct) (t : Bool) → P (if t then acted b act else hearing.answered b NoStopped).board
     runs act true = acted_keeps P k b act p
@@ -201,7 +220,7 @@ advanced-all P b ns p q = by b.running (nat_lt TIME_MAX (b.now + ns))
 
 -- holds
 held_of-keeps : (P : Board → Type 0) → KeepsBoard P → (b : Board) (n : ℕ) → is_of b (codes "resettable") n ≡ true → P b → P (held_of b n).board
-held_of-keeps P k b n is p = by (attached b n) (is_deep b n)
+held_of-keeps P k b n is p = by (attached b n) refl (is_deep b n)
   where
     come : Bool → Bool → Changed
     come home deep =
@@ -209,20 +228,20 @@ held_of-keeps P k b n is p = by (attached b n) (is_deep b n)
         else if deep then record { refusal = Some E48; board = b }
         else record { refusal = None; board = held b n }
 
-    by : (home deep : Bool) → P (come home deep).board
-    by false deep = p
-    by true true = p
-    by true false = k.held_so b n is p
+    by : (home : Bool) → attached b n ≡ home → (deep : Bool) → P (come home deep).board
+    by false e deep = p
+    by true e true = p
+    by true e false = k.held_so b n is e p
 
 released_of-keeps : (P : Board → Type 0) → KeepsBoard P → (b : Board) (n : ℕ) → is_of b (codes "resettable") n ≡ true → P b → P (released_of b n).board
-released_of-keeps P k b n is p = by (among b.holds n)
+released_of-keeps P k b n is p = by (among b.holds n) refl
   where
     come : Bool → Changed
     come stands = if stands then record { refusal = None; board = released b n } else record { refusal = Some E49; board = b }
 
-    by : (stands : Bool) → P (come stands).board
-    by true = k.released_so b n is p
-    by false = p
+    by : (stands : Bool) → among b.holds n ≡ stands → P (come stands).board
+    by true e = k.released_so b n is e p
+    by false e = p
 
 at_path-keeps : (P : Board → Type 0) (b : Board) (path : List ℕ) (change : ℕ → Changed) → P b → ((n : ℕ) → is_of b (codes "resettable") n ≡ true → P (change n).board)
     → P (at_path b change (resettable_at b path)).board
@@ -262,7 +281,7 @@ performed_keeps P k b (XSever birth) p = changed_board P (sever b birth) (k.chan
 performed_keeps P k b (XQueryNotes start) p = p
 performed_keeps P k b XQueryDetached p = p
 performed_keeps P k b (XGuest line) p = heard_keeps P k b line p
-performed_keeps P k b (XStep ns) p = timed_board P (advanced b ns) (advanced-all P b ns p (k.timed b (b.now + ns) p))
+performed_keeps P k b (XStep ns) p = timed_board P (advanced b ns) (advanced-all P b ns p (k.timed b (b.now + ns) (omega arith) p))
 
 -- so does each command, where the events that wait are no matter
 pub keeps_commands : (P : Board → Type 0) → KeepsBoard P → ((b : Board) → P b → P (without_events b)) → KeepsCommands P
@@ -270,7 +289,7 @@ keeps_commands P k free =
     record {
       command = λ b r p. free (performed b r).board (performed_keeps P k b r p);
       attempt = λ b r i joined p. attempted-all P b r i joined p (λ t. k.attempt b t p) (λ t. k.cut b t i joined p);
-      advance = λ b ns p. advanced-all P b ns p (k.timed b (b.now + ns) p);
+      advance = λ b ns p. advanced-all P b ns p (k.timed b (b.now + ns) (omega arith) p);
     }
 
 -- Items, steps and runs.

@@ -1,5 +1,6 @@
 pub mod AddressLemmas
 pub mod ChunkLemmas
+pub mod ClocksLemmas
 pub mod DevicesLemmas
 pub mod GuestLemmas
 pub mod KeepLemmas
@@ -8,6 +9,7 @@ pub mod LawLemmas
 pub mod LeftLemmas
 pub mod MachineLemmas
 pub mod NoteLemmas
+pub mod PhaseLemmas
 pub mod RunLemmas
 pub mod SendingLemmas
 pub mod SoundLemmas

@@ -10,6 +10,7 @@ use Rattle.qo_model.specs.Hotplug.{all_completed, completed, reset_whole}
 use Rattle.qo_model.specs.Unplug.{first_of}
 use Rattle.qo_realize.specs.Guest.{polled}
 use Rattle.qo_realize.specs.Time.{at_time, with_running}
+use Rattle.qo_realize.proofs.WrittenLemmas.{written-all}
 use Rattle.qo_sound.proofs.NotesKeptLemmas.{notes_kept_lem}
 use Rattle.qo_sound.proofs.ViewLemmas.{rest-from_sound}
 use Rattle.qo_sound_devices.specs.SoundDevices.{SoundDevices}
@@ -17,8 +18,9 @@ use Rattle.qo_sound_devices.specs.SoundLists.{IsOn}
 use Rattle.qo_sound_devices.proofs.DevicesLawLemmas.{devices_kept_lem}
 use Rattle.qo_sound_devices.proofs.PlacesLemmas.{child-live, of-live, stands-live}
 use Rattle.qo_sound_devices.proofs.ResetLemmas.{first-on}
-use Rattle.qo_machine.proofs.AddressLemmas.{address-there}
 use Rattle.qo_sound_clocks.proofs.KeepLemmas.{writes_keep_lem}
+use Rattle.qo_sound_clocks.proofs.RegisterLemmas.{registers_kept_lem}
+use Rattle.qo_machine.proofs.AddressLemmas.{address-there, bus-live}
 use Rattle.qo_machine.proofs.KeepLemmas.{KeepsBoard, KeepsCommands, keeps_commands, run_keeps}
 use Rattle.qo_machine.proofs.DevicesLemmas.{devices_free, devices_kept}
 use Rattle.qo_machine.specs.Laws.{FinalOnceInRuns}
@@ -70,10 +72,14 @@ notes_kept =
       completed = λ b at d is pending o. (devices_kept.completed b at d is pending o.0, notes_kept_lem.detached b d o.0.tree (address-there b o.0.tree at d is) o.1);
       refused = λ b d o. (devices_kept.refused b d o.0, notes_kept_lem.refused_by b d o.1);
       polled = λ b o. (devices_kept.polled b o.0, notes_kept_lem.beside b (polled b) refl refl refl o.1);
-      timed = λ b now o. (devices_kept.timed b now o.0, notes_kept_lem.beside b (at_time now b) refl refl refl o.1);
+      written = λ b at d reg value c there is o.
+          written-all Ordered b d reg value
+          (λ registers e so. (registers_kept_lem.devices b d registers o.0, registers_kept_lem.notes b d registers o.1))
+          (λ x m on q. (devices_kept_lem.pulsed x m q.0, notes_kept_lem.pulsed x m q.0.tree (bus-live x d m on) q.1)) c is;
+      timed = λ b now on o. (devices_kept.timed b now on o.0, notes_kept_lem.beside b (at_time now b) refl refl refl o.1);
       switched = λ b on o. (devices_kept.switched b on o.0, notes_kept_lem.beside b (with_running on b) refl refl refl o.1);
-      held_so = λ b n is o. (devices_kept.held_so b n is o.0, notes_kept_lem.held_so b n o.0.tree (of-live b (codes "resettable") n is) o.1);
-      released_so = λ b n is o. (devices_kept.released_so b n is o.0, notes_kept_lem.released_so b n o.0.tree (of-live b (codes "resettable") n is) o.1);
+      held_so = λ b n is home o. (devices_kept.held_so b n is home o.0, notes_kept_lem.held_so b n o.0.tree (of-live b (codes "resettable") n is) o.1);
+      released_so = λ b n is held o. (devices_kept.released_so b n is held o.0, notes_kept_lem.released_so b n o.0.tree (of-live b (codes "resettable") n is) o.1);
       reset = λ b o. (devices_kept.reset b o.0, reset-notes b o);
     }
 

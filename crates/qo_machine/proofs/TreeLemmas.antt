@@ -5,16 +5,21 @@ use Rattle.qo_model.proofs.OpeningLemmas.{opening_sound}
 use Rattle.qo_model.proofs.TreeLemmas.{frame_lem}
 use Rattle.qo_model.specs.Board.{Board}
 use Rattle.qo_model.specs.Clocks.{div_of, mul_of}
+use Rattle.qo_model.specs.Reset.{held, pulse}
 use Rattle.qo_model.specs.Sound.{IsSound}
 use Rattle.qo_model.specs.SoundGraph.{graph_of}
 use Rattle.qo_commands.proofs.AttemptLemmas.{attempted-all}
 use Rattle.qo_commands.specs.Commands.{without_events}
 use Rattle.qo_realize.specs.Time.{at_time, with_running}
+use Rattle.qo_realize.proofs.WrittenLemmas.{written-all}
 use Rattle.qo_sound.proofs.KeptLemmas.{sound_kept_lem}
 use Rattle.qo_sound.specs.Kept.{SoundTree}
 use Rattle.qo_sound_devices.specs.SoundDevices.{SoundDevices}
 use Rattle.qo_sound_devices.proofs.DevicesLawLemmas.{devices_kept_lem}
+use Rattle.qo_sound_clocks.specs.ClockRuns.{SoundRun}
+use Rattle.qo_sound_clocks.proofs.RegisterLemmas.{registers_kept_lem}
 use Rattle.qo_machine.proofs.AddressLemmas.{asked-tree, polled-tree, refused-tree}
+use Rattle.qo_machine.proofs.ClocksLemmas.{opening_run, run_commands}
 use Rattle.qo_machine.proofs.DevicesLemmas.{devices_commands}
 use Rattle.qo_sound_clocks.proofs.KeepLemmas.{writes_keep_lem}
 use Rattle.qo_machine.proofs.KeepLemmas.{KeepsBoard, KeepsCommands, advanced-all, broken_keeps, keeps_commands, run_keeps, step_keeps}
@@ -32,6 +37,11 @@ switched-tree : (b : Board) (on : Bool) → SoundTree b → SoundTree (with_runn
 unfolding graph_of
 switched-tree b on h = (frame_lem.graph b (with_running on b) refl h.0, frame_lem.aliases b (with_running on b) refl h.1)
 
+-- a hold and a hold less
+pulsed-tree : (b : Board) (m : ℕ) → SoundTree b → SoundTree (pulse b m)
+unfolding pulse
+pulsed-tree b m h = sound_kept_lem.released_so (held b m) m (sound_kept_lem.held_so b m h)
+
 -- changes and attempts keep the tree sound
 pub tree_kept : KeepsBoard SoundTree
 tree_kept =
@@ -47,10 +57,12 @@ tree_kept =
       completed = λ b at d is pending h. sound_kept_lem.detached b d h;
       refused = λ b d h. refused-tree b d h;
       polled = λ b h. polled-tree b h;
-      timed = λ b now h. timed-tree b now h;
+      written = λ b at d reg value c there is h.
+          written-all SoundTree b d reg value (λ registers e so. registers_kept_lem.tree b d registers h) (λ x m on q. pulsed-tree x m q) c is;
+      timed = λ b now on h. timed-tree b now h;
       switched = λ b on h. switched-tree b on h;
-      held_so = λ b n is h. sound_kept_lem.held_so b n h;
-      released_so = λ b n is h. sound_kept_lem.released_so b n h;
+      held_so = λ b n is home h. sound_kept_lem.held_so b n h;
+      released_so = λ b n is held h. sound_kept_lem.released_so b n h;
       reset = λ b h. sound_kept_lem.reset b h;
     }
 
@@ -86,6 +98,7 @@ sound_in_runs =
     record {
       tree = kept_in_runs SoundTree tree_commands (opening_sound.graph, opening_sound.aliases);
       devices = kept_in_runs SoundDevices devices_commands devices_kept_lem.opening;
+      clocks = kept_in_runs SoundRun run_commands opening_run;
     }
 
 -- a step of a machine

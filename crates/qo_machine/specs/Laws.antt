@@ -1,5 +1,5 @@
 -- What holds of the machine alone.
-use Rattle.std.specs.Prelude.{◌≡◌, ◌≢◌, ℕ, List, [], ◌∷◌, ◌++◌, ⊤}
+use Rattle.std.specs.Prelude.{◌≡◌, ◌≢◌, ℕ, true, List, [], ◌∷◌, ◌++◌, Some, ⊤}
 use Rattle.std.specs.List.{AllByRecursion}
 use Rattle.qo_causes.specs.declared.hubs.Lane.TheVariants.{Session as to_session}
 use Rattle.qo_causes.specs.declared.inputs.Input.{Input}
@@ -11,6 +11,11 @@ use Rattle.qo_model.specs.Board.{Board}
 use Rattle.qo_model.specs.FinalNotes.{FinalOnce, NotesInOrder}
 use Rattle.qo_sound.specs.Kept.{SoundTree}
 use Rattle.qo_sound_devices.specs.SoundDevices.{SoundDevices}
+use Rattle.qo_sound_clocks.specs.ClockRuns.{SoundRun}
+use Rattle.qo_sound_phases.specs.PhaseRuns.{SoundResets}
+use Rattle.qo_sound_phases.specs.Phases.{IsInTurn, phases_of, stage_of}
+use Rattle.qo_sound_phases.specs.PhasesKept.{may_reset}
+use Rattle.qo_sound_phases.specs.SoundPhases.{stage_now}
 use Rattle.qo_sessions.specs.Acts.{act}
 use Rattle.qo_sessions.specs.declared.acts.SessionAct.{SessionAct}
 use Rattle.qo_sessions.specs.declared.acts.SessionAct.TheVariants.{Answer, Negotiated, Do}
@@ -83,7 +88,15 @@ pub record KeptInRuns (P : Board → Type 0) : Type 0 where
   pub step : (s : State) (input : Input) (choices : List Choice) → P s.board → P (step s input choices).state.board
   pub run : (turns : List Turn) → P (state_after opening turns).board
 
--- that the tree of the board is sound; and with it the places of devices and the lists that name devices
+-- that the tree of the board is sound; with it the places of devices and the lists that name devices; and with these its clocks and their numbers, and that no timer is ahead of the time
 pub record SoundInRuns : Type 0 where
   pub tree : KeptInRuns SoundTree
   pub devices : KeptInRuns SoundDevices
+  pub clocks : KeptInRuns SoundRun
+
+-- over every run the phases of resets that are noted of each birth are in turn: the beginning of enter, hold, exit, repeated; and who is attached and may be held in reset is held by its notes where a hold is on it or above it, and nowhere else
+pub record PhasesInRuns : Type 0 where
+  pub kept : KeptInRuns SoundResets
+  pub in_turn : (turns : List Turn) (n : ℕ) → IsInTurn (phases_of n (state_after opening turns).board.notes)
+  pub in_reset : (turns : List Turn) (n : ℕ) → may_reset (state_after opening turns).board n ≡ true
+      → stage_of n (state_after opening turns).board.notes ≡ Some (stage_now (state_after opening turns).board n)

@@ -1,7 +1,7 @@
 //! What holds of the machine alone: who is touched by what, that pieces of bytes may be cut anywhere, and
 //! what holds of objects over whole runs.
 
-ghost use Rattle.qo_machine.specs.Laws.{ChunksAreFree, FinalOnceInRuns, LanesAreApart, SoundInRuns};
+ghost use Rattle.qo_machine.specs.Laws.{ChunksAreFree, FinalOnceInRuns, LanesAreApart, PhasesInRuns, SoundInRuns};
 
 /// Opening, shutting, and each item of a session that is no command leave the board, the guest line
 /// and all other sessions as they are, and send to that session alone.
@@ -23,8 +23,17 @@ pub fn law_final_once()
 
 /// Each step keeps the tree of the board sound: births, names, targets, children, pins, references and
 /// what aliases pass on to. With it, each step keeps devices in their places, and the lists of pending
-/// removals and of notices. So all these are sound over every run from the opening: what
-/// `qo_sound_devices::law_devices_say` says of devices is so of each board of it.
+/// removals and of notices; and with these what clocks go by, their periods and numbers, and the moments
+/// of timers. So all these are sound over every run from the opening: what
+/// `qo_sound_devices::law_devices_say` says of devices, and `qo_sound_clocks::law_clocks_say` of clocks,
+/// is so of each board of it.
 pub fn law_sound()
     ensures { SoundInRuns }
+{}
+
+/// Over every run from the opening the phases of resets that are noted of each birth are the beginning of
+/// enter, hold, exit, repeated. A machine, a bus or a device that is attached is held by its notes where a
+/// hold is on it or above it, and nowhere else.
+pub fn law_phases()
+    ensures { PhasesInRuns }
 {}

@@ -1,0 +1,154 @@
+-- Steps keep the phases of resets in turn, and what may be held in reset held where a hold is on it or above it.
+use Rattle.std.proofs.Common.{◌≡◌, refl, sym, subst, ◌∙◌, ap, ℕ, Bool, true, ◌&&◌, List, [], ◌∷◌, codes, Option, None, Some, option_map}
+use Rattle.std.specs.Option.{option_map_or}
+use Rattle.std.proofs.lemmas.Option.{same_Some}
+use Rattle.qo_values.specs.Bodies.{Effect, byte, nothing}
+use Rattle.qo_values.specs.Bodies as effect
+use Rattle.qo_values.specs.Registers.{Registers}
+use Rattle.qo_values.specs.declared.births.TheConstants.{MEMORY_BUS_BIRTH, ROOT_BUS_BIRTH}
+use Rattle.qo_guest.specs.declared.addresses.Addr.{Addr}
+use Rattle.qo_guest.specs.declared.addresses.Addr.TheVariants.{Slots, Mem}
+use Rattle.qo_buses.specs.Addresses.{addressed}
+use Rattle.qo_commands.specs.Commands.{without_events}
+use Rattle.qo_model.specs.Board.{Board}
+use Rattle.qo_model.specs.Clocks.{div_of, mul_of}
+use Rattle.qo_model.specs.Depth.{among}
+use Rattle.qo_model.specs.Devices.{first_bus}
+use Rattle.qo_model.specs.Hotplug.{completed}
+use Rattle.qo_model.specs.Paths.{attached, is_of}
+use Rattle.qo_model.specs.Reset.{held, pulse}
+use Rattle.qo_realize.specs.Guest.{polled}
+use Rattle.qo_realize.specs.Registers.{behind_effect, guest_written, registers_written}
+use Rattle.qo_realize.specs.Time.{at_time, with_running}
+use Rattle.qo_sound.proofs.RecordLemmas.{among-all}
+use Rattle.qo_sound_devices.specs.SoundLists.{IsOn}
+use Rattle.qo_sound_devices.specs.SoundPlaces.{stands}
+use Rattle.qo_sound_devices.proofs.DevicesLawLemmas.{devices_kept_lem}
+use Rattle.qo_sound_clocks.specs.RegistersKept.{registers_set}
+use Rattle.qo_sound_clocks.proofs.RegisterLemmas.{registers_kept_lem}
+use Rattle.qo_sound_phases.specs.PhaseRuns.{SoundResets}
+use Rattle.qo_sound_phases.specs.PhasesKept.{may_reset}
+use Rattle.qo_sound_phases.proofs.LawLemmas.{phases_kept_lem, phases_say_lem}
+use Rattle.qo_machine.proofs.DevicesLemmas.{devices_free, devices_kept}
+use Rattle.qo_machine.proofs.KeepLemmas.{KeepsBoard, KeepsCommands, keeps_commands, run_keeps, step_keeps}
+use Rattle.qo_machine.specs.Laws.{PhasesInRuns}
+use Rattle.qo_machine.specs.Machine.{opening}
+use Rattle.qo_machine.specs.Runs.{Turn, state_after}
+
+-- the device at an address stands in its place
+standing : (b : Board) (at : Addr) (d : ℕ) → addressed b at ≡ Some d → SoundResets b → stands b d ≡ true
+standing b (Slots slots) d is h = phases_say_lem.addressed b h.devices h.phases ROOT_BUS_BIRTH slots d refl is
+standing b (Mem slot) d is h = phases_say_lem.addressed b h.devices h.phases MEMORY_BUS_BIRTH (slot ∷ []) d refl is
+
+-- the guest writes to a register of a device that stands in its place
+module _ (b : Board) (d : ℕ) (there : stands b d ≡ true) (h : SoundResets b) where
+  registers-so : (registers : Registers) → SoundResets (registers_set b d registers)
+  registers-so registers =
+      record { devices = registers_kept_lem.devices b d registers h.devices; phases = phases_kept_lem.registers b d registers h.devices h.phases }
+
+  effect-so : (registers : Registers) (e : Effect) → SoundResets (behind_effect d e (registers_set b d registers))
+  effect-so registers nothing = registers-so registers
+  effect-so registers (byte n) = registers-so registers
+  effect-so registers effect.pulse = by (first_bus set d) refl
+    where
+      set : Board
+      set = registers_set b d registers
+
+      s : SoundResets set
+      s = registers-so registers
+
+      by : (bus : Option ℕ) → first_bus set d ≡ bus → SoundResets (option_map_or (pulse set) bus set)
+      by None e = s
+      by (Some m) e =
+          let may : may_reset set m ≡ true = phases_say_lem.first_bus set s.devices s.phases d m (phases_kept_lem.stand_with_registers b d registers d there) e in
+          record { devices = devices_kept_lem.pulsed set m s.devices; phases = phases_kept_lem.pulsed set m may s.devices s.phases }
+
+  written-so : (reg value : ℕ) (c : Board) → guest_written b d reg value ≡ Some c → SoundResets c
+  written-so reg value c is = go (registers_written b d reg value) refl
+    where
+      go : (o : Option (Registers × Effect)) → registers_written b d reg value ≡ o → SoundResets c
+      go None e = absurd (let clash : None ≡ Some c = rw (guest_written, e) at is in cc)
+      go (Some w) e =
+          let its : Some (behind_effect d w.1 (registers_set b d w.0)) ≡ Some c = rw (guest_written, e) at is in
+          subst SoundResets (same_Some (behind_effect d w.1 (registers_set b d w.0)) c its) (effect-so w.0 w.1)
+
+-- who is attached and may be held in reset
+may-so : (b : Board) (n : ℕ) → is_of b (codes "resettable") n ≡ true → attached b n ≡ true → may_reset b n ≡ true
+may-so b n is home = rw (home, is) refl
+
+-- changes and attempts keep them
+phases_kept : KeepsBoard SoundResets
+phases_kept =
+    record {
+      change = λ b change h.
+          record { devices = devices_kept.change b change h.devices; phases = phases_kept_lem.change b change h.devices h.phases };
+      set = λ b d c period fits is h.
+          record { devices = devices_kept.set b d c period fits is h.devices; phases = phases_kept_lem.set b d c period is h.devices h.phases };
+      multiplied = λ b d c mul fits is h.
+          record {
+            devices = devices_kept.multiplied b d c mul fits is h.devices;
+            phases = phases_kept_lem.scaled b d c mul (div_of b c) is h.devices h.phases;
+          };
+      divided = λ b d c div fits is h.
+          record {
+            devices = devices_kept.divided b d c div fits is h.devices;
+            phases = phases_kept_lem.scaled b d c (mul_of b c) div is h.devices h.phases;
+          };
+      attempt = λ b t h.
+          record { devices = devices_kept.attempt b t h.devices; phases = phases_kept_lem.attempt b t h.devices h.phases };
+      plugged = λ b a h.
+          record { devices = devices_kept.plugged b a h.devices; phases = phases_kept_lem.plugged b a h.devices h.phases };
+      cut = λ b t i joined h.
+          record { devices = devices_kept.cut b t i joined h.devices; phases = phases_kept_lem.cut b t i joined h.devices h.phases };
+      asked = λ b id h. record { devices = devices_kept.asked b id h.devices; phases = phases_kept_lem.asked_for b id h.phases };
+      completed = λ b at d is pending h.
+          record {
+            devices = devices_kept.completed b at d is pending h.devices;
+            phases = phases_kept_lem.detached b d h.devices (among-all (IsOn b) b.pending h.devices.lists.pending d pending).0 h.phases;
+          };
+      refused = λ b d h. record { devices = devices_kept.refused b d h.devices; phases = phases_kept_lem.refused_by b d h.phases };
+      polled = λ b h.
+          record { devices = devices_kept.polled b h.devices; phases = phases_kept_lem.beside b (polled b) refl refl refl refl h.phases };
+      written = λ b at d reg value c there is h. written-so b d (standing b at d there h) h reg value c is;
+      timed = λ b now on h.
+          record {
+            devices = devices_kept.timed b now on h.devices;
+            phases = phases_kept_lem.beside b (at_time now b) refl refl refl refl h.phases;
+          };
+      switched = λ b on h.
+          record {
+            devices = devices_kept.switched b on h.devices;
+            phases = phases_kept_lem.beside b (with_running on b) refl refl refl refl h.phases;
+          };
+      held_so = λ b n is home h.
+          record {
+            devices = devices_kept.held_so b n is home h.devices;
+            phases = phases_kept_lem.held_so b n (may-so b n is home) h.devices h.phases;
+          };
+      released_so = λ b n is on h.
+          record {
+            devices = devices_kept.released_so b n is on h.devices;
+            phases = phases_kept_lem.released_so b n on h.devices h.phases;
+          };
+      reset = λ b h. record { devices = devices_kept.reset b h.devices; phases = phases_kept_lem.reset b h.devices h.phases };
+    }
+
+phases_commands : KeepsCommands SoundResets
+phases_commands =
+    keeps_commands SoundResets phases_kept
+    (λ b h. record { devices = devices_free b h.devices; phases = phases_kept_lem.beside b (without_events b) refl refl refl refl h.phases })
+
+opening_resets : SoundResets opening.board
+opening_resets = record { devices = devices_kept_lem.opening; phases = phases_kept_lem.opening }
+
+-- over every run
+pub phases_in_runs : PhasesInRuns
+phases_in_runs =
+    record {
+      kept = record { step = λ s i cs h. step_keeps SoundResets phases_commands s i cs h; run = run };
+      in_turn = λ turns n. phases_say_lem.in_turn (state_after opening turns).board (run turns).phases n;
+      in_reset = λ turns n may. phases_say_lem.in_reset (state_after opening turns).board (run turns).devices (run turns).phases n may;
+    }
+  where
+    run : (turns : List Turn) → SoundResets (state_after opening turns).board
+    run turns = run_keeps SoundResets phases_commands opening turns opening_resets
