@@ -1,4 +1,7 @@
 pub mod AttemptLemmas
+pub mod ClockPropertyLemmas
+mod ClockPropertyRows
+pub mod ClockStaysLemmas
 pub mod CycleLemmas
 pub mod DepthLemmas
 mod DeviceRows

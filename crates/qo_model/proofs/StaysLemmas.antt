@@ -26,7 +26,7 @@ use Rattle.qo_model.specs.Stays.{Stays, StaysLaw}
 pub stays-none : (b : Board) → Stays b b
 stays-none b = record { anonymous = refl; now = refl; running = refl; holds = refl; pending = refl; notices = refl; rings = refl }
 
-stays-then : (b c d : Board) → Stays b c → Stays c d → Stays b d
+pub stays-then : (b c d : Board) → Stays b c → Stays c d → Stays b d
 stays-then b c d h k =
     record {
       anonymous = k.anonymous ∙ h.anonymous;
@@ -85,7 +85,7 @@ object_del-stays b id = go (place_from (is_object_named id) 0 (slots_at b OBJECT
     go (Some i) p = rw (object_del, p) (left-stays b (let_go b OBJECTS_BIRTH i) (let_go-leaves b OBJECTS_BIRTH i))
 
 -- `qom-set`
-set-stays : (b : Board) (n i : ℕ) (v : Val) → Stays b (set n i v b)
+pub set-stays : (b : Board) (n i : ℕ) (v : Val) → Stays b (set n i v b)
 unfolding set
 set-stays b n i v = record { anonymous = refl; now = refl; running = refl; holds = refl; pending = refl; notices = refl; rings = refl }
 

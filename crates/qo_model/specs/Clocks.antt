@@ -1,5 +1,5 @@
 -- The clock tree: periods, and who is called back where one changes (docs/devel/clocks.rst, "The clock state", "Clock callbacks", "Connecting two clocks together", "Clock multiplier and divider settings", "Changing a clock period").
-use Rattle.std.specs.Prelude.{◌≢◌, ◌<◌, ℕ, ◌*◌, ◌/◌, ◌^◌, Bool, true, false, ◌==◌, nat_le, if◌then◌else◌, List, [], ◌∷◌, ◌++◌, filter, codes, Option, Some, None, option_and_then, unwrap_or, Result, Ok, Err}
+use Rattle.std.specs.Prelude.{◌≢◌, ◌<◌, ℕ, ◌*◌, ◌/◌, ◌^◌, Bool, true, false, ◌==◌, nat_le, if◌then◌else◌, List, [], ◌∷◌, ◌++◌, filter, codes, Option, Some, None, option_map, option_and_then, unwrap_or, Result, Ok, Err}
 use Rattle.std.specs.List.{list_any, flat_map}
 use Rattle.std.specs.Option.{option_map_or}
 use Rattle.qo_values.specs.Bodies.{body_act}
@@ -46,6 +46,10 @@ period_turn b f c = elim (source_of b c) [ None ↦ own_period b c | Some s ↦ 
 
 unfoldable pub period : Board → ℕ → ℕ
 period b c = by_objects (period_turn b) (λ _. 0) (births b) c
+
+-- that of a clock with a source
+abbrev pub derived_period : Board → ℕ → Option ℕ
+derived_period b c = option_map (λ s. period b c) (source_of b c)
 
 abbrev pub child_period : Board → ℕ → ℕ
 child_period b c = scaled b c (period b c)

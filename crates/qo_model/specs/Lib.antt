@@ -2,6 +2,7 @@ pub mod Access
 pub mod Board
 pub mod Changes
 pub mod ClockChanges
+pub mod ClockProperties
 pub mod Clocks
 pub mod Depth
 pub mod Detachment

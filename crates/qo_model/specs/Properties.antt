@@ -11,6 +11,7 @@ use Rattle.qo_values.specs.declared.properties.Val.{Val}
 use Rattle.qo_values.specs.declared.properties.Val.TheVariants as val
 use Rattle.qo_model.specs.Board.{Board, Slot, kind_of, slot_at, slot_named, slots_at, plain, child, strong, weak, alias, held}
 use Rattle.qo_model.specs.Changes.{point, set}
+use Rattle.qo_model.specs.Clocks.{derived_period}
 use Rattle.qo_model.specs.Paths.{found, missing, several, canonical, resolve}
 use Rattle.qo_model.specs.Release.{after, drop_slot, finalise}
 use Rattle.qo_model.specs.Types.{slots_of}
@@ -29,9 +30,13 @@ path_text b n = unwrap_or (canonical b n) (codes "detached:" ++ decimal n)
 abbrev pub target_text : Board → Option ℕ → List ℕ
 target_text b target = option_map_or (path_text b) target []
 
+-- what is read of a value of n, of this name: the period of a clock that goes by another is that by its source
+abbrev pub plain_value : Board → ℕ → List ℕ → Val → Val
+plain_value b n name v = if bytes_eq name (codes "period") then option_map_or val.Uint (derived_period b n) v else v
+
 -- what is read of a slot of n, of this name, that is no alias
 abbrev pub own_value : Board → ℕ → List ℕ → Slot → Val
-own_value b n name (plain v) = v
+own_value b n name (plain v) = plain_value b n name v
 own_value b n name (child m) = val.Text (path_text b m)
 own_value b n name (strong t target) = val.Text (target_text b target)
 own_value b n name (weak t target) = val.Text (target_text b target)
@@ -50,7 +55,7 @@ value_of b n name = option_and_then (slot_value b n name) (slot_named b n name)
 abbrev pub row_of_property : TypeId → List ℕ → Option Property
 row_of_property t name = find (λ (p : Property). bytes_eq (property_name p.name) name) (slots_of t)
 
--- whether `qom-set` writes a property with a mark; the clocks, which only it would write, cannot be written yet
+-- whether both `qom-set` and the command that adds an object write a property with a mark
 abbrev pub may_set : Mark → Bool
 may_set Both = true
 may_set mark = false
@@ -97,7 +102,7 @@ abbrev pub written_by : Board → ℕ → ℕ → Option Property → Val → Re
 written_by b n i None v = Err E18
 written_by b n i (Some row) v = if may_set row.mark then written b n i row.kind (slot_at b n i) v else Err E18
 
--- a value to the property of a name of n
+-- a value to the property of a name of n, where `qom-set` and the command that adds an object both write it
 abbrev pub write : Board → ℕ → List ℕ → Val → Result Board Code
 write b n name v =
     elim (position (λ (s : List ℕ × Slot). bytes_eq s.0 name) (slots_at b n)) [
