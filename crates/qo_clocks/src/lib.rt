@@ -19,4 +19,5 @@ mod writes;
 pub use errors::ClockError;
 pub use links::{connect, disconnect};
 pub use periods::{device_period, period, period_of_hz};
+pub use reads::{div, mul, source_of};
 pub use writes::{set, set_mul_div};

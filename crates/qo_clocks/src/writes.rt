@@ -107,7 +107,8 @@ pub fn set<L: Ledger>(
 
 /// Gives a clock a multiplier and a divider: the clocks that go by it have its period times the one by
 /// the other, rounded down (docs/devel/clocks.rst, "Clock multiplier and divider settings"). The
-/// clocks below are called back as by `set`; the clock's own period stays.
+/// clocks below are called back as by `set`; the clock's own period stays. Numbers of 64 bits are
+/// taken; who writes them keeps them as wide as their properties.
 ///
 /// `DividerZero` exactly where the divider is 0; else `Overflow` exactly where the period for the
 /// clocks that go by it, or by one below it, would be more than 2^64 - 1. An error leaves all as it
@@ -116,8 +117,8 @@ pub fn set<L: Ledger>(
 pub fn set_mul_div<L: Ledger>(
     heap: &mut Heap,
     c: Oid,
-    mul: u32,
-    div: u32,
+    mul: u64,
+    div: u64,
     steps: &mut Steps<L>,
 ) -> Result<(), ClockError>
     requires live { IsLive heap.old.rows c }
@@ -133,7 +134,6 @@ pub fn set_mul_div<L: Ledger>(
     if div == 0 {
         return Err(ClockError::DividerZero);
     }
-    let (mul, div) = (u64::from(mul), u64::from(div));
     heap.facts();
     let levels = heap.live() + 1;
     let own = period(heap, c, steps);

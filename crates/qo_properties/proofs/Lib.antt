@@ -2,6 +2,7 @@ pub mod AddLemmas
 pub mod AnswerLemmas
 pub mod BarLemmas
 pub mod ClaimLemmas
+pub mod ClockLemmas
 pub mod FillingLemmas
 pub mod FreshLemmas
 pub mod GivenLemmas

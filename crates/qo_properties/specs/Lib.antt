@@ -1,6 +1,7 @@
 pub mod Adding
 pub mod Changes
 pub mod Claims
+pub mod ClockWrites
 pub mod Filling
 pub mod Fresh
 pub mod Given

@@ -139,7 +139,7 @@ edited-no_timer n change keeps r h = go (r.birth == n) refl
 edit-timerless : (n : ℕ) (change : Record → Record) → ((r : Record) → NoTimer r → NoTimer (change r)) → (c : Board) → Timerless c → Timerless (edit n change c)
 edit-timerless n change keeps c h = all-map NoTimer NoTimer (edited n change) (edited-no_timer n change keeps) c.records h
 
-timerless-edits : KeepsEdits Timerless
+pub timerless-edits : KeepsEdits Timerless
 timerless-edits n change same c h =
     edit-timerless n change (λ r k. ap (λ (x : Record). is_timer x.registers) (same r) ∙ k) c h
 

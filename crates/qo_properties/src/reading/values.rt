@@ -1,10 +1,11 @@
 //! Reading the properties of objects (docs/devel/qom.rst, "The QEMU Object Model": properties, child
 //! and link; QEMU's QAPI, `qom-get`).
 
-ghost use Rattle.std.specs.Prelude.{◌≡◌, ℕ, List, string_bytes, IfOk, option_map};
+ghost use Rattle.std.specs.Prelude.{◌≡◌, string_bytes, IfOk, option_map};
 ghost use Rattle.qo_values.specs.declared.properties.Val.TheVariants.{Text as OfText};
 ghost use Rattle.qo_model.specs.Board.{Board as Tree, slot_named};
-ghost use Rattle.qo_model.specs.Properties.{own_value, value_of};
+ghost use Rattle.qo_model.specs.Clocks.{ClocksFit, derived_period};
+ghost use Rattle.qo_model.specs.Properties.{own_value, plain_value, value_of};
 ghost use Rattle.qo_model.specs.Access.{read};
 ghost use Rattle.qo_object.specs.Shown.{shown_slot};
 ghost use Rattle.qo_table.specs.Rows.{IsLive};
@@ -14,6 +15,7 @@ ghost use Rattle.qo_properties.specs.Reads.{Answers};
 use crate::reading::lookup::object_of;
 use crate::reading::naming::{object_at, path_text, target_text};
 use crate::refusals::Refusal;
+use qo_clocks::{period, source_of};
 use qo_heap::{Heap, Oid, Slot, Steps};
 use qo_values::{Code, Text, Val};
 use std::alloc::{AllocError, Global};
@@ -32,17 +34,52 @@ pub fn copy_of(val: &Val, alloc: Global) -> Result<Val, AllocError>
     })
 }
 
-/// The value that is read of a slot that is no alias.
+/// The period of a clock that goes by another, in units of 2^-32 ns; `None` exactly where it goes by
+/// none.
+fn derived_period<L: Ledger>(heap: &Heap, o: Oid, steps: &mut Steps<L>) -> Option<u64>
+    requires { IsLive heap.now.rows o }
+    ensures { (b : Tree) → Shows b heap.now → ClocksFit b → result ≡ derived_period b o.birth }
+{
+    source_of(heap, o, steps)?;
+    Some(period(heap, o, steps))
+}
+
+/// What is read of a value of an object, under a name: the period of a clock that goes by another is
+/// the one that it has by that.
+fn plain_value<L: Ledger>(
+    heap: &Heap,
+    o: Oid,
+    name: &str,
+    val: &Val,
+    alloc: Global,
+    steps: &mut Steps<L>,
+) -> Result<Val, AllocError>
+    requires { IsLive heap.now.rows o }
+    ensures { (b : Tree) → Shows b heap.now → ClocksFit b → IfOk result (λ read. read ≡ plain_value b o.birth name.now val.now) }
+{
+    if name != "period" {
+        return copy_of(val, alloc);
+    }
+    match derived_period(heap, o, steps) {
+        Some(period) => Ok(Val::Uint(period)),
+        None => copy_of(val, alloc),
+    }
+}
+
+/// The value that is read of a slot of an object, under a name, that is no alias.
 fn own_value<L: Ledger>(
     heap: &Heap,
+    o: Oid,
+    name: &str,
     what: &Slot,
     alloc: Global,
     steps: &mut Steps<L>,
 ) -> Result<Val, AllocError>
-    ensures { (b : Tree) (n : ℕ) (name : List ℕ) → Shows b heap.now → IfOk result (λ val. val ≡ own_value b n name (shown_slot what.now)) }
+    requires { IsLive heap.now.rows o }
+    ensures { (b : Tree) → Shows b heap.now → ClocksFit b → IfOk result (λ val. val ≡ own_value b o.birth name.now (shown_slot what.now)) }
 {
     match what {
-        Slot::Plain(val) => Ok(copy_of(val, alloc)?),
+        Slot::Plain(val) => plain_value(heap, o, name, val, alloc, steps),
         Slot::Child(child) => {
             let text = path_text(heap, *child, alloc, steps)?;
             Ok(Val::Text(Text::from_string(text)))
@@ -63,7 +100,7 @@ fn passed_on<L: Ledger>(
     alloc: Global,
     steps: &mut Steps<L>,
 ) -> Result<Option<Val>, AllocError>
-    ensures { (b : Tree) → Shows b heap.now → IfOk result (λ val. val ≡ option_map (own_value b birth of.now) (slot_named b birth of.now)) }
+    ensures { (b : Tree) → Shows b heap.now → ClocksFit b → IfOk result (λ val. val ≡ option_map (own_value b birth of.now) (slot_named b birth of.now)) }
 {
     let Some(o) = object_of(heap, birth) else {
         return Ok(None);
@@ -71,7 +108,7 @@ fn passed_on<L: Ledger>(
     let Some(slot) = heap.slot(o, of, steps) else {
         return Ok(None);
     };
-    Ok(Some(own_value(heap, slot.what, alloc, steps)?))
+    Ok(Some(own_value(heap, o, of, slot.what, alloc, steps)?))
 }
 
 /// The value of the property of a name of an object; `None` exactly where it has no such property.
@@ -83,7 +120,7 @@ fn value_of<L: Ledger>(
     steps: &mut Steps<L>,
 ) -> Result<Option<Val>, AllocError>
     requires { IsLive heap.now.rows o }
-    ensures { (b : Tree) → Shows b heap.now → IfOk result (λ val. val ≡ value_of b o.birth name.now) }
+    ensures { (b : Tree) → Shows b heap.now → ClocksFit b → IfOk result (λ val. val ≡ value_of b o.birth name.now) }
 {
     let Some(slot) = heap.slot(o, name, steps) else {
         return Ok(None);
@@ -91,14 +128,14 @@ fn value_of<L: Ledger>(
     if let Slot::Alias(target, of) = slot.what {
         return passed_on(heap, target.birth, of.as_str(), alloc, steps);
     }
-    Ok(Some(own_value(heap, slot.what, alloc, steps)?))
+    Ok(Some(own_value(heap, o, name, slot.what, alloc, steps)?))
 }
 
 /// The value of the property of a name of the object at a path (QEMU's QAPI, `qom-get`). A child and
 /// a link read as the text that names the object: its canonical path, or `detached:` and its birth; a
-/// link without a target as the empty text; an alias as the property that it passes on to. Refused
-/// with E15 where the path leads to no object, E16 where to several, and E17 where the object has no
-/// such property.
+/// link without a target as the empty text; the period of a clock that goes by another as the one that
+/// it has by that; an alias as the property that it passes on to. Refused with E15 where the path leads
+/// to no object, E16 where to several, and E17 where the object has no such property.
 pub fn get<L: Ledger>(
     heap: &Heap,
     path: &str,
@@ -106,7 +143,7 @@ pub fn get<L: Ledger>(
     alloc: Global,
     steps: &mut Steps<L>,
 ) -> Result<Val, Refusal>
-    ensures { (b : Tree) → Shows b heap.now → Answers (λ val. val) result (read b path.now name.now) }
+    ensures { (b : Tree) → Shows b heap.now → ClocksFit b → Answers (λ val. val) result (read b path.now name.now) }
 {
     let o = object_at(heap, path, steps)?;
     match value_of(heap, o, name, alloc, steps)? {

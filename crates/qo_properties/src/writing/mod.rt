@@ -1,5 +1,6 @@
 //! What changes the objects that are there.
 
+pub mod clocks;
 pub mod removing;
 pub mod severing;
 pub mod writes;

@@ -6,12 +6,15 @@ ghost use Rattle.qo_slots.specs.declared.keys.Key.{Key};
 ghost use Rattle.qo_model.specs.Board.{Board as Tree, slot_at};
 ghost use Rattle.qo_model.specs.Properties.{link_target, pointed_at, relinked, write, written, written_by};
 ghost use Rattle.qo_model.specs.Access.{write_at};
+ghost use Rattle.qo_model.specs.ClockProperties.{set_property};
+ghost use Rattle.qo_model.specs.Clocks.{ClocksFit};
 ghost use Rattle.qo_object.specs.Content.{empty_link_at};
 ghost use Rattle.qo_object.specs.Shown.{birth_of};
 ghost use Rattle.qo_object.specs.Slots.{held, slot_in};
 ghost use Rattle.qo_table.specs.Rows.{IsLive};
 ghost use Rattle.qo_heap.specs.Board.{Shows, pins_in};
 ghost use Rattle.qo_heap.specs.Objects.{content_of, slots_of};
+ghost use Rattle.qo_heap.specs.Timely.{Timely};
 ghost use Rattle.qo_properties.specs.Claims.{KeepsBook};
 ghost use Rattle.qo_properties.specs.Writes.{Writes, is_link_at, is_plain_at, link_type_at, no_target, target_told, to_link, to_plain};
 
@@ -19,6 +22,7 @@ use crate::reading::lookup::place_named;
 use crate::reading::naming::object_at;
 use crate::reading::values::copy_of;
 use crate::refusals::Refusal;
+use crate::writing::clocks::{led_to, set_row, write_property};
 use qo_heap::{Heap, Oid, Slot, Steps};
 use qo_life::drop_hold;
 use qo_model::{Mark, Property, RowKind};
@@ -206,8 +210,8 @@ fn write_kind<L: Ledger>(
     }
 }
 
-/// Writes the slot of an object at a place, whose property has this row; refused with E18 where
-/// `qom-set` does not write such a property.
+/// Writes the slot of an object at a place, whose property has this row; refused with E18 where the
+/// command that adds an object and `qom-set` do not both write such a property.
 fn write_row<L: Ledger>(
     heap: &mut Heap,
     o: Oid,
@@ -229,7 +233,8 @@ fn write_row<L: Ledger>(
     }
 }
 
-/// Writes the property of a name of an object. An error leaves the heap as it was.
+/// Writes the property of a name of an object, where the command that adds an object and `qom-set` both
+/// write it. An error leaves the heap as it was.
 fn write<L: Ledger>(
     heap: &mut Heap,
     o: Oid,
@@ -254,12 +259,41 @@ fn write<L: Ledger>(
     write_row(heap, o, at, row, val, alloc, steps)
 }
 
+/// Writes the property of a name of an object, as `qom-set` does. An error leaves the heap as it was.
+fn set_property<L: Ledger>(
+    heap: &mut Heap,
+    o: Oid,
+    name: &str,
+    val: &Val,
+    alloc: Global,
+    steps: &mut Steps<L>,
+) -> Result<(), Refusal>
+    requires live { IsLive heap.old.rows o }
+    requires timely { Timely heap.old }
+    ensures written { (b : Tree) → Shows b heap.old → ClocksFit b → Writes heap.new result (set_property b o.birth name.now val.now) }
+    ensures err { OnErr result (heap.new ≡ heap.old) }
+    ensures pins { pins_in heap.new.rows ≡ pins_in heap.old.rows }
+    ensures book { KeepsBook heap.old heap.new }
+{
+    if set_row(heap, o, name, steps).is_none() {
+        return write(heap, o, name, val, alloc, steps);
+    }
+    let (clock, row) = led_to(heap, o, name, steps)?;
+    write_property(heap, clock, row, val, steps)
+}
+
 /// Writes the property of a name of the object at a path (QEMU's QAPI, `qom-set`). A link takes the
 /// path of its target, or the empty text for none; what it held is finalised where nothing refers to
-/// it any more. Refused with E15 where a path leads to no object and E16 where to several, E17 where
-/// the object has no such property, E18 where `qom-set` does not write it, E19 where the value does
-/// not fit, and E31 where the target is not of the link's type. The other error is want of memory,
+/// it any more. A clock takes a number for its period, its mul and its div, the first also by the
+/// device's alias for it; the devices of the clocks below are called back (`qo_clocks::set`). Refused
+/// with E15 where a path leads to no object and E16 where to several, E17 where the object has no such
+/// property, E18 where `qom-set` does not write it, E19 where the value does not fit, E31 where the
+/// target is not of the link's type, and then E45 where the clock has a source, E46 where it would
+/// divide by 0, and E47 where a period would not fit in 64 bits. The other error is want of memory,
 /// which comes only where a value is copied. An error leaves the heap as it was.
+///
+/// What is called back may be a timer, which reads the time, so no timer may have had a moment after
+/// the heap's time.
 pub fn set<L: Ledger>(
     heap: &mut Heap,
     path: &str,
@@ -268,11 +302,12 @@ pub fn set<L: Ledger>(
     alloc: Global,
     steps: &mut Steps<L>,
 ) -> Result<(), Refusal>
-    ensures written { (b : Tree) → Shows b heap.old → Writes heap.new result (write_at b path.now name.now val.now) }
+    requires timely { Timely heap.old }
+    ensures written { (b : Tree) → Shows b heap.old → ClocksFit b → Writes heap.new result (write_at b path.now name.now val.now) }
     ensures err { OnErr result (heap.new ≡ heap.old) }
     ensures pins { pins_in heap.new.rows ≡ pins_in heap.old.rows }
     ensures book { KeepsBook heap.old heap.new }
 {
     let o = object_at(heap, path, steps)?;
-    write(heap, o, name, val, alloc, steps)
+    set_property(heap, o, name, val, alloc, steps)
 }

@@ -1,4 +1,4 @@
-use Rattle.std.proofs.Common.{◌∙◌, ◌+◌, ℕ, ap, sym, codes}
+use Rattle.std.proofs.Common.{refl, ◌∙◌, ◌+◌, ℕ, ap, sym, codes}
 use Rattle.qo_values.specs.declared.properties.Val.TheVariants as val
 use Rattle.qo_object.specs.Slots.{with_val}
 use Rattle.qo_heap.specs.Acts.{Acts}
@@ -19,20 +19,20 @@ returns-in_default-clause-answer g c = λ b s fit.
     (ap (λ (k : ℕ). k + 1) c.live-levels.ensures) (c.period-own.ensures b s fit)
     (sym c.in_default.is
     ∙ c.all_fit.ensures
-    ∙ fits-scaled c.args.heap.now (c.live-levels.result + 1) c.args.c.birth c.period-own.result c.args.mul c.args.div c.from-mul.result c.from-div.result
-    c.written-mul_after.result c.written.result c.fitting-child.result c.from-mul.ensures c.from-div.ensures c.written-mul_after.ensures c.written.ensures
+    ∙ fits-scaled c.args.heap.now (c.live-levels.result + 1) c.args.c.birth c.period-own.result c.args.mul c.args.div c.args.mul c.args.div
+    c.written-mul_after.result c.written.result c.fitting-child.result refl refl c.written-mul_after.ensures c.written.ensures
     c.fitting-child.ensures)
 
 pub set_number-requires-2 : goal.set_number-requires-2
 set_number-requires-2 g c =
     rw c.set_number.ensures
-    (live-changed c.args.c.birth (codes "mul") (with_val (val.Uint c.from-mul.result)) c.args.heap.now c.args.c c.requires.live)
+    (live-changed c.args.c.birth (codes "mul") (with_val (val.Uint c.args.mul)) c.args.heap.now c.args.c c.requires.live)
 
 pub spread-requires : goal.spread-requires
 spread-requires g c =
     rw
-    (scaled-heap c.args.heap.now c.set_number.new.heap c.set_number-2.new.heap c.args.c.birth c.args.mul c.args.div c.from-mul.result c.from-div.result
-    c.set_number.ensures c.set_number-2.ensures c.from-mul.ensures c.from-div.ensures)
+    (scaled-heap c.args.heap.now c.set_number.new.heap c.set_number-2.new.heap c.args.c.birth c.args.mul c.args.div c.args.mul c.args.div
+    c.set_number.ensures c.set_number-2.ensures refl refl)
     (scale-timely c.args.heap.now c.args.c.birth c.args.mul c.args.div c.requires.timely)
 
 pub returns-clause-answer : goal.returns-clause-answer
@@ -40,14 +40,14 @@ returns-clause-answer g c = λ b s fit.
     scale-done b c.args.heap.now c.spread.new.heap s c.args.c.birth fit c.args.mul c.args.div c.period-own.result (c.live-levels.result + 1)
     c.in-Some.after c.if-div-eq0.false (ap (λ (k : ℕ). k + 1) c.live-levels.ensures) (c.period-own.ensures b s fit)
     (c.in-Some.ensures
-    ∙ fits-scaled c.args.heap.now (c.live-levels.result + 1) c.args.c.birth c.period-own.result c.args.mul c.args.div c.from-mul.result c.from-div.result
-    c.written-mul_after.result c.written.result c.fitting-child.result c.from-mul.ensures c.from-div.ensures c.written-mul_after.ensures c.written.ensures
+    ∙ fits-scaled c.args.heap.now (c.live-levels.result + 1) c.args.c.birth c.period-own.result c.args.mul c.args.div c.args.mul c.args.div
+    c.written-mul_after.result c.written.result c.fitting-child.result refl refl c.written-mul_after.ensures c.written.ensures
     c.fitting-child.ensures)
     (c.spread.ensures
     ∙ spread-alike c.set_number-2.new.heap (with_scale c.args.c.birth c.args.mul c.args.div c.args.heap.now) (c.live-levels.result + 1) c.args.c.birth
     c.scaled-before.result (scaled_on c.args.heap.now c.args.c.birth c.period-own.result) c.in-Some.after
-    (scaled-heap c.args.heap.now c.set_number.new.heap c.set_number-2.new.heap c.args.c.birth c.args.mul c.args.div c.from-mul.result c.from-div.result
-    c.set_number.ensures c.set_number-2.ensures c.from-mul.ensures c.from-div.ensures)
+    (scaled-heap c.args.heap.now c.set_number.new.heap c.set_number-2.new.heap c.args.c.birth c.args.mul c.args.div c.args.mul c.args.div
+    c.set_number.ensures c.set_number-2.ensures refl refl)
     c.scaled-before.ensures)
 
 -- beside the number that is written only bodies act
@@ -57,8 +57,8 @@ behind g c =
     let acts : Acts c.set_number-2.new.heap c.spread.new.heap =
     rw c.spread.ensures (spread-acts c.set_number-2.new.heap (c.live-levels.result + 1) c.args.c.birth c.scaled-before.result c.in-Some.after) in
     acts-behind (with_scale c.args.c.birth c.args.mul c.args.div c.args.heap.now) c.set_number-2.new.heap c.spread.new.heap
-    (scaled-heap c.args.heap.now c.set_number.new.heap c.set_number-2.new.heap c.args.c.birth c.args.mul c.args.div c.from-mul.result c.from-div.result
-    c.set_number.ensures c.set_number-2.ensures c.from-mul.ensures c.from-div.ensures) acts
+    (scaled-heap c.args.heap.now c.set_number.new.heap c.set_number-2.new.heap c.args.c.birth c.args.mul c.args.div c.args.mul c.args.div
+    c.set_number.ensures c.set_number-2.ensures refl refl) acts
 
 pub returns-clause-acts : goal.returns-clause-acts
 returns-clause-acts g c = behind g c
@@ -73,8 +73,8 @@ pub returns-clause-timely : goal.returns-clause-timely
 returns-clause-timely g c =
     let all : Timely c.set_number-2.new.heap =
     rw
-    (scaled-heap c.args.heap.now c.set_number.new.heap c.set_number-2.new.heap c.args.c.birth c.args.mul c.args.div c.from-mul.result c.from-div.result
-    c.set_number.ensures c.set_number-2.ensures c.from-mul.ensures c.from-div.ensures)
+    (scaled-heap c.args.heap.now c.set_number.new.heap c.set_number-2.new.heap c.args.c.birth c.args.mul c.args.div c.args.mul c.args.div
+    c.set_number.ensures c.set_number-2.ensures refl refl)
     (scale-timely c.args.heap.now c.args.c.birth c.args.mul c.args.div c.requires.timely) in
     rw c.spread.ensures (spread-timely c.set_number-2.new.heap (c.live-levels.result + 1) c.args.c.birth c.scaled-before.result c.in-Some.after all)
 
@@ -89,7 +89,7 @@ returns-clause-fits g c = λ b s fit x t.
     scale-fits b c.args.heap.now c.spread.new.heap s c.args.c.birth fit c.args.mul c.args.div c.period-own.result (c.live-levels.result + 1)
     c.in-Some.after c.if-div-eq0.false (ap (λ (k : ℕ). k + 1) c.live-levels.ensures) (c.period-own.ensures b s fit)
     (c.in-Some.ensures
-    ∙ fits-scaled c.args.heap.now (c.live-levels.result + 1) c.args.c.birth c.period-own.result c.args.mul c.args.div c.from-mul.result c.from-div.result
-    c.written-mul_after.result c.written.result c.fitting-child.result c.from-mul.ensures c.from-div.ensures c.written-mul_after.ensures c.written.ensures
+    ∙ fits-scaled c.args.heap.now (c.live-levels.result + 1) c.args.c.birth c.period-own.result c.args.mul c.args.div c.args.mul c.args.div
+    c.written-mul_after.result c.written.result c.fitting-child.result refl refl c.written-mul_after.ensures c.written.ensures
     c.fitting-child.ensures)
     (behind g c) x t

@@ -8,18 +8,18 @@ use Rattle.qo_properties.proofs.ReadLemmas.{named-is, read-alias, read-own}
 use Rattle.qo_properties.proofs.reading.values.value_of.Goals as goal
 
 pub returns-in_default : goal.returns-in_default
-returns-in_default g c = λ b s.
+returns-in_default g c = λ b s fit.
     ap (option_and_then (slot_value b c.args.o.birth c.args.name.now)) (sym (named-is b c.args.heap.now s c.args.o.birth c.args.name.now None c.in_default.ensures.slot))
 
 pub returns-in-Alias : goal.returns-in-Alias
-returns-in-Alias g c = λ b s.
+returns-in-Alias g c = λ b s fit.
     let passed : option_map (own_value b c.in-Alias.target.birth c.as_str.result.now) (board.slot_named b c.in-Alias.target.birth c.as_str.result.now) ≡ value_of b c.args.o.birth c.args.name.now =
     ap (λ (of : List ℕ). option_map (own_value b c.in-Alias.target.birth of) (board.slot_named b c.in-Alias.target.birth of)) c.as_str.ensures.value
     ∙ read-alias b c.args.heap.now s c.args.o.birth c.args.name.now (c.in-Some.slot.name.now, c.in-Some.slot.what.now) c.in-Some.ensures.slot c.in-Alias.target c.in-Alias.of c.in-Alias.is in
-    subst (λ (x : Option Val). IfOk c.passed_on.result (λ val. val ≡ x)) passed (c.passed_on.ensures b s)
+    subst (λ (x : Option Val). IfOk c.passed_on.result (λ val. val ≡ x)) passed (c.passed_on.ensures b s fit)
 
 pub returns : goal.returns
-returns g c = λ b s.
-    ap Some (c.in_ok-own_value.ensures b c.args.o.birth c.args.name.now s)
+returns g c = λ b s fit.
+    ap Some (c.in_ok-own_value.ensures b s fit)
     ∙ sym (read-own b c.args.o.birth c.args.name.now c.in-Some.slot.what.now (λ key of e. c.in_default-what.not-Alias key of e))
     ∙ ap (option_and_then (slot_value b c.args.o.birth c.args.name.now)) (sym (named-is b c.args.heap.now s c.args.o.birth c.args.name.now (Some (c.in-Some.slot.name.now, c.in-Some.slot.what.now)) c.in-Some.ensures.slot))

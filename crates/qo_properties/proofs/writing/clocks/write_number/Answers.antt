@@ -1,0 +1,44 @@
+-- The number that stays is read before, and what the clocks answer is told by its code.
+use Rattle.std.proofs.Common.{◌≡◌, ap, sym, subst, ◌∙◌, ℕ, Result}
+use Rattle.qo_values.specs.declared.codes.Code.{Code}
+use Rattle.qo_model.specs.Board.{Board}
+use Rattle.qo_model.specs.ClockChanges.{clock_scaled}
+use Rattle.qo_model.specs.Clocks.{div_of, mul_of}
+use Rattle.qo_clocks.specs.Writes.{Answers, with_period, with_scale}
+use Rattle.qo_clocks.proofs.ReadLemmas.{shows-div, shows-mul}
+use Rattle.qo_properties.proofs.ClockLemmas.{clock-pins, clock-writes, period-pins, scale-pins}
+use Rattle.qo_properties.proofs.writing.clocks.write_number.Goals as goal
+
+pub returns-in-Period-clause-pins : goal.returns-in-Period-clause-pins
+returns-in-Period-clause-pins g c =
+    clock-pins c.args.heap.now c.set.new.heap (with_period c.args.c.birth c.args.number c.args.heap.now) c.set.result
+    (period-pins c.args.heap.now c.args.c.birth c.args.number) c.set.ensures.acts c.set.ensures.err
+
+pub returns-in-Mul-clause-written : goal.returns-in-Mul-clause-written
+returns-in-Mul-clause-written g c = λ b s fit.
+    let n = c.args.c.birth in
+    let same : clock_scaled b n c.args.number c.div-div.result ≡ clock_scaled b n c.args.number (div_of b n) =
+    ap (clock_scaled b n c.args.number) (c.div-div.ensures ∙ sym (shows-div b c.args.heap.now s n)) in
+    rw (c.in-Mul.is, c.refused_as-in-Mul.ensures)
+    (clock-writes c.set_mul_div.new.heap c.set_mul_div.result (clock_scaled b n c.args.number (div_of b n))
+    (subst (λ (x : Result Board Code). Answers c.set_mul_div.new.heap c.set_mul_div.result x) same (c.set_mul_div.ensures.answer b s fit)))
+
+pub returns-in-Mul-clause-pins : goal.returns-in-Mul-clause-pins
+returns-in-Mul-clause-pins g c =
+    clock-pins c.args.heap.now c.set_mul_div.new.heap (with_scale c.args.c.birth c.args.number c.div-div.result c.args.heap.now) c.set_mul_div.result
+    (scale-pins c.args.heap.now c.args.c.birth c.args.number c.div-div.result) c.set_mul_div.ensures.acts c.set_mul_div.ensures.err
+
+pub returns-in-Div-clause-written : goal.returns-in-Div-clause-written
+returns-in-Div-clause-written g c = λ b s fit.
+    let n = c.args.c.birth in
+    let same : clock_scaled b n c.mul-mul.result c.args.number ≡ clock_scaled b n (mul_of b n) c.args.number =
+    ap (λ (mul : ℕ). clock_scaled b n mul c.args.number) (c.mul-mul.ensures ∙ sym (shows-mul b c.args.heap.now s n)) in
+    rw (c.in-Div.is, c.refused_as-in-Div.ensures)
+    (clock-writes c.set_mul_div-in-Div.new.heap c.set_mul_div-in-Div.result (clock_scaled b n (mul_of b n) c.args.number)
+    (subst (λ (x : Result Board Code). Answers c.set_mul_div-in-Div.new.heap c.set_mul_div-in-Div.result x) same (c.set_mul_div-in-Div.ensures.answer b s fit)))
+
+pub returns-in-Div-clause-pins : goal.returns-in-Div-clause-pins
+returns-in-Div-clause-pins g c =
+    clock-pins c.args.heap.now c.set_mul_div-in-Div.new.heap (with_scale c.args.c.birth c.mul-mul.result c.args.number c.args.heap.now)
+    c.set_mul_div-in-Div.result (scale-pins c.args.heap.now c.args.c.birth c.mul-mul.result c.args.number) c.set_mul_div-in-Div.ensures.acts
+    c.set_mul_div-in-Div.ensures.err
