@@ -10,3 +10,4 @@ pub mod SoundLemmas
 pub mod StageLemmas
 pub mod StandsLemmas
 pub mod TimeLemmas
+pub mod WriteLemmas

@@ -53,16 +53,6 @@ changed-good b change h =
       timerless = timerless_kept_lem.change b change h.timerless;
     }
 
--- a value that was written
-pub wrote-good : (b c : Board) (path name : List ℕ) (val : Val) → write_at b path name val ≡ Ok c → Good b → Good c
-wrote-good b c path name val is good = go (object_at b path) refl
-  where
-    go : (o : Result ℕ Code) → object_at b path ≡ o → Good c
-    go (Ok n) e =
-        let its : write b n name val ≡ Ok c = rw (write_at, e) at is in
-        subst Good (ap (behind_write b) its) (changed-good b (wrote n name val) good)
-    go (Err code) e = absurd (let clash : Err code ≡ Ok c = rw (write_at, e) at is in cc)
-
 -- an attempt to make a user's object
 attempt-good : (b : Board) (t : TypeId) → Good b → Good (with_attempt b t)
 attempt-good b t h =

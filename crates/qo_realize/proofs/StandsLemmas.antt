@@ -11,13 +11,13 @@ use Rattle.qo_object.specs.Shown.{shown_slots}
 use Rattle.qo_model.specs.Board.{Board, Slot}
 use Rattle.qo_model.specs.Listing.{listing, type_text}
 use Rattle.qo_heap.proofs.ShowsReads.{shows-slots}
-use Rattle.qo_model.specs.FinalNotesRuns.{added, behind_write, deleted, severed, wrote}
+use Rattle.qo_model.specs.FinalNotesRuns.{added, deleted, severed}
 use Rattle.qo_model.specs.NoteReplies.{first_from, given_from}
 use Rattle.qo_model.specs.Notes.{kept_of, total_of}
 use Rattle.qo_model.specs.Objects.{Changed, Given, attempted_as, object_add, object_del, sever}
 use Rattle.qo_model.specs.Opening.{opening_board}
-use Rattle.qo_model.specs.Properties.{object_at, write}
 use Rattle.qo_model.specs.Stays.{Stays}
+use Rattle.qo_model.proofs.ClockStaysLemmas.{write_at-stays}
 use Rattle.qo_model.proofs.StaysLemmas.{attempted_as-stays, stays-none, stays_lem}
 use Rattle.qo_notes.specs.Log as log
 use Rattle.qo_notes.specs.Log.{IsLogOf, Log}
@@ -40,7 +40,8 @@ use Rattle.qo_hotplug.specs.Asked.{Asked, nothing_asked}
 use Rattle.qo_reset.specs.HoldList.{HoldList, no_holds}
 use Rattle.qo_realize.specs.Good.{Good}
 use Rattle.qo_realize.proofs.SoundLemmas.{changed-good}
-use Rattle.qo_realize.proofs.SoundLemmas.{attempted-good, wrote-good}
+use Rattle.qo_realize.proofs.SoundLemmas.{attempted-good}
+use Rattle.qo_realize.proofs.WriteLemmas.{wrote-good}
 use Rattle.qo_realize.specs.Parts.{Parts, parts_of, ring_claim}
 use Rattle.qo_realize.specs.Stands.{Stands, StandsForGood}
 
@@ -63,17 +64,8 @@ stands-by b c p v s stays shows keeps =
     }
 
 -- a write
-wrote-stays : (b c : Board) (path name : List ℕ) (val : Val) → write_at b path name val ≡ Ok c → Stays b c
-wrote-stays b c path name val is = go (object_at b path) refl
-  where
-    go : (o : Result ℕ Code) → object_at b path ≡ o → Stays b c
-    go (Ok n) e =
-        let its : write b n name val ≡ Ok c = rw (write_at, e) at is in
-        subst (λ (d : Board). Stays b d) (ap (behind_write b) its) (stays_lem.change b (wrote n name val))
-    go (Err code) e = absurd (let clash : Err code ≡ Ok c = rw (write_at, e) at is in cc)
-
 pub write-stands : (b : Board) (p : Parts) (v : Objects) (path name : List ℕ) (val : Val) (result : Result (Unit {0}) Refusal) → Stands b p → writes.Writes v result (write_at b path name val) → KeepsBook p.objects v → Writes (with_objects v p) result (write_at b path name val)
-write-stands b p v path name val (Ok u) s (c, is, shows) keeps = (c, is, stands-by b c p v s (wrote-stays b c path name val is) shows keeps)
+write-stands b p v path name val (Ok u) s (c, is, shows) keeps = (c, is, stands-by b c p v s (write_at-stays b c path name val is) shows keeps)
 write-stands b p v path name val (Err (Refused code)) s is keeps = is
 write-stands b p v path name val (Err Memory) s is keeps = tt
 

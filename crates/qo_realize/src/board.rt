@@ -195,9 +195,10 @@ impl Board {
 
     /// The value of the property of a name of the object at a path (QEMU's QAPI, `qom-get`). A
     /// child and a link read as the text that names the object: its canonical path, or `detached:`
-    /// and its birth; a link without a target as the empty text; an alias as the property that it
-    /// passes on to. Refused with E15 where the path leads to no object, E16 where to several, and
-    /// E17 where the object has no such property.
+    /// and its birth; a link without a target as the empty text; the period of a clock that goes by
+    /// another as the one that it has by that; an alias as the property that it passes on to. Refused
+    /// with E15 where the path leads to no object, E16 where to several, and E17 where the object has
+    /// no such property.
     pub fn qom_get<L: Ledger>(
         &self,
         path: &str,
@@ -262,11 +263,13 @@ impl Board {
 
     /// Writes the property of a name of the object at a path (QEMU's QAPI, `qom-set`). A link takes
     /// the path of its target, or the empty text for none; what it held is finalised where nothing
-    /// refers to it any more. Refused with E15 where a path leads to no object and E16 where to
-    /// several, E17 where the object has no such property, E18 where `qom-set` does not write it,
-    /// E19 where the value does not fit, and E31 where the target is not of the link's type. The
-    /// other error is want of memory, which comes only where a value is copied. An error leaves the
-    /// board as it was.
+    /// refers to it any more. A clock takes a number for its period, its mul and its div, the first
+    /// also by the device's alias for it; the devices of the clocks below are called back. Refused
+    /// with E15 where a path leads to no object and E16 where to several, E17 where the object has no
+    /// such property, E18 where `qom-set` does not write it, E19 where the value does not fit, E31
+    /// where the target is not of the link's type, and then E45 where the clock has a source, E46
+    /// where it would divide by 0, and E47 where a period would not fit in 64 bits. The other error is
+    /// want of memory, which comes only where a value is copied. An error leaves the board as it was.
     pub fn qom_set<L: Ledger>(
         &mut self,
         path: &str,

@@ -537,7 +537,7 @@ const PROPERTIES: [(&str, &str); 23] = [
     ),
     (
         "qom-set {\"path\":\"/machine/sysclk\",\"property\":\"period\",\"value\":1}",
-        "E18",
+        "R",
     ),
     (
         "qom-set {\"path\":\"t\",\"property\":\"hue\",\"value\":1}",
@@ -554,10 +554,7 @@ const PROPERTIES: [(&str, &str); 23] = [
     ("qom-get {\"path\":\"t\",\"property\":\"hue\"}", "E17"),
     ("qom-get {\"path\":\"/t\",\"property\":\"hue\"}", "E15"),
     ("qom-get {\"path\":\"\",\"property\":\"hue\"}", "E16"),
-    (
-        "qom-get {\"path\":\"sysclk\",\"property\":\"period\"}",
-        "42949672960",
-    ),
+    ("qom-get {\"path\":\"sysclk\",\"property\":\"period\"}", "1"),
     (
         "object-add {\"qom-type\":\"memory-backend-ram\",\"id\":\"m\",\"size\":8192}",
         "R",

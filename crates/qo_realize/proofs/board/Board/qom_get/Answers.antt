@@ -1,9 +1,10 @@
 use Rattle.std.proofs.Common.{sym, subst}
 use Rattle.qo_realize.specs.Parts.{Parts}
 use Rattle.qo_realize.specs.Stands.{Stands}
+use Rattle.qo_realize.proofs.SoundLemmas.{good-of}
 use Rattle.qo_realize.proofs.board.Board.qom_get.Goals as goal
 
 pub returns : goal.returns
 returns g c = λ b s.
     let seen = subst (λ (p : Parts). Stands b p) (sym c.self.view_is) s in
-    c.get.ensures b seen.shows
+    c.get.ensures b seen.shows (good-of _ c.self.invariant.1 b seen).clocks.fit

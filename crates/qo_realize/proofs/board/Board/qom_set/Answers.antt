@@ -1,13 +1,18 @@
 use Rattle.std.proofs.Common.{sym, subst, ◌∙◌}
 use Rattle.qo_realize.specs.Parts.{Parts}
 use Rattle.qo_realize.specs.Stands.{Stands}
+use Rattle.qo_realize.proofs.SoundLemmas.{good-of}
 use Rattle.qo_realize.proofs.StandsLemmas.{err-stays, write-stands, written-sound}
+use Rattle.qo_realize.proofs.WriteLemmas.{shows-timely}
 use Rattle.qo_realize.proofs.board.Board.qom_set.Goals as goal
+
+pub set-requires : goal.set-requires
+set-requires g c = let (b, s, good) = c.self.invariant.1 in record { timely = shows-timely b _ s.shows good.times }
 
 pub returns-clause-written : goal.returns-clause-written
 returns-clause-written g c = λ b s.
     let seen = subst (λ (p : Parts). Stands b p) (sym c.self.view_is) s in
-    write-stands b _ c.set.new.heap c.args.path.now c.args.name.now c.args.val.now c.set.result seen (c.set.ensures.written b seen.shows) c.set.ensures.book
+    write-stands b _ c.set.new.heap c.args.path.now c.args.name.now c.args.val.now c.set.result seen (c.set.ensures.written b seen.shows (good-of _ c.self.invariant.1 b seen).clocks.fit) c.set.ensures.book
 
 pub returns-clause-err : goal.returns-clause-err
 returns-clause-err g c =
@@ -17,4 +22,4 @@ returns-clause-err g c =
 pub invariant_of-self : goal.invariant_of-self
 invariant_of-self g c =
     let (b, s, sound) = c.self.invariant.1 in
-    (c.set.ensures.pins ∙ c.self.invariant.0, written-sound b _ c.set.new.heap c.args.path.now c.args.name.now c.args.val.now c.set.result s sound (write-stands b _ c.set.new.heap c.args.path.now c.args.name.now c.args.val.now c.set.result s (c.set.ensures.written b s.shows) c.set.ensures.book) c.set.ensures.err)
+    (c.set.ensures.pins ∙ c.self.invariant.0, written-sound b _ c.set.new.heap c.args.path.now c.args.name.now c.args.val.now c.set.result s sound (write-stands b _ c.set.new.heap c.args.path.now c.args.name.now c.args.val.now c.set.result s (c.set.ensures.written b s.shows sound.clocks.fit) c.set.ensures.book) c.set.ensures.err)
