@@ -3,11 +3,13 @@ use Rattle.std.proofs.Common.{refl, sym, ◌∙◌, List, Result, Ok, Err, IfOk,
 use Rattle.qo_causes.specs.declared.inputs.Input.{Input}
 use Rattle.qo_commands.specs.Commands.{without_events}
 use Rattle.qo_model.specs.Board.{Board}
+use Rattle.qo_model.specs.Clocks.{div_of, mul_of}
 use Rattle.qo_realize.specs.Stands.{StandsForGood}
 use Rattle.qo_realize.specs.Time.{at_time, with_running}
 use Rattle.qo_realize.proofs.SoundLemmas.{completed-devices, polled-devices}
 use Rattle.qo_sound_devices.specs.SoundDevices.{SoundDevices}
 use Rattle.qo_sound_devices.proofs.DevicesLawLemmas.{devices_kept_lem}
+use Rattle.qo_sound_clocks.proofs.KeepLemmas.{writes_keep_lem}
 use Rattle.qo_machine.proofs.KeepLemmas.{KeepsBoard, KeepsCommands, broken_keeps, keeps_commands, step_keeps}
 use Rattle.qo_machine.proofs.MachineLemmas.{in_at}
 use Rattle.qo_machine.specs.Machine.{Answers, BreaksOff, IsIn, Message, Seen, State, opening, state_at, step}
@@ -17,6 +19,9 @@ pub devices_kept : KeepsBoard SoundDevices
 devices_kept =
     record {
       change = λ b change h. devices_kept_lem.change b change h;
+      set = λ b d c period fits is h. writes_keep_lem.set_devices b d c period is h;
+      multiplied = λ b d c mul fits is h. writes_keep_lem.scaled_devices b d c mul (div_of b c) is h;
+      divided = λ b d c div fits is h. writes_keep_lem.scaled_devices b d c (mul_of b c) div is h;
       attempt = λ b t h. devices_kept_lem.attempt b t h;
       plugged = λ b a h. devices_kept_lem.plugged b a h;
       cut = λ b t i joined h. devices_kept_lem.cut b t i joined h;

@@ -1,5 +1,5 @@
 -- What each command keeps of the board, and each attempt that is given up, a step and a run keep.
-use Rattle.std.proofs.Common.{◌≡◌, ℕ, ◌+◌, nat_lt, not, ◌==◌, Bool, true, false, if◌then◌else◌, List, [], ◌∷◌, map, refl, subst, sym, Option, None, Some, Result, Ok, Err, codes}
+use Rattle.std.proofs.Common.{◌^◌, ◌<◌, ap, ◌≡◌, ℕ, ◌+◌, nat_lt, not, ◌==◌, Bool, true, false, if◌then◌else◌, List, [], ◌∷◌, map, refl, subst, sym, Option, None, Some, Result, Ok, Err, codes}
 use Rattle.std.specs.Option.{option_map_or}
 use Rattle.qo_causes.specs.declared.inputs.Input.{Input}
 use Rattle.qo_causes.specs.declared.inputs.Moment.{Moment}
@@ -15,9 +15,11 @@ use Rattle.qo_values.specs.declared.kinds.TypeId.{TypeId}
 use Rattle.qo_values.specs.declared.properties.Val.{Val}
 use Rattle.qo_values.specs.declared.limits.TheConstants.{SESSIONS, TIME_MAX}
 use Rattle.qo_model.specs.Board.{Board}
-use Rattle.qo_model.specs.FinalNotesRuns.{Change, added as object_added, deleted, wrote, severed, changed}
+use Rattle.qo_model.specs.ClockChanges.{clock_scaled, clock_set}
+use Rattle.qo_model.specs.Clocks.{div_of, mul_of}
+use Rattle.qo_model.specs.FinalNotesRuns.{Change, added as object_added, behind_write, deleted, wrote, severed, changed}
 use Rattle.qo_model.specs.Objects.{Changed, barred_by, object_add, object_del, sever, with_attempt}
-use Rattle.qo_model.specs.Properties.{object_at, write}
+use Rattle.qo_model.proofs.ClockPropertyLemmas.{write_at-cases}
 use Rattle.qo_model.specs.Depth.{among}
 use Rattle.qo_model.specs.Hotplug.{asked, completed, reset_whole}
 use Rattle.qo_model.specs.Hotplug.{refused as refused_removal}
@@ -60,6 +62,10 @@ use Rattle.qo_machine.specs.Runs.{Turn, after, state_after}
 -- what each change of the board keeps, and each attempt
 pub record KeepsBoard (P : Board → Type 0) : Type 0 where
   pub change : (b : Board) (change : Change) → P b → P (changed b change)
+  -- a clock is written, by a number as wide as its property
+  pub set : (b d : Board) (c period : ℕ) → period < 2 ^ 64 → clock_set b c period ≡ Ok d → P b → P d
+  pub multiplied : (b d : Board) (c mul : ℕ) → mul < 2 ^ 32 → clock_scaled b c mul (div_of b c) ≡ Ok d → P b → P d
+  pub divided : (b d : Board) (c div : ℕ) → div < 2 ^ 32 → clock_scaled b c (mul_of b c) div ≡ Ok d → P b → P d
   pub attempt : (b : Board) (t : TypeId) → P b → P (with_attempt b t)
   -- a device is added or refused, and an attempt at it is cut
   pub plugged : (b : Board) (a : Wanted) → P b → P (plug b a).board
@@ -105,19 +111,18 @@ changed_board P c p = by c.refusal
     by None = p
     by (Some code) = p
 
-wrote_board : (P : Board → Type 0) → KeepsBoard P → (b : Board) (n : ℕ) (name : List ℕ) (v : Val) → P b → P (commands.wrote b (write b n name v)).board
-wrote_board P k b n name v p = by (write b n name v) refl (k.change b (wrote n name v) p)
-  where
-    by : (r : Result Board Code) → write b n name v ≡ r → P (changed b (wrote n name v)) → P (commands.wrote b r).board
-    by (Ok c) is q = rw is at q
-    by (Err code) is q = p
-
 set_board : (P : Board → Type 0) → KeepsBoard P → (b : Board) (path name : List ℕ) (v : Val) → P b → P (commands.wrote b (write_at b path name v)).board
-set_board P k b path name v p = by (object_at b path) refl
+set_board P k b path name v p = by (write_at b path name v) refl
   where
-    by : (r : Result ℕ Code) → object_at b path ≡ r → P (commands.wrote b (write_at b path name v)).board
-    by (Ok n) is = rw (write_at, is) (wrote_board P k b n name v p)
-    by (Err code) is = rw (write_at, is) p
+    by : (r : Result Board Code) → write_at b path name v ≡ r → P (commands.wrote b r).board
+    by (Ok d) is =
+        write_at-cases (P d) b d
+        (λ n name v q. subst P (ap (behind_write b) q) (k.change b (wrote n name v) p))
+        (λ c period fits q. k.set b d c period fits q p)
+        (λ c mul fits q. k.multiplied b d c mul fits q p)
+        (λ c div fits q. k.divided b d c div fits q p)
+        path name v is
+    by (Err code) is = p
 
 -- a device
 plugged_board : (P : Board → Type 0) (add : Plugged) → P add.board → P (commands.plugged add).board

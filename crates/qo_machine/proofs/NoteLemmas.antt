@@ -2,6 +2,7 @@
 use Rattle.std.proofs.Common.{◌≡◌, ℕ, zero, suc, true, refl, length, codes, Option, Some, None}
 use Rattle.qo_values.specs.declared.births.TheConstants.{MACHINE_BIRTH, ROOT_BIRTH}
 use Rattle.qo_model.specs.Board.{Board, is_live}
+use Rattle.qo_model.specs.Clocks.{div_of, mul_of}
 use Rattle.qo_model.specs.FinalNotes.{NotesInOrder}
 use Rattle.qo_model.proofs.FinalNotesGrowthLemmas.{attempt-grows, grown-keeps}
 use Rattle.qo_model.proofs.FinalNotesRunsLemmas.{final_once_lem, once, opening_notes}
@@ -17,6 +18,7 @@ use Rattle.qo_sound_devices.proofs.DevicesLawLemmas.{devices_kept_lem}
 use Rattle.qo_sound_devices.proofs.PlacesLemmas.{child-live, of-live, stands-live}
 use Rattle.qo_sound_devices.proofs.ResetLemmas.{first-on}
 use Rattle.qo_machine.proofs.AddressLemmas.{address-there}
+use Rattle.qo_sound_clocks.proofs.KeepLemmas.{writes_keep_lem}
 use Rattle.qo_machine.proofs.KeepLemmas.{KeepsBoard, KeepsCommands, keeps_commands, run_keeps}
 use Rattle.qo_machine.proofs.DevicesLemmas.{devices_free, devices_kept}
 use Rattle.qo_machine.specs.Laws.{FinalOnceInRuns}
@@ -58,6 +60,9 @@ notes_kept : KeepsBoard Ordered
 notes_kept =
     record {
       change = λ b change o. (devices_kept.change b change o.0, final_once_lem.step b change o.1);
+      set = λ b d c period fits is o. (devices_kept.set b d c period fits is o.0, writes_keep_lem.set_notes b d c period is o.1);
+      multiplied = λ b d c mul fits is o. (devices_kept.multiplied b d c mul fits is o.0, writes_keep_lem.scaled_notes b d c mul (div_of b c) is o.1);
+      divided = λ b d c div fits is o. (devices_kept.divided b d c div fits is o.0, writes_keep_lem.scaled_notes b d c (mul_of b c) div is o.1);
       attempt = λ b t o. (devices_kept.attempt b t o.0, grown-keeps b _ t true (attempt-grows b t o.1) o.1);
       plugged = λ b a o. (devices_kept.plugged b a o.0, notes_kept_lem.plugged b a o.0.tree o.1);
       cut = λ b t i joined o. (devices_kept.cut b t i joined o.0, notes_kept_lem.cut b t i joined o.1);

@@ -4,6 +4,7 @@ use Rattle.qo_causes.specs.declared.inputs.Input.{Input}
 use Rattle.qo_model.proofs.OpeningLemmas.{opening_sound}
 use Rattle.qo_model.proofs.TreeLemmas.{frame_lem}
 use Rattle.qo_model.specs.Board.{Board}
+use Rattle.qo_model.specs.Clocks.{div_of, mul_of}
 use Rattle.qo_model.specs.Sound.{IsSound}
 use Rattle.qo_model.specs.SoundGraph.{graph_of}
 use Rattle.qo_commands.proofs.AttemptLemmas.{attempted-all}
@@ -15,6 +16,7 @@ use Rattle.qo_sound_devices.specs.SoundDevices.{SoundDevices}
 use Rattle.qo_sound_devices.proofs.DevicesLawLemmas.{devices_kept_lem}
 use Rattle.qo_machine.proofs.AddressLemmas.{asked-tree, polled-tree, refused-tree}
 use Rattle.qo_machine.proofs.DevicesLemmas.{devices_commands}
+use Rattle.qo_sound_clocks.proofs.KeepLemmas.{writes_keep_lem}
 use Rattle.qo_machine.proofs.KeepLemmas.{KeepsBoard, KeepsCommands, advanced-all, broken_keeps, keeps_commands, run_keeps, step_keeps}
 use Rattle.qo_machine.proofs.MachineLemmas.{in_at}
 use Rattle.qo_machine.proofs.SoundLemmas.{sound_by}
@@ -35,6 +37,9 @@ pub tree_kept : KeepsBoard SoundTree
 tree_kept =
     record {
       change = λ b change h. sound_kept_lem.change b change h;
+      set = λ b d c period fits is h. writes_keep_lem.set_tree b d c period is h;
+      multiplied = λ b d c mul fits is h. writes_keep_lem.scaled_tree b d c mul (div_of b c) is h;
+      divided = λ b d c div fits is h. writes_keep_lem.scaled_tree b d c (mul_of b c) div is h;
       attempt = λ b t h. (sound_kept_lem.attempt b t h.0, sound_kept_lem.attempt_aliases b t h.1);
       plugged = λ b a h. sound_kept_lem.plugged b a h;
       cut = λ b t i joined h. sound_kept_lem.cut b t i joined h;
