@@ -1,25 +1,26 @@
 -- The device at an address is there, on a board whose tree is sound; and what asking, refusing and taking notices leave of the tree.
-use Rattle.std.proofs.Common.{◌≡◌, refl, ap, sym, ◌∙◌, ℕ, Bool, true, false, List, [], ◌∷◌, filter_map, Option, Some, None, if◌then◌else◌, is_some}
+use Rattle.std.proofs.Common.{◌≡◌, refl, ap, sym, ◌∙◌, ℕ, Bool, true, false, List, [], ◌∷◌, filter_map, Option, Some, None, if◌then◌else◌, is_some, ◌&&◌, codes, subst}
 use Rattle.std.specs.Prelude.{find, not, option_and_then, option_map}
-use Rattle.std.specs.List.{AllByRecursion}
+use Rattle.std.specs.List.{AllByRecursion, cons_option}
 use Rattle.std.specs.Str.{bytes_eq}
 use Rattle.std.proofs.lemmas.Option.{same_Some}
 use Rattle.qo_guest.specs.declared.addresses.Addr.{Addr}
 use Rattle.qo_guest.specs.declared.addresses.Addr.TheVariants.{Slots, Mem}
 use Rattle.qo_buses.specs.Addresses.{addressed}
 use Rattle.qo_values.specs.declared.codes.Code.TheVariants.{E33, E34, E35}
-use Rattle.qo_model.specs.Board.{Board, Slot, slots_at}
+use Rattle.qo_model.specs.Board.{Board, Slot, plain, child, strong, weak, alias, is_live, slots_at}
 use Rattle.qo_model.specs.Depth.{among}
-use Rattle.qo_model.specs.Devices.{first_bus, found_at, kid_at, kid_name, strong_in}
+use Rattle.qo_model.specs.Devices.{bus_in, clock_name, first_bus, found_at, kid_at, kid_name, strong_in}
 use Rattle.qo_model.specs.Hotplug.{asked, asked_of, device_at, refused, with_asked}
 use Rattle.qo_model.specs.Objects.{Changed}
-use Rattle.qo_model.specs.Paths.{attached}
+use Rattle.qo_model.specs.Paths.{attached, is_of}
 use Rattle.qo_model.specs.Plug.{notice_barred}
 use Rattle.qo_model.specs.SoundGraph.{graph_of}
 use Rattle.qo_model.proofs.TreeLemmas.{frame_lem}
 use Rattle.qo_realize.specs.Guest.{polled}
 use Rattle.qo_sound.proofs.LiveLemmas.{IsThere, kids-there}
 use Rattle.qo_sound.proofs.ViewLemmas.{rest-from_sound}
+use Rattle.qo_sound_devices.proofs.PlacesLemmas.{of-live}
 use Rattle.qo_sound.specs.Kept.{SoundTree}
 
 -- what the first slot of a name comes to, where all that slots come to passes
@@ -65,6 +66,34 @@ found-there b sound (slot ∷ next ∷ slots) bus d e = kid (λ m is. found-ther
 pub address-there : (b : Board) → SoundTree b → (at : Addr) (d : ℕ) → addressed b at ≡ Some d → IsThere b d
 address-there b sound (Slots slots) d e = found-there b sound slots 6 d e
 address-there b sound (Mem slot) d e = kid-there b sound 7 slot d e
+
+-- a bus of an object is there
+
+abbrev first_in : List ℕ → Option ℕ
+first_in ms = elim ms [ [] ↦ None | m ∷ _ ↦ Some m ]
+
+first-is : (b : Board) (m : ℕ) (slots : List (List ℕ × Slot)) → first_in (filter_map (bus_in b) slots) ≡ Some m → is_of b (codes "bus") m ≡ true
+first-is b m [] e = absurd (let clash : None ≡ Some m = e in cc)
+first-is b m ((name, plain v) ∷ slots) e = first-is b m slots e
+first-is b m ((name, strong t o) ∷ slots) e = first-is b m slots e
+first-is b m ((name, weak t o) ∷ slots) e = first-is b m slots e
+first-is b m ((name, alias k p) ∷ slots) e = first-is b m slots e
+first-is b m ((name, child k) ∷ slots) e = go (is_of b (codes "bus") k) refl (bytes_eq name clock_name) (first-is b m slots) e
+  where
+    found : Bool → Bool → Option ℕ
+    found bus clock = if bus && not clock then Some k else None
+
+    left : Option ℕ → Option ℕ
+    left o = first_in (cons_option o (filter_map (bus_in b) slots))
+
+    go : (bus : Bool) → is_of b (codes "bus") k ≡ bus → (clock : Bool) → (first_in (filter_map (bus_in b) slots) ≡ Some m → is_of b (codes "bus") m ≡ true)
+        → left (found bus clock) ≡ Some m → is_of b (codes "bus") m ≡ true
+    go true is false rest at = subst (λ (n : ℕ). is_of b (codes "bus") n ≡ true) (same_Some k m at) is
+    go true is true rest at = rest at
+    go false is clock rest at = rest at
+
+pub bus-live : (b : Board) (d m : ℕ) → first_bus b d ≡ Some m → is_live b m ≡ true
+bus-live b d m e = of-live b (codes "bus") m (first-is b m (slots_at b d) e)
 
 -- the tree has no part in removals and notices
 beside-tree : (b c : Board) → graph_of b ≡ graph_of c → c.records ≡ b.records → SoundTree b → SoundTree c

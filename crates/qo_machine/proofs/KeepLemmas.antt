@@ -1,5 +1,5 @@
 -- What each command keeps of the board, and each attempt that is given up, a step and a run keep.
-use Rattle.std.proofs.Common.{◌≡◌, ℕ, ◌+◌, nat_lt, not, ◌==◌, Bool, true, false, if◌then◌else◌, List, [], ◌∷◌, map, refl, subst, sym, Option, None, Some, Result, Ok, Err, codes}
+use Rattle.std.proofs.Common.{◌≡◌, ◌≤◌, arith, ℕ, ◌+◌, nat_lt, not, ◌==◌, Bool, true, false, if◌then◌else◌, List, [], ◌∷◌, map, refl, subst, sym, Option, None, Some, Result, Ok, Err, codes}
 use Rattle.std.specs.Option.{option_map_or}
 use Rattle.qo_causes.specs.declared.inputs.Input.{Input}
 use Rattle.qo_causes.specs.declared.inputs.Moment.{Moment}
@@ -9,6 +9,8 @@ use Rattle.qo_framing.specs.declared.items.Item.{Item}
 use Rattle.serde_json.specs.Data.{Data, array}
 use Rattle.serde_json.specs.View.{items_of}
 use Rattle.qo_values.specs.Plain.{data_of}
+use Rattle.qo_values.specs.Bodies.{Effect}
+use Rattle.qo_values.specs.Registers.{Registers}
 use Rattle.qo_values.specs.declared.codes.Code.{Code}
 use Rattle.qo_values.specs.declared.codes.Code.TheVariants.{E15, E22, E48, E49, E53}
 use Rattle.qo_values.specs.declared.kinds.TypeId.{TypeId}
@@ -19,11 +21,12 @@ use Rattle.qo_model.specs.FinalNotesRuns.{Change, added as object_added, deleted
 use Rattle.qo_model.specs.Objects.{Changed, barred_by, object_add, object_del, sever, with_attempt}
 use Rattle.qo_model.specs.Properties.{object_at, write}
 use Rattle.qo_model.specs.Depth.{among}
+use Rattle.qo_model.specs.Devices.{first_bus}
 use Rattle.qo_model.specs.Hotplug.{asked, completed, reset_whole}
 use Rattle.qo_model.specs.Hotplug.{refused as refused_removal}
 use Rattle.qo_model.specs.Paths.{Place, attached, found, is_of, missing, resolve, several}
 use Rattle.qo_model.specs.Plug.{Plugged, Wanted, cut_attempt, plug}
-use Rattle.qo_model.specs.Reset.{held, is_deep, released}
+use Rattle.qo_model.specs.Reset.{held, is_deep, pulse, released}
 use Rattle.qo_model.specs.Types.{TypeRow, is_a, row_named}
 use Rattle.qo_buses.specs.Addresses.{addressed}
 use Rattle.qo_guest.specs.Lines.{guest_line}
@@ -31,14 +34,17 @@ use Rattle.qo_guest.specs.declared.addresses.Addr.{Addr}
 use Rattle.qo_guest.specs.declared.answers.GuestAnswer.TheVariants.{NoPending, NoStopped}
 use Rattle.qo_guest.specs.declared.lines.GuestAct.{GuestAct}
 use Rattle.qo_guest.specs.declared.lines.GuestAct.TheVariants.{Ack, Nack, Poll, Read, Write, Reset, Shutdown}
-use Rattle.qo_lane.specs.Hearing.{act_in, acked, acted, fine, heard, heard_act, if_pending, nacked}
+use Rattle.qo_lane.specs.Hearing.{acked, acted, fine, heard, heard_act, if_pending, if_written, nacked, read_by, written_by}
 use Rattle.qo_lane.specs.Hearing as hearing
 use Rattle.qo_lane.specs.Lines.{lines_of, without_return}
 use Rattle.qo_plug.specs.Added.{added, driver_barred, wanted}
 use Rattle.qo_realize.specs.Guest.{polled}
+use Rattle.qo_realize.specs.Registers.{guest_written, registers_written}
 use Rattle.qo_realize.specs.Resets.{at_path, held_at, held_of, released_at, released_of, resettable_at}
 use Rattle.qo_realize.specs.Stands.{Stands}
 use Rattle.qo_realize.specs.Time.{advanced, at_time, with_running}
+use Rattle.qo_realize.proofs.WrittenLemmas.{written-all}
+use Rattle.qo_sound_clocks.specs.RegistersKept.{registers_set}
 use Rattle.qo_model.specs.Access.{listing_at, read, write_at}
 use Rattle.qo_requests.specs.declared.requests.Request.{Request}
 use Rattle.qo_requests.specs.declared.requests.Request.TheVariants.{QmpCapabilities, QueryVersion, QueryCommands, QueryStatus, Stop, Cont, SystemReset, Quit, QomList, QomGet, QomSet, QomListTypes, DeviceListProperties, ObjectAdd, ObjectDel, DeviceAdd, DeviceDel, ChardevAdd, ChardevRemove, RingbufRead, RingbufWrite, XResetHold, XResetRelease, XSever, XQueryNotes, XQueryDetached, XGuest, XStep}
@@ -69,8 +75,12 @@ pub record KeepsBoard (P : Board → Type 0) : Type 0 where
   pub completed : (b : Board) (at : Addr) (d : ℕ) → addressed b at ≡ Some d → among b.pending d ≡ true → P b → P (completed b d)
   pub refused : (b : Board) (d : ℕ) → P b → P (refused_removal b d)
   pub polled : (b : Board) → P b → P (polled b)
-  -- it comes to another moment, and runs or stands still
-  pub timed : (b : Board) (now : ℕ) → P b → P (at_time now b)
+  -- the guest writes to a register of a device: it has the registers then, and a bus of the device goes through a pulse
+  pub registers : (b : Board) (d reg value : ℕ) (registers : Registers) (e : Effect) → registers_written b d reg value ≡ Some (registers, e) → P b
+      → P (registers_set b d registers)
+  pub pulsed : (b : Board) (d m : ℕ) → first_bus b d ≡ Some m → P b → P (pulse b m)
+  -- it comes to a later moment, and runs or stands still
+  pub timed : (b : Board) (now : ℕ) → b.now ≤ now → P b → P (at_time now b)
   pub switched : (b : Board) (on : Bool) → P b → P (with_running on b)
   -- an object that may be is held in reset, and released; and the whole board is reset
   pub held_so : (b : Board) (n : ℕ) → is_of b (codes "resettable") n ≡ true → P b → P (held b n)
@@ -143,6 +153,14 @@ pending_keeps P b c d p q = by (among b.pending d) refl
     by true is = q is
     by false is = p
 
+written_keeps : (P : Board → Type 0) → KeepsBoard P → (b : Board) (d reg value : ℕ) → P b → P (if_written b (guest_written b d reg value)).board
+written_keeps P k b d reg value p = by (guest_written b d reg value) refl
+  where
+    by : (o : Option Board) → guest_written b d reg value ≡ o → P (if_written b o).board
+    by None is = p
+    by (Some c) is =
+        written-all P b d reg value (λ registers e so. k.registers b d reg value registers e so p) (λ x m at q. k.pulsed x d m at q) c is
+
 acted_keeps : (P : Board → Type 0) → KeepsBoard P → (b : Board) (act : GuestAct) → P b → P (acted b act).board
 acted_keeps P k b (Ack at) p = by (addressed b at) refl
   where
@@ -155,14 +173,22 @@ acted_keeps P k b (Nack at) p = by (addressed b at)
     by None = p
     by (Some d) = pending_keeps P b (refused_removal b d) d p (λ pending. k.refused b d p)
 acted_keeps P k b Poll p = k.polled b p
-acted_keeps P k b (Read at register) p = p
-acted_keeps P k b (Write at register value) p = p
+acted_keeps P k b (Read at reg) p = by (addressed b at)
+  where
+    by : (o : Option ℕ) → P (read_by b reg o).board
+    by None = p
+    by (Some d) = p
+acted_keeps P k b (Write at reg value) p = by (addressed b at)
+  where
+    by : (o : Option ℕ) → P (written_by b reg value o).board
+    by None = p
+    by (Some d) = written_keeps P k b d reg value p
 acted_keeps P k b Reset p = k.reset b p
 acted_keeps P k b Shutdown p = p
 
 pub heard_keeps : (P : Board → Type 0) → KeepsBoard P → (b : Board) (line : List ℕ) → P b → P (heard b line).board
 unfolding heard
-heard_keeps P k b line p = by (act_in (guest_line line))
+heard_keeps P k b line p = by (guest_line line)
   where
     runs : (act : GuestAct) (t : Bool) → P (if t then acted b act else hearing.answered b NoStopped).board
     runs act true = acted_keeps P k b act p
@@ -257,7 +283,7 @@ performed_keeps P k b (XSever birth) p = changed_board P (sever b birth) (k.chan
 performed_keeps P k b (XQueryNotes start) p = p
 performed_keeps P k b XQueryDetached p = p
 performed_keeps P k b (XGuest line) p = heard_keeps P k b line p
-performed_keeps P k b (XStep ns) p = timed_board P (advanced b ns) (advanced-all P b ns p (k.timed b (b.now + ns) p))
+performed_keeps P k b (XStep ns) p = timed_board P (advanced b ns) (advanced-all P b ns p (k.timed b (b.now + ns) (omega arith) p))
 
 -- so does each command, where the events that wait are no matter
 pub keeps_commands : (P : Board → Type 0) → KeepsBoard P → ((b : Board) → P b → P (without_events b)) → KeepsCommands P
@@ -265,7 +291,7 @@ keeps_commands P k free =
     record {
       command = λ b r p. free (performed b r).board (performed_keeps P k b r p);
       attempt = λ b r i joined p. attempted-all P b r i joined p (λ t. k.attempt b t p) (λ t. k.cut b t i joined p);
-      advance = λ b ns p. advanced-all P b ns p (k.timed b (b.now + ns) p);
+      advance = λ b ns p. advanced-all P b ns p (k.timed b (b.now + ns) (omega arith) p);
     }
 
 -- Items, steps and runs.

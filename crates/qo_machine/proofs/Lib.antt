@@ -1,5 +1,6 @@
 pub mod AddressLemmas
 pub mod ChunkLemmas
+pub mod ClocksLemmas
 pub mod DevicesLemmas
 pub mod GuestLemmas
 pub mod KeepLemmas

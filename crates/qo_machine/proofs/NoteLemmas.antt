@@ -16,7 +16,8 @@ use Rattle.qo_sound_devices.specs.SoundLists.{IsOn}
 use Rattle.qo_sound_devices.proofs.DevicesLawLemmas.{devices_kept_lem}
 use Rattle.qo_sound_devices.proofs.PlacesLemmas.{child-live, of-live, stands-live}
 use Rattle.qo_sound_devices.proofs.ResetLemmas.{first-on}
-use Rattle.qo_machine.proofs.AddressLemmas.{address-there}
+use Rattle.qo_sound_clocks.proofs.RegisterLemmas.{registers_kept_lem}
+use Rattle.qo_machine.proofs.AddressLemmas.{address-there, bus-live}
 use Rattle.qo_machine.proofs.KeepLemmas.{KeepsBoard, KeepsCommands, keeps_commands, run_keeps}
 use Rattle.qo_machine.proofs.DevicesLemmas.{devices_free, devices_kept}
 use Rattle.qo_machine.specs.Laws.{FinalOnceInRuns}
@@ -65,7 +66,10 @@ notes_kept =
       completed = λ b at d is pending o. (devices_kept.completed b at d is pending o.0, notes_kept_lem.detached b d o.0.tree (address-there b o.0.tree at d is) o.1);
       refused = λ b d o. (devices_kept.refused b d o.0, notes_kept_lem.refused_by b d o.1);
       polled = λ b o. (devices_kept.polled b o.0, notes_kept_lem.beside b (polled b) refl refl refl o.1);
-      timed = λ b now o. (devices_kept.timed b now o.0, notes_kept_lem.beside b (at_time now b) refl refl refl o.1);
+      registers = λ b d reg value registers e is o.
+          (devices_kept.registers b d reg value registers e is o.0, registers_kept_lem.notes b d registers o.1);
+      pulsed = λ b d m is o. (devices_kept.pulsed b d m is o.0, notes_kept_lem.pulsed b m o.0.tree (bus-live b d m is) o.1);
+      timed = λ b now on o. (devices_kept.timed b now on o.0, notes_kept_lem.beside b (at_time now b) refl refl refl o.1);
       switched = λ b on o. (devices_kept.switched b on o.0, notes_kept_lem.beside b (with_running on b) refl refl refl o.1);
       held_so = λ b n is o. (devices_kept.held_so b n is o.0, notes_kept_lem.held_so b n o.0.tree (of-live b (codes "resettable") n is) o.1);
       released_so = λ b n is o. (devices_kept.released_so b n is o.0, notes_kept_lem.released_so b n o.0.tree (of-live b (codes "resettable") n is) o.1);

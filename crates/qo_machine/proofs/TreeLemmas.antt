@@ -4,6 +4,7 @@ use Rattle.qo_causes.specs.declared.inputs.Input.{Input}
 use Rattle.qo_model.proofs.OpeningLemmas.{opening_sound}
 use Rattle.qo_model.proofs.TreeLemmas.{frame_lem}
 use Rattle.qo_model.specs.Board.{Board}
+use Rattle.qo_model.specs.Reset.{held, pulse}
 use Rattle.qo_model.specs.Sound.{IsSound}
 use Rattle.qo_model.specs.SoundGraph.{graph_of}
 use Rattle.qo_commands.proofs.AttemptLemmas.{attempted-all}
@@ -13,7 +14,10 @@ use Rattle.qo_sound.proofs.KeptLemmas.{sound_kept_lem}
 use Rattle.qo_sound.specs.Kept.{SoundTree}
 use Rattle.qo_sound_devices.specs.SoundDevices.{SoundDevices}
 use Rattle.qo_sound_devices.proofs.DevicesLawLemmas.{devices_kept_lem}
+use Rattle.qo_sound_clocks.specs.ClockRuns.{SoundRun}
+use Rattle.qo_sound_clocks.proofs.RegisterLemmas.{registers_kept_lem}
 use Rattle.qo_machine.proofs.AddressLemmas.{asked-tree, polled-tree, refused-tree}
+use Rattle.qo_machine.proofs.ClocksLemmas.{opening_run, run_commands}
 use Rattle.qo_machine.proofs.DevicesLemmas.{devices_commands}
 use Rattle.qo_machine.proofs.KeepLemmas.{KeepsBoard, KeepsCommands, advanced-all, broken_keeps, keeps_commands, run_keeps, step_keeps}
 use Rattle.qo_machine.proofs.MachineLemmas.{in_at}
@@ -30,6 +34,11 @@ switched-tree : (b : Board) (on : Bool) → SoundTree b → SoundTree (with_runn
 unfolding graph_of
 switched-tree b on h = (frame_lem.graph b (with_running on b) refl h.0, frame_lem.aliases b (with_running on b) refl h.1)
 
+-- a hold and a hold less
+pulsed-tree : (b : Board) (m : ℕ) → SoundTree b → SoundTree (pulse b m)
+unfolding pulse
+pulsed-tree b m h = sound_kept_lem.released_so (held b m) m (sound_kept_lem.held_so b m h)
+
 -- changes and attempts keep the tree sound
 pub tree_kept : KeepsBoard SoundTree
 tree_kept =
@@ -42,7 +51,9 @@ tree_kept =
       completed = λ b at d is pending h. sound_kept_lem.detached b d h;
       refused = λ b d h. refused-tree b d h;
       polled = λ b h. polled-tree b h;
-      timed = λ b now h. timed-tree b now h;
+      registers = λ b d reg value registers e is h. registers_kept_lem.tree b d registers h;
+      pulsed = λ b d m is h. pulsed-tree b m h;
+      timed = λ b now on h. timed-tree b now h;
       switched = λ b on h. switched-tree b on h;
       held_so = λ b n is h. sound_kept_lem.held_so b n h;
       released_so = λ b n is h. sound_kept_lem.released_so b n h;
@@ -81,6 +92,7 @@ sound_in_runs =
     record {
       tree = kept_in_runs SoundTree tree_commands (opening_sound.graph, opening_sound.aliases);
       devices = kept_in_runs SoundDevices devices_commands devices_kept_lem.opening;
+      clocks = kept_in_runs SoundRun run_commands opening_run;
     }
 
 -- a step of a machine

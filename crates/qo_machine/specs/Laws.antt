@@ -11,6 +11,7 @@ use Rattle.qo_model.specs.Board.{Board}
 use Rattle.qo_model.specs.FinalNotes.{FinalOnce, NotesInOrder}
 use Rattle.qo_sound.specs.Kept.{SoundTree}
 use Rattle.qo_sound_devices.specs.SoundDevices.{SoundDevices}
+use Rattle.qo_sound_clocks.specs.ClockRuns.{SoundRun}
 use Rattle.qo_sessions.specs.Acts.{act}
 use Rattle.qo_sessions.specs.declared.acts.SessionAct.{SessionAct}
 use Rattle.qo_sessions.specs.declared.acts.SessionAct.TheVariants.{Answer, Negotiated, Do}
@@ -83,7 +84,8 @@ pub record KeptInRuns (P : Board → Type 0) : Type 0 where
   pub step : (s : State) (input : Input) (choices : List Choice) → P s.board → P (step s input choices).state.board
   pub run : (turns : List Turn) → P (state_after opening turns).board
 
--- that the tree of the board is sound; and with it the places of devices and the lists that name devices
+-- that the tree of the board is sound; with it the places of devices and the lists that name devices; and with these its clocks and their numbers, and that no timer is ahead of the time
 pub record SoundInRuns : Type 0 where
   pub tree : KeptInRuns SoundTree
   pub devices : KeptInRuns SoundDevices
+  pub clocks : KeptInRuns SoundRun

@@ -23,8 +23,10 @@ pub fn law_final_once()
 
 /// Each step keeps the tree of the board sound: births, names, targets, children, pins, references and
 /// what aliases pass on to. With it, each step keeps devices in their places, and the lists of pending
-/// removals and of notices. So all these are sound over every run from the opening: what
-/// `qo_sound_devices::law_devices_say` says of devices is so of each board of it.
+/// removals and of notices; and with these what clocks go by, their periods and numbers, and the moments
+/// of timers. So all these are sound over every run from the opening: what
+/// `qo_sound_devices::law_devices_say` says of devices, and `qo_sound_clocks::law_clocks_say` of clocks,
+/// is so of each board of it.
 pub fn law_sound()
     ensures { SoundInRuns }
 {}

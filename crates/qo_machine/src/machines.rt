@@ -93,7 +93,7 @@ impl Machine {
     ghost use Rattle.std.specs.Prelude.{true, false, IsErr, OnErr, OnOk};
     ghost use Rattle.qo_model.specs.Board.{Board as Tree};
     ghost use Rattle.qo_model.specs.Sound.{IsSound};
-    ghost use Rattle.qo_sound_devices.specs.SoundDevices.{SoundDevices};
+    ghost use Rattle.qo_sound_clocks.specs.ClockRuns.{SoundRun};
     ghost use Rattle.qo_sessions.specs.Acts.{act};
     ghost use Rattle.qo_sessions.specs.Sessions.{fed};
     ghost use Rattle.qo_commands.specs.Changes.{Left, is_change};
@@ -111,7 +111,7 @@ impl Machine {
     pub fn start(alloc: Global) -> Result<Machine, AllocError>
         ensures state { IfOk result (λ m. IsIn opening m × (m.spent ≡ false)) }
         ensures sound { IfOk result (λ m. (s : State) → IsIn s m → IsSound s.board) }
-        ensures devices { IfOk result (λ m. (s : State) → IsIn s m → SoundDevices s.board) }
+        ensures kept { IfOk result (λ m. (s : State) → IsIn s m → SoundRun s.board) }
     {
         Machine::start_counting::<Brand>(alloc, Blank::new(1))
     }
@@ -146,7 +146,8 @@ impl Machine {
     /// nothing, but that `object-add` and `device_add` may have made and ended objects. It answers `AllocError` where
     /// memory runs out otherwise, and from then on always: the run has then ended, and all sessions
     /// are closed. The board is then one that a front of the input's items leads to; it stays sound.
-    /// Behind each step devices stand in their places, and the lists that name devices name those that do.
+    /// Behind each step devices stand in their places, the lists that name devices name those that do,
+    /// clocks with their numbers are sound, and no timer is ahead of the virtual time.
     pub fn step(&mut self, alloc: Global, input: &Input) -> Result<Outs, AllocError>
         ensures answered { (s : State) → IsIn s self.old → IfOk result (λ outs. Answers s input.now outs self.new) }
         ensures lanes { IfOk result AreToLanes }
@@ -156,7 +157,7 @@ impl Machine {
         ensures spent { self.old.spent ≡ true → IsErr result }
         ensures breaks { (s : State) → IsIn s self.old → OnErr result (BreaksOff s input.now self.new) }
         ensures sound { (s : State) → IsIn s self.old → IsSound s.board → (t : State) → IsIn t self.new → IsSound t.board }
-        ensures devices { (t : State) → IsIn t self.new → SoundDevices t.board }
+        ensures kept { (t : State) → IsIn t self.new → SoundRun t.board }
     {
         self.board.shown();
         if self.spent {

@@ -1,7 +1,7 @@
 -- A step keeps the board sound, and where memory ran out a front of its items was served.
 use Rattle.std.proofs.Common.{◌∙◌, subst}
 use Rattle.qo_realize.specs.Stands.{StandsForGood}
-use Rattle.qo_machine.proofs.DevicesLemmas.{broken_devices, stepped_devices}
+use Rattle.qo_machine.proofs.ClocksLemmas.{broken_run, stepped_run}
 use Rattle.qo_machine.proofs.LeftLemmas.{breaks_before, breaks_kept}
 use Rattle.qo_machine.proofs.MachineLemmas.{seen_board}
 use Rattle.qo_machine.proofs.TreeLemmas.{broken_sound, stepped_sound}
@@ -26,17 +26,17 @@ pub returns-in-Err-clause-sound : goal.returns-in-Err-clause-sound
 returns-in-Err-clause-sound c = λ s here sound.
     broken_sound s c.args.input.now c.finish-in-Err.new.self sound (breaks_kept s c.args.input.now c.step_counting.new.self c.finish-in-Err.new.self (c.finish-in-Err.ensures.board ∙ seen_board c.self-in-Err.view_is) (c.in-Err.ensures.breaks s here))
 
-pub returns-in-Ok-clause-devices : goal.returns-in-Ok-clause-devices
-returns-in-Ok-clause-devices c =
-    stepped_devices c.args.self.now c.step_counting.new.self c.args.input.now c.in-Ok.outs (subst StandsForGood (seen_board c.self.view_is) c.shown.ensures) c.in-Ok.ensures.answered
+pub returns-in-Ok-clause-kept : goal.returns-in-Ok-clause-kept
+returns-in-Ok-clause-kept c =
+    stepped_run c.args.self.now c.step_counting.new.self c.args.input.now c.in-Ok.outs (subst StandsForGood (seen_board c.self.view_is) c.shown.ensures) c.in-Ok.ensures.answered
 
-pub returns-then-self-clause-devices : goal.returns-then-self-clause-devices
-returns-then-self-clause-devices c =
-    broken_devices c.args.self.now c.finish.new.self c.args.input.now (subst StandsForGood (seen_board c.self.view_is) c.shown.ensures)
+pub returns-then-self-clause-kept : goal.returns-then-self-clause-kept
+returns-then-self-clause-kept c =
+    broken_run c.args.self.now c.finish.new.self c.args.input.now (subst StandsForGood (seen_board c.self.view_is) c.shown.ensures)
     (λ s here. breaks_before s c.args.input.now c.args.self.now c.finish.new.self c.finish.ensures.board here)
 
-pub returns-in-Err-clause-devices : goal.returns-in-Err-clause-devices
-returns-in-Err-clause-devices c =
-    broken_devices c.args.self.now c.finish-in-Err.new.self c.args.input.now (subst StandsForGood (seen_board c.self.view_is) c.shown.ensures)
+pub returns-in-Err-clause-kept : goal.returns-in-Err-clause-kept
+returns-in-Err-clause-kept c =
+    broken_run c.args.self.now c.finish-in-Err.new.self c.args.input.now (subst StandsForGood (seen_board c.self.view_is) c.shown.ensures)
     (λ s here.
     breaks_kept s c.args.input.now c.step_counting.new.self c.finish-in-Err.new.self (c.finish-in-Err.ensures.board ∙ seen_board c.self-in-Err.view_is) (c.in-Err.ensures.breaks s here))
