@@ -25,6 +25,9 @@ pub returns-in-Err-clause-meets : goal.returns-in-Err-clause-meets
 returns-in-Err-clause-meets g c =
     rw (← c.loop.invariant.bad) (stopped_by _ _ _ c.loop.machine c.turn.new.machine c.loop.counter c.args.limit (g.H.Hub.bad c.loop.hub) c.in-Err.ending (omega arith) c.loop.invariant.gone c.in-Err.ensures.meets)
 
+pub returns-in-Err-clause-later : goal.returns-in-Err-clause-later
+returns-in-Err-clause-later g c = g.met.H.Hub.after _ _ _ c.loop.invariant.later c.turn.ensures.later
+
 pub loop-preserved : goal.loop-preserved
 loop-preserved g c =
     record {
