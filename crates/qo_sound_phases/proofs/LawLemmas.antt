@@ -24,6 +24,7 @@ use Rattle.qo_sound.proofs.RecordLemmas.{all-imply, found-birth}
 use Rattle.qo_sound.proofs.ViewLemmas.{AtRest, rest-from_sound}
 use Rattle.qo_sound_devices.specs.SoundDevices.{SoundDevices}
 use Rattle.qo_sound_devices.specs.SoundLists.{IsOn}
+use Rattle.qo_sound_devices.specs.SoundPlaces.{machines}
 use Rattle.qo_sound_devices.proofs.PlacesLemmas.{all-found}
 use Rattle.qo_sound_devices.proofs.ResetLemmas.{detached-below, first-on}
 use Rattle.qo_sound_devices.proofs.WhereLemmas.{attached-owner, attached-stands}
@@ -39,7 +40,7 @@ use Rattle.qo_sound_phases.proofs.HoldLemmas.{hold-phases, pulse-phases, release
 use Rattle.qo_sound_phases.proofs.ListLemmas.{clash-back, decide}
 use Rattle.qo_sound_phases.proofs.PlugLemmas.{plug-phases}
 use Rattle.qo_sound_phases.proofs.QuietLemmas.{aside-phases, Quiet, quiet-acted, quiet-aside, quiet-attempt}
-use Rattle.qo_sound_phases.proofs.ReachedLemmas.{shape-reached}
+use Rattle.qo_sound_phases.proofs.ReachedLemmas.{buses-stay, shape-reached}
 use Rattle.qo_sound_phases.proofs.ShapeLemmas.{SameShape, shape-acted, shape-back, shape-count, shape-records}
 use Rattle.qo_sound_phases.proofs.StageLemmas.{turns-some}
 
@@ -53,6 +54,7 @@ shape-phases b c shape born holds quiet h =
           quiet n ∙ h.reached n (shape-reached c b (shape-back b c shape) n i)
           ∙ ap (λ (m : ℕ). Some (if m == 0 then out else held)) (sym (shape-count b c shape holds n));
       holds = subst (AllByRecursion (IsReached c)) (sym holds) (all-imply (IsReached b) (IsReached c) (shape-reached b c shape) b.holds h.holds);
+      buses = buses-stay b c (shape-reached b c shape) h.buses;
       lone = λ n e. h.lone n (sym (shape.kind n) ∙ e);
     }
 
@@ -102,13 +104,14 @@ opening-lone n e = go (record_of opening_board n) refl e
         ∙ fits r (same_Some r.kind Machine k) (all-found (λ (x : Record). fits_lone x ≡ true) n opening_board.records all-lone r q)
 
 opening-phases : SoundPhases opening_board
-unfolding opening_board
+unfolding opening_board types
 opening-phases =
     record {
       in_turn = λ n. refl;
       unborn = λ n high. refl;
       reached = λ n i. refl;
       holds = tt;
+      buses = (bus refl (machines refl), (bus refl (machines refl), tt));
       lone = opening-lone;
     }
 
