@@ -32,6 +32,7 @@ use Rattle.qo_sound_phases.specs.Phases.{held, out, phase_of, stage_of}
 use Rattle.qo_sound_phases.specs.PhasesKept.{may_reset, PhasesKeptLaw}
 use Rattle.qo_sound_phases.specs.PhasesSay.{PhasesSayLaw}
 use Rattle.qo_sound_phases.specs.SoundPhases.{IsReached, LoneMachine, machine, device, bus, SoundPhases}
+use Rattle.qo_sound_phases.proofs.AddressLemmas.{addressed-stands, first-may}
 use Rattle.qo_sound_phases.proofs.AttemptLemmas.{cut-phases, plug_attempt-phases}
 use Rattle.qo_sound_phases.proofs.BelowLemmas.{placed, post-once}
 use Rattle.qo_sound_phases.proofs.CommandLemmas.{change-phases}
@@ -203,4 +204,6 @@ phases_say_lem =
       in_turn = λ b h n. turns-some n b.notes (h.in_turn n);
       once = λ b d n. post-once b (placed b d) n;
       in_reset = λ b d h n e. h.reached n (may-reached b d h n e);
+      addressed = addressed-stands;
+      first_bus = first-may;
     }

@@ -15,5 +15,6 @@ pub mod UnrealizeLemmas
 pub mod ApartLemmas
 pub mod DetachLemmas
 pub mod LoneLemmas
+pub mod AddressLemmas
 pub mod LawLemmas
 pub mod RunLemmas

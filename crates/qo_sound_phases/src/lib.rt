@@ -19,7 +19,9 @@ pub fn law_phases_kept()
 
 /// On such a board the phases noted of each birth are the beginning of enter, hold, exit, repeated;
 /// a phase goes to no object twice; and a machine, a bus or a device that is in the tree is held by
-/// its notes where a hold is on it or above it, and nowhere else.
+/// its notes where a hold is on it or above it, and nowhere else. Who is found by slots from a bus
+/// of the machine down is a device that stands in its place, and the first bus of a device that
+/// stands may be held in reset.
 #[tactic(auto, using(crate::proofs::LawLemmas::phases_say_lem))]
 pub fn law_phases_say()
     ensures { PhasesSayLaw }
