@@ -5,6 +5,7 @@ use Rattle.std.specs.Prelude.{if◌then◌else◌}
 use Rattle.std.specs.Option.{option_map_or}
 use Rattle.std.proofs.lemmas.Bool.{and_parts, eqb-true}
 use Rattle.std.proofs.lemmas.Option.{same_Some}
+use Rattle.qo_values.specs.Registers.{Registers}
 use Rattle.qo_values.specs.declared.births.TheConstants.{MACHINE_BIRTH}
 use Rattle.qo_values.specs.declared.kinds.Act.{Act}
 use Rattle.qo_values.specs.declared.kinds.TypeId.{TypeId}
@@ -28,6 +29,7 @@ use Rattle.qo_sound_devices.specs.SoundPlaces.{machines}
 use Rattle.qo_sound_devices.proofs.PlacesLemmas.{all-found}
 use Rattle.qo_sound_devices.proofs.ResetLemmas.{detached-below, first-on}
 use Rattle.qo_sound_devices.proofs.WhereLemmas.{attached-owner, attached-stands}
+use Rattle.qo_sound_clocks.specs.RegistersKept.{registers_set, with_registers}
 use Rattle.qo_sound_phases.specs.Phases.{held, out, phase_of, stage_of}
 use Rattle.qo_sound_phases.specs.PhasesKept.{may_reset, PhasesKeptLaw}
 use Rattle.qo_sound_phases.specs.PhasesSay.{PhasesSayLaw}
@@ -41,9 +43,10 @@ use Rattle.qo_sound_phases.proofs.HoldLemmas.{hold-phases, pulse-phases, release
 use Rattle.qo_sound_phases.proofs.ListLemmas.{clash-back, decide}
 use Rattle.qo_sound_phases.proofs.PlugLemmas.{plug-phases}
 use Rattle.qo_sound_phases.proofs.QuietLemmas.{aside-phases, Quiet, quiet-acted, quiet-aside, quiet-attempt}
-use Rattle.qo_sound_phases.proofs.ReachedLemmas.{buses-stay, shape-reached}
-use Rattle.qo_sound_phases.proofs.ShapeLemmas.{SameShape, shape-acted, shape-back, shape-count, shape-records}
+use Rattle.qo_sound_phases.proofs.ReachedLemmas.{buses-stay, same-stands, shape-reached}
+use Rattle.qo_sound_phases.proofs.ShapeLemmas.{SameShape, shape-acted, shape-back, shape-count, shape-edit, shape-records}
 use Rattle.qo_sound_phases.proofs.StageLemmas.{turns-some}
+use Rattle.qo_sound_phases.proofs.WriteLemmas.{scaled-phases, set-phases}
 
 -- a board of one shape, with the same births, holds and phases
 shape-phases : (b c : Board) → SameShape b c → c.born ≡ b.born → c.holds ≡ b.holds → Quiet b c → SoundPhases b → SoundPhases c
@@ -176,6 +179,10 @@ reset-phases b d h =
     completed-phases (length b.pending) b d h in
     pulse-phases (all_completed (length b.pending) b) MACHINE_BIRTH k.0 (machine refl) k.1
 
+-- registers are in no slot
+shape-registers : (b : Board) (n : ℕ) (registers : Registers) → SameShape b (registers_set b n registers)
+shape-registers b n registers = shape-edit n (with_registers registers) (λ r. refl) (λ r. refl) (λ r. refl) b
+
 pub phases_kept_lem : PhasesKeptLaw
 phases_kept_lem =
     record {
@@ -196,6 +203,10 @@ phases_kept_lem =
       released_so = λ b n e d h. release-phases b n d e h;
       pulsed = λ b n e d h. pulse-phases b n d (may-reached b d h n e) h;
       reset = reset-phases;
+      set = set-phases;
+      scaled = scaled-phases;
+      registers = λ b n registers h. shape-phases b (registers_set b n registers) (shape-registers b n registers) refl refl (λ x. refl) h;
+      stand_with_registers = λ b n registers d e. same-stands b (registers_set b n registers) (shape-registers b n registers) d ∙ e;
     }
 
 pub phases_say_lem : PhasesSayLaw

@@ -16,5 +16,6 @@ pub mod ApartLemmas
 pub mod DetachLemmas
 pub mod LoneLemmas
 pub mod AddressLemmas
+pub mod WriteLemmas
 pub mod LawLemmas
 pub mod RunLemmas

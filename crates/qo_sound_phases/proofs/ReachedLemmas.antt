@@ -140,7 +140,7 @@ module _ (b c : Board) (h : SameShape b c) where
   same-children : (x : ℕ) → child_entries c x ≡ child_entries b x
   same-children x = ap (λ (ss : List (List ℕ × Slot)). filter_map child_entry ss) (h.slots x)
 
-  same-stands : (x : ℕ) → stands c x ≡ stands b x
+  pub same-stands : (x : ℕ) → stands c x ≡ stands b x
   same-stands x = ap₂ (λ (xs ys : List (List ℕ × ℕ)). listed x xs || listed x ys) (same-children PERIPHERAL_BIRTH) (same-children ANONYMOUS_BIRTH)
 
   pub shape-reached : (o : ℕ) → IsReached b o → IsReached c o
