@@ -44,7 +44,7 @@ standing b (Mem slot) d is h = phases_say_lem.addressed b h.devices h.phases MEM
 module _ (b : Board) (d : ℕ) (there : stands b d ≡ true) (h : SoundResets b) where
   registers-so : (registers : Registers) → SoundResets (registers_set b d registers)
   registers-so registers =
-      record { devices = registers_kept_lem.devices b d registers h.devices; phases = phases_kept_lem.registers b d registers h.devices h.phases }
+      record { devices = registers_kept_lem.devices b d registers h.devices; phases = phases_kept_lem.registers b d registers h.phases }
 
   effect-so : (registers : Registers) (e : Effect) → SoundResets (behind_effect d e (registers_set b d registers))
   effect-so registers nothing = registers-so registers
@@ -60,7 +60,7 @@ module _ (b : Board) (d : ℕ) (there : stands b d ≡ true) (h : SoundResets b)
       by : (bus : Option ℕ) → first_bus set d ≡ bus → SoundResets (option_map_or (pulse set) bus set)
       by None e = s
       by (Some m) e =
-          let may : may_reset set m ≡ true = phases_say_lem.first_bus set s.devices s.phases d m (phases_kept_lem.stand_with_registers b d registers d there) e in
+          let may : may_reset set m ≡ true = phases_say_lem.first_bus set s.devices d m (phases_kept_lem.stand_with_registers b d registers d there) e in
           record { devices = devices_kept_lem.pulsed set m s.devices; phases = phases_kept_lem.pulsed set m may s.devices s.phases }
 
   written-so : (reg value : ℕ) (c : Board) → guest_written b d reg value ≡ Some c → SoundResets c

@@ -6,7 +6,7 @@ use Rattle.std.specs.Option.{option_map_or}
 use Rattle.std.proofs.lemmas.Bool.{eq-eqb}
 use Rattle.std.proofs.lemmas.Option.{same_Some}
 use Rattle.std.proofs.Math.Bool.{or-true}
-use Rattle.qo_values.specs.declared.births.TheConstants.{ANONYMOUS_BIRTH, MACHINE_BIRTH, PERIPHERAL_BIRTH, ROOT_BIRTH}
+use Rattle.qo_values.specs.declared.births.TheConstants.{ANONYMOUS_BIRTH, MACHINE_BIRTH, MEMORY_BUS_BIRTH, PERIPHERAL_BIRTH, ROOT_BIRTH, ROOT_BUS_BIRTH}
 use Rattle.qo_values.specs.declared.kinds.TypeId.{TypeId}
 use Rattle.qo_model.specs.Board.{Board, Record, is_live, kind_of, record_of, slots_at}
 use Rattle.qo_model.specs.Depth.{among}
@@ -44,7 +44,7 @@ use Rattle.qo_sound_phases.proofs.BelowLemmas.{one-parent, owned-bus, Placed, po
 use Rattle.qo_sound_phases.proofs.FrameLemmas.{Frame, frame-post, frame-reached}
 use Rattle.qo_sound_phases.proofs.ListLemmas.{clash, decide}
 use Rattle.qo_sound_phases.proofs.QuietLemmas.{Quiet, quiet-after, quiet-then}
-use Rattle.qo_sound_phases.proofs.ReachedLemmas.{machine-no_bus, machines-listed, reach-above}
+use Rattle.qo_sound_phases.proofs.ReachedLemmas.{machine-no_bus, machines-is, machines-listed, reach-above}
 use Rattle.qo_sound_phases.proofs.ShapeLemmas.{counted-same}
 use Rattle.qo_sound_phases.proofs.UnrealizeLemmas.{bus-loose, device-loose, Still, still-edits, still-none, unrealize-all_holds, unrealize-born, under-more, unrealize-count, unrealize-quiet}
 
@@ -142,6 +142,9 @@ module _ (b : Board) (d : ℕ) (s : SoundDevices b) (e : stands b d ≡ true) wh
   pin-kind : (x : ℕ) → kind_of (pin b d) x ≡ kind_of b x
   unfolding pin
   pin-kind x = refl
+
+  pin-of : (name : List ℕ) (x : ℕ) → is_of (pin b d) name x ≡ is_of b name x
+  pin-of name x = ap (λ (o : Option TypeId). option_map_or (λ (t : TypeId). is_a t name) o false) (pin-kind x)
 
   pin-realized : (x : ℕ) → is_realized (pin b d) x ≡ is_realized b x
   unfolding pin
@@ -342,6 +345,12 @@ module _ (b : Board) (d : ℕ) (s : SoundDevices b) (e : stands b d ≡ true) wh
   lit-stands : (x : ℕ) → stands b x ≡ true → is_realized (unrealize (pin b d) d) x ≡ true → stands (detach b d) x ≡ true
   lit-stands x k lit = detach-lit s.places.0 b d rest s.places.1 e x k lit
 
+  -- a bus of the machine is a bus still, for it is there
+  machines-stay : (r : ℕ) → among (ROOT_BUS_BIRTH ∷ MEMORY_BUS_BIRTH ∷ []) r ≡ true → IsReached b r → IsReached (detach b d) r
+  machines-stay r j i =
+      let live : is_live (detach b d) r ≡ true = child-live (detach b d) kz.firm MACHINE_BIRTH r (machines-listed (detach b d) kz r j) in
+      bus (same-of (codes "bus") r live ∙ pin-of (codes "bus") r ∙ machines-is b kb r j i) (machines j)
+
   hold-stays : (r : ℕ) → among (unrealize (pin b d) d).holds r ≡ true → IsReached b r → IsReached (detach b d) r
   hold-stays r on (machine at) = machine at
   hold-stays r on (device k) =
@@ -350,13 +359,13 @@ module _ (b : Board) (d : ℕ) (s : SoundDevices b) (e : stands b d ≡ true) wh
   hold-stays r on (bus is by) = owner by
     where
       still-is : is_live (detach b d) r ≡ true → is_of (detach b d) (codes "bus") r ≡ true
-      still-is live = same-of (codes "bus") r live ∙ ap (λ (o : Option TypeId). option_map_or (λ (t : TypeId). is_a t (codes "bus")) o false) (pin-kind r) ∙ is
+      still-is live = same-of (codes "bus") r live ∙ pin-of (codes "bus") r ∙ is
 
       was-bus : is_of (pin b d) (codes "bus") r ≡ true
-      was-bus = ap (λ (o : Option TypeId). option_map_or (λ (t : TypeId). is_a t (codes "bus")) o false) (pin-kind r) ∙ is
+      was-bus = pin-of (codes "bus") r ∙ is
 
       owner : HasOwner b r → IsReached (detach b d) r
-      owner (machines j) = bus (still-is (child-live (detach b d) kz.firm MACHINE_BIRTH r (machines-listed (detach b d) kz r j))) (machines j)
+      owner (machines j) = machines-stay r j (bus is by)
       owner (bridges q t o) = decide (is_realized (unrealize (pin b d) d) q) stays goes
         where
           stays : is_realized (unrealize (pin b d) d) q ≡ true → IsReached (detach b d) r
@@ -387,6 +396,7 @@ module _ (b : Board) (d : ℕ) (s : SoundDevices b) (e : stands b d ≡ true) wh
             quiet n ∙ h.reached n (frame-reached b (detach b d) kb kz frame n i)
             ∙ ap (λ (m : ℕ). Some (if m == 0 then stage.out else stage.held)) (sym (counts n i));
         holds = subst (AllByRecursion (IsReached (detach b d))) (sym still.holds) left;
+        buses = (machines-stay ROOT_BUS_BIRTH refl h.buses.0, (machines-stay MEMORY_BUS_BIRTH refl h.buses.1.0, tt));
         lone = λ n i. h.lone n (sym (kinds n (sym (is_some-map (λ (r : Record). r.kind) (record_of (detach b d) n)) ∙ ap is_some i) ∙ pin-kind n) ∙ i);
       }
     where

@@ -20,7 +20,7 @@ use Rattle.qo_sound_phases.specs.Phases as stage
 use Rattle.qo_sound_phases.specs.SoundPhases.{IsReached, SoundPhases, stage_now}
 use Rattle.qo_sound_phases.proofs.BelowLemmas.{Placed, placed, post-once}
 use Rattle.qo_sound_phases.proofs.ListLemmas.{among-filter, among-right, clash-back, decide, distinct-filter, one-among}
-use Rattle.qo_sound_phases.proofs.ReachedLemmas.{live-born, post-reached, reached-live, shape-reached}
+use Rattle.qo_sound_phases.proofs.ReachedLemmas.{buses-stay, live-born, post-reached, reached-live, shape-reached}
 use Rattle.qo_sound_phases.proofs.ShapeLemmas.{counted-same, PhasedSo, phased-so, SameShape, shape-back, shape-post, shape-records, shape-then}
 use Rattle.qo_sound_phases.proofs.StageLemmas.{noted-in, noted-out}
 
@@ -149,6 +149,7 @@ module _ (b : Board) (r : ℕ) (k : Placed b) (reached : IsReached b r) (h : Sou
               subst (AllByRecursion (IsReached c)) (sym s.holds)
               (all-append (IsReached c) b.holds (r ∷ []) (all-imply (IsReached b) (IsReached c) (shape-reached b c s.shape) b.holds h.holds)
               (shape-reached b c s.shape r reached, tt));
+          buses = buses-stay b c (shape-reached b c s.shape) h.buses;
           lone = λ x e. h.lone x (sym (s.shape.kind x) ∙ e);
         }
       where
@@ -256,10 +257,14 @@ module _ (b : Board) (r : ℕ) (k : Placed b) (on : among b.holds r ≡ true) (h
         holds =
             subst (AllByRecursion (IsReached c)) (sym (s.holds ∙ s.fewer))
             (still-all (IsReached c) r b.holds
-            (all-imply (IsReached b) (IsReached c) (λ x i. shape-reached s.less c s.shape x (shape-reached b s.less s.same x i)) b.holds h.holds));
+            (all-imply (IsReached b) (IsReached c) forth b.holds h.holds));
+        buses = buses-stay b c forth h.buses;
         lone = λ x e. h.lone x (sym (s.same.kind x) ∙ sym (s.shape.kind x) ∙ e);
       }
     where
+      forth : (o : ℕ) → IsReached b o → IsReached c o
+      forth o i = shape-reached s.less c s.shape o (shape-reached b s.less s.same o i)
+
       back : (o : ℕ) → IsReached c o → IsReached b o
       back o i = shape-reached s.less b (shape-back b s.less s.same) o (shape-reached c s.less (shape-back s.less c s.shape) o i)
 

@@ -5,6 +5,7 @@ use Rattle.std.specs.Prelude.{if◌then◌else◌}
 use Rattle.std.specs.Option.{option_map_or}
 use Rattle.std.proofs.lemmas.Bool.{and_parts, eqb-true}
 use Rattle.std.proofs.lemmas.Option.{same_Some}
+use Rattle.qo_values.specs.Registers.{Registers}
 use Rattle.qo_values.specs.declared.births.TheConstants.{MACHINE_BIRTH}
 use Rattle.qo_values.specs.declared.kinds.Act.{Act}
 use Rattle.qo_values.specs.declared.kinds.TypeId.{TypeId}
@@ -24,13 +25,16 @@ use Rattle.qo_sound.proofs.RecordLemmas.{all-imply, found-birth}
 use Rattle.qo_sound.proofs.ViewLemmas.{AtRest, rest-from_sound}
 use Rattle.qo_sound_devices.specs.SoundDevices.{SoundDevices}
 use Rattle.qo_sound_devices.specs.SoundLists.{IsOn}
+use Rattle.qo_sound_devices.specs.SoundPlaces.{machines}
 use Rattle.qo_sound_devices.proofs.PlacesLemmas.{all-found}
 use Rattle.qo_sound_devices.proofs.ResetLemmas.{detached-below, first-on}
 use Rattle.qo_sound_devices.proofs.WhereLemmas.{attached-owner, attached-stands}
+use Rattle.qo_sound_clocks.specs.RegistersKept.{registers_set, with_registers}
 use Rattle.qo_sound_phases.specs.Phases.{held, out, phase_of, stage_of}
 use Rattle.qo_sound_phases.specs.PhasesKept.{may_reset, PhasesKeptLaw}
 use Rattle.qo_sound_phases.specs.PhasesSay.{PhasesSayLaw}
 use Rattle.qo_sound_phases.specs.SoundPhases.{IsReached, LoneMachine, machine, device, bus, SoundPhases}
+use Rattle.qo_sound_phases.proofs.AddressLemmas.{addressed-stands, first-may}
 use Rattle.qo_sound_phases.proofs.AttemptLemmas.{cut-phases, plug_attempt-phases}
 use Rattle.qo_sound_phases.proofs.BelowLemmas.{placed, post-once}
 use Rattle.qo_sound_phases.proofs.CommandLemmas.{change-phases}
@@ -39,9 +43,10 @@ use Rattle.qo_sound_phases.proofs.HoldLemmas.{hold-phases, pulse-phases, release
 use Rattle.qo_sound_phases.proofs.ListLemmas.{clash-back, decide}
 use Rattle.qo_sound_phases.proofs.PlugLemmas.{plug-phases}
 use Rattle.qo_sound_phases.proofs.QuietLemmas.{aside-phases, Quiet, quiet-acted, quiet-aside, quiet-attempt}
-use Rattle.qo_sound_phases.proofs.ReachedLemmas.{shape-reached}
-use Rattle.qo_sound_phases.proofs.ShapeLemmas.{SameShape, shape-acted, shape-back, shape-count, shape-records}
+use Rattle.qo_sound_phases.proofs.ReachedLemmas.{buses-stay, same-stands, shape-reached}
+use Rattle.qo_sound_phases.proofs.ShapeLemmas.{SameShape, shape-acted, shape-back, shape-count, shape-edit, shape-records}
 use Rattle.qo_sound_phases.proofs.StageLemmas.{turns-some}
+use Rattle.qo_sound_phases.proofs.WriteLemmas.{scaled-phases, set-phases}
 
 -- a board of one shape, with the same births, holds and phases
 shape-phases : (b c : Board) → SameShape b c → c.born ≡ b.born → c.holds ≡ b.holds → Quiet b c → SoundPhases b → SoundPhases c
@@ -53,6 +58,7 @@ shape-phases b c shape born holds quiet h =
           quiet n ∙ h.reached n (shape-reached c b (shape-back b c shape) n i)
           ∙ ap (λ (m : ℕ). Some (if m == 0 then out else held)) (sym (shape-count b c shape holds n));
       holds = subst (AllByRecursion (IsReached c)) (sym holds) (all-imply (IsReached b) (IsReached c) (shape-reached b c shape) b.holds h.holds);
+      buses = buses-stay b c (shape-reached b c shape) h.buses;
       lone = λ n e. h.lone n (sym (shape.kind n) ∙ e);
     }
 
@@ -102,13 +108,14 @@ opening-lone n e = go (record_of opening_board n) refl e
         ∙ fits r (same_Some r.kind Machine k) (all-found (λ (x : Record). fits_lone x ≡ true) n opening_board.records all-lone r q)
 
 opening-phases : SoundPhases opening_board
-unfolding opening_board
+unfolding opening_board types
 opening-phases =
     record {
       in_turn = λ n. refl;
       unborn = λ n high. refl;
       reached = λ n i. refl;
       holds = tt;
+      buses = (bus refl (machines refl), (bus refl (machines refl), tt));
       lone = opening-lone;
     }
 
@@ -172,6 +179,10 @@ reset-phases b d h =
     completed-phases (length b.pending) b d h in
     pulse-phases (all_completed (length b.pending) b) MACHINE_BIRTH k.0 (machine refl) k.1
 
+-- registers are in no slot
+shape-registers : (b : Board) (n : ℕ) (registers : Registers) → SameShape b (registers_set b n registers)
+shape-registers b n registers = shape-edit n (with_registers registers) (λ r. refl) (λ r. refl) (λ r. refl) b
+
 pub phases_kept_lem : PhasesKeptLaw
 phases_kept_lem =
     record {
@@ -192,6 +203,10 @@ phases_kept_lem =
       released_so = λ b n e d h. release-phases b n d e h;
       pulsed = λ b n e d h. pulse-phases b n d (may-reached b d h n e) h;
       reset = reset-phases;
+      set = set-phases;
+      scaled = scaled-phases;
+      registers = λ b n registers h. shape-phases b (registers_set b n registers) (shape-registers b n registers) refl refl (λ x. refl) h;
+      stand_with_registers = λ b n registers d e. same-stands b (registers_set b n registers) (shape-registers b n registers) d ∙ e;
     }
 
 pub phases_say_lem : PhasesSayLaw
@@ -200,4 +215,6 @@ phases_say_lem =
       in_turn = λ b h n. turns-some n b.notes (h.in_turn n);
       once = λ b d n. post-once b (placed b d) n;
       in_reset = λ b d h n e. h.reached n (may-reached b d h n e);
+      addressed = addressed-stands;
+      first_bus = first-may;
     }

@@ -15,5 +15,7 @@ pub mod UnrealizeLemmas
 pub mod ApartLemmas
 pub mod DetachLemmas
 pub mod LoneLemmas
+pub mod AddressLemmas
+pub mod WriteLemmas
 pub mod LawLemmas
 pub mod RunLemmas

@@ -47,7 +47,7 @@ use Rattle.qo_sound_phases.proofs.FrameLemmas.{Frame, frame-count}
 use Rattle.qo_sound_phases.proofs.ListLemmas.{among-filter, clash, clash-back, decide, distinct-filter}
 use Rattle.qo_sound_phases.proofs.LoneLemmas.{lone-plugged}
 use Rattle.qo_sound_phases.proofs.QuietLemmas.{Quiet, quiet-acted_all, quiet-device, quiet-then}
-use Rattle.qo_sound_phases.proofs.ReachedLemmas.{live-born, machines-listed, reach-below, reached-live}
+use Rattle.qo_sound_phases.proofs.ReachedLemmas.{buses-stay, live-born, machines-listed, reach-below, reached-live}
 use Rattle.qo_sound_phases.proofs.ShapeLemmas.{PhasedSo, phased-so, SameShape, shape-count, shape-edit, shape-post, shape-records, shape-then}
 use Rattle.qo_sound_phases.proofs.StageLemmas.{noted-in, noted-out}
 
@@ -314,6 +314,7 @@ module _ (b : Board) (kb : Placed b) (h : SoundPhases b) (n on slot : ℕ) (id :
               (λ e. out-stage o e ∙ h.unborn o (omega (arith, older, high)));
           reached = λ o i. decide (among (post f n) o) (in-stage o) (λ e. old o e (reached-old o i (ap (λ (xs : List ℕ). among xs o) same_post ∙ e)));
           holds = subst (AllByRecursion (IsReached c)) (sym holds) (all-imply (IsReached b) (IsReached c) reached-on b.holds h.holds);
+          buses = buses-stay b c reached-on h.buses;
           lone = lone;
         }
       where

@@ -32,7 +32,7 @@ use Rattle.qo_sound_phases.specs.SoundPhases.{IsReached, LoneMachine, SoundPhase
 use Rattle.qo_sound_phases.proofs.BelowLemmas.{Placed}
 use Rattle.qo_sound_phases.proofs.FrameLemmas.{Frame, frame-count, frame-reached}
 use Rattle.qo_sound_phases.proofs.ListLemmas.{decide}
-use Rattle.qo_sound_phases.proofs.ReachedLemmas.{live-born, reached-live, shape-reached}
+use Rattle.qo_sound_phases.proofs.ReachedLemmas.{buses-stay, live-born, reached-live, shape-reached}
 use Rattle.qo_sound_phases.proofs.ShapeLemmas.{SameShape, shape-back, shape-count}
 use Rattle.qo_sound_phases.proofs.StageLemmas.{noted-none}
 
@@ -169,6 +169,7 @@ frame-phases b c kb kc f stay holds older quiet lone h =
           quiet n ∙ h.reached n (frame-reached b c kb kc f n i)
           ∙ ap (λ (k : ℕ). Some (if k == 0 then out else held)) (sym (frame-count b c kb kc f n i holds));
       holds = subst (AllByRecursion (IsReached c)) (sym holds) (all-imply (IsReached b) (IsReached c) stay b.holds h.holds);
+      buses = buses-stay b c stay h.buses;
       lone = lone h.lone;
     }
 
@@ -196,6 +197,7 @@ aside-phases b c k a h =
           a.quiet n (old n (back n i)) ∙ h.reached n (back n i)
           ∙ ap (λ (m : ℕ). Some (if m == 0 then out else held)) (sym (shape-count b c a.shape a.holds n));
       holds = subst (AllByRecursion (IsReached c)) (sym a.holds) (all-imply (IsReached b) (IsReached c) (shape-reached b c a.shape) b.holds h.holds);
+      buses = buses-stay b c (shape-reached b c a.shape) h.buses;
       lone = λ x e. h.lone x (sym (a.shape.kind x) ∙ e);
     }
   where

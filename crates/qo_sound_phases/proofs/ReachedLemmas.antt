@@ -1,6 +1,6 @@
 -- What a reset reaches: what is below such an object is such too, and so is what is above it.
 use Rattle.std.proofs.Common.{◌≡◌, refl, ap, ap₂, sym, subst, ◌∙◌, filter_map, ℕ, ◌<◌, true, false, ◌||◌, eqb, List, [], ◌∷◌, Some, codes}
-use Rattle.std.specs.List.{list_any}
+use Rattle.std.specs.List.{AllByRecursion, list_any}
 use Rattle.std.proofs.lemmas.Bool.{eqb-true}
 use Rattle.qo_values.specs.declared.births.TheConstants.{ANONYMOUS_BIRTH, MACHINE_BIRTH, MEMORY_BUS_BIRTH, PERIPHERAL_BIRTH, ROOT_BIRTH, ROOT_BUS_BIRTH}
 use Rattle.qo_values.specs.declared.kinds.TypeId.TheVariants.{Container}
@@ -24,6 +24,11 @@ pub two-cases : (q : ℕ) → among (ROOT_BUS_BIRTH ∷ MEMORY_BUS_BIRTH ∷ [])
 two-cases q e f g =
     decide (eqb q ROOT_BUS_BIRTH) (λ p. f (eqb-true q ROOT_BUS_BIRTH p))
     (λ p. decide (eqb q MEMORY_BUS_BIRTH) (λ r. g (eqb-true q MEMORY_BUS_BIRTH r)) (λ r. clash-back (rw (p, r) at e)))
+
+-- what is reached there is reached here
+pub buses-stay : (b c : Board) → ((x : ℕ) → IsReached b x → IsReached c x) → AllByRecursion (IsReached b) (ROOT_BUS_BIRTH ∷ MEMORY_BUS_BIRTH ∷ [])
+    → AllByRecursion (IsReached c) (ROOT_BUS_BIRTH ∷ MEMORY_BUS_BIRTH ∷ [])
+buses-stay b c stay h = all-imply (IsReached b) (IsReached c) stay (ROOT_BUS_BIRTH ∷ MEMORY_BUS_BIRTH ∷ []) h
 
 root-no_device : is_a Container (codes "device") ≡ false
 unfolding types
@@ -75,6 +80,13 @@ module _ (b : Board) (k : Placed b) where
   machines-listed q e =
       two-cases q e (λ is. subst (λ (x : ℕ). listed x (child_entries b MACHINE_BIRTH) ≡ true) (sym is) k.places.parts.1.1.0)
       (λ is. subst (λ (x : ℕ). listed x (child_entries b MACHINE_BIRTH) ≡ true) (sym is) k.places.parts.1.1.1.0)
+
+  -- one that is reached is a bus: the machine is none, and it stands in no container
+  pub machines-is : (q : ℕ) → among (ROOT_BUS_BIRTH ∷ MEMORY_BUS_BIRTH ∷ []) q ≡ true → IsReached b q → is_of b (codes "bus") q ≡ true
+  machines-is q e (machine at) = clash-back (subst (λ (x : ℕ). among (ROOT_BUS_BIRTH ∷ MEMORY_BUS_BIRTH ∷ []) x ≡ true) at e)
+  machines-is q e (device s) =
+      two-cases q e (λ is. clash (sym s ∙ ap (stands b) is ∙ k.places.aside.1.1.1.1.0)) (λ is. clash (sym s ∙ ap (stands b) is ∙ k.places.aside.1.1.1.1.1.0))
+  machines-is q e (bus is its) = is
 
   -- none of the machine's buses stands, and neither does the machine
   pub machine-aside : stands b MACHINE_BIRTH ≡ false
@@ -128,7 +140,7 @@ module _ (b c : Board) (h : SameShape b c) where
   same-children : (x : ℕ) → child_entries c x ≡ child_entries b x
   same-children x = ap (λ (ss : List (List ℕ × Slot)). filter_map child_entry ss) (h.slots x)
 
-  same-stands : (x : ℕ) → stands c x ≡ stands b x
+  pub same-stands : (x : ℕ) → stands c x ≡ stands b x
   same-stands x = ap₂ (λ (xs ys : List (List ℕ × ℕ)). listed x xs || listed x ys) (same-children PERIPHERAL_BIRTH) (same-children ANONYMOUS_BIRTH)
 
   pub shape-reached : (o : ℕ) → IsReached b o → IsReached c o

@@ -7,20 +7,20 @@ use Rattle.qo_sound_devices.specs.DeviceRuns.{Step, commands, adds, cuts, asks, 
 use Rattle.qo_sound_devices.specs.SoundLists.{IsOn}
 use Rattle.qo_sound_devices.proofs.DevicesLawLemmas.{devices_kept_lem}
 use Rattle.qo_sound_devices.proofs.PlugLemmas.{among-all}
-use Rattle.qo_sound_phases.specs.PhaseRuns.{PhaseRunsLaw, PhaseStep, goes, pulses, behind_phase_steps, is_made, phase_stepped, SoundRun}
+use Rattle.qo_sound_phases.specs.PhaseRuns.{PhaseRunsLaw, PhaseStep, goes, pulses, behind_phase_steps, is_made, phase_stepped, SoundResets}
 use Rattle.qo_sound_phases.specs.PhasesKept.{may_reset}
 use Rattle.qo_sound_phases.proofs.LawLemmas.{phases_kept_lem, phases_say_lem}
 
 -- what changes nothing that either speaks of
 beside : (b c : Board) → c.records ≡ b.records → c.born ≡ b.born → c.anonymous ≡ b.anonymous → c.pins ≡ b.pins → c.pending ≡ b.pending
-    → c.notices ≡ b.notices → c.holds ≡ b.holds → c.notes ≡ b.notes → SoundRun b → SoundRun c
+    → c.notices ≡ b.notices → c.holds ≡ b.holds → c.notes ≡ b.notes → SoundResets b → SoundResets c
 beside b c records born anonymous pins pending notices on notes h =
     record {
       devices = devices_kept_lem.beside b c records born anonymous pins pending notices h.devices;
       phases = phases_kept_lem.beside b c records born on notes h.phases;
     }
 
-made-run : (b : Board) (step : Step) → is_made b step ≡ true → SoundRun b → SoundRun (stepped b step)
+made-run : (b : Board) (step : Step) → is_made b step ≡ true → SoundResets b → SoundResets (stepped b step)
 made-run b (commands change) e h =
     record { devices = devices_kept_lem.change b change h.devices; phases = phases_kept_lem.change b change h.devices h.phases }
 made-run b (adds a) e h = record { devices = devices_kept_lem.plugged b a h.devices; phases = phases_kept_lem.plugged b a h.devices h.phases }
@@ -30,14 +30,14 @@ made-run b (asks id) e h = record { devices = devices_kept_lem.asked_for b id h.
 made-run b (refuses d) e h = record { devices = devices_kept_lem.refused_by b d h.devices; phases = phases_kept_lem.refused_by b d h.phases }
 made-run b (lets_go d) e h = go (among b.pending d) refl
   where
-    go : (t : Bool) → among b.pending d ≡ t → SoundRun (stepped b (lets_go d))
+    go : (t : Bool) → among b.pending d ≡ t → SoundResets (stepped b (lets_go d))
     go true q =
         let on : IsOn b d = among-all (IsOn b) b.pending h.devices.lists.pending d q in
         rw (stepped, q) (record { devices = devices_kept_lem.detached b d h.devices on.0; phases = phases_kept_lem.detached b d h.devices on.0 h.phases })
     go false q = rw (stepped, q) h
 made-run b reads e h = go b.notices refl
   where
-    go : (xs : List Notice) → b.notices ≡ xs → SoundRun (notice_read b)
+    go : (xs : List Notice) → b.notices ≡ xs → SoundResets (notice_read b)
     go [] q = rw (notice_read, q) h
     go (notice ∷ others) q =
         rw (notice_read, q)
@@ -48,23 +48,23 @@ made-run b (releases n) e h = record { devices = devices_kept_lem.released_so b 
 made-run b resets e h = record { devices = devices_kept_lem.reset b h.devices; phases = phases_kept_lem.reset b h.devices h.phases }
 made-run b sends e h = beside b (record b { events = [] }) refl refl refl refl refl refl refl refl h
 
-step-run : (b : Board) (step : PhaseStep) → SoundRun b → SoundRun (phase_stepped b step)
+step-run : (b : Board) (step : PhaseStep) → SoundResets b → SoundResets (phase_stepped b step)
 step-run b (goes step) h = go (is_made b step) refl
   where
-    go : (t : Bool) → is_made b step ≡ t → SoundRun (phase_stepped b (goes step))
+    go : (t : Bool) → is_made b step ≡ t → SoundResets (phase_stepped b (goes step))
     go true e = rw (phase_stepped, e) (made-run b step e h)
     go false e = rw (phase_stepped, e) h
 step-run b (pulses n) h = go (may_reset b n) refl
   where
-    go : (t : Bool) → may_reset b n ≡ t → SoundRun (phase_stepped b (pulses n))
+    go : (t : Bool) → may_reset b n ≡ t → SoundResets (phase_stepped b (pulses n))
     go true e = rw (phase_stepped, e) (record { devices = devices_kept_lem.pulsed b n h.devices; phases = phases_kept_lem.pulsed b n e h.devices h.phases })
     go false e = rw (phase_stepped, e) h
 
-steps-run : (b : Board) (steps : List PhaseStep) → SoundRun b → SoundRun (behind_phase_steps b steps)
+steps-run : (b : Board) (steps : List PhaseStep) → SoundResets b → SoundResets (behind_phase_steps b steps)
 steps-run b [] h = h
 steps-run b (step ∷ steps) h = steps-run (phase_stepped b step) steps (step-run b step h)
 
-opening-run : SoundRun opening_board
+opening-run : SoundResets opening_board
 opening-run = record { devices = devices_kept_lem.opening; phases = phases_kept_lem.opening }
 
 pub phase_runs_lem : PhaseRunsLaw

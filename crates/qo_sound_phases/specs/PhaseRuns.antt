@@ -33,12 +33,12 @@ behind_phase_steps b [] = b
 behind_phase_steps b (step ∷ steps) = behind_phase_steps (phase_stepped b step) steps
 
 -- a board that is sound as far as devices and phases go
-pub record SoundRun (b : Board) : Type 0 where
+pub record SoundResets (b : Board) : Type 0 where
   pub devices : SoundDevices b
   pub phases : SoundPhases b
 
 -- each step keeps it so, and so it is behind any steps of the opening board: over every run the phases of each birth are in turn
 pub record PhaseRunsLaw : Type 0 where
-  pub step : (b : Board) (step : PhaseStep) → SoundRun b → SoundRun (phase_stepped b step)
-  pub run : (steps : List PhaseStep) → SoundRun (behind_phase_steps opening_board steps)
+  pub step : (b : Board) (step : PhaseStep) → SoundResets b → SoundResets (phase_stepped b step)
+  pub run : (steps : List PhaseStep) → SoundResets (behind_phase_steps opening_board steps)
   pub in_turn : (steps : List PhaseStep) (n : ℕ) → IsInTurn (phases_of n (behind_phase_steps opening_board steps).notes)

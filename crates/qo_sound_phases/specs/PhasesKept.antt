@@ -1,9 +1,11 @@
 -- What keeps the phases of a board sound.
-use Rattle.std.specs.Prelude.{◌≡◌, ℕ, Bool, ◌&&◌, true, List, codes, None}
+use Rattle.std.specs.Prelude.{◌≡◌, ℕ, Bool, ◌&&◌, true, List, codes, None, Ok}
+use Rattle.qo_values.specs.Registers.{Registers}
 use Rattle.qo_values.specs.declared.kinds.Act.{Act}
 use Rattle.qo_values.specs.declared.kinds.TypeId.{TypeId}
 use Rattle.qo_model.specs.declared.notes.Deed.TheVariants.{Did}
 use Rattle.qo_model.specs.Board.{Board}
+use Rattle.qo_model.specs.ClockChanges.{clock_scaled, clock_set}
 use Rattle.qo_model.specs.Clocks.{acted}
 use Rattle.qo_model.specs.Depth.{among}
 use Rattle.qo_model.specs.FinalNotesRuns.{Change, changed}
@@ -17,6 +19,7 @@ use Rattle.qo_model.specs.Types.{is_a}
 use Rattle.qo_model.specs.Unplug.{detach}
 use Rattle.qo_sound_devices.specs.SoundDevices.{SoundDevices}
 use Rattle.qo_sound_devices.specs.SoundPlaces.{stands}
+use Rattle.qo_sound_clocks.specs.RegistersKept.{registers_set}
 use Rattle.qo_sound_phases.specs.Phases.{phase_of}
 use Rattle.qo_sound_phases.specs.SoundPhases.{SoundPhases}
 
@@ -48,3 +51,9 @@ pub record PhasesKeptLaw : Type 0 where
   pub released_so : (b : Board) (n : ℕ) → among b.holds n ≡ true → SoundDevices b → SoundPhases b → SoundPhases (released b n)
   pub pulsed : (b : Board) (n : ℕ) → may_reset b n ≡ true → SoundDevices b → SoundPhases b → SoundPhases (pulse b n)
   pub reset : (b : Board) → SoundDevices b → SoundPhases b → SoundPhases (reset_whole b)
+  -- a write of a clock's period, and of its mul and div, that is not refused
+  pub set : (b d : Board) (c period : ℕ) → clock_set b c period ≡ Ok d → SoundDevices b → SoundPhases b → SoundPhases d
+  pub scaled : (b d : Board) (c mul div : ℕ) → clock_scaled b c mul div ≡ Ok d → SoundDevices b → SoundPhases b → SoundPhases d
+  -- other registers of an object, whatever they are; and who stands in its place stands there still
+  pub registers : (b : Board) (n : ℕ) (registers : Registers) → SoundPhases b → SoundPhases (registers_set b n registers)
+  pub stand_with_registers : (b : Board) (n : ℕ) (registers : Registers) (d : ℕ) → stands b d ≡ true → stands (registers_set b n registers) d ≡ true

@@ -1,7 +1,7 @@
 -- When the phases of a board are sound: each object that a reset reaches is where its holds say (docs/devel/reset.rst, "Multi-phase mechanism").
-use Rattle.std.specs.Prelude.{◌≡◌, ℕ, ◌<◌, true, is_some, codes, if◌then◌else◌, Some}
+use Rattle.std.specs.Prelude.{◌≡◌, ℕ, ◌<◌, true, is_some, codes, if◌then◌else◌, [], ◌∷◌, Some}
 use Rattle.std.specs.List.{AllByRecursion}
-use Rattle.qo_values.specs.declared.births.TheConstants.{MACHINE_BIRTH}
+use Rattle.qo_values.specs.declared.births.TheConstants.{MACHINE_BIRTH, MEMORY_BUS_BIRTH, ROOT_BUS_BIRTH}
 use Rattle.qo_values.specs.declared.kinds.TypeId.TheVariants.{Machine}
 use Rattle.qo_model.specs.Board.{Board, kind_of}
 use Rattle.qo_model.specs.Paths.{is_of}
@@ -31,5 +31,7 @@ pub record SoundPhases (b : Board) : Type 0 where
   -- what a reset reaches is in its reset where a hold is on it or above it, and nowhere else; and holds are on nothing else
   pub reached : (n : ℕ) → IsReached b n → stage_of n b.notes ≡ Some (stage_now b n)
   pub holds : AllByRecursion (IsReached b) b.holds
+  -- the machine's buses are such: they are buses
+  pub buses : AllByRecursion (IsReached b) (ROOT_BUS_BIRTH ∷ MEMORY_BUS_BIRTH ∷ [])
   -- no other object is a machine
   pub lone : LoneMachine b

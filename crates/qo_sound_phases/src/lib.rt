@@ -11,7 +11,9 @@ ghost use Rattle.qo_sound_phases.specs.PhasesSay.{PhasesSayLaw};
 /// each birth are in turn, and what a reset reaches is held by its notes where a hold is on it or
 /// above it, and nowhere else, so it is behind each command on objects, a device that is added,
 /// refused at any stage or cut, a removal that is asked for or refused, a device that is detached,
-/// an act that is no phase, a hold, a hold less, both, and the reset of the whole board.
+/// an act that is no phase, a hold, a hold less, both, the reset of the whole board, and a write of
+/// a clock's numbers that is not refused. So it is too, on every board, behind other registers of an
+/// object, which leave each device in its place.
 #[tactic(auto, using(crate::proofs::LawLemmas::phases_kept_lem))]
 pub fn law_phases_kept()
     ensures { PhasesKeptLaw }
@@ -19,7 +21,9 @@ pub fn law_phases_kept()
 
 /// On such a board the phases noted of each birth are the beginning of enter, hold, exit, repeated;
 /// a phase goes to no object twice; and a machine, a bus or a device that is in the tree is held by
-/// its notes where a hold is on it or above it, and nowhere else.
+/// its notes where a hold is on it or above it, and nowhere else. Who is found by slots from a bus
+/// of the machine down is a device that stands in its place, and the first bus of a device that
+/// stands may be held in reset.
 #[tactic(auto, using(crate::proofs::LawLemmas::phases_say_lem))]
 pub fn law_phases_say()
     ensures { PhasesSayLaw }
