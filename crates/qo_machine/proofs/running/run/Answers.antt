@@ -35,3 +35,6 @@ loop-preserved g c =
       send_count = c.in_default-turn.ensures.send_quiet (λ e. cc) ∙ c.loop.invariant.send_count;
       later = g.met.H.Hub.after _ _ _ c.loop.invariant.later c.turn.ensures.later;
     }
+
+pub returns-in-Err-clause-later : goal.returns-in-Err-clause-later
+returns-in-Err-clause-later g c = g.met.H.Hub.after _ _ _ c.loop.invariant.later c.turn.ensures.later
