@@ -20,10 +20,10 @@ use Rattle.qo_model.specs.Reset.{held, pulse}
 use Rattle.qo_realize.specs.Guest.{polled}
 use Rattle.qo_realize.specs.Registers.{behind_effect, guest_written, registers_written}
 use Rattle.qo_realize.specs.Time.{at_time, with_running}
-use Rattle.qo_sound.proofs.RecordLemmas.{among-all}
 use Rattle.qo_sound_devices.specs.SoundLists.{IsOn}
 use Rattle.qo_sound_devices.specs.SoundPlaces.{stands}
 use Rattle.qo_sound_devices.proofs.DevicesLawLemmas.{devices_kept_lem}
+use Rattle.qo_sound_devices.proofs.PlugLemmas.{among-all}
 use Rattle.qo_sound_clocks.specs.RegistersKept.{registers_set}
 use Rattle.qo_sound_clocks.proofs.RegisterLemmas.{registers_kept_lem}
 use Rattle.qo_sound_phases.specs.PhaseRuns.{SoundResets}
