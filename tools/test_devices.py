@@ -2,7 +2,7 @@
 """Has the proved program refuse devices, at each stage and for each property, and holds the whole tree, what is detached,
 the notes, the notices and the claims to those before. It prints nothing where all is well.
 
-Each row of ATTEMPTS and TIMERS is refused with its code on a board of its own. Any two rows of ATTEMPTS of different
+Each row of ATTEMPTS, TIMERS, UARTS and DIMMS is refused with its code on a board of its own. Any two rows of ATTEMPTS of different
 stages, with the arguments of both, are refused with the code of the earlier one. Behind a refusal an add under the same id and in the same slot is
 done, which the claims of the refused one would bar. The program is built by `rt ci`, or by `rt run` in
 crates/compose_program.
@@ -18,6 +18,8 @@ TOP = pathlib.Path(__file__).resolve().parent.parent
 PROGRAM = TOP / "crates" / "compose_program" / "out" / "compose_program"
 BRIDGE = "slot-bridge"
 TIMER = "slot-timer"
+UART = "slot-uart"
+DIMM = "mem-dimm"
 
 
 def command(name, **arguments):
@@ -56,7 +58,7 @@ ATTEMPTS = [
     (1, "E20", {"driver": "nope"}, []),
     (1, "E21", {"driver": "device"}, []),
     (1, "E22", {"driver": "tag"}, []),
-    (1, "E22", {"driver": "slot-uart"}, []),
+    (1, "E22", {"driver": "clock"}, []),
     (2, "E23", {"id": "9x"}, []),
     (2, "E24", {"id": "b1"}, []),
     (2, "E24", {"id": "gone"}, []),
@@ -101,6 +103,41 @@ TIMERS = [
     (5, "E29", {"driver": TIMER, "slot": 0}, []),
     (5, "E30", {"driver": TIMER}, FULL),
     (8, "E44", {"driver": TIMER}, NOTICES),
+]
+
+# of UARTs, with a ring that another one may have
+RING = command("chardev-add", id="r", backend={"type": "ringbuf", "data": {"size": 16}})
+UARTS = [
+    (4, "E19", {"driver": UART, "chardev": 1}, []),
+    (4, "E18", {"driver": UART, "clock-period": 1}, []),
+    (5, "E29", {"driver": UART, "slot": 0, "chardev": "no"}, []),
+    (6, "E36", {"driver": UART, "chardev": "no"}, []),
+    (6, "E37", {"driver": UART, "chardev": "r"}, [RING, add(driver=UART, id="u", chardev="r")]),
+    (8, "E44", {"driver": UART}, NOTICES),
+    (6, "E36", {"driver": UART, "chardev": "no"}, NOTICES),
+]
+
+
+def memory(name, size=4096):
+    """The command that adds a memory backend of a size."""
+    return command("object-add", **{"qom-type": "memory-backend-ram", "id": name, "size": size})
+
+
+# and of DIMMs, which go on the memory bus and are one object each
+WINDOW = 2**32
+DIMMS = [
+    (3, "E26", {"driver": DIMM, "bus": "/machine/root.0"}, []),
+    (4, "E17", {"driver": DIMM, "chardev": "r"}, []),
+    (4, "E19", {"driver": DIMM, "addr": 1}, []),
+    (4, "E31", {"driver": DIMM, "memdev": "/objects/t"}, []),
+    (5, "E28", {"driver": DIMM, "slot": 8}, []),
+    (5, "E38", {"driver": DIMM}, []),
+    (5, "E39", {"driver": DIMM, "memdev": "m"}, [memory("m"), add(driver=DIMM, memdev="m")]),
+    (5, "E40", {"driver": DIMM, "memdev": "n", "addr": WINDOW}, [memory("m"), add(driver=DIMM, memdev="m"), memory("n")]),
+    (5, "E40", {"driver": DIMM, "memdev": "n", "addr": WINDOW - 4096}, [memory("n")]),
+    (5, "E40", {"driver": DIMM, "memdev": "n", "addr": WINDOW + 2**36}, [memory("n")]),
+    (5, "E41", {"driver": DIMM, "memdev": "n"}, [memory("m", 2**36), add(driver=DIMM, memdev="m"), memory("n")]),
+    (8, "E44", {"driver": DIMM, "memdev": "n"}, [memory("n"), *NOTICES]),
 ]
 
 
@@ -158,13 +195,14 @@ def notes_of(stage, code, birth, driver):
     """The notes of an attempt whose first object has this birth: none where nothing is made."""
     if stage < 4 or code == "E43":
         return []
-    clock, buses = birth + 1, [birth + 2] if driver == BRIDGE else []
-    made = [*(f"init {birth} {it}" for it in ("device", "slot-device", driver)), f"init {clock} clock"]
+    clocks, buses = [] if driver == DIMM else [birth + 1], [birth + 2] if driver == BRIDGE else []
+    types = ["device", driver] if driver == DIMM else ["device", "slot-device", driver]
+    made = [*(f"init {birth} {it}" for it in types), *(f"init {clock} clock" for clock in clocks)]
     made += [f"init {bus} {it}" for bus in buses for it in ("bus", "slot-bus")]
     started = [f"realize {it}" for it in (birth, *buses)]
     started += [f"{act} {it}" for act in ("enter", "hold", "exit", "unrealize") for it in (*buses, birth)]
-    ended = [f"final {clock} clock", *(f"final {bus} {it}" for bus in buses for it in ("slot-bus", "bus"))]
-    ended += [f"final {birth} {it}" for it in (driver, "slot-device", "device")]
+    ended = [f"final {clock} clock" for clock in clocks] + [f"final {bus} {it}" for bus in buses for it in ("slot-bus", "bus")]
+    ended += [f"final {birth} {it}" for it in reversed(types)]
     return made + (started if stage == 8 else []) + ended
 
 
@@ -220,7 +258,7 @@ def comes_first(early, late):
 
 def main():
     """Tries all rows, and returns the exit status."""
-    alone = [leaves_a_trace(row) or keeps_a_claim(row) for row in [*ATTEMPTS, *TIMERS]]
+    alone = [leaves_a_trace(row) or keeps_a_claim(row) for row in [*ATTEMPTS, *TIMERS, *UARTS, *DIMMS]]
     pairs = [comes_first(*pair) for pair in itertools.combinations(ATTEMPTS, 2)]
     return 1 if any(alone) or any(pairs) else 0
 

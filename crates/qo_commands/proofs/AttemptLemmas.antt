@@ -5,9 +5,9 @@ use Rattle.qo_values.specs.declared.codes.Code.{Code}
 use Rattle.qo_values.specs.declared.kinds.TypeId.{TypeId}
 use Rattle.qo_model.specs.Board.{Board}
 use Rattle.qo_model.specs.Objects.{Given, attempted_as, barred_by, with_attempt}
-use Rattle.qo_model.specs.Plug.{Wanted, barred_early, cut_attempt, objects_in}
+use Rattle.qo_model.specs.Plug.{Wanted, barred_early, cut_attempt, objects_in, type_barred}
 use Rattle.qo_model.specs.Types.{TypeRow, row_named}
-use Rattle.qo_plug.specs.Added.{driver_barred, wanted}
+use Rattle.qo_plug.specs.Added.{wanted}
 use Rattle.qo_plug.specs.Cuts.{cut_as, cut_of, cut_open}
 use Rattle.qo_requests.specs.declared.requests.Request.{Request}
 use Rattle.qo_requests.specs.declared.requests.Request.TheVariants.{QmpCapabilities, QueryVersion, QueryCommands, QueryStatus, Stop, Cont, SystemReset, Quit, QomList, QomGet, QomSet, QomListTypes, DeviceListProperties, ObjectAdd, ObjectDel, DeviceAdd, DeviceDel, ChardevAdd, ChardevRemove, RingbufRead, RingbufWrite, XResetHold, XResetRelease, XSever, XQueryNotes, XQueryDetached, XGuest, XStep}
@@ -50,7 +50,7 @@ attempted-by P b (XStep ns) i joined none object plug = none
 -- a device's attempt that was cut
 cut-by : (P : Board → Type 0) (b : Board) (a : Wanted) (i : ℕ) (joined : Bool) → P b → ((t : TypeId) → P (cut_of b t i joined)) → P (cut_as b a i joined)
 unfolding cut_as
-cut-by P b a i joined none cut = by (driver_barred a.driver) (row_named a.driver)
+cut-by P b a i joined none cut = by (type_barred a.driver) (row_named a.driver)
   where
     free : (row : TypeRow) (bar : Option (ℕ × Code)) → P (elim bar as (λ o. Board) [ None ↦ cut_of b row.id i joined | Some found ↦ b ])
     free row None = cut row.id

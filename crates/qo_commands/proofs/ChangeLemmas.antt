@@ -1,17 +1,18 @@
 -- What the board's calls leave is what the commands define.
 use Rattle.std.proofs.Common.{◌≡◌, refl, ap, sym, subst, ◌∙◌, ℕ, Bool, if◌then◌else◌, List, [], ◌∷◌, true, false, Some, None, Option, Result, Ok, Err, OnErr, inl, inr}
-use Rattle.serde_json.specs.Data.{Data}
+use Rattle.serde_json.specs.Data.{Data, string}
 use Rattle.qo_values.specs.declared.codes.Code.{Code}
+use Rattle.qo_values.specs.declared.forms.Form.{Form}
 use Rattle.qo_values.specs.declared.properties.Val.{Val}
 use Rattle.qo_model.specs.Board.{Board}
-use Rattle.qo_model.specs.Objects.{Changed, Given, object_add, object_del, sever}
+use Rattle.qo_model.specs.Objects.{Changed, Given, object_add, sever}
 use Rattle.qo_model.specs.Access.{write_at}
 use Rattle.qo_lane.specs.Hearing.{heard, outcome_of}
 use Rattle.qo_lane.specs.Hearing as hearing
 use Rattle.qo_lane.specs.declared.hearing.Heard.{Heard}
 use Rattle.qo_model.specs.Hotplug.{asked, reset_whole}
-use Rattle.qo_model.specs.Plug.{Plugged, Wanted}
-use Rattle.qo_plug.specs.Added.{added, wanted}
+use Rattle.qo_model.specs.Plug.{Plugged, Wanted, plug}
+use Rattle.qo_plug.specs.Added.{wanted}
 use Rattle.qo_plug.specs.declared.adding.Added as device
 use Rattle.qo_plug.specs.declared.refusals.AddRefusal.{AddRefusal}
 use Rattle.qo_plug.specs.declared.refusals.AddRefusal.TheVariants.{Refused as Barred}
@@ -19,18 +20,20 @@ use Rattle.qo_properties.specs.declared.refusals.Refusal.{Refusal}
 use Rattle.qo_properties.specs.declared.refusals.Refusal.TheVariants.{Refused, Memory}
 use Rattle.qo_realize.specs.Answers.{Adds, IsAnswered, Plugs, Writes}
 use Rattle.qo_realize.specs.Answers as board
+use Rattle.qo_realize.specs.Chardevs.{ReadsRing, chardev_added, chardev_removed, ringbuf_read, ringbuf_written}
 use Rattle.qo_realize.specs.Parts.{Parts}
 use Rattle.qo_realize.specs.Stands.{Stands}
+use Rattle.qo_realize.specs.Users.{object_removed}
 use Rattle.qo_realize.specs.Resets.{held_at, released_at}
 use Rattle.qo_realize.specs.Time.{Advances, advanced, switches, with_running}
 use Rattle.qo_replies.specs.declared.events.Event.{Event}
 use Rattle.qo_replies.specs.declared.events.Event.TheVariants.{Resume, Stop as Stopped}
 use Rattle.qo_requests.specs.declared.requests.Request.{Request}
 use Rattle.qo_requests.specs.declared.requests.Request.TheVariants.{QmpCapabilities, QueryVersion, QueryCommands, QueryStatus, Stop, Cont, SystemReset, Quit, QomList, QomGet, QomSet, QomListTypes, DeviceListProperties, ObjectAdd, ObjectDel, DeviceAdd, DeviceDel, ChardevAdd, ChardevRemove, RingbufRead, RingbufWrite, XResetHold, XResetRelease, XSever, XQueryNotes, XQueryDetached, XGuest, XStep}
-use Rattle.qo_commands.specs.Changes.{Came, Changes, ComesTo, is_change}
+use Rattle.qo_commands.specs.Changes.{Came, Changes, ComesTo, is_change, is_on_rings}
 use Rattle.qo_commands.specs.Views.{done_of}
 use Rattle.qo_commands.specs.declared.commands.Done as outcome
-use Rattle.qo_commands.specs.Commands.{Done, changed, empty, performed, plugged, refused_with, reset_by, returned, switched, time_data, timed, told, wrote}
+use Rattle.qo_commands.specs.Commands.{Done, answered, changed, empty, performed, plugged, refused_with, reset_by, returned, switched, time_data, timed, told, wrote}
 
 -- a command that came to something, by what it came to
 came-value : (b c : Board) (r : Request) (value : Data) (d : outcome.Done) (p : Parts) → performed b r ≡ returned c value → Stands c p
@@ -68,13 +71,13 @@ changed-err : (b : Board) (r : Request) (change : Changed) (code : Code) (d : ou
     → performed b r ≡ changed change → change.refusal ≡ Some code → Stands change.board p → ((x : Board) → done_of x d ≡ refused_with x code) → Came b r d p
 changed-err b r change code d p is some now so = came-err b change.board r code d p (is ∙ rw (changed, some) refl) now so
 
-pub del-ok : (b : Board) (p : Parts) (id : List ℕ) (d : outcome.Done) → IsAnswered (object_del b id) (Ok tt) p → ((x : Board) → done_of x d ≡ returned x empty) → Came b (ObjectDel id) d p
+pub del-ok : (b : Board) (p : Parts) (id : List ℕ) (d : outcome.Done) → IsAnswered (object_removed b id) (Ok tt) p → ((x : Board) → done_of x d ≡ returned x empty) → Came b (ObjectDel id) d p
 unfolding performed
-del-ok b p id d h so = changed-ok b (ObjectDel id) (object_del b id) d p refl h.refusal h.board so
+del-ok b p id d h so = changed-ok b (ObjectDel id) (object_removed b id) d p refl h.refusal h.board so
 
-pub del-err : (b : Board) (p : Parts) (id : List ℕ) (code : Code) (d : outcome.Done) → IsAnswered (object_del b id) (Err code) p → ((x : Board) → done_of x d ≡ refused_with x code) → Came b (ObjectDel id) d p
+pub del-err : (b : Board) (p : Parts) (id : List ℕ) (code : Code) (d : outcome.Done) → IsAnswered (object_removed b id) (Err code) p → ((x : Board) → done_of x d ≡ refused_with x code) → Came b (ObjectDel id) d p
 unfolding performed
-del-err b p id code d h so = changed-err b (ObjectDel id) (object_del b id) code d p refl h.refusal h.board so
+del-err b p id code d h so = changed-err b (ObjectDel id) (object_removed b id) code d p refl h.refusal h.board so
 
 pub sever-ok : (b : Board) (p : Parts) (n : ℕ) (d : outcome.Done) → IsAnswered (sever b n) (Ok tt) p → ((x : Board) → done_of x d ≡ returned x empty) → Came b (XSever n) d p
 unfolding performed
@@ -108,12 +111,12 @@ plugged-err b r add refusal d p is some now so = came-err b add.board r refusal.
 pub plug-ok : (b : Board) (p : Parts) (driver : List ℕ) (id bus : Option (List ℕ)) (props : List Given) (device : device.Added) (d : outcome.Done)
     → Plugs b (wanted driver id bus props) (Ok device) p → ((x : Board) → done_of x d ≡ returned x empty) → Came b (DeviceAdd driver id bus props) d p
 unfolding performed
-plug-ok b p driver id bus props device d (none, now) so = plugged-ok b (DeviceAdd driver id bus props) (added b (wanted driver id bus props)) d p refl none now so
+plug-ok b p driver id bus props device d (none, now) so = plugged-ok b (DeviceAdd driver id bus props) (plug b (wanted driver id bus props)) d p refl none now so
 
 pub plug-err : (b : Board) (p : Parts) (driver : List ℕ) (id bus : Option (List ℕ)) (props : List Given) (stage : ℕ) (code : Code) (d : outcome.Done)
     → Plugs b (wanted driver id bus props) (Err (Barred stage code)) p → ((x : Board) → done_of x d ≡ refused_with x code) → Came b (DeviceAdd driver id bus props) d p
 unfolding performed
-plug-err b p driver id bus props stage code d (some, now) so = plugged-err b (DeviceAdd driver id bus props) (added b (wanted driver id bus props)) (stage, code) d p refl some now so
+plug-err b p driver id bus props stage code d (some, now) so = plugged-err b (DeviceAdd driver id bus props) (plug b (wanted driver id bus props)) (stage, code) d p refl some now so
 
 -- as the words are given
 pub plugs-as : (b : Board) (driver : List ℕ) (id bus as_id as_bus : Option (List ℕ)) (props : List Given) (r : Result device.Added AddRefusal) (p : Parts)
@@ -213,36 +216,105 @@ pub reset-came : (b : Board) (d : outcome.Done) (p : Parts) → Stands (reset_wh
 unfolding performed
 reset-came b d p now so = (now, so (reset_whole b))
 
--- there is no other change
-pub no-other : (r : Request) → is_change r ≡ true → ((path name : List ℕ) (val : Val) → r ≡ QomSet path name val → ⊥) → ((driver id : List ℕ) (props : List Given) → r ≡ ObjectAdd driver id props → ⊥) → ((id : List ℕ) → r ≡ ObjectDel id → ⊥) → ((birth : ℕ) → r ≡ XSever birth → ⊥)
+-- rings
+pub ring_add-changes : {E : Type 0} (b : Board) (p : Parts) (id kind : List ℕ) (size : Option ℕ) (answer : Result Unit Refusal) (result : Result outcome.Done E)
+    → board.Changes (chardev_added b id kind size) b answer p → ComesTo answer result → Changes b (ChardevAdd id kind size) result p
+unfolding performed
+ring_add-changes b p id kind size answer result h so = made-changes b p (ChardevAdd id kind size) (chardev_added b id kind size) answer result refl h so
+
+pub ring_remove-ok : (b : Board) (p : Parts) (id : List ℕ) (d : outcome.Done) → IsAnswered (chardev_removed b id) (Ok tt) p → ((x : Board) → done_of x d ≡ returned x empty)
+    → Came b (ChardevRemove id) d p
+unfolding performed
+ring_remove-ok b p id d h so = changed-ok b (ChardevRemove id) (chardev_removed b id) d p refl h.refusal h.board so
+
+pub ring_remove-err : (b : Board) (p : Parts) (id : List ℕ) (code : Code) (d : outcome.Done) → IsAnswered (chardev_removed b id) (Err code) p
+    → ((x : Board) → done_of x d ≡ refused_with x code) → Came b (ChardevRemove id) d p
+unfolding performed
+ring_remove-err b p id code d h so = changed-err b (ChardevRemove id) (chardev_removed b id) code d p refl h.refusal h.board so
+
+pub ring_read-ok : (b : Board) (p : Parts) (id : List ℕ) (most : ℕ) (form : Option Form) (text : List ℕ) (d : outcome.Done)
+    → ReadsRing (ringbuf_read b id most form) (Ok text) p → ((x : Board) → done_of x d ≡ returned x (string text)) → Came b (RingbufRead id most form) d p
+unfolding performed
+ring_read-ok b p id most form text d (is, now) so =
+    let c : Board = (ringbuf_read b id most form).board in
+    came-value b c (RingbufRead id most form) (string text) d p (ap (answered c string) is) now so
+
+pub ring_read-err : (b : Board) (p : Parts) (id : List ℕ) (most : ℕ) (form : Option Form) (code : Code) (d : outcome.Done)
+    → ReadsRing (ringbuf_read b id most form) (Err (Refused code)) p → ((x : Board) → done_of x d ≡ refused_with x code) → Came b (RingbufRead id most form) d p
+unfolding performed
+ring_read-err b p id most form code d (is, now) so =
+    let c : Board = (ringbuf_read b id most form).board in
+    came-err b c (RingbufRead id most form) code d p (ap (answered c string) is) now so
+
+pub ring_write-changes : {E : Type 0} (b : Board) (p : Parts) (id text : List ℕ) (form : Option Form) (answer : Result Unit Refusal) (result : Result outcome.Done E)
+    → board.Changes (ringbuf_written b id text form) b answer p → ComesTo answer result → Changes b (RingbufWrite id text form) result p
+unfolding performed
+ring_write-changes b p id text form answer result h so = made-changes b p (RingbufWrite id text form) (ringbuf_written b id text form) answer result refl h so
+
+-- any other change is one on rings
+pub on-rings : (r : Request) → is_change r ≡ true → ((path name : List ℕ) (val : Val) → r ≡ QomSet path name val → ⊥) → ((driver id : List ℕ) (props : List Given) → r ≡ ObjectAdd driver id props → ⊥) → ((id : List ℕ) → r ≡ ObjectDel id → ⊥) → ((birth : ℕ) → r ≡ XSever birth → ⊥)
     → ((driver : List ℕ) (id bus : Option (List ℕ)) (props : List Given) → r ≡ DeviceAdd driver id bus props → ⊥) → ((id : List ℕ) → r ≡ DeviceDel id → ⊥) → ((line : List ℕ) → r ≡ XGuest line → ⊥)
     → (r ≡ Stop → ⊥) → (r ≡ Cont → ⊥) → ((ns : ℕ) → r ≡ XStep ns → ⊥)
-    → (r ≡ SystemReset → ⊥) → ((path : List ℕ) → r ≡ XResetHold path → ⊥) → ((path : List ℕ) → r ≡ XResetRelease path → ⊥) → ⊥
-no-other (QmpCapabilities enable) is set add del sever plug ask guest stop cont step reset hold release = cc
-no-other QueryVersion is set add del sever plug ask guest stop cont step reset hold release = cc
-no-other QueryCommands is set add del sever plug ask guest stop cont step reset hold release = cc
-no-other QueryStatus is set add del sever plug ask guest stop cont step reset hold release = cc
-no-other Stop is set add del sever plug ask guest stop cont step reset hold release = absurd (stop refl)
-no-other Cont is set add del sever plug ask guest stop cont step reset hold release = absurd (cont refl)
-no-other SystemReset is set add del sever plug ask guest stop cont step reset hold release = absurd (reset refl)
-no-other Quit is set add del sever plug ask guest stop cont step reset hold release = cc
-no-other (QomList path) is set add del sever plug ask guest stop cont step reset hold release = cc
-no-other (QomGet path property) is set add del sever plug ask guest stop cont step reset hold release = cc
-no-other (QomSet path property value) is set add del sever plug ask guest stop cont step reset hold release = absurd (set path property value refl)
-no-other (QomListTypes implements with_abstract) is set add del sever plug ask guest stop cont step reset hold release = cc
-no-other (DeviceListProperties typename) is set add del sever plug ask guest stop cont step reset hold release = cc
-no-other (ObjectAdd driver id props) is set add del sever plug ask guest stop cont step reset hold release = absurd (add driver id props refl)
-no-other (ObjectDel id) is set add del sever plug ask guest stop cont step reset hold release = absurd (del id refl)
-no-other (DeviceAdd driver id bus props) is set add del sever plug ask guest stop cont step reset hold release = absurd (plug driver id bus props refl)
-no-other (DeviceDel id) is set add del sever plug ask guest stop cont step reset hold release = absurd (ask id refl)
-no-other (ChardevAdd id kind size) is set add del sever plug ask guest stop cont step reset hold release = cc
-no-other (ChardevRemove id) is set add del sever plug ask guest stop cont step reset hold release = cc
-no-other (RingbufRead device size format) is set add del sever plug ask guest stop cont step reset hold release = cc
-no-other (RingbufWrite device payload format) is set add del sever plug ask guest stop cont step reset hold release = cc
-no-other (XResetHold path) is set add del sever plug ask guest stop cont step reset hold release = absurd (hold path refl)
-no-other (XResetRelease path) is set add del sever plug ask guest stop cont step reset hold release = absurd (release path refl)
-no-other (XSever birth) is set add del sever plug ask guest stop cont step reset hold release = absurd (sever birth refl)
-no-other (XQueryNotes start) is set add del sever plug ask guest stop cont step reset hold release = cc
-no-other XQueryDetached is set add del sever plug ask guest stop cont step reset hold release = cc
-no-other (XGuest line) is set add del sever plug ask guest stop cont step reset hold release = absurd (guest line refl)
-no-other (XStep ns) is set add del sever plug ask guest stop cont step reset hold release = absurd (step ns refl)
+    → (r ≡ SystemReset → ⊥) → ((path : List ℕ) → r ≡ XResetHold path → ⊥) → ((path : List ℕ) → r ≡ XResetRelease path → ⊥)
+    → is_on_rings r ≡ true
+on-rings (QmpCapabilities enable) is set add del sever plug ask guest stop cont step reset hold release = cc
+on-rings QueryVersion is set add del sever plug ask guest stop cont step reset hold release = cc
+on-rings QueryCommands is set add del sever plug ask guest stop cont step reset hold release = cc
+on-rings QueryStatus is set add del sever plug ask guest stop cont step reset hold release = cc
+on-rings Stop is set add del sever plug ask guest stop cont step reset hold release = absurd (stop refl)
+on-rings Cont is set add del sever plug ask guest stop cont step reset hold release = absurd (cont refl)
+on-rings SystemReset is set add del sever plug ask guest stop cont step reset hold release = absurd (reset refl)
+on-rings Quit is set add del sever plug ask guest stop cont step reset hold release = cc
+on-rings (QomList path) is set add del sever plug ask guest stop cont step reset hold release = cc
+on-rings (QomGet path property) is set add del sever plug ask guest stop cont step reset hold release = cc
+on-rings (QomSet path property value) is set add del sever plug ask guest stop cont step reset hold release = absurd (set path property value refl)
+on-rings (QomListTypes implements with_abstract) is set add del sever plug ask guest stop cont step reset hold release = cc
+on-rings (DeviceListProperties typename) is set add del sever plug ask guest stop cont step reset hold release = cc
+on-rings (ObjectAdd driver id props) is set add del sever plug ask guest stop cont step reset hold release = absurd (add driver id props refl)
+on-rings (ObjectDel id) is set add del sever plug ask guest stop cont step reset hold release = absurd (del id refl)
+on-rings (DeviceAdd driver id bus props) is set add del sever plug ask guest stop cont step reset hold release = absurd (plug driver id bus props refl)
+on-rings (DeviceDel id) is set add del sever plug ask guest stop cont step reset hold release = absurd (ask id refl)
+on-rings (ChardevAdd id kind size) is set add del sever plug ask guest stop cont step reset hold release = refl
+on-rings (ChardevRemove id) is set add del sever plug ask guest stop cont step reset hold release = refl
+on-rings (RingbufRead device size format) is set add del sever plug ask guest stop cont step reset hold release = refl
+on-rings (RingbufWrite device payload format) is set add del sever plug ask guest stop cont step reset hold release = refl
+on-rings (XResetHold path) is set add del sever plug ask guest stop cont step reset hold release = absurd (hold path refl)
+on-rings (XResetRelease path) is set add del sever plug ask guest stop cont step reset hold release = absurd (release path refl)
+on-rings (XSever birth) is set add del sever plug ask guest stop cont step reset hold release = absurd (sever birth refl)
+on-rings (XQueryNotes start) is set add del sever plug ask guest stop cont step reset hold release = cc
+on-rings XQueryDetached is set add del sever plug ask guest stop cont step reset hold release = cc
+on-rings (XGuest line) is set add del sever plug ask guest stop cont step reset hold release = absurd (guest line refl)
+on-rings (XStep ns) is set add del sever plug ask guest stop cont step reset hold release = absurd (step ns refl)
+
+-- and of those on rings there is no other
+pub no-ring : (r : Request) → is_on_rings r ≡ true → ((id kind : List ℕ) (size : Option ℕ) → r ≡ ChardevAdd id kind size → ⊥) → ((id : List ℕ) → r ≡ ChardevRemove id → ⊥)
+    → ((device : List ℕ) (size : ℕ) (format : Option Form) → r ≡ RingbufRead device size format → ⊥)
+    → ((device payload : List ℕ) (format : Option Form) → r ≡ RingbufWrite device payload format → ⊥) → ⊥
+no-ring (QmpCapabilities enable) is add remove read write = cc
+no-ring QueryVersion is add remove read write = cc
+no-ring QueryCommands is add remove read write = cc
+no-ring QueryStatus is add remove read write = cc
+no-ring Stop is add remove read write = cc
+no-ring Cont is add remove read write = cc
+no-ring SystemReset is add remove read write = cc
+no-ring Quit is add remove read write = cc
+no-ring (QomList path) is add remove read write = cc
+no-ring (QomGet path property) is add remove read write = cc
+no-ring (QomSet path property value) is add remove read write = cc
+no-ring (QomListTypes implements with_abstract) is add remove read write = cc
+no-ring (DeviceListProperties typename) is add remove read write = cc
+no-ring (ObjectAdd driver id props) is add remove read write = cc
+no-ring (ObjectDel id) is add remove read write = cc
+no-ring (DeviceAdd driver id bus props) is add remove read write = cc
+no-ring (DeviceDel id) is add remove read write = cc
+no-ring (ChardevAdd id kind size) is add remove read write = absurd (add id kind size refl)
+no-ring (ChardevRemove id) is add remove read write = absurd (remove id refl)
+no-ring (RingbufRead device size format) is add remove read write = absurd (read device size format refl)
+no-ring (RingbufWrite device payload format) is add remove read write = absurd (write device payload format refl)
+no-ring (XResetHold path) is add remove read write = cc
+no-ring (XResetRelease path) is add remove read write = cc
+no-ring (XSever birth) is add remove read write = cc
+no-ring (XQueryNotes start) is add remove read write = cc
+no-ring XQueryDetached is add remove read write = cc
+no-ring (XGuest line) is add remove read write = cc
+no-ring (XStep ns) is add remove read write = cc

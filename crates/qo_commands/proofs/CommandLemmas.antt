@@ -1,7 +1,7 @@
 -- What commands return has a text: no number has a fraction.
 use Rattle.std.proofs.Common.{◌≡◌, ℕ, Bool, true, false, if◌then◌else◌, unwrap_or, List, [], ◌∷◌, map, refl, Option, None, Some, Result, Ok, Err, pos, negsuc}
 use Rattle.std.specs.Prelude.{codes}
-use Rattle.serde_json.specs.Data.{Data, array}
+use Rattle.serde_json.specs.Data.{Data, array, string}
 use Rattle.serde_json.specs.View.{items_of}
 use Rattle.serde_json.specs.Written.{items_have_float, has_float}
 use Rattle.qo_model.specs.Board.{Board}
@@ -16,10 +16,12 @@ use Rattle.qo_guest.specs.declared.answers.GuestAnswer.TheVariants.{Fine, Plug, 
 use Rattle.qo_guest.specs.declared.answers.GuestAnswer.TheVariants.{Value as Answered}
 use Rattle.qo_lane.specs.Hearing.{heard}
 use Rattle.qo_model.specs.Hotplug.{asked}
-use Rattle.qo_model.specs.Objects.{Changed, object_add, object_del, sever}
-use Rattle.qo_model.specs.Plug.{Plugged}
-use Rattle.qo_plug.specs.Added.{added, wanted}
+use Rattle.qo_model.specs.Objects.{Changed, object_add, sever}
+use Rattle.qo_model.specs.Plug.{Plugged, plug}
+use Rattle.qo_plug.specs.Added.{wanted}
+use Rattle.qo_realize.specs.Chardevs.{chardev_added, chardev_removed, ringbuf_read, ringbuf_written}
 use Rattle.qo_realize.specs.Resets.{held_at, released_at}
+use Rattle.qo_realize.specs.Users.{object_removed}
 use Rattle.qo_realize.specs.Time.{advanced}
 use Rattle.qo_values.specs.declared.kinds.TypeId.{TypeId}
 use Rattle.qo_model.specs.Types.{TypeRow, is_a, row_named}
@@ -133,13 +135,13 @@ no_float b (QomSet path property value) = wrote_no_float b (write_at b path prop
 no_float b (QomListTypes implements with_abstract) = types_no_float (types_of (unwrap_or implements (codes "object")) (unwrap_or with_abstract false))
 no_float b (DeviceListProperties typename) = device_no_float b (row_named typename)
 no_float b (ObjectAdd driver id props) = changed_no_float (object_add b driver id props)
-no_float b (ObjectDel id) = changed_no_float (object_del b id)
-no_float b (DeviceAdd driver id bus props) = plugged_no_float (added b (wanted driver id bus props))
+no_float b (ObjectDel id) = changed_no_float (object_removed b id)
+no_float b (DeviceAdd driver id bus props) = plugged_no_float (plug b (wanted driver id bus props))
 no_float b (DeviceDel id) = changed_no_float (asked b id)
-no_float b (ChardevAdd id kind size) = refl
-no_float b (ChardevRemove id) = refl
-no_float b (RingbufRead device size format) = refl
-no_float b (RingbufWrite device payload format) = refl
+no_float b (ChardevAdd id kind size) = changed_no_float (chardev_added b id kind size)
+no_float b (ChardevRemove id) = changed_no_float (chardev_removed b id)
+no_float b (RingbufRead device size format) = answered_no_float (ringbuf_read b device size format).board string (λ text. refl) (ringbuf_read b device size format).text
+no_float b (RingbufWrite device payload format) = changed_no_float (ringbuf_written b device payload format)
 no_float b (XResetHold path) = changed_no_float (held_at b path)
 no_float b (XResetRelease path) = changed_no_float (released_at b path)
 no_float b (XSever birth) = changed_no_float (sever b birth)
@@ -182,10 +184,10 @@ unbuilt b (ObjectAdd driver id props) stays list get types declared told detache
 unbuilt b (ObjectDel id) stays list get types declared told detached version commands status quit = cc
 unbuilt b (DeviceAdd driver id bus props) stays list get types declared told detached version commands status quit = cc
 unbuilt b (DeviceDel id) stays list get types declared told detached version commands status quit = cc
-unbuilt b (ChardevAdd id kind size) stays list get types declared told detached version commands status quit = refl
-unbuilt b (ChardevRemove id) stays list get types declared told detached version commands status quit = refl
-unbuilt b (RingbufRead device size format) stays list get types declared told detached version commands status quit = refl
-unbuilt b (RingbufWrite device payload format) stays list get types declared told detached version commands status quit = refl
+unbuilt b (ChardevAdd id kind size) stays list get types declared told detached version commands status quit = cc
+unbuilt b (ChardevRemove id) stays list get types declared told detached version commands status quit = cc
+unbuilt b (RingbufRead device size format) stays list get types declared told detached version commands status quit = cc
+unbuilt b (RingbufWrite device payload format) stays list get types declared told detached version commands status quit = cc
 unbuilt b (XResetHold path) stays list get types declared told detached version commands status quit = cc
 unbuilt b (XResetRelease path) stays list get types declared told detached version commands status quit = cc
 unbuilt b (XSever birth) stays list get types declared told detached version commands status quit = cc

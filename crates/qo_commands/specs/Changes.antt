@@ -9,7 +9,7 @@ use Rattle.qo_properties.specs.declared.refusals.Refusal.TheVariants.{Refused, M
 use Rattle.qo_realize.specs.Parts.{Parts}
 use Rattle.qo_realize.specs.Stands.{Stands}
 use Rattle.qo_requests.specs.declared.requests.Request.{Request}
-use Rattle.qo_requests.specs.declared.requests.Request.TheVariants.{Cont, DeviceAdd, DeviceDel, ObjectAdd, ObjectDel, QomSet, Stop, SystemReset, XGuest, XResetHold, XResetRelease, XSever, XStep}
+use Rattle.qo_requests.specs.declared.requests.Request.TheVariants.{ChardevAdd, ChardevRemove, Cont, DeviceAdd, DeviceDel, ObjectAdd, ObjectDel, QomSet, RingbufRead, RingbufWrite, Stop, SystemReset, XGuest, XResetHold, XResetRelease, XSever, XStep}
 use Rattle.qo_commands.specs.Commands.{empty, performed, refused_with, returned}
 use Rattle.qo_commands.specs.Views.{done_of}
 use Rattle.qo_commands.specs.declared.commands.Done.{Done}
@@ -22,6 +22,10 @@ is_change (ObjectDel id) = true
 is_change (XSever birth) = true
 is_change (DeviceAdd driver id bus props) = true
 is_change (DeviceDel id) = true
+is_change (ChardevAdd id kind size) = true
+is_change (ChardevRemove id) = true
+is_change (RingbufRead device size format) = true
+is_change (RingbufWrite device payload format) = true
 is_change (XGuest line) = true
 is_change Stop = true
 is_change Cont = true
@@ -30,6 +34,14 @@ is_change SystemReset = true
 is_change (XResetHold path) = true
 is_change (XResetRelease path) = true
 is_change request = false
+
+-- whether it is one on rings
+abbrev pub is_on_rings : Request → Bool
+is_on_rings (ChardevAdd id kind size) = true
+is_on_rings (ChardevRemove id) = true
+is_on_rings (RingbufRead device size format) = true
+is_on_rings (RingbufWrite device payload format) = true
+is_on_rings request = false
 
 -- the board behind an attempt of a command that was cut for want of memory, when it had made so many objects, the last of them joined or not: `object-add` makes one, and `device_add` those of its device, where nothing bars them
 abbrev pub attempted : Board → Request → ℕ → Bool → Board

@@ -12,13 +12,13 @@ use Rattle.qo_guest.specs.declared.answers.GuestAnswer.TheVariants.{NoLine}
 use Rattle.qo_lane.specs.Hearing.{Outcome, heard}
 use Rattle.qo_model.specs.Board.{Board, DeviceEvent}
 use Rattle.qo_model.specs.Hotplug.{asked, reset_whole}
-use Rattle.qo_model.specs.Plug.{Plugged}
-use Rattle.qo_plug.specs.Added.{added, wanted}
+use Rattle.qo_model.specs.Plug.{Plugged, plug}
+use Rattle.qo_plug.specs.Added.{wanted}
 use Rattle.qo_values.specs.Plain.{data_of}
 use Rattle.qo_model.specs.Listing.{around, value_word}
 use Rattle.qo_model.specs.NoteReplies.{first_from, given_from}
 use Rattle.qo_model.specs.Notes.{note_text, total_of}
-use Rattle.qo_model.specs.Objects.{Changed, may_add, object_add, object_del, sever}
+use Rattle.qo_model.specs.Objects.{Changed, may_add, object_add, sever}
 use Rattle.qo_model.specs.declared.notes.Note.{Note}
 use Rattle.qo_model.specs.Access.{listing_at, read, write_at}
 use Rattle.qo_model.specs.Detachment.{detached_told}
@@ -30,13 +30,15 @@ use Rattle.qo_model.specs.declared.properties.RowKind.{RowKind}
 use Rattle.qo_model.specs.declared.properties.RowKind.TheVariants as row
 use Rattle.qo_types.specs.Rows.{listed as listed_types}
 pub use Rattle.qo_replies.specs.Properties.{properties_data, property_data}
+use Rattle.qo_realize.specs.Chardevs.{Reading, chardev_added, chardev_removed, ringbuf_read, ringbuf_written}
 use Rattle.qo_realize.specs.Resets.{held_at, released_at}
+use Rattle.qo_realize.specs.Users.{object_removed}
 use Rattle.qo_realize.specs.Time.{advanced, switches, with_running}
 use Rattle.qo_replies.specs.Replies.{version_data}
 use Rattle.qo_replies.specs.declared.events.Event.{Event}
 use Rattle.qo_replies.specs.declared.events.Event.TheVariants.{DeviceDeleted, DeviceUnplugGuestError, Reset, Resume, Shutdown, Stop as Stopped}
 use Rattle.qo_requests.specs.declared.requests.Request.{Request}
-use Rattle.qo_requests.specs.declared.requests.Request.TheVariants.{Cont, DeviceAdd, DeviceDel, DeviceListProperties, ObjectAdd, ObjectDel, QomGet, QomList, QomListTypes, QomSet, QueryCommands, QueryStatus, QueryVersion, Quit, Stop, SystemReset, XGuest, XQueryDetached, XQueryNotes, XResetHold, XResetRelease, XSever, XStep}
+use Rattle.qo_requests.specs.declared.requests.Request.TheVariants.{ChardevAdd, ChardevRemove, Cont, DeviceAdd, DeviceDel, DeviceListProperties, ObjectAdd, ObjectDel, QomGet, QomList, QomListTypes, QomSet, QueryCommands, QueryStatus, QueryVersion, Quit, RingbufRead, RingbufWrite, Stop, SystemReset, XGuest, XQueryDetached, XQueryNotes, XResetHold, XResetRelease, XSever, XStep}
 
 -- what a command comes to: what it returns or the code that refuses it, the board behind it, its events, and whether it ends the run
 pub record Done : Type 0 where
@@ -73,6 +75,10 @@ changed change = elim change.refusal [ None ↦ returned change.board empty | So
 -- a device is added, or the code that refuses it, behind an attempt if there was one
 abbrev pub plugged : Plugged → Done
 plugged add = elim add.refusal [ None ↦ returned add.board empty | Some refusal ↦ refused_with add.board refusal.1 ]
+
+-- what the bytes of a ring that were taken are told as, or the code that refuses it
+abbrev pub ring_told : Reading → Done
+ring_told reading = answered reading.board string reading.text
 
 -- what a line of the guest is answered; one that is none is refused
 abbrev pub answer_data : GuestAnswer → Data
@@ -130,7 +136,9 @@ command_data name = object (member (codes "name") (string name) no_members)
 -- the commands that are built, in byte order of their names
 abbrev pub built : List (List ℕ)
 built =
-    codes "cont"
+    codes "chardev-add"
+    ∷ codes "chardev-remove"
+    ∷ codes "cont"
     ∷ codes "device-list-properties"
     ∷ codes "device_add"
     ∷ codes "device_del"
@@ -145,6 +153,8 @@ built =
     ∷ codes "query-status"
     ∷ codes "query-version"
     ∷ codes "quit"
+    ∷ codes "ringbuf-read"
+    ∷ codes "ringbuf-write"
     ∷ codes "stop"
     ∷ codes "system_reset"
     ∷ codes "x-guest"
@@ -220,10 +230,14 @@ performed b (QomListTypes implements with_abstract) =
     returned b (array (items_of (map type_data (types_of (unwrap_or implements (codes "object")) (unwrap_or with_abstract false)))))
 performed b (DeviceListProperties typename) = device_properties b (row_named typename)
 performed b (ObjectAdd driver id props) = changed (object_add b driver id props)
-performed b (ObjectDel id) = changed (object_del b id)
+performed b (ObjectDel id) = changed (object_removed b id)
 performed b (XSever birth) = changed (sever b birth)
-performed b (DeviceAdd driver id bus props) = plugged (added b (wanted driver id bus props))
+performed b (DeviceAdd driver id bus props) = plugged (plug b (wanted driver id bus props))
 performed b (DeviceDel id) = changed (asked b id)
+performed b (ChardevAdd id kind size) = changed (chardev_added b id kind size)
+performed b (ChardevRemove id) = changed (chardev_removed b id)
+performed b (RingbufRead device size format) = ring_told (ringbuf_read b device size format)
+performed b (RingbufWrite device payload format) = changed (ringbuf_written b device payload format)
 performed b (XGuest line) = told (heard b line)
 performed b Stop = switched b false Stopped
 performed b Cont = switched b true Resume

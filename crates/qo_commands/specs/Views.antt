@@ -1,6 +1,6 @@
 -- What the code's outcomes of commands are.
 use Rattle.std.specs.Prelude.{option_to_list, ℕ, Bool, false, if◌then◌else◌, List, [], ◌∷◌, map, Option, Result, Ok, Err}
-use Rattle.serde_json.specs.Data.{Data}
+use Rattle.serde_json.specs.Data.{Data, string}
 use Rattle.serde_json.specs.View.{view}
 use Rattle.serde_json.specs.Written.{has_float}
 use Rattle.qo_values.specs.declared.codes.Code.{Code}
@@ -11,7 +11,7 @@ use Rattle.qo_model.specs.Listing.{listing}
 use Rattle.qo_replies.specs.Properties.{properties_data}
 use Rattle.qo_commands.specs.Commands as defined
 use Rattle.qo_commands.specs.declared.commands.Body.{Body}
-use Rattle.qo_commands.specs.declared.commands.Body.TheVariants.{Answer, Empty, Status, Listing, Time, Value}
+use Rattle.qo_commands.specs.declared.commands.Body.TheVariants.{Answer, Empty, Status, Listing, Time, Told, Value}
 use Rattle.qo_commands.specs.declared.commands.Done.{Done}
 
 -- what is returned, as data, where this board stands
@@ -21,6 +21,7 @@ body_data b (Status running) = defined.status_data running
 body_data b (Listing n) = properties_data (listing b n)
 body_data b (Answer answer) = defined.answer_data answer
 body_data b (Time now) = defined.time_data now
+body_data b (Told text) = string text
 body_data b (Value value) = view value
 
 abbrev pub data_of : Board → Result Body Code → Result Data Code

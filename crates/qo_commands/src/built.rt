@@ -13,6 +13,8 @@ fn built() -> &'static [&'static str]
     ensures { map (λ name. name.now) result.now ≡ built }
 {
     &[
+        "chardev-add",
+        "chardev-remove",
         "cont",
         "device-list-properties",
         "device_add",
@@ -28,6 +30,8 @@ fn built() -> &'static [&'static str]
         "query-status",
         "query-version",
         "quit",
+        "ringbuf-read",
+        "ringbuf-write",
         "stop",
         "system_reset",
         "x-guest",

@@ -3,18 +3,18 @@
 ghost use Rattle.std.specs.Prelude.{◌≡◌, [], ◌∷◌, false, true, if◌then◌else◌, Ok, option_map};
 ghost use Rattle.qo_model.specs.Board.{Board as Tree};
 ghost use Rattle.qo_requests.specs.declared.requests.Request.TheVariants as request;
-ghost use Rattle.qo_commands.specs.Changes.{Came, Changes, ComesTo, is_change};
+ghost use Rattle.qo_commands.specs.Changes.{Came, Changes, is_change};
 ghost use Rattle.qo_commands.specs.Commands.{empty, told};
 ghost use Rattle.qo_commands.specs.Views.{done_of};
 ghost use Rattle.qo_lane.specs.Hearing.{outcome_of};
 ghost use Rattle.qo_realize.specs.Stands.{Stands};
 
-use crate::commands::{Body, Done, refused, returned};
+use crate::commands::{Body, Done, outcome_of, refused, returned};
+use crate::rings::change_ring;
 use qo_guest::GuestAnswer;
 use qo_heap::Steps;
 use qo_lane::{Heard, hear};
 use qo_plug::AddRefusal;
-use qo_properties::Refusal;
 use qo_realize::Board;
 use qo_replies::Event;
 use qo_requests::Request;
@@ -33,6 +33,10 @@ pub fn is_change(request: &Request) -> bool
         Request::XSever { .. } => true,
         Request::DeviceAdd { .. } => true,
         Request::DeviceDel { .. } => true,
+        Request::ChardevAdd { .. } => true,
+        Request::ChardevRemove { .. } => true,
+        Request::RingbufRead { .. } => true,
+        Request::RingbufWrite { .. } => true,
         Request::XGuest { .. } => true,
         Request::Stop => true,
         Request::Cont => true,
@@ -41,17 +45,6 @@ pub fn is_change(request: &Request) -> bool
         Request::XResetHold { .. } => true,
         Request::XResetRelease { .. } => true,
         _ => false,
-    }
-}
-
-/// What a change comes to that returns nothing.
-fn outcome_of(answer: Result<(), Refusal>) -> Result<Done, AllocError>
-    ensures { ComesTo answer result }
-{
-    match answer {
-        Ok(()) => Ok(returned(Body::Empty)),
-        Err(Refusal::Refused(code)) => Ok(refused(code)),
-        Err(Refusal::Memory) => Err(AllocError),
     }
 }
 
@@ -280,6 +273,6 @@ pub fn change<L: Ledger>(
         Request::SystemReset => Ok(reset(board, steps)),
         Request::XResetHold { path } => hold(board, path.as_str(), steps),
         Request::XResetRelease { path } => Ok(release(board, path.as_str(), steps)),
-        _ => unreachable!(),
+        _ => change_ring(alloc, board, request, steps),
     }
 }

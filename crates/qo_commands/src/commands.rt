@@ -3,7 +3,7 @@
 ghost use Rattle.std.specs.Prelude.{◌≡◌, [], ◌∷◌, false, true, Ok, IfOk};
 ghost use Rattle.qo_model.specs.Board.{Board as Tree};
 ghost use Rattle.qo_replies.specs.declared.events.Event.TheVariants as event;
-ghost use Rattle.qo_commands.specs.Changes.{is_change};
+ghost use Rattle.qo_commands.specs.Changes.{ComesTo, is_change};
 ghost use Rattle.qo_commands.specs.Commands.{empty, performed, refused_with, returned};
 ghost use Rattle.qo_realize.specs.Stands.{Stands};
 ghost use Rattle.qo_commands.specs.Views.{body_data, done_of};
@@ -16,10 +16,11 @@ use crate::types::{list_properties, list_types};
 use crate::values::get;
 use qo_guest::GuestAnswer;
 use qo_heap::Steps;
+use qo_properties::Refusal;
 use qo_realize::Board;
 use qo_replies::{Event, version};
 use qo_requests::Request;
-use qo_values::Code;
+use qo_values::{Code, Text};
 use serde_json::Value;
 use std::alloc::{AllocError, Global};
 use std::sync::ledger::Ledger;
@@ -37,6 +38,8 @@ pub enum Body {
     Answer(GuestAnswer),
     /// The virtual time, in ns.
     Time(u64),
+    /// The bytes that were taken of a ring, as they are told.
+    Told(Text),
     /// A value of its own.
     Value(Value),
 }
@@ -71,6 +74,17 @@ pub(crate) fn refused(code: Code) -> Done
         result: Err(code),
         event: None,
         ends: false,
+    }
+}
+
+/// What a change comes to that returns nothing.
+pub(crate) fn outcome_of(answer: Result<(), Refusal>) -> Result<Done, AllocError>
+    ensures { ComesTo answer result }
+{
+    match answer {
+        Ok(()) => Ok(returned(Body::Empty)),
+        Err(Refusal::Refused(code)) => Ok(refused(code)),
+        Err(Refusal::Memory) => Err(AllocError),
     }
 }
 

@@ -8,6 +8,7 @@ mod commands;
 mod detached;
 mod listings;
 mod notes;
+mod rings;
 mod types;
 mod values;
 

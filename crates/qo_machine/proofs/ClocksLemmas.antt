@@ -1,8 +1,9 @@
 -- Steps keep devices in their places with the lists that name them, clocks with their numbers, and no timer ahead of the time.
-use Rattle.std.proofs.Common.{refl, sym, subst, ◌∙◌, ◌≡◌, ◌≤◌, ◌<◌, ◌^◌, ℕ, Bool, List, Option, Some, Result, Ok, Err, IfOk, false, arith}
+use Rattle.std.proofs.Common.{refl, sym, subst, ◌∙◌, ◌≡◌, ◌≤◌, ◌<◌, ◌^◌, ℕ, Bool, List, Option, Some, Result, Ok, Err, IfOk, false, is_some, arith}
 use Rattle.qo_causes.specs.declared.inputs.Input.{Input}
+use Rattle.qo_backends.specs.Rings.{claimed_ring}
 use Rattle.qo_commands.specs.Commands.{without_events}
-use Rattle.qo_model.specs.Board.{Board}
+use Rattle.qo_model.specs.Board.{Board, Ring}
 use Rattle.qo_values.specs.Bodies.{Effect}
 use Rattle.qo_values.specs.Registers.{Registers}
 use Rattle.qo_model.specs.ClockChanges.{clock_scaled, clock_set}
@@ -12,6 +13,7 @@ use Rattle.qo_model.specs.Hotplug.{refused}
 use Rattle.qo_model.specs.Opening.{opening_board}
 use Rattle.qo_model.specs.Plug.{cut_attempt}
 use Rattle.qo_model.specs.Objects.{with_attempt}
+use Rattle.qo_realize.specs.Chardevs.{with_rings}
 use Rattle.qo_realize.specs.Guest.{polled}
 use Rattle.qo_realize.specs.Registers.{registers_at, registers_written}
 use Rattle.qo_realize.specs.Stands.{StandsForGood}
@@ -26,7 +28,7 @@ use Rattle.qo_sound_clocks.proofs.LawLemmas.{clocks_kept_lem}
 use Rattle.qo_sound_clocks.proofs.NumbersLemmas.{numbers_kept_lem}
 use Rattle.qo_sound_clocks.proofs.RegisterLemmas.{registers_kept_lem}
 use Rattle.qo_sound_clocks.proofs.TimesLemmas.{times_kept_lem}
-use Rattle.qo_machine.proofs.DevicesLemmas.{devices_free, devices_kept}
+use Rattle.qo_machine.proofs.DevicesLemmas.{devices_free, devices_kept, ringed-devices}
 use Rattle.qo_machine.proofs.KeepLemmas.{KeepsBoard, KeepsCommands, broken_keeps, keeps_commands, step_keeps}
 use Rattle.qo_machine.proofs.MachineLemmas.{in_at}
 use Rattle.qo_machine.specs.Machine.{Answers, BreaksOff, IsIn, Message, Seen, State, opening, state_at, step}
@@ -42,6 +44,9 @@ beside_run b c records on devices h =
       numbers = numbers_kept_lem.beside b c records h.numbers;
       times = times_kept_lem.beside b c records on h.times;
     }
+
+ringed_run : (b : Board) (rings : List Ring) → SoundRun b → SoundRun (with_rings rings b)
+ringed_run b rings h = beside_run b (with_rings rings b) refl (omega arith) (ringed-devices b rings h.devices) h
 
 -- a clock that is written
 scaled_run : (b d : Board) (c mul div : ℕ) → mul < 2 ^ 32 → div < 2 ^ 32 → clock_scaled b c mul div ≡ Ok d → SoundRun b → SoundRun d
@@ -63,7 +68,7 @@ registers_run b d reg value registers e is h =
       numbers = registers_kept_lem.numbers b d registers h.numbers;
       times =
           registers_kept_lem.times b d registers
-          (times_kept_lem.wrote (registers_at b d) registers e reg value false b.now (device_period b d) is (registers-timely b d h.times)) h.times;
+          (times_kept_lem.wrote (registers_at b d) registers e reg value (is_some (claimed_ring b d)) b.now (device_period b d) is (registers-timely b d h.times)) h.times;
     }
 
 pulsed_run : (b : Board) (m : ℕ) → SoundRun b → SoundRun (pulse b m)
@@ -120,7 +125,10 @@ run_kept =
           };
       multiplied = λ b d c mul fits is h. scaled_run b d c mul (div_of b c) fits (h.numbers c).div is h;
       divided = λ b d c div fits is h. scaled_run b d c (mul_of b c) div (h.numbers c).mul fits is h;
-      written = λ b at d reg value c there is h. written-all SoundRun b d reg value (λ registers e so. registers_run b d reg value registers e so h) (λ x m on q. pulsed_run x m q) c is;
+      written = λ b at d reg value c there is h.
+          written-all SoundRun b d reg value (λ registers e so. registers_run b d reg value registers e so h)
+          (λ x rings q. ringed_run x rings q) (λ x m on q. pulsed_run x m q) c is;
+      ringed = λ b rings h. ringed_run b rings h;
       timed = λ b now on h. beside_run b (at_time now b) refl on (devices_kept.timed b now on h.devices) h;
       switched = λ b on h. beside_run b (with_running on b) refl (omega arith) (devices_kept.switched b on h.devices) h;
       held_so = λ b n is home h.

@@ -1,8 +1,9 @@
 -- Steps keep devices in their places, and the lists that name devices.
-use Rattle.std.proofs.Common.{refl}
+use Rattle.std.proofs.Common.{List, refl}
 use Rattle.qo_commands.specs.Commands.{without_events}
-use Rattle.qo_model.specs.Board.{Board}
+use Rattle.qo_model.specs.Board.{Board, Ring}
 use Rattle.qo_model.specs.Clocks.{div_of, mul_of}
+use Rattle.qo_realize.specs.Chardevs.{with_rings}
 use Rattle.qo_realize.specs.Time.{at_time, with_running}
 use Rattle.qo_realize.proofs.SoundLemmas.{completed-devices, polled-devices}
 use Rattle.qo_realize.proofs.WrittenLemmas.{written-all}
@@ -11,6 +12,10 @@ use Rattle.qo_sound_devices.proofs.DevicesLawLemmas.{devices_kept_lem}
 use Rattle.qo_sound_clocks.proofs.KeepLemmas.{writes_keep_lem}
 use Rattle.qo_sound_clocks.proofs.RegisterLemmas.{registers_kept_lem}
 use Rattle.qo_machine.proofs.KeepLemmas.{KeepsBoard, KeepsCommands, keeps_commands}
+
+-- rings are no matter to them
+pub ringed-devices : (b : Board) (rings : List Ring) → SoundDevices b → SoundDevices (with_rings rings b)
+ringed-devices b rings h = devices_kept_lem.beside b (with_rings rings b) refl refl refl refl refl refl h
 
 -- changes and attempts keep them
 pub devices_kept : KeepsBoard SoundDevices
@@ -28,7 +33,9 @@ devices_kept =
       refused = λ b d h. devices_kept_lem.refused_by b d h;
       polled = λ b h. polled-devices b h;
       written = λ b at d reg value c there is h.
-          written-all SoundDevices b d reg value (λ registers e so. registers_kept_lem.devices b d registers h) (λ x m on q. devices_kept_lem.pulsed x m q) c is;
+          written-all SoundDevices b d reg value (λ registers e so. registers_kept_lem.devices b d registers h)
+          (λ x rings q. ringed-devices x rings q) (λ x m on q. devices_kept_lem.pulsed x m q) c is;
+      ringed = λ b rings h. ringed-devices b rings h;
       timed = λ b now on h. devices_kept_lem.beside b (at_time now b) refl refl refl refl refl refl h;
       switched = λ b on h. devices_kept_lem.beside b (with_running on b) refl refl refl refl refl refl h;
       held_so = λ b n is home h. devices_kept_lem.held_so b n h;

@@ -1,20 +1,24 @@
 -- What each command keeps of the board, and each attempt that is given up, a step and a run keep.
-use Rattle.std.proofs.Common.{◌^◌, ◌<◌, ◌≤◌, ap, arith, ◌≡◌, ℕ, ◌+◌, nat_lt, not, ◌==◌, Bool, true, false, if◌then◌else◌, List, [], ◌∷◌, map, refl, subst, sym, Option, None, Some, Result, Ok, Err, codes}
+use Rattle.std.proofs.Common.{◌^◌, ◌<◌, ◌≤◌, ap, arith, ◌≡◌, ℕ, ◌+◌, nat_lt, not, ◌==◌, Bool, true, false, if◌then◌else◌, List, [], ◌∷◌, map, refl, subst, sym, Option, None, Some, Result, Ok, Err, codes, unwrap_or, ◌++◌}
 use Rattle.std.specs.Option.{option_map_or}
 use Rattle.qo_causes.specs.declared.inputs.Input.{Input}
 use Rattle.qo_causes.specs.declared.inputs.Moment.{Moment}
 use Rattle.qo_causes.specs.declared.inputs.What.{What}
 use Rattle.qo_causes.specs.declared.inputs.What.TheVariants.{Open, Bytes, Shut, Guest as GuestLine, Step, End}
 use Rattle.qo_framing.specs.declared.items.Item.{Item}
-use Rattle.serde_json.specs.Data.{Data, array}
+use Rattle.serde_json.specs.Data.{Data, array, string}
 use Rattle.serde_json.specs.View.{items_of}
+use Rattle.qo_chardev.specs.Texts.{told}
 use Rattle.qo_values.specs.Plain.{data_of}
+use Rattle.qo_values.specs.Rings.{ring_add, ring_drop, ring_oldest}
 use Rattle.qo_values.specs.declared.codes.Code.{Code}
-use Rattle.qo_values.specs.declared.codes.Code.TheVariants.{E15, E22, E48, E49, E53}
+use Rattle.qo_values.specs.declared.codes.Code.TheVariants.{E15, E22, E32, E36, E48, E49, E53}
+use Rattle.qo_values.specs.declared.forms.Form.{Form}
+use Rattle.qo_values.specs.declared.forms.Form.TheVariants.{Utf8}
 use Rattle.qo_values.specs.declared.kinds.TypeId.{TypeId}
 use Rattle.qo_values.specs.declared.properties.Val.{Val}
 use Rattle.qo_values.specs.declared.limits.TheConstants.{SESSIONS, TIME_MAX}
-use Rattle.qo_model.specs.Board.{Board}
+use Rattle.qo_model.specs.Board.{Board, Ring}
 use Rattle.qo_model.specs.ClockChanges.{clock_scaled, clock_set}
 use Rattle.qo_model.specs.Clocks.{div_of, mul_of}
 use Rattle.qo_model.specs.FinalNotesRuns.{Change, added as object_added, behind_write, deleted, wrote, severed, changed}
@@ -36,15 +40,19 @@ use Rattle.qo_guest.specs.declared.lines.GuestAct.TheVariants.{Ack, Nack, Poll, 
 use Rattle.qo_lane.specs.Hearing.{acked, acted, fine, heard, heard_act, if_pending, if_written, nacked, read_by, written_by}
 use Rattle.qo_lane.specs.Hearing as hearing
 use Rattle.qo_lane.specs.Lines.{lines_of, without_return}
-use Rattle.qo_plug.specs.Added.{added, driver_barred, wanted}
+use Rattle.qo_plug.specs.Added.{wanted}
+use Rattle.qo_realize.specs.Chardevs.{Reading, by_code, chardev_added, chardev_barred, chardev_removed, removal_barred, ringbuf_read, ringbuf_written, taken_as, with_rings, written_as}
 use Rattle.qo_realize.specs.Guest.{polled}
 use Rattle.qo_realize.specs.Registers.{guest_written}
 use Rattle.qo_realize.specs.Resets.{at_path, held_at, held_of, released_at, released_of, resettable_at}
 use Rattle.qo_realize.specs.Stands.{Stands}
 use Rattle.qo_realize.specs.Time.{advanced, at_time, with_running}
+use Rattle.qo_realize.specs.Users.{is_used, object_removed}
 use Rattle.qo_model.specs.Access.{listing_at, read, write_at}
 use Rattle.qo_requests.specs.declared.requests.Request.{Request}
 use Rattle.qo_requests.specs.declared.requests.Request.TheVariants.{QmpCapabilities, QueryVersion, QueryCommands, QueryStatus, Stop, Cont, SystemReset, Quit, QomList, QomGet, QomSet, QomListTypes, DeviceListProperties, ObjectAdd, ObjectDel, DeviceAdd, DeviceDel, ChardevAdd, ChardevRemove, RingbufRead, RingbufWrite, XResetHold, XResetRelease, XSever, XQueryNotes, XQueryDetached, XGuest, XStep}
+use Rattle.qo_rings.specs.Rings.{bytes_in, given_bytes, new_ring, ring_changed, ring_named, without_ring}
+use Rattle.qo_rings.specs.declared.rings.TheConstants.{RING_SIZE_DEFAULT}
 use Rattle.qo_sessions.specs.Acts.{act}
 use Rattle.qo_sessions.specs.Sessions.{closed, fed}
 use Rattle.qo_sessions.specs.declared.acts.SessionAct.{SessionAct}
@@ -78,6 +86,8 @@ pub record KeepsBoard (P : Board → Type 0) : Type 0 where
   pub polled : (b : Board) → P b → P (polled b)
   -- the guest writes to a register of the device at an address
   pub written : (b : Board) (at : Addr) (d reg value : ℕ) (c : Board) → addressed b at ≡ Some d → guest_written b d reg value ≡ Some c → P b → P c
+  -- it has other rings
+  pub ringed : (b : Board) (rings : List Ring) → P b → P (with_rings rings b)
   -- it comes to a later moment, and runs or stands still
   pub timed : (b : Board) (now : ℕ) → b.now ≤ now → P b → P (at_time now b)
   pub switched : (b : Board) (on : Bool) → P b → P (with_running on b)
@@ -134,14 +144,6 @@ plugged_board P add p = by add.refusal
     by : (r : Option (ℕ × Code)) → P (commands.plugged (record { refusal = r; board = add.board })).board
     by None = p
     by (Some refusal) = p
-
-added_keeps : (P : Board → Type 0) → KeepsBoard P → (b : Board) (a : Wanted) → P b → P (added b a).board
-unfolding added
-added_keeps P k b a p = by (driver_barred a.driver)
-  where
-    by : (bar : Option Code) → P (elim bar as (λ o. Plugged) [ Some code ↦ record { refusal = Some (1, code); board = b } | None ↦ plug b a ]).board
-    by (Some code) = p
-    by None = k.plugged b a p
 
 -- a line of the guest
 pending_keeps : (P : Board → Type 0) (b c : Board) (d : ℕ) → P b → (among b.pending d ≡ true → P c) → P (if_pending b d c).board
@@ -252,6 +254,41 @@ at_path-keeps P b path change p q = by (resolve b path (codes "resettable")) ref
     by missing e = rw (resettable_at, e) p
     by several e = rw (resettable_at, e) p
 
+-- rings
+by_code-keeps : (P : Board → Type 0) (b c : Board) (bar : Option Code) → P b → P c → P (by_code b c bar).board
+by_code-keeps P b c None p q = q
+by_code-keeps P b c (Some code) p q = p
+
+abbrev taken_of : Board → List ℕ → ℕ → Form → Option Ring → Reading
+taken_of b id most form o = elim o [ None ↦ record { text = Err E36; board = b } | Some r ↦ taken_as b id most (told form (ring_oldest (bytes_in r) most)) ]
+
+taken-keeps : (P : Board → Type 0) → KeepsBoard P → (b : Board) (id : List ℕ) (most : ℕ) (form : Form) (o : Option Ring) → P b → P (taken_of b id most form o).board
+taken-keeps P k b id most form None p = p
+taken-keeps P k b id most form (Some r) p = by (told form (ring_oldest (bytes_in r) most))
+  where
+    by : (text : Option (List ℕ)) → P (taken_as b id most text).board
+    by None = p
+    by (Some text) = k.ringed b (ring_changed (λ m. ring_drop m most) id b.rings) p
+
+abbrev gained_of : Board → List ℕ → Option (List ℕ) → Option Ring → Changed
+gained_of b id bytes o = elim o [ None ↦ record { refusal = Some E36; board = b } | Some r ↦ written_as b id bytes ]
+
+gained-keeps : (P : Board → Type 0) → KeepsBoard P → (b : Board) (id : List ℕ) (bytes : Option (List ℕ)) (o : Option Ring) → P b → P (gained_of b id bytes o).board
+gained-keeps P k b id bytes None p = p
+gained-keeps P k b id None (Some r) p = p
+gained-keeps P k b id (Some bytes) (Some r) p = k.ringed b (ring_changed (λ m. ring_add m bytes) id b.rings) p
+
+-- an object is deleted, or stays as it is in use
+removed-keeps : (P : Board → Type 0) → KeepsBoard P → (b : Board) (id : List ℕ) → P b → P (object_removed b id).board
+removed-keeps P k b id p = by (is_used b id)
+  where
+    come : Bool → Changed
+    come used = if used then record { refusal = Some E32; board = b } else object_del b id
+
+    by : (used : Bool) → P (come used).board
+    by true = p
+    by false = k.change b (deleted id) p
+
 performed_keeps : (P : Board → Type 0) → KeepsBoard P → (b : Board) (r : Request) → P b → P (performed b r).board
 unfolding performed
 performed_keeps P k b (QmpCapabilities enable) p = p
@@ -268,13 +305,22 @@ performed_keeps P k b (QomSet path property value) p = set_board P k b path prop
 performed_keeps P k b (QomListTypes implements with_abstract) p = p
 performed_keeps P k b (DeviceListProperties typename) p = device_board P b (row_named typename) p
 performed_keeps P k b (ObjectAdd driver id props) p = changed_board P (object_add b driver id props) (k.change b (object_added driver id props) p)
-performed_keeps P k b (ObjectDel id) p = changed_board P (object_del b id) (k.change b (deleted id) p)
-performed_keeps P k b (DeviceAdd driver id bus props) p = plugged_board P (added b (wanted driver id bus props)) (added_keeps P k b (wanted driver id bus props) p)
+performed_keeps P k b (ObjectDel id) p = changed_board P (object_removed b id) (removed-keeps P k b id p)
+performed_keeps P k b (DeviceAdd driver id bus props) p = plugged_board P (plug b (wanted driver id bus props)) (k.plugged b (wanted driver id bus props) p)
 performed_keeps P k b (DeviceDel id) p = changed_board P (asked b id) (k.asked b id p)
-performed_keeps P k b (ChardevAdd id kind size) p = p
-performed_keeps P k b (ChardevRemove id) p = p
-performed_keeps P k b (RingbufRead device size format) p = p
-performed_keeps P k b (RingbufWrite device payload format) p = p
+performed_keeps P k b (ChardevAdd id kind size) p =
+    let more : List Ring = b.rings ++ new_ring id (unwrap_or size RING_SIZE_DEFAULT) ∷ [] in
+    changed_board P (chardev_added b id kind size)
+    (by_code-keeps P b (with_rings more b) (chardev_barred b id kind (unwrap_or size RING_SIZE_DEFAULT)) p (k.ringed b more p))
+performed_keeps P k b (ChardevRemove id) p =
+    let fewer : List Ring = without_ring id b.rings in
+    changed_board P (chardev_removed b id) (by_code-keeps P b (with_rings fewer b) (removal_barred b id) p (k.ringed b fewer p))
+performed_keeps P k b (RingbufRead device size format) p =
+    let reading : Reading = ringbuf_read b device size format in
+    answered_board P reading.board string reading.text (taken-keeps P k b device size (unwrap_or format Utf8) (ring_named device b.rings) p)
+performed_keeps P k b (RingbufWrite device payload format) p =
+    changed_board P (ringbuf_written b device payload format)
+    (gained-keeps P k b device (given_bytes (unwrap_or format Utf8) payload) (ring_named device b.rings) p)
 performed_keeps P k b (XResetHold path) p = changed_board P (held_at b path) (at_path-keeps P b path (held_of b) p (λ n is. held_of-keeps P k b n is p))
 performed_keeps P k b (XResetRelease path) p = changed_board P (released_at b path) (at_path-keeps P b path (released_of b) p (λ n is. released_of-keeps P k b n is p))
 performed_keeps P k b (XSever birth) p = changed_board P (sever b birth) (k.change b (severed birth) p)

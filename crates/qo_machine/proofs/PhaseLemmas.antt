@@ -8,17 +8,19 @@ use Rattle.qo_values.specs.Registers.{Registers}
 use Rattle.qo_values.specs.declared.births.TheConstants.{MEMORY_BUS_BIRTH, ROOT_BUS_BIRTH}
 use Rattle.qo_guest.specs.declared.addresses.Addr.{Addr}
 use Rattle.qo_guest.specs.declared.addresses.Addr.TheVariants.{Slots, Mem}
+use Rattle.qo_backends.specs.Rings.{claimed_ring}
 use Rattle.qo_buses.specs.Addresses.{addressed}
 use Rattle.qo_commands.specs.Commands.{without_events}
-use Rattle.qo_model.specs.Board.{Board}
+use Rattle.qo_model.specs.Board.{Board, Ring}
 use Rattle.qo_model.specs.Clocks.{div_of, mul_of}
 use Rattle.qo_model.specs.Depth.{among}
 use Rattle.qo_model.specs.Devices.{first_bus}
 use Rattle.qo_model.specs.Hotplug.{completed}
 use Rattle.qo_model.specs.Paths.{attached, is_of}
 use Rattle.qo_model.specs.Reset.{held, pulse}
+use Rattle.qo_realize.specs.Chardevs.{with_rings}
 use Rattle.qo_realize.specs.Guest.{polled}
-use Rattle.qo_realize.specs.Registers.{behind_effect, guest_written, registers_written}
+use Rattle.qo_realize.specs.Registers.{behind_effect, guest_written, pushed, registers_written}
 use Rattle.qo_realize.specs.Time.{at_time, with_running}
 use Rattle.qo_sound_devices.specs.SoundLists.{IsOn}
 use Rattle.qo_sound_devices.specs.SoundPlaces.{stands}
@@ -29,7 +31,7 @@ use Rattle.qo_sound_clocks.proofs.RegisterLemmas.{registers_kept_lem}
 use Rattle.qo_sound_phases.specs.PhaseRuns.{SoundResets}
 use Rattle.qo_sound_phases.specs.PhasesKept.{may_reset}
 use Rattle.qo_sound_phases.proofs.LawLemmas.{phases_kept_lem, phases_say_lem}
-use Rattle.qo_machine.proofs.DevicesLemmas.{devices_free, devices_kept}
+use Rattle.qo_machine.proofs.DevicesLemmas.{devices_free, devices_kept, ringed-devices}
 use Rattle.qo_machine.proofs.KeepLemmas.{KeepsBoard, KeepsCommands, keeps_commands, run_keeps, step_keeps}
 use Rattle.qo_machine.specs.Laws.{PhasesInRuns}
 use Rattle.qo_machine.specs.Machine.{opening}
@@ -40,6 +42,11 @@ standing : (b : Board) (at : Addr) (d : ℕ) → addressed b at ≡ Some d → S
 standing b (Slots slots) d is h = phases_say_lem.addressed b h.devices h.phases ROOT_BUS_BIRTH slots d refl is
 standing b (Mem slot) d is h = phases_say_lem.addressed b h.devices h.phases MEMORY_BUS_BIRTH (slot ∷ []) d refl is
 
+-- rings are no matter to them
+ringed-so : (b : Board) (rings : List Ring) → SoundResets b → SoundResets (with_rings rings b)
+ringed-so b rings h =
+    record { devices = ringed-devices b rings h.devices; phases = phases_kept_lem.beside b (with_rings rings b) refl refl refl refl h.phases }
+
 -- the guest writes to a register of a device that stands in its place
 module _ (b : Board) (d : ℕ) (there : stands b d ≡ true) (h : SoundResets b) where
   registers-so : (registers : Registers) → SoundResets (registers_set b d registers)
@@ -48,7 +55,17 @@ module _ (b : Board) (d : ℕ) (there : stands b d ≡ true) (h : SoundResets b)
 
   effect-so : (registers : Registers) (e : Effect) → SoundResets (behind_effect d e (registers_set b d registers))
   effect-so registers nothing = registers-so registers
-  effect-so registers (byte n) = registers-so registers
+  effect-so registers (byte n) = by (claimed_ring set d)
+    where
+      set : Board
+      set = registers_set b d registers
+
+      s : SoundResets set
+      s = registers-so registers
+
+      by : (claimed : Option (List ℕ)) → SoundResets (option_map_or (pushed n set) claimed set)
+      by None = s
+      by (Some id) = ringed-so set (pushed n set id).rings s
   effect-so registers effect.pulse = by (first_bus set d) refl
     where
       set : Board
@@ -110,6 +127,7 @@ phases_kept =
       polled = λ b h.
           record { devices = devices_kept.polled b h.devices; phases = phases_kept_lem.beside b (polled b) refl refl refl refl h.phases };
       written = λ b at d reg value c there is h. written-so b d (standing b at d there h) h reg value c is;
+      ringed = λ b rings h. ringed-so b rings h;
       timed = λ b now on h.
           record {
             devices = devices_kept.timed b now on h.devices;

@@ -3,13 +3,14 @@ use Rattle.std.proofs.Common.{◌≡◌, ℕ, Bool, List, [], refl}
 use Rattle.qo_causes.specs.declared.inputs.Input.{Input}
 use Rattle.qo_model.proofs.OpeningLemmas.{opening_sound}
 use Rattle.qo_model.proofs.TreeLemmas.{frame_lem}
-use Rattle.qo_model.specs.Board.{Board}
+use Rattle.qo_model.specs.Board.{Board, Ring}
 use Rattle.qo_model.specs.Clocks.{div_of, mul_of}
 use Rattle.qo_model.specs.Reset.{held, pulse}
 use Rattle.qo_model.specs.Sound.{IsSound}
 use Rattle.qo_model.specs.SoundGraph.{graph_of}
 use Rattle.qo_commands.proofs.AttemptLemmas.{attempted-all}
 use Rattle.qo_commands.specs.Commands.{without_events}
+use Rattle.qo_realize.specs.Chardevs.{with_rings}
 use Rattle.qo_realize.specs.Time.{at_time, with_running}
 use Rattle.qo_realize.proofs.WrittenLemmas.{written-all}
 use Rattle.qo_sound.proofs.KeptLemmas.{sound_kept_lem}
@@ -28,7 +29,7 @@ use Rattle.qo_machine.proofs.SoundLemmas.{sound_by}
 use Rattle.qo_machine.specs.Laws.{KeptInRuns, SoundInRuns}
 use Rattle.qo_machine.specs.Machine.{Answers, BreaksOff, IsIn, Message, Seen, State, opening, state_at, step}
 
--- the time and whether it goes on are no matter to the tree
+-- the time and whether it goes on are no matter to the tree, nor are the rings
 timed-tree : (b : Board) (now : ℕ) → SoundTree b → SoundTree (at_time now b)
 unfolding graph_of
 timed-tree b now h = (frame_lem.graph b (at_time now b) refl h.0, frame_lem.aliases b (at_time now b) refl h.1)
@@ -36,6 +37,10 @@ timed-tree b now h = (frame_lem.graph b (at_time now b) refl h.0, frame_lem.alia
 switched-tree : (b : Board) (on : Bool) → SoundTree b → SoundTree (with_running on b)
 unfolding graph_of
 switched-tree b on h = (frame_lem.graph b (with_running on b) refl h.0, frame_lem.aliases b (with_running on b) refl h.1)
+
+ringed-tree : (b : Board) (rings : List Ring) → SoundTree b → SoundTree (with_rings rings b)
+unfolding graph_of
+ringed-tree b rings h = (frame_lem.graph b (with_rings rings b) refl h.0, frame_lem.aliases b (with_rings rings b) refl h.1)
 
 -- a hold and a hold less
 pulsed-tree : (b : Board) (m : ℕ) → SoundTree b → SoundTree (pulse b m)
@@ -58,7 +63,9 @@ tree_kept =
       refused = λ b d h. refused-tree b d h;
       polled = λ b h. polled-tree b h;
       written = λ b at d reg value c there is h.
-          written-all SoundTree b d reg value (λ registers e so. registers_kept_lem.tree b d registers h) (λ x m on q. pulsed-tree x m q) c is;
+          written-all SoundTree b d reg value (λ registers e so. registers_kept_lem.tree b d registers h) (λ x rings q. ringed-tree x rings q)
+          (λ x m on q. pulsed-tree x m q) c is;
+      ringed = λ b rings h. ringed-tree b rings h;
       timed = λ b now on h. timed-tree b now h;
       switched = λ b on h. switched-tree b on h;
       held_so = λ b n is home h. sound_kept_lem.held_so b n h;

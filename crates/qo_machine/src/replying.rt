@@ -15,6 +15,7 @@ use qo_heap::Steps;
 use qo_realize::Board;
 use qo_replies::{error_text, return_text, return_written};
 use qo_values::{Chars, Code, Text};
+use serde_json::Value;
 use std::alloc::{AllocError, Global};
 use std::sync::ledger::Ledger;
 
@@ -51,6 +52,10 @@ fn done_text<L: Ledger>(
         Body::Time(now) => {
             let text = time_written(alloc, *now)?;
             return_written(alloc, id, text.as_str())
+        }
+        Body::Told(text) => {
+            let value = Value::try_from_str(alloc, text.as_str())?;
+            return_text(alloc, id, &value)
         }
         Body::Value(value) => return_text(alloc, id, value),
     }

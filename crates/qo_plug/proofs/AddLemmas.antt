@@ -12,9 +12,9 @@ use Rattle.qo_values.specs.declared.codes.Code.TheVariants.{E44}
 use Rattle.qo_model.specs.Objects.{refusal_of}
 use Rattle.qo_model.specs.Devices.{buses_of}
 use Rattle.qo_model.specs.Paths.{canonical}
-use Rattle.qo_model.specs.Plug.{Plugged, Spot, Wanted, barred_late, bus_births, bus_for, clocked, counted, objects_in, parent_for, place_barred, plug_attempt, plug_late, source_for, spot_of, started, stood, with_plugged}
+use Rattle.qo_model.specs.Plug.{Plugged, Spot, Wanted, barred_late, bus_births, bus_for, clocked, counted, objects_in, parent_for, plug, plug_attempt, plug_late, source_for, spot_of, started, stood, with_plugged}
 use Rattle.qo_model.specs.Release.{unpin}
-use Rattle.qo_model.specs.Types.{TypeRow, is_a, row_named, types}
+use Rattle.qo_model.specs.Types.{TypeRow, is_a, row_named}
 use Rattle.qo_sound.proofs.PlugLemmas.{IsPlace, place-of}
 use Rattle.qo_sound.proofs.ViewLemmas.{AtRest, rest-from_sound}
 use Rattle.qo_heap.specs.Board.{Shows}
@@ -30,19 +30,16 @@ use Rattle.qo_plug.specs.declared.admitting.Site.{Site}
 use Rattle.qo_plug.specs.declared.refusals.AddRefusal.{AddRefusal}
 use Rattle.qo_plug.specs.declared.refusals.AddRefusal.TheVariants.{Refused, Memory}
 use Rattle.qo_plug.specs.declared.refusals.Barred.{Barred}
-use Rattle.qo_plug.specs.Added.{IfRefused, IsAdmitted, added, barred_in, is_built}
+use Rattle.qo_plug.specs.declared.spots.Spot.{Spot as Chosen}
+use Rattle.qo_plug.specs.Added.{IfRefused, IsAdmitted, barred_in}
 use Rattle.qo_plug.specs.Adding.{IsAdded, IsCut, IsOpen, IsPlugged, IsRefused, turned_down}
 use Rattle.qo_plug.specs.Drafts.{CutShort, held_draft}
+use Rattle.qo_plug.specs.Stages.{spot_barred}
 use Rattle.qo_plug.specs.Standing.{Stood, spot_in}
 use Rattle.qo_plug.proofs.AdmitLemmas.{added-late}
-use Rattle.qo_plug.proofs.JudgeLemmas.{built-by, late-given, late-place}
+use Rattle.qo_plug.proofs.JudgeLemmas.{late-given, late-spot}
 use Rattle.qo_plug.proofs.PlugSteps.{counted-path, cut-whole, let-go, plugged-notices, plugged-pending, seat-holds, seat-notices, seated}
 use Rattle.qo_plug.proofs.StartBuses.{plugged-buses}
-
--- what is built is a device
-pub built-device : (t : TypeId) → is_built t ≡ true → is_a t (codes "device") ≡ true
-unfolding types
-built-device t built = built-by (λ k. is_a k (codes "device") ≡ true) refl refl t built
 
 -- all of it was made, and ended
 pub whole-cut : (b : Board) (t : TypeId) (bus : ℕ) (w : Objects) → Shows (plug_attempt b t bus 0) w → CutShort b t w
@@ -50,12 +47,12 @@ whole-cut b t bus w s = inr (objects_in t, true, omega arith, omega arith, subst
 
 module _ (b : Board) (a : Wanted) where
   -- nothing bars the device, and it is plugged in
-  module _ (site : Site) (slot : ℕ) (o : IsOpen b a site slot) where
-    pub open-place : is_built site.kind ≡ true → IsPlace b site.kind a (spot_in site.bus.birth slot)
-    open-place built =
-        subst (IsPlace b site.kind a) o.spot (place-of b site.kind site.bus.birth a (built-device site.kind built) o.admitted.bus o.admitted.early o.late)
+  module _ (site : Site) (at : Chosen) (o : IsOpen b a site at) where
+    pub open-place : is_a site.kind (codes "device") ≡ true → IsPlace b site.kind a (spot_in site.bus.birth at)
+    open-place device =
+        subst (IsPlace b site.kind a) o.spot (place-of b site.kind site.bus.birth a device o.admitted.bus o.admitted.early o.late)
 
-    added-plugged : added b a ≡ record { refusal = None; board = with_plugged b site.kind a (spot_in site.bus.birth slot) }
+    added-plugged : plug b a ≡ record { refusal = None; board = with_plugged b site.kind a (spot_in site.bus.birth at) }
     added-plugged =
         added-late b a site.kind o.admitted.kind o.admitted.driver site.bus.birth o.admitted.early o.admitted.bus
         ∙ ap (plug_late b site.kind site.bus.birth a) o.late
@@ -64,7 +61,7 @@ module _ (b : Board) (a : Wanted) where
         late_as : Spot → Plugged
         late_as spot = record { refusal = None; board = with_plugged b site.kind a spot }
 
-    pub is-added : (x : Added) (h : Asked) (w : Objects) → IsPlugged b site.kind a (spot_in site.bus.birth slot) h w → x ≡ record { birth = b.born + 1; slot = slot } → IsAdded b a x h w
+    pub is-added : (x : Added) (h : Asked) (w : Objects) → IsPlugged b site.kind a (spot_in site.bus.birth at) h w → x ≡ record { birth = b.born + 1; slot = at.slot } → IsAdded b a x h w
     is-added x h w p is =
         record {
           refusal = ap (λ (q : Plugged). q.refusal) added-plugged;
@@ -87,7 +84,7 @@ module _ (b : Board) (a : Wanted) where
 
   -- it is refused before an attempt
   pub refused-early : (T U : Type 0) (r : AddRefusal) (w : Objects) → Shows b w
-      → IfRefused {T = T} (Err r) (λ stage code. (1 ≤ stage) × (stage ≤ 4) × (added b a ≡ record { refusal = Some (stage, code); board = b }))
+      → IfRefused {T = T} (Err r) (λ stage code. (1 ≤ stage) × (stage ≤ 4) × (plug b a ≡ record { refusal = Some (stage, code); board = b }))
       → IfRefused {T = U} (Err r) (λ stage code. (1 ≤ stage) × (stage ≤ 4) × IsRefused b a stage code w)
   refused-early T U (Refused stage code) w s e =
       (e.0, e.1, record { refusal = ap (λ (q : Plugged). q.refusal) e.2; shown = subst (λ (q : Plugged). Shows q.board w) (sym e.2) s })
@@ -107,7 +104,7 @@ module _ (b : Board) (a : Wanted) where
     is-refused stage code late s =
         record { refusal = ap (λ (q : Plugged). q.refusal) comes; shown = subst (λ (q : Plugged). Shows q.board w) (sym comes) s }
       where
-        comes : added b a ≡ record { refusal = Some (stage, code); board = plug_attempt b site.kind site.bus.birth stage }
+        comes : plug b a ≡ record { refusal = Some (stage, code); board = plug_attempt b site.kind site.bus.birth stage }
         comes =
             added-late b a site.kind admitted.kind admitted.driver site.bus.birth admitted.early admitted.bus
             ∙ ap (plug_late b site.kind site.bus.birth a) (sym late)
@@ -130,25 +127,25 @@ module _ (b : Board) (a : Wanted) where
       turned-cut (Refused stage told) h e = cc
       turned-cut Memory h e = cut-late h
 
-    -- or as it has no slot of its bus
-    module _ (code : Code) (given : None ≡ refusal_of b site.kind a.props) (barred : Some code ≡ place_barred b site.kind site.bus.birth a.props) where
-      pub slot-refused : (T : Type 0) (r : AddRefusal) → turned_down b site.kind site.bus.birth (record { stage = 5; code = code }) r w
-          → IfRefused {T = T} (Err r) (λ stage code. IsRefused b a stage code w)
-      slot-refused T (Refused stage told) h =
-          let its_stage : stage ≡ 5 = h.0 in
-          let its_code : told ≡ code = h.1 in
-          rw (its_stage, its_code) (is-refused 5 code (late-place b site.bus.birth site.kind a.props code given barred) h.2)
-      slot-refused T Memory h = tt
+    -- or as it has no spot on its bus
+    module _ (bar : Barred) (given : None ≡ refusal_of b site.kind a.props) (barred : Some (bar.stage, bar.code) ≡ spot_barred b site.kind site.bus.birth a.props) where
+      pub spot-refused : (T : Type 0) (r : AddRefusal) → turned_down b site.kind site.bus.birth bar r w → IfRefused {T = T} (Err r) (λ stage code. IsRefused b a stage code w)
+      spot-refused T (Refused stage told) h =
+          let its_stage : stage ≡ bar.stage = h.0 in
+          let its_code : told ≡ bar.code = h.1 in
+          rw (its_stage, its_code) (is-refused bar.stage bar.code (late-spot b site.bus.birth site.kind a.props (bar.stage, bar.code) given barred) h.2)
+      spot-refused T Memory h = tt
 
-      pub slot-cut : (r : AddRefusal) → turned_down b site.kind site.bus.birth (record { stage = 5; code = code }) r w → r ≡ Memory → IsCut b a w
-      slot-cut (Refused stage told) h e = cc
-      slot-cut Memory h e = cut-late h
+    pub spot-cut : (bar : Barred) (r : AddRefusal) → turned_down b site.kind site.bus.birth bar r w → r ≡ Memory → IsCut b a w
+    spot-cut bar (Refused stage told) h e = cc
+    spot-cut bar Memory h e = cut-late h
 
--- a refusal at a stage is one
-pub refused-at : (b : Board) (a : Wanted) (at : ℕ) (T U : Type 0) (r : AddRefusal) (w : Objects) → IfRefused {T = T} (Err r) (λ stage code. (stage ≡ at) × IsRefused b a stage code w)
+-- a refusal of some stages is one
+pub refused-within : (b : Board) (a : Wanted) (first last : ℕ) (T U : Type 0) (r : AddRefusal) (w : Objects)
+    → IfRefused {T = T} (Err r) (λ stage code. (first ≤ stage) × (stage ≤ last) × IsRefused b a stage code w)
     → IfRefused {T = U} (Err r) (λ stage code. IsRefused b a stage code w)
-refused-at b a at T U (Refused stage code) w h = h.1
-refused-at b a at T U Memory w h = tt
+refused-within b a first last T U (Refused stage code) w h = h.2
+refused-within b a first last T U Memory w h = tt
 
 -- so is that of the notices
 pub refused-last : (b : Board) (a : Wanted) (T U : Type 0) (bar : Barred) (w : Objects) → barred_in {T = T} (Err bar) ≡ Some (8, E44) → IsRefused b a 8 E44 w
@@ -183,9 +180,9 @@ old-none k m less (r ∷ rs) low =
     rw other (old-none k m less rs low.1)
 
 -- a device that stands starts, and is let go
-module _ (b : Board) (t : TypeId) (sound : SoundTree b) (built : is_built t ≡ true) (a : Wanted) (bus slot : ℕ) where
+module _ (b : Board) (t : TypeId) (sound : SoundTree b) (device : is_a t (codes "device") ≡ true) (a : Wanted) (bus : ℕ) (at : Chosen) where
   abbrev spot : Spot
-  spot = spot_in bus slot
+  spot = spot_in bus at
 
   abbrev here : Board
   here = seated b t sound a spot
@@ -207,7 +204,7 @@ module _ (b : Board) (t : TypeId) (sound : SoundTree b) (built : is_built t ≡ 
   own-buses : buses_of here n ≡ bus_births n t
   own-buses =
       counted-buses a.id (clocked (source_for b bus) n (stood b n a spot (held_draft b t))) n
-      ∙ plugged-buses b t a bus slot none-later (built-device t built) (container-apart a.id)
+      ∙ plugged-buses b t a spot none-later device (container-apart a.id)
 
   abbrev Starts : List ℕ → List ℕ → Objects → Objects → ℕ → Type 0
   Starts holds path w x m = (c : Board) (u : TypeId) → Holds c holds w → buses_of c m ≡ bus_births m u → canonical c m ≡ Some path → Shows (started m u c) x

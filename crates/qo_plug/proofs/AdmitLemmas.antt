@@ -5,15 +5,15 @@ use Rattle.std.specs.Option.{option_or}
 use Rattle.std.proofs.lemmas.Option.{same_Some}
 use Rattle.qo_values.specs.Ids.{is_id}
 use Rattle.qo_values.specs.declared.codes.Code.{Code}
-use Rattle.qo_values.specs.declared.codes.Code.TheVariants.{E22, E23, E24}
+use Rattle.qo_values.specs.declared.codes.Code.TheVariants.{E23, E24}
 use Rattle.qo_values.specs.declared.kinds.TypeId.{TypeId}
 use Rattle.qo_model.specs.Board.{Board}
 use Rattle.qo_model.specs.Devices.{device_named}
-use Rattle.qo_model.specs.Plug.{Plugged, Wanted, at_stage, barred_early, barred_late, bus_barred, bus_for, container_barred, first_of, id_barred, id_refused, name_for, parent_for, plug, plug_as, plug_by, plug_late, plug_on, room_barred, type_barred}
+use Rattle.qo_model.specs.Plug.{Plugged, Wanted, at_stage, barred_early, barred_late, bus_barred, bus_for, container_barred, first_of, id_barred, id_refused, name_for, parent_for, plug, plug_as, plug_by, plug_late, type_barred, plug_on, room_barred, type_barred}
 use Rattle.qo_model.specs.Types.{TypeRow, row_named}
 use Rattle.qo_plug.specs.declared.refusals.AddRefusal.{AddRefusal}
 use Rattle.qo_plug.specs.declared.refusals.AddRefusal.TheVariants.{Refused, Memory}
-use Rattle.qo_plug.specs.Added.{IfRefused, added, driver_barred, is_built, unbuilt}
+use Rattle.qo_plug.specs.Added.{IfRefused}
 
 -- the first of two
 or-first : {X : Type 0} (o p : Option X) (x : X) → o ≡ Some x → option_or o p ≡ Some x
@@ -21,36 +21,6 @@ or-first o p x e = ap (λ q. option_or q p) e
 
 or-second : {X : Type 0} (o p q : Option X) → o ≡ None → p ≡ q → option_or o p ≡ q
 or-second o p q e f = ap₂ option_or e f
-
-or-none : {X : Type 0} (o p : Option X) → option_or o p ≡ None → o ≡ None
-or-none None p e = refl
-or-none (Some x) p e = absurd (let clash : Some x ≡ None = e in cc)
-
--- stage 1
-module _ (driver : List ℕ) where
-  pub driver-barred : (code : Code) → Some code ≡ type_barred driver → Some code ≡ driver_barred driver
-  driver-barred code e = sym (or-first (type_barred driver) (unbuilt driver) code (sym e))
-
-  module _ (t : TypeId) (is : option_map (λ (row : TypeRow). row.id) (row_named driver) ≡ Some t) where
-    abbrev unbuilt-as : Option TypeRow → Option Code
-    unbuilt-as o = elim o [ None ↦ None | Some row ↦ if is_built row.id then None else Some E22 ]
-
-    unbuilt-is : unbuilt driver ≡ (if is_built t then None else Some E22)
-    unbuilt-is = go (row_named driver) refl
-      where
-        go : (o : Option TypeRow) → row_named driver ≡ o → unbuilt driver ≡ (if is_built t then None else Some E22)
-        go None e = absurd (let clash : None ≡ Some t = sym (ap (option_map (λ (row : TypeRow). row.id)) e) ∙ is in cc)
-        go (Some row) e =
-            let same : row.id ≡ t = same_Some row.id t (sym (ap (option_map (λ (r : TypeRow). r.id)) e) ∙ is) in
-            ap unbuilt-as e ∙ ap (λ (k : TypeId). if is_built k then None else Some E22) same
-
-    pub driver-unbuilt : None ≡ type_barred driver → is_built t ≡ false → Some E22 ≡ driver_barred driver
-    driver-unbuilt allowed fails =
-        sym (or-second (type_barred driver) (unbuilt driver) (Some E22) (sym allowed) (unbuilt-is ∙ ap (λ (b : Bool). if b then None else Some E22) fails))
-
-    pub driver-open : None ≡ type_barred driver → is_built t ≡ true → None ≡ driver_barred driver
-    driver-open allowed holds =
-        sym (or-second (type_barred driver) (unbuilt driver) None (sym allowed) (unbuilt-is ∙ ap (λ (b : Bool). if b then None else Some E22) holds))
 
 -- stage 2
 module _ (b : Board) (id : List ℕ) where
@@ -96,25 +66,18 @@ module _ (b : Board) (t : TypeId) (a : Wanted) where
 
 -- what adding comes to
 module _ (b : Board) (a : Wanted) where
-  abbrev by_code : Option Code → Plugged
-  by_code o = elim o [ Some code ↦ record { refusal = Some (1, code); board = b } | None ↦ plug b a ]
+  pub added-first : (code : Code) → Some code ≡ type_barred a.driver → plug b a ≡ record { refusal = Some (1, code); board = b }
+  unfolding plug
+  added-first code e = ap (plug_by b a) (sym e)
 
-  pub added-first : (code : Code) → Some code ≡ driver_barred a.driver → added b a ≡ record { refusal = Some (1, code); board = b }
-  unfolding added
-  added-first code e = ap by_code (sym e)
-
-  module _ (t : TypeId) (is : option_map (λ (row : TypeRow). row.id) (row_named a.driver) ≡ Some t) (open_is : driver_barred a.driver ≡ None) where
-    plug-from : added b a ≡ plug b a
-    unfolding added
-    plug-from = ap by_code open_is
-
+  module _ (t : TypeId) (is : option_map (λ (row : TypeRow). row.id) (row_named a.driver) ≡ Some t) (open_is : type_barred a.driver ≡ None) where
     abbrev by_row : Option TypeRow → Plugged
     by_row o = elim o [ None ↦ record { refusal = None; board = b } | Some row ↦ plug_as b row.id a (barred_early b row.id a) ]
 
     plug-is : plug b a ≡ plug_as b t a (barred_early b t a)
     unfolding plug
     plug-is =
-        ap (plug_by b a) (or-none (type_barred a.driver) (unbuilt a.driver) open_is) ∙ go (row_named a.driver) refl
+        ap (plug_by b a) open_is ∙ go (row_named a.driver) refl
       where
         go : (o : Option TypeRow) → row_named a.driver ≡ o → by_row (row_named a.driver) ≡ plug_as b t a (barred_early b t a)
         go None e = absurd (let clash : None ≡ Some t = sym (ap (option_map (λ (row : TypeRow). row.id)) e) ∙ is in cc)
@@ -122,17 +85,17 @@ module _ (b : Board) (a : Wanted) where
             let same : row.id ≡ t = same_Some row.id t (sym (ap (option_map (λ (r : TypeRow). r.id)) e) ∙ is) in
             ap by_row e ∙ ap (λ (k : TypeId). plug_as b k a (barred_early b k a)) same
 
-    pub added-early : (refusal : ℕ × Code) → barred_early b t a ≡ Some refusal → added b a ≡ record { refusal = Some refusal; board = b }
-    added-early refusal e = plug-from ∙ plug-is ∙ ap (plug_as b t a) e
+    pub added-early : (refusal : ℕ × Code) → barred_early b t a ≡ Some refusal → plug b a ≡ record { refusal = Some refusal; board = b }
+    added-early refusal e = plug-is ∙ ap (plug_as b t a) e
 
-    pub added-late : (bus : ℕ) → barred_early b t a ≡ None → bus_for b t a.bus ≡ Some bus → added b a ≡ plug_late b t bus a (barred_late b t bus a.props)
+    pub added-late : (bus : ℕ) → barred_early b t a ≡ None → bus_for b t a.bus ≡ Some bus → plug b a ≡ plug_late b t bus a (barred_late b t bus a.props)
     added-late bus e goes =
-        plug-from ∙ plug-is ∙ ap (plug_as b t a) e
+        plug-is ∙ ap (plug_as b t a) e
         ∙ ap (λ (o : Option ℕ). elim o as (λ _. Plugged) [ None ↦ record { refusal = None; board = b } | Some m ↦ plug_on b t m a ]) goes
 
     -- what a refusal of its place tells
     pub place-refused : (S T : Type 0) (r : AddRefusal) → IfRefused {T = S} (Err r) (λ stage code. (stage ≡ 2) × (id_barred b a.id ≡ Some code))
-        → IfRefused {T = T} (Err r) (λ stage code. (1 ≤ stage) × (stage ≤ 4) × (added b a ≡ record { refusal = Some (stage, code); board = b }))
+        → IfRefused {T = T} (Err r) (λ stage code. (1 ≤ stage) × (stage ≤ 4) × (plug b a ≡ record { refusal = Some (stage, code); board = b }))
     place-refused S T (Refused stage code) h =
         (omega (arith, h.0), omega (arith, h.0), added-early (stage, code) (early-id b t a code h.1 ∙ ap (λ (k : ℕ). Some (k, code)) (sym h.0)))
     place-refused S T Memory h = tt

@@ -8,6 +8,7 @@ pub mod GrowsLemmas
 pub mod JudgeLemmas
 pub mod PassLemmas
 pub mod PlugSteps
+pub mod RangeLemmas
 pub mod SourceLemmas
 pub mod StageLemmas
 pub mod StandBoards
@@ -16,4 +17,5 @@ pub mod StandLemmas
 pub mod StandSteps
 pub mod StartBuses
 pub mod StartLemmas
+pub mod TakeLemmas
 pub mod TurnLemmas

@@ -5,8 +5,7 @@ use Rattle.qo_values.specs.declared.codes.Code.TheVariants.{E44}
 use Rattle.qo_values.specs.declared.limits.TheConstants.{NOTICES_MAX}
 use Rattle.qo_model.specs.Board.{Board}
 use Rattle.qo_model.specs.Objects.{refusal_of}
-use Rattle.qo_model.specs.Plug.{Plugged, Wanted, at_stage, barred_late, first_of, notice_barred, place_barred, plug_attempt, plug_late, realize_barred}
-use Rattle.qo_properties.specs.Changes.{refusal_in}
+use Rattle.qo_model.specs.Plug.{Plugged, Wanted, at_stage, barred_late, first_of, notice_barred, place_barred, plug, plug_attempt, plug_late, realize_barred}
 use Rattle.qo_heap.specs.Board.{Shows}
 use Rattle.qo_heap.specs.Objects.{Objects}
 use Rattle.qo_plug.specs.declared.beginning.Begun.{Begun}
@@ -14,13 +13,15 @@ use Rattle.qo_plug.specs.declared.admitting.Site.{Site}
 use Rattle.qo_plug.specs.declared.placing.Placed.{Placed}
 use Rattle.qo_plug.specs.declared.placing.Way.{Way}
 use Rattle.qo_plug.specs.declared.placing.Way.TheVariants.{Stands, Full}
-use Rattle.qo_plug.specs.Added.{IsAdmitted, added}
+use Rattle.qo_plug.specs.declared.refusals.Barred.{Barred}
+use Rattle.qo_plug.specs.declared.spots.Spot.{Spot as Chosen}
+use Rattle.qo_plug.specs.Added.{IsAdmitted, barred_in}
 use Rattle.qo_plug.specs.Adding.{IsCut, IsOpen, IsRefused}
 use Rattle.qo_plug.specs.Stages.{IsBegun, IsHeld, IsSettled, StandsBy}
 use Rattle.qo_plug.specs.Standing.{IsSeat}
 use Rattle.qo_plug.proofs.AddLemmas.{cut-late, is-refused, whole-cut}
 use Rattle.qo_plug.proofs.AdmitLemmas.{added-late}
-use Rattle.qo_plug.proofs.JudgeLemmas.{late-notices, late-place, notice_as}
+use Rattle.qo_plug.proofs.JudgeLemmas.{late-notices, late-spot, notice_as}
 
 module _ (b : Board) (a : Wanted) (d : Begun) (v : Objects) (is : IsBegun b a d v) where
   pub bus-low : IsHeld d v → d.site.bus.birth ≤ b.born
@@ -29,24 +30,22 @@ module _ (b : Board) (a : Wanted) (d : Begun) (v : Objects) (is : IsBegun b a d 
   pub seat-of : IsSeat b a d.site.place.container.birth d.site.place.name d.site.place.id
   seat-of = record { id_is = sym is.admitted.place.id; name_is = sym is.admitted.place.name; parent_is = sym is.admitted.place.container }
 
-  -- it has a slot there
-  module _ (held : IsHeld d v) (slot : ℕ) (has : d.slot ≡ Ok slot) where
+  -- it has a spot there
+  module _ (at : Chosen) (has : d.spot ≡ Ok at) where
     by-notices : (full : Bool) → nat_le NOTICES_MAX (length b.notices) ≡ full → barred_late b d.site.kind d.site.bus.birth a.props ≡ at_stage 8 (notice_as full)
-    by-notices full =
-        late-notices b d.site.bus.birth a.props d.site.kind held.built full (sym is.given)
-        (ap (λ (r : Result ℕ Code). refusal_in r) (sym has) ∙ is.barred)
+    by-notices full = late-notices b d.site.bus.birth d.site.kind a.props full (sym is.given) (ap (λ (r : Result Chosen Barred). barred_in r) (sym has) ∙ is.barred)
 
-    pub opened : nat_le NOTICES_MAX (length b.notices) ≡ false → IsOpen b a d.site slot
+    pub opened : nat_le NOTICES_MAX (length b.notices) ≡ false → IsOpen b a d.site at
     opened room = record { admitted = is.admitted; late = by-notices false room; spot = rw has at is.spot }
 
     pub full-barred : nat_le NOTICES_MAX (length b.notices) ≡ true → barred_late b d.site.kind d.site.bus.birth a.props ≡ Some (8, E44)
     full-barred full = by-notices true full
 
   -- it has none
-  pub slot-refused : (code : Code) → d.slot ≡ Err code → (w : Objects) → Shows (plug_attempt b d.site.kind d.site.bus.birth 5) w → IsRefused b a 5 code w
-  slot-refused code has w s =
-      is-refused b a d.site is.admitted w 5 code
-      (late-place b d.site.bus.birth d.site.kind a.props code (sym is.given) (ap (λ (r : Result ℕ Code). refusal_in r) (sym has) ∙ is.barred)) s
+  pub spot-refused : (bar : Barred) → d.spot ≡ Err bar → (w : Objects) → Shows (plug_attempt b d.site.kind d.site.bus.birth bar.stage) w → IsRefused b a bar.stage bar.code w
+  spot-refused bar has w s =
+      is-refused b a d.site is.admitted w bar.stage bar.code
+      (late-spot b d.site.bus.birth d.site.kind a.props (bar.stage, bar.code) (sym is.given) (ap (λ (r : Result Chosen Barred). barred_in r) (sym has) ∙ is.barred)) s
 
   -- memory wants
   pub given_up-cut : (w : Objects) → Shows (plug_attempt b d.site.kind d.site.bus.birth 0) w → IsCut b a w
@@ -58,7 +57,7 @@ module _ (b : Board) (a : Wanted) (s : Site) (admitted : IsAdmitted b a s) where
   told None = refl
   told (Some refusal) = refl
 
-  refusal-late : (added b a).refusal ≡ barred_late b s.kind s.bus.birth a.props
+  refusal-late : (plug b a).refusal ≡ barred_late b s.kind s.bus.birth a.props
   refusal-late =
       ap (λ (q : Plugged). q.refusal) (added-late b a s.kind admitted.kind admitted.driver s.bus.birth admitted.early admitted.bus)
       ∙ told (barred_late b s.kind s.bus.birth a.props)
@@ -75,7 +74,7 @@ module _ (b : Board) (a : Wanted) (s : Site) (admitted : IsAdmitted b a s) where
   abbrev LaterOf : Option Code → Type 0
   LaterOf o = IfSome (first_by o place_bar reset_bar (notice_barred b)) (λ (r : ℕ × Code). 4 < r.0)
 
-  pub passed-making : refusal_of b s.kind a.props ≡ None → IfSome (added b a).refusal (λ (r : ℕ × Code). 4 < r.0)
+  pub passed-making : refusal_of b s.kind a.props ≡ None → IfSome (plug b a).refusal (λ (r : ℕ × Code). 4 < r.0)
   passed-making given = rw refusal-late (subst LaterOf (sym given) (later place_bar reset_bar (notice_barred b)))
     where
       later : (p r n : Option Code) → IfSome (first_by None p r n) (λ (x : ℕ × Code). 4 < x.0)
@@ -85,12 +84,12 @@ module _ (b : Board) (a : Wanted) (s : Site) (admitted : IsAdmitted b a s) where
       later None None None = tt
 
   passed-as : (o : Option (ℕ × Code)) → barred_late b s.kind s.bus.birth a.props ≡ o → IfSome o (λ (r : ℕ × Code). 7 < r.0)
-      → IfSome (added b a).refusal (λ (r : ℕ × Code). 7 < r.0)
+      → IfSome (plug b a).refusal (λ (r : ℕ × Code). 7 < r.0)
   passed-as o is h = subst (λ (x : Option (ℕ × Code)). IfSome x (λ (r : ℕ × Code). 7 < r.0)) (sym (refusal-late ∙ is)) h
 
-pub passed-placing : (b : Board) (a : Wanted) (p : Placed) (v : Objects) → IsSettled b a p v → IfSome (added b a).refusal (λ (r : ℕ × Code). 7 < r.0)
+pub passed-placing : (b : Board) (a : Wanted) (p : Placed) (v : Objects) → IsSettled b a p v → IfSome (plug b a).refusal (λ (r : ℕ × Code). 7 < r.0)
 passed-placing b a p v is = by p.way is.site.2
   where
-    by : (w : Way) → StandsBy b a is.site.0 p.device.birth p.slot w v → IfSome (added b a).refusal (λ (r : ℕ × Code). 7 < r.0)
-    by (Stands path) h = passed-as b a is.site.0 h.0.admitted None h.0.late tt
+    by : (w : Way) → StandsBy b a is.site.0 p.device.birth p.slot w v → IfSome (plug b a).refusal (λ (r : ℕ × Code). 7 < r.0)
+    by (Stands path) h = passed-as b a is.site.0 h.2.admitted None h.2.late tt
     by (Full out) h = passed-as b a is.site.0 h.0 (Some (8, E44)) h.1 (omega arith)

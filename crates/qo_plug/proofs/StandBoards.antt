@@ -7,16 +7,17 @@ use Rattle.qo_values.specs.Kinds.{type_name}
 use Rattle.qo_values.specs.declared.kinds.TypeId.{TypeId}
 use Rattle.qo_values.specs.declared.properties.Val.{Val}
 use Rattle.qo_values.specs.declared.properties.Val.TheVariants as val
+use Rattle.qo_values.specs.declared.ranges.Range.{Range}
 use Rattle.qo_model.specs.Board.{Board, Record, Slot, child, plain, strong, weak, alias, kind_of, record_of, slots_at}
 use Rattle.qo_model.specs.Changes.{add, changed_at, set, with_added, with_changed, with_val}
 use Rattle.qo_model.specs.Devices.{clock_of}
 use Rattle.qo_model.specs.Objects.{Given, given_to, place_from, slot_given}
 use Rattle.qo_model.specs.Paths.{canonical, is_child, only_of}
-use Rattle.qo_model.specs.Plug.{Spot, Wanted, fitted, joined, link_named, source_for, stood, valued, with_body_of, with_given, with_source}
+use Rattle.qo_model.specs.Plug.{Spot, Wanted, addressed_at, fitted, joined, link_named, source_for, stood, valued, with_body_of, with_given, with_source}
 use Rattle.qo_model.specs.Release.{edit, edited}
 use Rattle.qo_model.specs.Types.{is_a}
 use Rattle.qo_model.specs.Unplug.{is_named, set_named}
-use Rattle.qo_plug.specs.Standing.{seated, spot_in}
+use Rattle.qo_plug.specs.Standing.{seated}
 use Rattle.qo_plug.proofs.StartLemmas.{SameTree, canonical-same, read-edit, tree-edit, tree-same, tree-then}
 
 abbrev BoardSlots : Type 0
@@ -121,22 +122,28 @@ tree-valued b n props spot c =
     (tree-then slotted linked (valued b n props spot c) (tree-link n (codes "parent_bus") spot.bus slotted)
     (tree-set n (codes "realized") (val.Bool true) linked)))
 
-tree-body : (n : ℕ) (id : Option (List ℕ)) (c : Board) → SameTree c (edit n (with_body_of id None) c)
-tree-body n id c = tree-edit c n (with_body_of id None) (λ r. refl) (λ r. refl) (λ k r. refl)
+tree-addressed : (n : ℕ) (range : Option Range) (c : Board) → SameTree c (addressed_at n range c)
+tree-addressed n None c = tree-same c
+tree-addressed n (Some r) c = tree-set n (codes "addr") (val.Uint r.at) c
 
-pub tree-stood : (b : Board) (n : ℕ) (a : Wanted) (bus slot : ℕ) (c : Board) → SameTree (joined b n a (spot_in bus slot) c) (stood b n a (spot_in bus slot) c)
-tree-stood b n a bus slot c =
-    let there : Board = joined b n a (spot_in bus slot) c in
-    let given : Board = valued b n a.props (spot_in bus slot) there in
-    tree-then there given (stood b n a (spot_in bus slot) c) (tree-valued b n a.props (spot_in bus slot) there) (tree-body n a.id given)
+tree-body : (n : ℕ) (id : Option (List ℕ)) (range : Option Range) (c : Board) → SameTree c (edit n (with_body_of id range) c)
+tree-body n id range c = tree-edit c n (with_body_of id range) (λ r. refl) (λ r. refl) (λ k r. refl)
+
+pub tree-stood : (b : Board) (n : ℕ) (a : Wanted) (spot : Spot) (c : Board) → SameTree (joined b n a spot c) (stood b n a spot c)
+tree-stood b n a spot c =
+    let there : Board = joined b n a spot c in
+    let given : Board = valued b n a.props spot there in
+    let addressed : Board = addressed_at n spot.range given in
+    tree-then there given (stood b n a spot c) (tree-valued b n a.props spot there)
+    (tree-then given addressed (stood b n a spot c) (tree-addressed n spot.range given) (tree-body n a.id spot.range addressed))
 
 -- a device has the path that it has once it has joined
-pub seated-path : (b : Board) (n : ℕ) (a : Wanted) (bus slot : ℕ) (c : Board) (path : List ℕ) → canonical (joined b n a (spot_in bus slot) c) n ≡ Some path
-    → canonical (seated b n a (spot_in bus slot) c) n ≡ Some path
-seated-path b n a bus slot c path is =
-    let d : Board = stood b n a (spot_in bus slot) c in
-    canonical-same d (seated b n a (spot_in bus slot) c) (tree-source (source_for b bus) (clock_of d n) d) n
-    ∙ canonical-same (joined b n a (spot_in bus slot) c) d (tree-stood b n a bus slot c) n
+pub seated-path : (b : Board) (n : ℕ) (a : Wanted) (spot : Spot) (c : Board) (path : List ℕ) → canonical (joined b n a spot c) n ≡ Some path
+    → canonical (seated b n a spot c) n ≡ Some path
+seated-path b n a spot c path is =
+    let d : Board = stood b n a spot c in
+    canonical-same d (seated b n a spot c) (tree-source (source_for b spot.bus) (clock_of d n) d) n
+    ∙ canonical-same (joined b n a spot c) d (tree-stood b n a spot c) n
     ∙ is
 
 -- types stay where objects join
@@ -145,10 +152,10 @@ pub kinds-added : (n : ℕ) (name : List ℕ) (s : Slot) (b : Board) (m : ℕ) �
 unfolding add
 kinds-added n name s b m = read-edit n (with_added name s) (λ r. refl) (λ (o : Option Record). option_map (λ (r : Record). r.kind) o) (λ r. refl) m b.records
 
-pub kinds-stood : (b : Board) (n : ℕ) (a : Wanted) (bus slot : ℕ) (c : Board) (m : ℕ) → kind_of (stood b n a (spot_in bus slot) c) m ≡ kind_of c m
-kinds-stood b n a bus slot c m =
-    (tree-stood b n a bus slot c).kinds m
-    ∙ kinds-added bus _ _ _ m
+pub kinds-stood : (b : Board) (n : ℕ) (a : Wanted) (spot : Spot) (c : Board) (m : ℕ) → kind_of (stood b n a spot c) m ≡ kind_of c m
+kinds-stood b n a spot c m =
+    (tree-stood b n a spot c).kinds m
+    ∙ kinds-added spot.bus _ _ _ m
     ∙ kinds-added _ _ _ c m
 
 -- no link is pointed at what is not there

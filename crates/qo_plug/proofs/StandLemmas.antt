@@ -1,23 +1,23 @@
 -- A device takes its place on the heap: joining and what of it is taken back, and all of it on the boards.
-use Rattle.std.proofs.Common.{◌≡◌, refl, ap, sym, subst, ◌∙◌, ℕ, ◌+◌, ◌≤◌, Bool, true, false, cond, eqb, List, [], ◌∷◌, ◌++◌, length, remove, Option, Some, None, IfSome, IfNone, option_map, arith}
+use Rattle.std.proofs.Common.{◌≡◌, refl, ap, sym, subst, ◌∙◌, ℕ, ◌+◌, ◌≤◌, Bool, true, false, cond, eqb, List, [], ◌∷◌, ◌++◌, length, remove, append_assoc, Option, Some, None, IfSome, IfNone, option_map, arith}
 use Rattle.std.specs.Prelude.{option_and_then}
 use Rattle.std.specs.Option.{option_map_or}
 use Rattle.std.proofs.lemmas.Option.{same_Some}
 use Rattle.qo_values.specs.declared.kinds.TypeId.{TypeId}
+use Rattle.qo_values.specs.declared.ranges.Range.{Range}
 use Rattle.qo_values.specs.declared.kinds.TypeId.TheVariants.{Device}
 use Rattle.qo_slots.specs.declared.keys.Key.{Key}
 use Rattle.qo_claims.specs.declared.claims.Claimed.{Claimed}
 use Rattle.qo_table.specs.Rows.{IsLive, edit, object_at}
 use Rattle.qo_kinds.proofs.BodyLemmas.{fresh-bare}
-use Rattle.qo_kinds.specs.Bodies.{IsBare, kept_of}
+use Rattle.qo_kinds.specs.Bodies.{IsBare, kept_of, registers_of}
 use Rattle.qo_kinds.specs.declared.bodies.Body.{Body}
 use Rattle.qo_kinds.specs.declared.kept.KeptSet.{KeptSet}
 use Rattle.qo_model.specs.Board as board
 use Rattle.qo_model.specs.Changes.{add}
 use Rattle.qo_model.specs.Devices.{clock_of, kid_name}
 use Rattle.qo_model.specs.Paths.{canonical}
-use Rattle.qo_model.specs.Plug.{Wanted, joined, name_for, source_for, stood, with_body_of, with_source}
-use Rattle.qo_model.specs.Release as release
+use Rattle.qo_model.specs.Plug.{Spot, Wanted, joined, name_for, source_for, stood, with_source}
 use Rattle.qo_object.specs.declared.slots.Slot.{Slot}
 use Rattle.qo_object.specs.declared.slots.Slot.TheVariants.{Child, Link}
 use Rattle.qo_object.specs.Content.{Content, HasNoClaim, cut_at, dropped_at, empty_link_at, fresh, with_slot}
@@ -29,15 +29,14 @@ use Rattle.qo_heap.proofs.BookLemmas.{book-edit}
 use Rattle.qo_heap.proofs.HeapLemmas.{live-edit}
 use Rattle.qo_heap.proofs.HeapLemmas.{edit-same as heap-same}
 use Rattle.qo_heap.proofs.ShowsChanges.{shows-added}
-use Rattle.qo_heap.proofs.ShowsEdits.{shows-edit}
 use Rattle.qo_heap.proofs.ShowsLive.{content-edited, content-other, live-content}
 use Rattle.qo_properties.proofs.FillingLemmas.{edit-twice}
 use Rattle.qo_plug.specs.Drafts.{bare, is_own, own_slots, own_slots_of}
-use Rattle.qo_plug.specs.Standing.{Alike, IsSeat, Stood, joined_on, kept_in, named, spot_in, with_book}
+use Rattle.qo_plug.specs.Standing.{Alike, IsSeat, Stood, joined_on, kept_in, named, with_book}
 use Rattle.qo_plug.proofs.GrowsLemmas.{live-low}
 use Rattle.qo_plug.proofs.StandBoards.{kinds-stood, seated-path, source-missing}
 use Rattle.qo_plug.proofs.StandFills.{edit-on}
-use Rattle.qo_plug.proofs.StandSteps.{alike-edit, alike-kept, alike-then, read-content, shows-book, shows-kept}
+use Rattle.qo_plug.proofs.StandSteps.{alike-edit, alike-kept, alike-then, read-content, registers-kept, shows-book, shows-kept}
 
 -- the last slot
 
@@ -165,6 +164,10 @@ module _ (v w : Objects) (container bus o : Key) (name : List ℕ) (slot : ℕ) 
   pub joined-ids : (n : ℕ) → option_map (λ (c : Content). c.device_id) (content_of w n) ≡ option_map (λ (c : Content). c.device_id) (content_of v n)
   joined-ids = read-joined (λ (c : Content). c.device_id) (λ x s c. refl)
 
+  pub joined-registers : (n : ℕ)
+      → option_map (λ (c : Content). registers_of c.body) (content_of w n) ≡ option_map (λ (c : Content). registers_of c.body) (content_of v n)
+  joined-registers = read-joined (λ (c : Content). registers_of c.body) (λ x s c. refl)
+
   pub joined-bare : (n : ℕ) → IfSome (content_of v n) HasNoClaim → IfSome (content_of w n) (λ c. IsBare c.body)
   joined-bare n new = go (content_of v n) (content_of w n) (read-joined (λ (c : Content). c.body) (λ x s c. refl) n) new
     where
@@ -203,21 +206,17 @@ joined-book out v w container bus o name slot is h =
     (book-edit out (with_edit container.birth (with_slot name (Child o)) v) bus.birth (with_slot (kid_name slot) (Link Device true (Some o))) (λ c. refl)
     (book-edit out v container.birth (with_slot name (Child o)) (λ c. refl) h))
 
-pub joined-shown : (b c : board.Board) (a : Wanted) (v w : Objects) (container bus o : Key) (name : List ℕ) (slot : ℕ) (id : Option (List ℕ)) → w ≡ joined_on container name bus slot o v → Shows c v
-    → IsSeat b a container.birth name id → Shows (joined b o.birth a (spot_in bus.birth slot) c) w
-joined-shown b c a v w container bus o name slot id is s seat =
+pub joined-shown : (b c : board.Board) (a : Wanted) (v w : Objects) (container bus o : Key) (name : List ℕ) (slot : ℕ) (range : Option Range)
+    (id : Option (List ℕ))
+    → w ≡ joined_on container name bus slot o v → Shows c v → IsSeat b a container.birth name id
+    → Shows (joined b o.birth a (record { bus = bus.birth; slot = slot; range = range }) c) w
+joined-shown b c a v w container bus o name slot range id is s seat =
     let child : Shows (add container.birth name (board.child o.birth) c) (with_edit container.birth (with_slot name (Child o)) v) = shows-added c v s container.birth name (Child o) in
     let link : Shows (add bus.birth (kid_name slot) (board.strong Device (Some o.birth)) (add container.birth name (board.child o.birth) c)) w =
     subst (Shows (add bus.birth (kid_name slot) (board.strong Device (Some o.birth)) (add container.birth name (board.child o.birth) c))) (sym is)
     (shows-added (add container.birth name (board.child o.birth) c) (with_edit container.birth (with_slot name (Child o)) v) child bus.birth (kid_name slot) (Link Device true (Some o))) in
     subst (λ (n : ℕ). Shows (add bus.birth (kid_name slot) (board.strong Device (Some o.birth)) (add n (name_for b a.id) (board.child o.birth) c)) w) (sym seat.parent_is)
     (subst (λ (l : List ℕ). Shows (add bus.birth (kid_name slot) (board.strong Device (Some o.birth)) (add container.birth l (board.child o.birth) c)) w) (sym seat.name_is) link)
-
-pub named-shown : (d : board.Board) (v w : Objects) (n : ℕ) (its id : Option (List ℕ)) → w ≡ with_edit n (named id) v → its ≡ id → Shows d v → Shows (release.edit n (with_body_of its None) d) w
-named-shown d v w n its id is same s =
-    subst (Shows (release.edit n (with_body_of its None) d)) (sym is)
-    (subst (λ (x : Option (List ℕ)). Shows (release.edit n (with_body_of x None) d) (with_edit n (named id) v)) (sym same)
-    (shows-edit n (named id) d v s (with_body_of id None) (λ m c. refl) (λ c. refl)))
 
 pub named-alike : (v w : Objects) (n : ℕ) (id : Option (List ℕ)) → w ≡ with_edit n (named id) v → Alike v w
 named-alike v w n id is = alike-edit v w n (named id) (λ c. refl) (λ c. refl) (ap (λ (x : Objects). x.rows) is)
@@ -231,24 +230,25 @@ source-shown d v w n its source (Some o) some none shown same is s =
     subst (λ (m : ℕ). Shows (with_source m (clock_of d n) d) w) (some ∙ sym is) shown
 
 -- all of it
-pub stands : (b c : board.Board) (a : Wanted) (o bus : Key) (slot : ℕ) (path : List ℕ) (v w : Objects) (r : Option Key)
-    → canonical (joined b o.birth a (spot_in bus.birth slot) c) o.birth ≡ Some path
-    → Shows (stood b o.birth a (spot_in bus.birth slot) c) v
-    → IfSome r (λ x. x.birth ≡ source_for c bus.birth) → IfNone r (board.kind_of c (source_for c bus.birth) ≡ None)
+pub stands : (b c : board.Board) (a : Wanted) (o : Key) (spot : Spot) (path : List ℕ) (v w : Objects) (r : Option Key)
+    → canonical (joined b o.birth a spot c) o.birth ≡ Some path
+    → Shows (stood b o.birth a spot c) v
+    → IfSome r (λ x. x.birth ≡ source_for c spot.bus) → IfNone r (board.kind_of c (source_for c spot.bus) ≡ None)
     → ((d : board.Board) → Shows d v → IfSome r (λ x. Shows (with_source x.birth (clock_of d o.birth) d) w)) → IfNone r (w ≡ v)
-    → source_for b bus.birth ≡ source_for c bus.birth → Stood b c o.birth a (spot_in bus.birth slot) path w
-stands b c a o bus slot path v w r way s some none shown same is =
-    let d : board.Board = stood b o.birth a (spot_in bus.birth slot) c in
+    → source_for b spot.bus ≡ source_for c spot.bus → Stood b c o.birth a spot path w
+stands b c a o spot path v w r way s some none shown same is =
+    let d : board.Board = stood b o.birth a spot c in
     record {
-      shown = source-shown d v w o.birth (source_for b bus.birth) (source_for c bus.birth) r some (missing r none) (shown d s) same is s;
-      path_is = seated-path b o.birth a bus.birth slot c path way;
+      shown = source-shown d v w o.birth (source_for b spot.bus) (source_for c spot.bus) r some (missing r none) (shown d s) same is s;
+      path_is = seated-path b o.birth a spot c path way;
     }
   where
-    missing : (r : Option Key) → IfNone r (board.kind_of c (source_for c bus.birth) ≡ None) → IfNone r (board.kind_of (stood b o.birth a (spot_in bus.birth slot) c) (source_for c bus.birth) ≡ None)
-    missing None e = kinds-stood b o.birth a bus.birth slot c (source_for c bus.birth) ∙ e
+    missing : (r : Option Key) → IfNone r (board.kind_of c (source_for c spot.bus) ≡ None)
+        → IfNone r (board.kind_of (stood b o.birth a spot c) (source_for c spot.bus) ≡ None)
+    missing None e = kinds-stood b o.birth a spot c (source_for c spot.bus) ∙ e
     missing (Some x) e = tt
 
--- the steps up to the claim on the slot
+-- the steps up to the claims that the body keeps
 module _ (h0 h1 h2 h3 h4 : Objects) (e : ℕ) (o container bus : Key) (name : List ℕ) (slot : ℕ) (k : KeptSet) (first : h1 ≡ record h0 { events = record h0.events { spare = e } }) (second : h2 ≡ with_book h2.claims h1) (third : h3 ≡ joined_on container name bus slot o h2) (fourth : h4 ≡ with_book h4.claims (with_edit o.birth (kept_in k) h3)) where
   joined-rows : h3.rows ≡ (joined_on container name bus slot o h0).rows
   joined-rows = rows-joined h0 h1 h2 h3 e container bus o name slot first second third
@@ -262,14 +262,30 @@ module _ (h0 h1 h2 h3 h4 : Objects) (e : ℕ) (o container bus : Key) (name : Li
   pub placed-own : eqb o.birth bus.birth ≡ false → own_slots_of h4 o.birth ≡ own_slots_of h0 o.birth
   placed-own apart = kept-own h3 h4 o.birth o.birth k (ap (λ (x : Objects). x.rows) fourth) ∙ joined-own h0 h3 container bus o name slot joined-rows apart
 
-  pub placed-book : (claim : Claimed) (labels out : List Claimed) → ((out : List Claimed) → IsBook (claim ∷ out) h3 → IsBook out h4) → IsBook (claim ∷ (labels ++ out)) h2 → IsBook (labels ++ out) h4
-  placed-book claim labels out put h = put (labels ++ out) (joined-book (claim ∷ (labels ++ out)) h2 h3 container bus o name slot third h)
+  pub placed-registers : (n : ℕ)
+      → option_map (λ (c : Content). registers_of c.body) (content_of h4 n) ≡ option_map (λ (c : Content). registers_of c.body) (content_of h0 n)
+  placed-registers n =
+      ap (λ (l : List (Key × Content)). option_map (λ (c : Content). registers_of c.body) (object_at l n)) (ap (λ (x : Objects). x.rows) fourth)
+      ∙ read-content (λ (c : Content). registers_of c.body) o.birth (kept_in k) (λ c. registers-kept k c.body) h3 n
+      ∙ joined-registers h0 h3 container bus o name slot joined-rows n
 
-  pub placed-shown : (b c : board.Board) (a : Wanted) (id : Option (List ℕ)) → Shows c h0 → IsSeat b a container.birth name id → Shows (joined b o.birth a (spot_in bus.birth slot) c) h3
-  placed-shown b c a id s seat = joined-shown b c a h2 h3 container bus o name slot id third (shows-book c h1 h2 h2.claims second (reserved-shows c h0 h1 e first s)) seat
+  pub placed-book : (kept labels out : List Claimed) → ((out : List Claimed) → IsBook (kept ++ out) h3 → IsBook out h4)
+      → IsBook ((kept ++ labels) ++ out) h2 → IsBook (labels ++ out) h4
+  placed-book kept labels out put h =
+      put (labels ++ out)
+      (subst (λ (l : List Claimed). IsBook l h3) (append_assoc kept labels out) (joined-book ((kept ++ labels) ++ out) h2 h3 container bus o name
+      slot third h))
 
-  pub placed-kept : (b c : board.Board) (a : Wanted) (id : Option (List ℕ)) → Shows c h0 → IsSeat b a container.birth name id → Shows (joined b o.birth a (spot_in bus.birth slot) c) h4
-  placed-kept b c a id s seat = shows-kept (joined b o.birth a (spot_in bus.birth slot) c) h3 h4 h4.claims o.birth k fourth (placed-shown b c a id s seat)
+  module _ (b c : board.Board) (a : Wanted) (id : Option (List ℕ)) (range : Option Range) (s : Shows c h0) (seat : IsSeat b a container.birth name id) where
+    abbrev its_spot : Spot
+    its_spot = record { bus = bus.birth; slot = slot; range = range }
+
+    pub placed-shown : Shows (joined b o.birth a its_spot c) h3
+    placed-shown =
+        joined-shown b c a h2 h3 container bus o name slot range id third (shows-book c h1 h2 h2.claims second (reserved-shows c h0 h1 e first s)) seat
+
+    pub placed-kept : Shows (joined b o.birth a its_spot c) h4
+    placed-kept = shows-kept (joined b o.birth a its_spot c) h3 h4 h4.claims o.birth k fourth placed-shown
 
   pub reserved-live : (key : Key) → IsLive h1.rows key → IsLive h0.rows key
   reserved-live key live = subst (λ (x : Objects). IsLive x.rows key) first live

@@ -1,19 +1,16 @@
 -- What the steps of a heap keep, by which a device takes its place.
-use Rattle.std.proofs.Common.{◌≡◌, refl, ap, sym, subst, ◌∙◌, ℕ, zero, suc, ◌+◌, ◌≤◌, ◌<◌, Bool, true, false, cond, eqb, nat_eq, List, [], ◌∷◌, map, count_by, Option, Some, None, IfSome, IfNone, option_map, unwrap_or, arith}
+use Rattle.std.proofs.Common.{◌≡◌, refl, ap, sym, subst, ◌∙◌, ℕ, zero, suc, ◌≤◌, ◌<◌, Bool, true, false, eqb, nat_eq, List, [], ◌∷◌, map, Option, Some, None, IfNone, option_map, unwrap_or, arith}
 use Rattle.std.specs.Prelude.{option_and_then, not}
 use Rattle.std.specs.List.{AllZip, list_any}
 use Rattle.std.specs.Option.{option_map_or}
 use Rattle.std.proofs.lemmas.Bool.{eqb-true}
-use Rattle.std.proofs.lemmas.List.Sums.{sum_by-cons}
 use Rattle.std.proofs.lemmas.Option.{same_Some}
 use Rattle.qo_values.specs.declared.births.TheConstants.{SYSTEM_CLOCK_BIRTH}
 use Rattle.qo_values.specs.declared.properties.Val.{Val}
 use Rattle.qo_slots.specs.declared.keys.Key.{Key}
 use Rattle.qo_claims.specs.Held.{Held}
-use Rattle.qo_claims.specs.declared.claims.Claimed.{Claimed}
-use Rattle.qo_claims.specs.declared.claims.Claimed.TheVariants as on
 use Rattle.qo_table.specs.Rows.{IsLive, Rises, births, edit, object_at}
-use Rattle.qo_kinds.specs.Bodies.{IsBare, kept_of, registers_of, with_kept}
+use Rattle.qo_kinds.specs.Bodies.{registers_of, with_kept}
 use Rattle.qo_kinds.specs.declared.bodies.Body.{Body}
 use Rattle.qo_kinds.specs.declared.bodies.Body.TheVariants.{Uart, Timer, Dimm, Bridge, Bus, Clock, Backend, Plain}
 use Rattle.qo_kinds.specs.declared.kept.KeptSet.{KeptSet}
@@ -21,19 +18,19 @@ use Rattle.qo_model.specs.Board as board
 use Rattle.qo_model.specs.Objects.{Given}
 use Rattle.qo_model.specs.Devices.{bridge_of, clock_of}
 use Rattle.qo_model.specs.Plug.{link_named, source_for, with_given}
+use Rattle.qo_model.specs.Changes.{with_changed}
 use Rattle.qo_model.specs.Release.{edited}
 use Rattle.qo_model.specs.Release as release
 use Rattle.qo_model.specs.Unplug.{set_named}
 use Rattle.qo_object.specs.declared.slots.Slot.{Slot}
-use Rattle.qo_object.specs.Content.{Content, with_id}
+use Rattle.qo_object.specs.Content.{Content}
 use Rattle.qo_object.specs.Shown.{shown}
 use Rattle.qo_object.specs.Slots.{Named}
 use Rattle.qo_heap.specs.Board.{Shows, pins_in, record_of}
-use Rattle.qo_heap.specs.Book.{IsBook, claim_eq, kept_times, one}
+use Rattle.qo_heap.specs.Book.{IsBook}
 use Rattle.qo_heap.specs.Objects.{IsHeap, Objects, content_of, pins_of, slots_of, with_edit}
-use Rattle.qo_heap.proofs.BookLemmas.{book-edit, book-put}
-use Rattle.qo_heap.proofs.HeapLemmas.{live-edit, none-of}
-use Rattle.qo_heap.proofs.HeapLemmas.{edit-same as heap-same}
+use Rattle.qo_heap.proofs.BookLemmas.{book-edit}
+use Rattle.qo_heap.proofs.HeapLemmas.{live-edit}
 use Rattle.qo_heap.proofs.ShowsLive.{content-edited, content-other, live-content}
 use Rattle.qo_heap.proofs.ShowsReads.{records_of, shows-kind, shows-pinned, shows-record}
 use Rattle.qo_life.proofs.TreeLemmas.{heap-with_log, tree, tree-shows}
@@ -44,10 +41,10 @@ use Rattle.qo_properties.specs.Start.{KeepsNames}
 use Rattle.qo_properties.specs.declared.adding.filling.Fill.{Fill}
 use Rattle.qo_clocks.specs.Links.{changed_named, place_on, with_slot_changed}
 use Rattle.qo_plug.specs.Drafts.{own_slots, own_slots_of}
-use Rattle.qo_plug.specs.Standing.{Alike, Stays, kept_in, named, slot_kept, with_book, with_own}
+use Rattle.qo_plug.specs.Standing.{Alike, Stays, kept_in, with_book, with_own}
 use Rattle.qo_plug.proofs.StartLemmas.{pins-edited}
 use Rattle.qo_plug.proofs.StandBoards.{read-link, read-set}
-use Rattle.qo_plug.proofs.StandFills.{edit-on, own-given}
+use Rattle.qo_plug.proofs.StandFills.{own-given}
 
 -- alike heaps, and heaps that stay
 
@@ -72,13 +69,20 @@ stays-same v w same =
     record {
       alike = alike-same v w same;
       ids = λ n. ap (λ (x : Objects). option_map (λ (c : Content). c.device_id) (content_of x n)) same;
+      registers = λ n. ap (λ (x : Objects). option_map (λ (c : Content). registers_of c.body) (content_of x n)) same;
       spare = ap (λ (x : Objects). x.events.spare) same;
       book = λ out h. subst (λ (x : Objects). IsBook out x) (sym same) h;
     }
 
 pub stays-then : (v u w : Objects) → Stays v u → Stays u w → Stays v w
 stays-then v u w a b =
-    record { alike = alike-then v u w a.alike b.alike; ids = λ n. b.ids n ∙ a.ids n; spare = b.spare ∙ a.spare; book = λ out h. b.book out (a.book out h) }
+    record {
+      alike = alike-then v u w a.alike b.alike;
+      ids = λ n. b.ids n ∙ a.ids n;
+      registers = λ n. b.registers n ∙ a.registers n;
+      spare = b.spare ∙ a.spare;
+      book = λ out h. b.book out (a.book out h);
+    }
 
 -- what is read of an object, over an edit of one
 module _ {A : Type 0} (g : Content → A) (n : ℕ) (f : Content → Content) (same : (c : Content) → g (f c) ≡ g c) where
@@ -112,6 +116,9 @@ stays-edit v w n f slots is =
       alike = alike-edit v w n f (λ c. ap (λ (d : Content). d.kept_path) (slots c)) (λ c. ap (λ (d : Content). d.pins) (slots c)) (ap (λ (x : Objects). x.rows) is);
       spare = ap (λ (x : Objects). x.events.spare) is;
       ids = λ m. ap (λ (x : Objects). option_map (λ (c : Content). c.device_id) (content_of x m)) is ∙ read-content (λ (c : Content). c.device_id) n f (λ c. ap (λ (d : Content). d.device_id) (slots c)) v m;
+      registers = λ m.
+          ap (λ (x : Objects). option_map (λ (c : Content). registers_of c.body) (content_of x m)) is
+          ∙ read-content (λ (c : Content). registers_of c.body) n f (λ c. ap (λ (d : Content). registers_of d.body) (slots c)) v m;
       book = λ out h. subst (λ (x : Objects). IsBook out x) (sym is) (book-edit out v n f (λ c. ap (λ (d : Content). (d.body, d.device_id)) (slots c)) h);
     }
 
@@ -124,7 +131,7 @@ shows-book b v w h is s =
     subst (Shows b) (sym is) (record { records = s.records; born = s.born; pins = s.pins; notes = s.notes; events = s.events; now = s.now })
 
 -- a body with other claims shows the same
-registers-kept : (k : KeptSet) (b : Body) → registers_of (with_kept k b) ≡ registers_of b
+pub registers-kept : (k : KeptSet) (b : Body) → registers_of (with_kept k b) ≡ registers_of b
 registers-kept k (Uart u old) = refl
 registers-kept k (Timer t old) = refl
 registers-kept k (Dimm d old) = refl
@@ -209,20 +216,30 @@ shows-given b c v w o props plan s good live told is =
     (λ e. refl))
 
 -- what a board has of objects besides their slots
+module _ {A : Type 0} (g : Content → A) (h : board.Record → A) (same : (m : ℕ) (c : Content) → h (shown m c) ≡ g c) where
+  board-read : (b : board.Board) (v : Objects) → Shows b v → (m : ℕ) → option_map g (content_of v m) ≡ option_map h (board.record_of b m)
+  board-read b v s m = sym (ap (option_map h) (shows-record b v s m) ∙ go (content_of v m))
+    where
+      go : (o : Option Content) → option_map h (option_map (shown m) o) ≡ option_map g o
+      go None = refl
+      go (Some c) = ap Some (same m c)
 
-board-ids : (b : board.Board) (v : Objects) → Shows b v → (m : ℕ) → option_map (λ (c : Content). c.device_id) (content_of v m) ≡ option_map (λ (r : board.Record). r.device_id) (board.record_of b m)
-board-ids b v s m = sym (ap (option_map (λ (r : board.Record). r.device_id)) (shows-record b v s m) ∙ go (content_of v m))
-  where
-    go : (o : Option Content) → option_map (λ (r : board.Record). r.device_id) (option_map (shown m) o) ≡ option_map (λ (c : Content). c.device_id) o
-    go None = refl
-    go (Some c) = refl
+  -- it stays where a value is set, and where a link is pointed
 
-board-paths : (b : board.Board) (v : Objects) → Shows b v → (m : ℕ) → option_map (λ (c : Content). c.kept_path) (content_of v m) ≡ option_map (λ (r : board.Record). r.kept_path) (board.record_of b m)
-board-paths b v s m = sym (ap (option_map (λ (r : board.Record). r.kept_path)) (shows-record b v s m) ∙ go (content_of v m))
-  where
-    go : (o : Option Content) → option_map (λ (r : board.Record). r.kept_path) (option_map (shown m) o) ≡ option_map (λ (c : Content). c.kept_path) o
-    go None = refl
-    go (Some c) = refl
+  module _ (changed : (f : board.Slot → board.Slot) (i : ℕ) (r : board.Record) → h (with_changed f i r) ≡ h r) where
+    set-reads : (b : board.Board) (v w : Objects) (n : ℕ) (name : List ℕ) (val : Val) → Shows b v → Shows (set_named n name val b) w → (m : ℕ)
+        → option_map g (content_of w m) ≡ option_map g (content_of v m)
+    set-reads b v w n name val s t m =
+        board-read (set_named n name val b) w t m
+        ∙ read-set (option_map h) (λ f i r. ap Some (changed f i r)) n name val b m
+        ∙ sym (board-read b v s m)
+
+    link-reads : (b : board.Board) (v w : Objects) (n : ℕ) (name : List ℕ) (to : ℕ) → Shows b v → Shows (link_named n name to b) w → (m : ℕ)
+        → option_map g (content_of w m) ≡ option_map g (content_of v m)
+    link-reads b v w n name to s t m =
+        board-read (link_named n name to b) w t m
+        ∙ read-link (option_map h) (λ f i r. ap Some (changed f i r)) n name to b m
+        ∙ sym (board-read b v s m)
 
 pub stays-set : (b : board.Board) (v w : Objects) (n : ℕ) (name : List ℕ) (val : Val) → Shows b v → Shows (set_named n name val b) w → Goes (set_named n name val) v w → KeepsNames v w
     → pins_in w.rows ≡ pins_in v.rows → Stays v w
@@ -230,17 +247,12 @@ stays-set b v w n name val s t goes names pins =
     record {
       alike = record {
         names = names;
-        paths = λ m.
-            board-paths (set_named n name val b) w t m
-            ∙ read-set (λ (o : Option board.Record). option_map (λ (r : board.Record). r.kept_path) o) (λ g i r. refl) n name val b m
-            ∙ sym (board-paths b v s m);
+        paths = set-reads (λ c. c.kept_path) (λ r. r.kept_path) (λ m c. refl) (λ f i r. refl) b v w n name val s t;
         pins = pins;
       };
       spare = goes.spare;
-      ids = λ m.
-          board-ids (set_named n name val b) w t m
-          ∙ read-set (λ (o : Option board.Record). option_map (λ (r : board.Record). r.device_id) o) (λ g i r. refl) n name val b m
-          ∙ sym (board-ids b v s m);
+      ids = set-reads (λ c. c.device_id) (λ r. r.device_id) (λ m c. refl) (λ f i r. refl) b v w n name val s t;
+      registers = set-reads (λ c. registers_of c.body) (λ r. r.registers) (λ m c. refl) (λ f i r. refl) b v w n name val s t;
       book = goes.book;
     }
 
@@ -250,17 +262,12 @@ stays-linked b v w n name to s t goes names pins =
     record {
       alike = record {
         names = names;
-        paths = λ m.
-            board-paths (link_named n name to b) w t m
-            ∙ read-link (λ (o : Option board.Record). option_map (λ (r : board.Record). r.kept_path) o) (λ g i r. refl) n name to b m
-            ∙ sym (board-paths b v s m);
+        paths = link-reads (λ c. c.kept_path) (λ r. r.kept_path) (λ m c. refl) (λ f i r. refl) b v w n name to s t;
         pins = pins;
       };
       spare = goes.spare;
-      ids = λ m.
-          board-ids (link_named n name to b) w t m
-          ∙ read-link (λ (o : Option board.Record). option_map (λ (r : board.Record). r.device_id) o) (λ g i r. refl) n name to b m
-          ∙ sym (board-ids b v s m);
+      ids = link-reads (λ c. c.device_id) (λ r. r.device_id) (λ m c. refl) (λ f i r. refl) b v w n name to s t;
+      registers = link-reads (λ c. registers_of c.body) (λ r. r.registers) (λ m c. refl) (λ f i r. refl) b v w n name to s t;
       book = goes.book;
     }
 
@@ -297,81 +304,3 @@ pub source-none : (b : board.Board) (v : Objects) → Shows b v → (bus : ℕ) 
 source-none b v s bus none None missing =
     ap (λ (o : Option ℕ). board.kind_of b (unwrap_or o SYSTEM_CLOCK_BIRTH)) none ∙ shows-kind b v s SYSTEM_CLOCK_BIRTH ∙ ap (option_map (λ (c : Content). c.kind)) missing
 source-none b v s bus none (Some key) missing = tt
-
-count-one : (x claim : Claimed) → count_by (claim_eq x) (claim ∷ []) ≡ one x (Some claim)
-count-one x claim = omega (arith, sum_by-cons (λ (y : Claimed). cond {A = ℕ} (claim_eq x y) 1 0) claim [])
-
-bare-of : (v : Objects) (n : ℕ) → IfSome (content_of v n) (λ c. IsBare c.body) → (c : Content) → content_of v n ≡ Some c → IsBare c.body
-bare-of v n bare c there = go (content_of v n) bare there
-  where
-    go : (o : Option Content) → IfSome o (λ d. IsBare d.body) → o ≡ Some c → IsBare c.body
-    go None h e = cc
-    go (Some d) h e = subst (λ (x : Content). IsBare x.body) (same_Some d c e) h
-
--- an id of a device, where it has none
-pub named-none : (v : Objects) → IsHeap v → (o : Key) → IsLive v.rows o → option_and_then (λ (c : Content). c.device_id) (content_of v o.birth) ≡ None → v ≡ with_edit o.birth (named None) v
-named-none v good o live none =
-    let (c, there) = live-content v o live in
-    let unnamed : c.device_id ≡ None = none-of (λ (d : Content). d.device_id) (content_of v o.birth) c there none in
-    sym (edit-on v good o.birth (named None) (λ (d : Content). d) c there (ap (λ (id : Option (List ℕ)). record c { device_id = id }) (sym unnamed)) ∙ heap-same o.birth v)
-
--- the claim on it is kept
-pub named-book : (v : Objects) → IsHeap v → (o : Key) → IsLive v.rows o → option_and_then (λ (c : Content). c.device_id) (content_of v o.birth) ≡ None → (id : List ℕ) (claim : Claimed)
-    → claim ≡ on.Device id → (w : Objects) → w ≡ with_edit o.birth (with_id id) v → (out : List Claimed) → IsBook (claim ∷ out) v → IsBook out w
-named-book v good o live none id claim is w now out h =
-    let (c, there) = live-content v o live in
-    let unnamed : c.device_id ≡ None = none-of (λ (d : Content). d.device_id) (content_of v o.birth) c there none in
-    subst (IsBook out) (sym now)
-    (book-put (claim ∷ []) out v good o.birth (with_id id) c there
-    (λ x.
-    let was : one x (option_map on.Device c.device_id) ≡ 0 = ap (λ (d : Option (List ℕ)). one x (option_map on.Device d)) unnamed in
-    let count : count_by (claim_eq x) (claim ∷ []) ≡ one x (Some claim) = count-one x claim in
-    let same : one x (Some claim) ≡ one x (Some (on.Device id)) = ap (λ (y : Claimed). one x (Some y)) is in
-    omega (arith, was, count, same))
-    h)
-
--- the claim on a slot is kept
-bare-times : (x : Claimed) (b : Body) → IsBare b → kept_times x (kept_of b) ≡ 0
-bare-times x b bare = ap (kept_times x) bare
-
-pub kept-book : (v : Objects) → IsHeap v → (o : Key) → IsLive v.rows o → IfSome (content_of v o.birth) (λ c. IsBare c.body) → (claim : Claimed) (body : Body)
-    → kept_of body ≡ slot_kept claim → (out : List Claimed) → IsBook (claim ∷ out) v → IsBook out (with_edit o.birth (λ c. record c { body = body }) v)
-kept-book v good o live bare claim body kept out h =
-    let (c, there) = live-content v o live in
-    book-put (claim ∷ []) out v good o.birth (λ d. record d { body = body }) c there
-    (λ x.
-    let was : kept_times x (kept_of c.body) ≡ 0 = bare-times x c.body (bare-of v o.birth bare c there) in
-    let now : kept_times x (kept_of body) ≡ one x (Some claim) + (0 + (0 + 0)) = ap (kept_times x) kept in
-    let count : count_by (claim_eq x) (claim ∷ []) ≡ one x (Some claim) = count-one x claim in
-    omega (arith, was, now, count))
-    h
-
-pub bare-book : (v : Objects) → IsHeap v → (o : Key) → IsLive v.rows o → IfSome (content_of v o.birth) (λ c. IsBare c.body) → (body : Body)
-    → IsBare body → (out : List Claimed) → IsBook out v → IsBook out (with_edit o.birth (λ c. record c { body = body }) v)
-bare-book v good o live bare body is out h =
-    let (c, there) = live-content v o live in
-    book-put [] out v good o.birth (λ d. record d { body = body }) c there
-    (λ x.
-    let was : kept_times x (kept_of c.body) ≡ 0 = bare-times x c.body (bare-of v o.birth bare c there) in
-    let now : kept_times x (kept_of body) ≡ 0 = bare-times x body is in
-    omega (arith, was, now))
-    h
-
--- the body that was written is what was there with the claim
-pub body-put : (v : Objects) → IsHeap v → (o : Key) → IsLive v.rows o → (old new : Body) (k : KeptSet) → option_map (λ (c : Content). c.body) (content_of v o.birth) ≡ Some old → new ≡ with_kept k old
-    → with_edit o.birth (λ c. record c { body = new }) v ≡ with_edit o.birth (kept_in k) v
-body-put v good o live old new k was is =
-    let (c, there) = live-content v o live in
-    let here : c.body ≡ old = same_Some c.body old (ap (option_map (λ (d : Content). d.body)) (sym there) ∙ was) in
-    edit-on v good o.birth (λ d. record d { body = new }) (kept_in k) c there (ap (λ (b : Body). record c { body = b }) (is ∙ ap (with_kept k) (sym here)))
-
-module _ (v : Objects) (good : IsHeap v) (o : Key) (live : IsLive v.rows o) (bare : IfSome (content_of v o.birth) (λ c. IsBare c.body)) (claim : Claimed) (body : Body) where
-  pub put-kept : (r : Option Claimed) → IfNone r (kept_of body ≡ slot_kept claim)
-      → IfNone r ((out : List Claimed) → IsBook (claim ∷ out) v → IsBook out (with_edit o.birth (λ c. record c { body = body }) v))
-  put-kept None kept = kept-book v good o live bare claim body kept
-  put-kept (Some x) kept = tt
-
-  pub put-back : (r : Option Claimed) → IfSome r (λ x. (x ≡ claim) × IsBare body)
-      → IfSome r (λ x. (x ≡ claim) × ((out : List Claimed) → IsBook out v → IsBook out (with_edit o.birth (λ c. record c { body = body }) v)))
-  put-back None back = tt
-  put-back (Some x) back = (back.0, bare-book v good o live bare body back.1)

@@ -9,12 +9,13 @@ use Rattle.qo_values.specs.declared.kinds.TypeId.{TypeId}
 use Rattle.qo_values.specs.declared.kinds.TypeId.TheVariants.{Object, Container, Machine, Device, SlotDevice, SlotUart, SlotTimer, SlotBridge, MemDimm, Bus, SlotBus, MemBus, Clock, MemoryBackend, MemoryBackendRam, Tag}
 use Rattle.qo_values.specs.declared.properties.Val.{Val}
 use Rattle.qo_values.specs.declared.properties.Val.TheVariants as val
+use Rattle.qo_values.specs.declared.ranges.Range.{Range}
 use Rattle.qo_model.specs.Board.{Board, Record, Slot, child, plain, strong, weak, alias, kind_of, record_of, slots_at}
 use Rattle.qo_model.specs.Changes.{add, changed_at, fresh, make, set, with_added, with_changed, with_val}
 use Rattle.qo_model.specs.Devices.{bus_in, buses_of, clock_name, clock_of, kid_name}
 use Rattle.qo_model.specs.Objects.{Given, given_to, place_from, slot_given}
 use Rattle.qo_model.specs.Opening.{first_value, fresh_record}
-use Rattle.qo_model.specs.Plug.{Wanted, aliased, bus_births, fitted, further_in, further_of, joined, link_named, name_for, owned, parent_for, row_made, rows_made, source_for, stood, with_body_of, with_given, with_kid, with_new, with_source}
+use Rattle.qo_model.specs.Plug.{Spot, Wanted, addressed_at, aliased, bus_births, fitted, further_in, further_of, joined, link_named, name_for, owned, parent_for, row_made, rows_made, source_for, stood, with_body_of, with_given, with_kid, with_new, with_source}
 use Rattle.qo_model.specs.Release.{edit, edited}
 use Rattle.qo_model.specs.RowNames.{property_name}
 use Rattle.qo_model.specs.Types.{is_a, slots_of, types}
@@ -31,7 +32,7 @@ use Rattle.qo_heap.specs.Board.{Shows}
 use Rattle.qo_heap.specs.Objects.{IsHeap, Objects}
 use Rattle.qo_heap.proofs.ShowsReads.{shows-kind}
 use Rattle.qo_plug.specs.Drafts.{created, held_draft}
-use Rattle.qo_plug.specs.Standing.{seated, spot_in}
+use Rattle.qo_plug.specs.Standing.{seated}
 use Rattle.qo_plug.proofs.StandBoards.{kinds-added, kinds-stood, tree-source}
 use Rattle.qo_plug.proofs.StartLemmas.{read-edit}
 
@@ -193,26 +194,33 @@ kids-other n name s b m other = ap (λ (o : Option Record). kids_in (option_map_
 
 -- a device keeps its buses where it takes its place
 
-kids-stood : (b : Board) (n : ℕ) (a : Wanted) (bus slot : ℕ) (c : Board) (m : ℕ) → kids_at (stood b n a (spot_in bus slot) c) m ≡ kids_at (joined b n a (spot_in bus slot) c) m
-kids-stood b n a bus slot c m =
-    let there : Board = joined b n a (spot_in bus slot) c in
+kids-addressed : (n : ℕ) (range : Option Range) (c : Board) (m : ℕ) → kids_at (addressed_at n range c) m ≡ kids_at c m
+kids-addressed n None c m = refl
+kids-addressed n (Some r) c m = kids-set n (codes "addr") (val.Uint r.at) c m
+
+kids-stood : (b : Board) (n : ℕ) (a : Wanted) (spot : Spot) (c : Board) (m : ℕ) → kids_at (stood b n a spot c) m ≡ kids_at (joined b n a spot c) m
+kids-stood b n a spot c m =
+    let there : Board = joined b n a spot c in
     let given : Board = edit n (with_given b a.props) there in
-    let slotted : Board = set_named n (codes "slot") (val.Uint slot) given in
-    let linked : Board = link_named n (codes "parent_bus") bus slotted in
-    kids-edit (set_named n (codes "realized") (val.Bool true) linked) n (with_body_of a.id None) (λ r. refl) (λ r. refl) m
+    let slotted : Board = set_named n (codes "slot") (val.Uint spot.slot) given in
+    let linked : Board = link_named n (codes "parent_bus") spot.bus slotted in
+    let realized : Board = set_named n (codes "realized") (val.Bool true) linked in
+    kids-edit (addressed_at n spot.range realized) n (with_body_of a.id spot.range) (λ r. refl) (λ r. refl) m
+    ∙ kids-addressed n spot.range realized m
     ∙ kids-set n (codes "realized") (val.Bool true) linked m
-    ∙ kids-link n (codes "parent_bus") bus slotted m
-    ∙ kids-set n (codes "slot") (val.Uint slot) given m
+    ∙ kids-link n (codes "parent_bus") spot.bus slotted m
+    ∙ kids-set n (codes "slot") (val.Uint spot.slot) given m
     ∙ kids-edit there n (with_given b a.props) (λ r. refl) (λ r. kids-given b a.props r.slots) m
 
-pub seated-buses : (b : Board) (n : ℕ) (a : Wanted) (bus slot : ℕ) (c : Board) → (parent_for a.id == n) ≡ false → buses_of (seated b n a (spot_in bus slot) c) n ≡ buses_of c n
-seated-buses b n a bus slot c other =
-    let d : Board = stood b n a (spot_in bus slot) c in
-    buses-same c (seated b n a (spot_in bus slot) c) n
-    (λ m. (tree-source (source_for b bus) (clock_of d n) d).kinds m ∙ kinds-stood b n a bus slot c m)
-    (kids-source (source_for b bus) (clock_of d n) d n
-    ∙ kids-stood b n a bus slot c n
-    ∙ kids-added bus (kid_name slot) (strong Device (Some n)) refl (add (parent_for a.id) (name_for b a.id) (child n) c) n
+pub seated-buses : (b : Board) (n : ℕ) (a : Wanted) (spot : Spot) (c : Board) → (parent_for a.id == n) ≡ false
+    → buses_of (seated b n a spot c) n ≡ buses_of c n
+seated-buses b n a spot c other =
+    let d : Board = stood b n a spot c in
+    buses-same c (seated b n a spot c) n
+    (λ m. (tree-source (source_for b spot.bus) (clock_of d n) d).kinds m ∙ kinds-stood b n a spot c m)
+    (kids-source (source_for b spot.bus) (clock_of d n) d n
+    ∙ kids-stood b n a spot c n
+    ∙ kids-added spot.bus (kid_name spot.slot) (strong Device (Some n)) refl (add (parent_for a.id) (name_for b a.id) (child n) c) n
     ∙ kids-other (parent_for a.id) (name_for b a.id) (child n) c n other)
 
 -- a device as it is made: its children, numbered from its birth on
@@ -459,9 +467,10 @@ draft-buses b t low device =
     ∙ table-buses (b.born + 1) t device
 
 -- the buses of a device that was made and stands
-pub plugged-buses : (b : Board) (t : TypeId) (a : Wanted) (bus slot : ℕ) → ((m : ℕ) → b.born < m → kind_of b m ≡ None) → is_a t (codes "device") ≡ true → (parent_for a.id == (b.born + 1)) ≡ false
-    → buses_of (seated b (b.born + 1) a (spot_in bus slot) (held_draft b t)) (b.born + 1) ≡ bus_births (b.born + 1) t
-plugged-buses b t a bus slot low device other = seated-buses b (b.born + 1) a bus slot (held_draft b t) other ∙ draft-buses b t low device
+pub plugged-buses : (b : Board) (t : TypeId) (a : Wanted) (spot : Spot) → ((m : ℕ) → b.born < m → kind_of b m ≡ None) → is_a t (codes "device") ≡ true
+    → (parent_for a.id == (b.born + 1)) ≡ false
+    → buses_of (seated b (b.born + 1) a spot (held_draft b t)) (b.born + 1) ≡ bus_births (b.born + 1) t
+plugged-buses b t a spot low device other = seated-buses b (b.born + 1) a spot (held_draft b t) other ∙ draft-buses b t low device
 
 -- no object is above the births so far
 rows-low : (above last m : ℕ) (rows : List (Key × Content)) → Rises above (table.births rows) last → last < m → object_at rows m ≡ None

@@ -2,8 +2,8 @@
 use Rattle.std.specs.Prelude.{◌≡◌, ℕ, ◌+◌, List, Some, None, option_map, ◌⊎◌}
 use Rattle.qo_values.specs.declared.codes.Code.{Code}
 use Rattle.qo_values.specs.declared.kinds.TypeId.{TypeId}
-use Rattle.qo_model.specs.Board.{Board}
-use Rattle.qo_model.specs.Plug.{Spot, Wanted, barred_early, barred_late, bus_for, plug_attempt, spot_of, with_plugged}
+use Rattle.qo_model.specs.Board.{Board, Ring}
+use Rattle.qo_model.specs.Plug.{Spot, Wanted, barred_early, barred_late, bus_for, plug, plug_attempt, spot_of, type_barred, with_plugged}
 use Rattle.qo_model.specs.Types.{TypeRow, row_named}
 use Rattle.qo_sound.specs.Kept.{SoundTree}
 use Rattle.qo_heap.specs.Board.{Shows}
@@ -14,24 +14,26 @@ use Rattle.qo_plug.specs.declared.admitting.Site.{Site}
 use Rattle.qo_plug.specs.declared.refusals.AddRefusal.{AddRefusal}
 use Rattle.qo_plug.specs.declared.refusals.AddRefusal.TheVariants.{Refused, Memory}
 use Rattle.qo_plug.specs.declared.refusals.Barred.{Barred}
-use Rattle.qo_plug.specs.Added.{IsAdmitted, added, driver_barred}
+use Rattle.qo_plug.specs.Added.{IsAdmitted}
+use Rattle.qo_plug.specs.declared.spots.Spot.{Spot as Chosen}
 use Rattle.qo_plug.specs.Drafts.{CutShort}
 use Rattle.qo_plug.specs.Standing.{spot_in}
 
--- a sound board has the objects of a heap, and beside them so many devices without an id, these holds, and what is asked for
-pub record IsShown (b : Board) (anonymous : ℕ) (holds : List ℕ) (h : Asked) (v : Objects) : Type 0 where
+-- a sound board has the objects of a heap, and beside them so many devices without an id, these holds, these rings, and what is asked for
+pub record IsShown (b : Board) (anonymous : ℕ) (holds : List ℕ) (rings : List Ring) (h : Asked) (v : Objects) : Type 0 where
   pub shown : Shows b v
   pub anonymous_is : b.anonymous ≡ anonymous
   pub holds_are : b.holds ≡ holds
+  pub rings_are : b.rings ≡ rings
   pub pending : b.pending ≡ h.pending
   pub notices : b.notices ≡ h.notices
   pub sound : SoundTree b
 
--- a site is open for a device, in a slot of its bus: nothing bars it
-pub record IsOpen (b : Board) (a : Wanted) (s : Site) (slot : ℕ) : Type 0 where
+-- a site is open for a device, in a spot of its bus: nothing bars it
+pub record IsOpen (b : Board) (a : Wanted) (s : Site) (c : Chosen) : Type 0 where
   pub admitted : IsAdmitted b a s
   pub late : barred_late b s.kind s.bus.birth a.props ≡ None
-  pub spot : spot_of b s.kind s.bus.birth a.props ≡ spot_in s.bus.birth slot
+  pub spot : spot_of b s.kind s.bus.birth a.props ≡ spot_in s.bus.birth c
 
 -- the heap, and what is asked for, behind a device that was plugged in
 pub record IsPlugged (b : Board) (t : TypeId) (a : Wanted) (spot : Spot) (h : Asked) (w : Objects) : Type 0 where
@@ -41,23 +43,23 @@ pub record IsPlugged (b : Board) (t : TypeId) (a : Wanted) (spot : Spot) (h : As
 
 -- a device was added: its birth and its slot are told
 pub record IsAdded (b : Board) (a : Wanted) (x : Added) (h : Asked) (w : Objects) : Type 0 where
-  pub refusal : (added b a).refusal ≡ None
-  pub shown : Shows (added b a).board w
-  pub pending : (added b a).board.pending ≡ h.pending
-  pub notices : (added b a).board.notices ≡ h.notices
+  pub refusal : (plug b a).refusal ≡ None
+  pub shown : Shows (plug b a).board w
+  pub pending : (plug b a).board.pending ≡ h.pending
+  pub notices : (plug b a).board.notices ≡ h.notices
   pub birth : x.birth ≡ b.born + 1
   pub slot : (t : TypeId) (bus : ℕ) → option_map (λ (row : TypeRow). row.id) (row_named a.driver) ≡ Some t → bus_for b t a.bus ≡ Some bus → x.slot ≡ (spot_of b t bus a.props).slot
 
 -- it was refused
 pub record IsRefused (b : Board) (a : Wanted) (stage : ℕ) (code : Code) (w : Objects) : Type 0 where
-  pub refusal : (added b a).refusal ≡ Some (stage, code)
-  pub shown : Shows (added b a).board w
+  pub refusal : (plug b a).refusal ≡ Some (stage, code)
+  pub shown : Shows (plug b a).board w
 
 -- memory ran out: nothing was made, or an attempt that nothing bars was cut
 abbrev pub IsCut : Board → Wanted → Objects → Type 0
 IsCut b a w =
     Shows b w
-    ⊎ ((t : TypeId) × (option_map (λ (row : TypeRow). row.id) (row_named a.driver) ≡ Some t) × (driver_barred a.driver ≡ None) × (barred_early b t a ≡ None) × CutShort b t w)
+    ⊎ ((t : TypeId) × (option_map (λ (row : TypeRow). row.id) (row_named a.driver) ≡ Some t) × (type_barred a.driver ≡ None) × (barred_early b t a ≡ None) × CutShort b t w)
 
 -- an attempt was refused as it is barred, or cut
 abbrev pub turned_down : Board → TypeId → ℕ → Barred → AddRefusal → Objects → Type 0

@@ -3,9 +3,8 @@ use Rattle.std.specs.Prelude.{ℕ, Bool, nat_le, ◌&&◌, if◌then◌else◌, 
 use Rattle.std.specs.Option.{option_map_or}
 use Rattle.qo_values.specs.declared.kinds.TypeId.{TypeId}
 use Rattle.qo_model.specs.Board.{Board}
-use Rattle.qo_model.specs.Plug.{Wanted, barred_early, cut_attempt, objects_in}
+use Rattle.qo_model.specs.Plug.{Wanted, barred_early, cut_attempt, objects_in, type_barred}
 use Rattle.qo_model.specs.Types.{TypeRow, row_named}
-use Rattle.qo_plug.specs.Added.{driver_barred}
 
 -- of a type, where so many objects are some of those of a device
 abbrev pub cut_of : Board → TypeId → ℕ → Bool → Board
@@ -18,7 +17,7 @@ cut_open b a row i joined = elim (barred_early b row.id a) [ None ↦ cut_of b r
 -- the board behind an attempt that was cut when it had made so many objects, the last of them joined or not; the board itself where something bars it
 unfoldable pub cut_as : Board → Wanted → ℕ → Bool → Board
 cut_as b a i joined =
-    elim (driver_barred a.driver) [
+    elim (type_barred a.driver) [
       | Some code ↦ b
       | None ↦ option_map_or (λ (row : TypeRow). cut_open b a row i joined) (row_named a.driver) b
     ]

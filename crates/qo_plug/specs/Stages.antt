@@ -1,12 +1,16 @@
 -- Adding a device in stages: how it is begun, which is made and stands nowhere, and how it is placed.
-use Rattle.std.specs.Prelude.{◌≡◌, ℕ, ◌+◌, ◌<◌, ◌≤◌, ◌==◌, List, true, Some, None, IfOk, IfSome, Result, length, option_and_then, option_map}
+use Rattle.std.specs.Prelude.{◌≡◌, ℕ, ◌+◌, ◌<◌, ◌≤◌, ◌==◌, List, true, codes, Option, Some, None, is_some, IfOk, IfSome, Result, Ok, Err, length, option_and_then, option_map, ⊤}
+use Rattle.std.specs.Option.{option_or}
 use Rattle.std.specs.List.{AllByRecursion, AllZip}
 use Rattle.qo_values.specs.declared.codes.Code.TheVariants.{E44}
 use Rattle.qo_values.specs.declared.limits.TheConstants.{BUS_SLOTS, NOTICES_MAX}
-use Rattle.qo_model.specs.Board.{Board}
+use Rattle.qo_values.specs.declared.kinds.TypeId.{TypeId}
+use Rattle.qo_values.specs.declared.kinds.TypeId.TheVariants.{MemDimm}
+use Rattle.qo_model.specs.Board.{Board, Ring}
 use Rattle.qo_values.specs.declared.codes.Code.{Code}
 use Rattle.qo_model.specs.Objects.{Given, refusal_of}
-use Rattle.qo_model.specs.Plug.{Wanted, barred_late, place_barred, spot_of}
+use Rattle.qo_model.specs.Plug.{Wanted, at_stage, barred_late, place_barred, realize_barred, spot_of}
+use Rattle.qo_model.specs.Types.{is_a}
 use Rattle.qo_model.specs.Reset.{count}
 use Rattle.qo_sound.specs.Kept.{SoundTree}
 use Rattle.qo_table.specs.Rows.{IsLive}
@@ -14,32 +18,46 @@ use Rattle.qo_object.specs.Content.{fresh}
 use Rattle.qo_heap.specs.Board.{Shows}
 use Rattle.qo_heap.specs.Objects.{Objects, content_of, pins_of}
 use Rattle.qo_hotplug.specs.Asked.{Asked}
-use Rattle.qo_properties.specs.Changes.{refusal_in}
 use Rattle.qo_properties.specs.Filling.{Fits, IsGiven, target_in}
 use Rattle.qo_plug.specs.declared.admitting.Site.{Site}
 use Rattle.qo_plug.specs.declared.beginning.Begun.{Begun}
 use Rattle.qo_plug.specs.declared.placing.Placed.{Placed}
 use Rattle.qo_plug.specs.declared.placing.Way.{Way}
 use Rattle.qo_plug.specs.declared.placing.Way.TheVariants.{Stands, Full}
-use Rattle.qo_plug.specs.Added.{IsAdmitted, is_built}
+use Rattle.qo_plug.specs.declared.refusals.Barred.{Barred}
+use Rattle.qo_plug.specs.declared.spots.Spot.{Spot}
+use Rattle.qo_plug.specs.Added.{IsAdmitted, barred_in}
 use Rattle.qo_plug.specs.Adding.{IsOpen}
 use Rattle.qo_plug.specs.Drafts.{IsQuiet, bare, held_draft, own_slots_of}
 use Rattle.qo_plug.specs.Standing.{Stood, spot_in}
 
--- what was judged of the slot of a device on its bus is so on each board that is shown
-pub record IsJudged (s : Site) (slot : Result ℕ Code) (props : List Given) (v : Objects) : Type 0 where
-  pub within : IfOk slot (λ slot. slot < BUS_SLOTS)
-  pub refused : (b : Board) → Shows b v → refusal_in slot ≡ place_barred b s.kind s.bus.birth props
-  pub spot : (b : Board) → Shows b v → IfOk slot (λ slot. spot_of b s.kind s.bus.birth props ≡ spot_in s.bus.birth slot)
+-- what bars a device in its place on a bus: its slot, its depth and its memory come before its ring
+abbrev pub spot_barred : Board → TypeId → ℕ → List Given → Option (ℕ × Code)
+spot_barred b t bus props = option_or (at_stage 5 (place_barred b t bus props)) (at_stage 6 (realize_barred b t props))
+
+-- of a refusal
+abbrev pub IfBarred : {T : Type 0} → Result T Barred → (Barred → Type 0) → Type 0
+IfBarred (Ok x) P = ⊤
+IfBarred (Err bar) P = P bar
+
+-- what was judged of the spot of a device on its bus is so on each board with these rings that is shown
+pub record IsJudged (s : Site) (rings : List Ring) (found : Result Spot Barred) (props : List Given) (v : Objects) : Type 0 where
+  pub within : IfOk found (λ c. c.slot < BUS_SLOTS)
+  pub dimm : IfOk found (λ c. is_some c.memory ≡ true → s.kind ≡ MemDimm)
+  pub stages : IfBarred found (λ bar. (5 ≤ bar.stage) × (bar.stage ≤ 6))
+  pub refused : (b : Board) → Shows b v → b.rings ≡ rings → barred_in found ≡ spot_barred b s.kind s.bus.birth props
+  pub spot : (b : Board) → Shows b v → IfOk found (λ c. spot_of b s.kind s.bus.birth props ≡ spot_in s.bus.birth c)
 
 -- a heap has a device that was begun, as it was made and held once, with its container, its older bus, and what its plan names
 pub record IsHeld (d : Begun) (v : Objects) : Type 0 where
-  pub built : is_built d.site.kind ≡ true
+  pub device_is : is_a d.site.kind (codes "device") ≡ true
   pub live : IsLive v.rows d.device
   pub container : IsLive v.rows d.site.place.container
   pub bus : IsLive v.rows d.site.bus
   pub older : d.site.bus.birth < d.device.birth
-  pub slot : IfOk d.slot (λ slot. slot < BUS_SLOTS)
+  pub within : IfOk d.spot (λ c. c.slot < BUS_SLOTS)
+  pub dimm : IfOk d.spot (λ c. is_some c.memory ≡ true → d.site.kind ≡ MemDimm)
+  pub stages : IfBarred d.spot (λ bar. (5 ≤ bar.stage) × (bar.stage ≤ 6))
   pub pinned : 0 < pins_of v d.device.birth
   pub rest : option_map bare (content_of v d.device.birth) ≡ Some (bare (fresh d.site.kind))
   pub quiet : (n : ℕ) → d.device.birth ≤ n → IsQuiet v n
@@ -53,8 +71,8 @@ pub record IsBegun (b : Board) (a : Wanted) (d : Begun) (v : Objects) : Type 0 w
   pub admitted : IsAdmitted b a d.site
   pub given : refusal_of b d.site.kind a.props ≡ None
   pub birth : d.device.birth ≡ b.born + 1
-  pub barred : refusal_in d.slot ≡ place_barred b d.site.kind d.site.bus.birth a.props
-  pub spot : IfOk d.slot (λ slot. spot_of b d.site.kind d.site.bus.birth a.props ≡ spot_in d.site.bus.birth slot)
+  pub barred : barred_in d.spot ≡ spot_barred b d.site.kind d.site.bus.birth a.props
+  pub spot : IfOk d.spot (λ c. spot_of b d.site.kind d.site.bus.birth a.props ≡ spot_in d.site.bus.birth c)
   pub out : d.out ≡ (count b d.site.bus.birth == 0)
   pub plan : AllZip (IsGiven b a.props) d.plan.items (own_slots_of v d.device.birth)
 
@@ -76,11 +94,12 @@ pub record IsReady (p : Placed) (h : Asked) (v : Objects) : Type 0 where
 
 -- the stages 5 to 7 are done: nothing bars the device and it stands in its spot; or the notices alone bar it, and it stands nowhere
 abbrev pub StandsBy : Board → Wanted → Site → ℕ → ℕ → Way → Objects → Type 0
-StandsBy b a s n slot (Stands path) v = IsOpen b a s slot × Stood b (held_draft b s.kind) n a (spot_in s.bus.birth slot) path v
+StandsBy b a s n slot (Stands path) v =
+    (c : Spot) × (c.slot ≡ slot) × IsOpen b a s c × Stood b (held_draft b s.kind) n a (spot_in s.bus.birth c) path v
 StandsBy b a s n slot (Full out) v =
     IsAdmitted b a s × (barred_late b s.kind s.bus.birth a.props ≡ Some (8, E44)) × (out ≡ (count b s.bus.birth == 0)) × Shows (held_draft b s.kind) v
 
 pub record IsSettled (b : Board) (a : Wanted) (p : Placed) (v : Objects) : Type 0 where
   pub sound : SoundTree b
   pub birth : p.device.birth ≡ b.born + 1
-  pub site : (s : Site) × (is_built s.kind ≡ true) × StandsBy b a s p.device.birth p.slot p.way v
+  pub site : (s : Site) × (is_a s.kind (codes "device") ≡ true) × StandsBy b a s p.device.birth p.slot p.way v

@@ -1,15 +1,17 @@
 -- A device takes its place: its container and its bus have it, its own slots have what was given, and it keeps its claims (include/hw/qdev-core.h; docs/devel/qom.rst).
-use Rattle.std.specs.Prelude.{◌≡◌, ℕ, true, if◌then◌else◌, List, [], ◌∷◌, Option, Some, None, option_map}
-use Rattle.qo_claims.specs.declared.claims.Claimed.{Claimed}
+use Rattle.std.specs.Prelude.{◌≡◌, ℕ, true, if◌then◌else◌, List, [], ◌∷◌, Option, Some, option_map, ⊤}
 use Rattle.qo_claims.specs.Held.{Held}
 use Rattle.qo_values.specs.declared.kinds.TypeId.TheVariants.{Device}
 use Rattle.qo_slots.specs.declared.keys.Key.{Key}
-use Rattle.qo_kinds.specs.Bodies.{none_kept, with_kept}
+use Rattle.qo_values.specs.declared.ranges.Range.{Range}
+use Rattle.qo_kinds.specs.Bodies.{registers_of, with_kept, with_registers}
+use Rattle.qo_kinds.specs.declared.bodies.Body.{Body}
+use Rattle.qo_kinds.specs.declared.bodies.Body.TheVariants.{Dimm}
 use Rattle.qo_kinds.specs.declared.kept.KeptSet.{KeptSet}
 use Rattle.qo_model.specs.Board.{Board}
 use Rattle.qo_model.specs.Devices.{kid_name}
 use Rattle.qo_model.specs.Paths.{canonical}
-use Rattle.qo_model.specs.Plug.{Spot, Wanted, clocked, name_for, parent_for, source_for, stood}
+use Rattle.qo_model.specs.Plug.{Spot, Wanted, clocked, name_for, parent_for, registers_on, source_for, stood}
 use Rattle.qo_object.specs.declared.slots.Slot.TheVariants.{Child, Link}
 use Rattle.qo_object.specs.Slots.{Named}
 use Rattle.qo_object.specs.Content.{Content, with_slot}
@@ -19,6 +21,8 @@ use Rattle.qo_properties.specs.Claims.{KeepsBook}
 use Rattle.qo_properties.specs.Filling.{filled_with}
 use Rattle.qo_properties.specs.Start.{KeepsNames}
 use Rattle.qo_properties.specs.declared.adding.filling.Fill.{Fill}
+use Rattle.qo_plug.specs.declared.spots.Memory.{Memory}
+use Rattle.qo_plug.specs.declared.spots.Spot.{Spot as Chosen}
 use Rattle.qo_plug.specs.Drafts.{is_own}
 
 -- slots of which the own ones are filled in order, and so an object
@@ -30,15 +34,20 @@ own_filled (f ∷ fs) (s ∷ slots) = if is_own s.1 then (s.0, filled_with f s.1
 abbrev pub with_own : List Fill → Content → Content
 with_own fs c = record c { slots = own_filled fs c.slots }
 
--- a body that keeps a claim on a slot of a bus and no other, and an object with another id
-abbrev pub slot_kept : Claimed → KeptSet
-slot_kept claim = record none_kept { slot = Some claim }
-
+-- an object whose body keeps other claims, and one with another id
 abbrev pub kept_in : KeptSet → Content → Content
 kept_in k c = record c { body = with_kept k c.body }
 
 abbrev pub named : Option (List ℕ) → Content → Content
 named id c = record c { device_id = id }
+
+-- a body with the registers of a DIMM, and an object that has these stand on a range, if there is one
+abbrev pub IsDimm : Body → Type 0
+IsDimm (Dimm d k) = ⊤
+IsDimm body = ⊥
+
+abbrev pub ranged : Option Range → Content → Content
+ranged range c = record c { body = with_registers (registers_on range (registers_of c.body)) c.body }
 
 -- another book of claims
 abbrev pub with_book : Held → Objects → Objects
@@ -55,16 +64,20 @@ pub record Alike (v w : Objects) : Type 0 where
   pub paths : (n : ℕ) → option_map (λ (c : Content). c.kept_path) (content_of w n) ≡ option_map (λ (c : Content). c.kept_path) (content_of v n)
   pub pins : pins_in w.rows ≡ pins_in v.rows
 
--- and the ids of devices, the room for events and the book of claims stay too
+-- and the ids of devices, registers, the room for events and the book of claims stay too
 pub record Stays (v w : Objects) : Type 0 where
   pub alike : Alike v w
   pub ids : (n : ℕ) → option_map (λ (c : Content). c.device_id) (content_of w n) ≡ option_map (λ (c : Content). c.device_id) (content_of v n)
+  pub registers : (n : ℕ) → option_map (λ (c : Content). registers_of c.body) (content_of w n) ≡ option_map (λ (c : Content). registers_of c.body) (content_of v n)
   pub spare : w.events.spare ≡ v.events.spare
   pub book : KeepsBook v w
 
--- the spot of a device on a bus that has no range
-abbrev pub spot_in : ℕ → ℕ → Spot
-spot_in bus slot = record { bus = bus; slot = slot; range = None }
+-- the range of a memory, if there is one, and the spot of a device on a bus
+abbrev pub range_in : Option Memory → Option Range
+range_in memory = option_map (λ (m : Memory). m.range) memory
+
+abbrev pub spot_in : ℕ → Chosen → Spot
+spot_in bus s = record { bus = bus; slot = s.slot; range = range_in s.memory }
 
 -- a device stands in its spot, with the source of its clock
 abbrev pub seated : Board → ℕ → Wanted → Spot → Board → Board

@@ -9,12 +9,13 @@ ghost use Rattle.qo_plug.specs.Adding.{IsAdded, IsCut, IsRefused, IsShown};
 
 use crate::beginning::{choose, make, turn_down};
 use crate::finishing::finish;
-use crate::judging::device_slot;
+use crate::judging::judge;
 use crate::placing::place;
 use crate::refusals::{AddRefusal, Barred};
 use qo_heap::{Heap, Steps};
 use qo_hotplug::Hotplug;
 use qo_reset::Resets;
+use qo_rings::Rings;
 use qo_values::PropList;
 use std::alloc::Global;
 use std::sync::ledger::Ledger;
@@ -29,7 +30,7 @@ pub struct Added {
 }
 
 /// Adds a device of a type's name, with an id, the path of its bus and properties, where these are
-/// given: by the stages of `begin`, `place` and `finish`, but that a device which has no slot of its
+/// given: by the stages of `begin`, `place` and `finish`, but that a device which has no spot on its
 /// bus is not furnished first. `anonymous` is how many devices without an id were added before. A
 /// refusal is the first in the order of the stages: those of `admit`, before which nothing of the
 /// device is made, and then the others, behind which its births and notes are left. Want of memory
@@ -38,6 +39,7 @@ pub fn add<L: Ledger>(
     heap: &mut Heap,
     resets: &Resets,
     hotplug: &mut Hotplug,
+    rings: &Rings,
     anonymous: u64,
     driver: &str,
     id: Option<&str>,
@@ -46,9 +48,9 @@ pub fn add<L: Ledger>(
     alloc: Global,
     steps: &mut Steps<L>,
 ) -> Result<Added, AddRefusal>
-    ensures ok { (b : Board) → IsShown b anonymous resets.now.births hotplug.old heap.old → IfOk result (λ x. IsAdded b (wanted driver.now (option_map (λ t. t.now) id.entry) (option_map (λ t. t.now) bus.entry) props.now) x hotplug.new heap.new) }
-    ensures refused { (b : Board) → IsShown b anonymous resets.now.births hotplug.old heap.old → IfRefused result (λ stage code. IsRefused b (wanted driver.now (option_map (λ t. t.now) id.entry) (option_map (λ t. t.now) bus.entry) props.now) stage code heap.new) }
-    ensures memory { (b : Board) → IsShown b anonymous resets.now.births hotplug.old heap.old → result ≡ Err Memory → IsCut b (wanted driver.now (option_map (λ t. t.now) id.entry) (option_map (λ t. t.now) bus.entry) props.now) heap.new }
+    ensures ok { (b : Board) → IsShown b anonymous resets.now.births rings.now hotplug.old heap.old → IfOk result (λ x. IsAdded b (wanted driver.now (option_map (λ t. t.now) id.entry) (option_map (λ t. t.now) bus.entry) props.now) x hotplug.new heap.new) }
+    ensures refused { (b : Board) → IsShown b anonymous resets.now.births rings.now hotplug.old heap.old → IfRefused result (λ stage code. IsRefused b (wanted driver.now (option_map (λ t. t.now) id.entry) (option_map (λ t. t.now) bus.entry) props.now) stage code heap.new) }
+    ensures memory { (b : Board) → IsShown b anonymous resets.now.births rings.now hotplug.old heap.old → result ≡ Err Memory → IsCut b (wanted driver.now (option_map (λ t. t.now) id.entry) (option_map (λ t. t.now) bus.entry) props.now) heap.new }
     ensures asked { OnErr result (hotplug.new ≡ hotplug.old) }
     ensures book { KeepsBook heap.old heap.new }
 {
@@ -58,11 +60,14 @@ pub fn add<L: Ledger>(
         Ok(site) => site,
         Err(refusal) => return Err(refusal),
     };
-    let slot = device_slot(heap, site.kind, site.bus, props, steps);
-    if let Err(code) = slot {
-        return Err(turn_down(heap, site.kind, 5, code, alloc, steps));
-    }
-    let begun = match make(heap, resets, site, slot, props, alloc, steps) {
+    let spot = match judge(heap, rings, site.kind, site.bus, props, alloc, steps) {
+        Ok(spot) => spot,
+        Err(AddRefusal::Refused { stage, code }) => {
+            return Err(turn_down(heap, site.kind, stage, code, alloc, steps));
+        }
+        Err(AddRefusal::Memory) => return Err(AddRefusal::Memory),
+    };
+    let begun = match make(heap, resets, site, rings, Ok(spot), props, alloc, steps) {
         Ok(begun) => begun,
         Err(_) => return Err(AddRefusal::Memory),
     };

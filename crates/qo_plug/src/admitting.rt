@@ -1,16 +1,15 @@
 //! Whether a device is admitted: what bars it before anything of it is made, and where it is to go.
 
-ghost use Rattle.std.specs.Prelude.{◌≡◌, ◌≤◌, ℕ, List, true, false, Some, None, IfOk, OnOk, map, option_map};
+ghost use Rattle.std.specs.Prelude.{◌≡◌, ◌≤◌, ℕ, List, true, codes, Some, None, IfOk, OnOk, map, option_map};
 ghost use Rattle.qo_values.specs.declared.births.TheConstants.{ANONYMOUS_BIRTH, PERIPHERAL_BIRTH};
 ghost use Rattle.qo_values.specs.Ids.{is_id};
 ghost use Rattle.qo_model.specs.Board.{Board};
 ghost use Rattle.qo_model.specs.Objects.{Given};
-ghost use Rattle.qo_model.specs.Plug.{id_barred, id_refused};
-ghost use Rattle.qo_model.specs.Types.{row_named};
+ghost use Rattle.qo_model.specs.Plug.{id_barred, id_refused, plug};
+ghost use Rattle.qo_model.specs.Types.{is_a};
 ghost use Rattle.qo_table.specs.Rows.{IsLive};
 ghost use Rattle.qo_heap.specs.Board.{Shows};
-ghost use Rattle.qo_properties.specs.Changes.{refusal_in};
-ghost use Rattle.qo_plug.specs.Added.{IfRefused, IsAdmitted, IsPlaced, added, driver_barred, is_built, wanted};
+ghost use Rattle.qo_plug.specs.Added.{IfRefused, IsAdmitted, IsPlaced, wanted};
 
 use crate::barring::{device_kind, open_bus, room, vacant};
 use crate::refusals::AddRefusal;
@@ -41,33 +40,6 @@ pub struct Site {
     pub place: Place,
     /// The bus that it is to be plugged into.
     pub bus: Oid,
-}
-
-/// Whether the devices of a type are built.
-pub(crate) fn is_built(kind: TypeId) -> bool
-    ensures { result ≡ is_built kind }
-{
-    matches!(kind, TypeId::SlotTimer | TypeId::SlotBridge)
-}
-
-/// The type of a name, where it is one of devices that are built. `E20` comes where no type has the
-/// name, `E21` where it is abstract, `E22` where it is not one of devices, or of devices that are not
-/// built.
-fn driver_kind(driver: &str) -> Result<TypeId, Code>
-    ensures kind { IfOk result (λ kind. option_map (λ r. r.id) (row_named driver.now) ≡ Some kind) }
-    ensures built { IfOk result (λ kind. is_built kind ≡ true) }
-    ensures refused { refusal_in result ≡ driver_barred driver.now }
-{
-    match device_kind(driver) {
-        Ok(kind) => {
-            if is_built(kind) {
-                Ok(kind)
-            } else {
-                Err(Code::E22)
-            }
-        }
-        Err(code) => Err(code),
-    }
 }
 
 /// The id that a text is, where no device has it. `E23` comes where the text is no id, `E24` where a
@@ -193,11 +165,11 @@ pub fn admit<L: Ledger>(
     steps: &mut Steps<L>,
 ) -> Result<Site, AddRefusal>
     ensures live { IfOk result (λ s. IsLive heap.now.rows s.place.container × IsLive heap.now.rows s.bus) }
-    ensures built { IfOk result (λ s. is_built s.kind ≡ true) }
+    ensures device { IfOk result (λ s. is_a s.kind (codes "device") ≡ true) }
     ensures admitted { (b : Board) (props : List Given) → Shows b heap.now → b.pending ≡ map (λ o. o.birth) pending.now → b.anonymous ≡ anonymous → IfOk result (IsAdmitted b (wanted driver.now (option_map (λ t. t.now) id.entry) (option_map (λ t. t.now) bus.entry) props)) }
-    ensures refused { (b : Board) (props : List Given) → Shows b heap.now → b.pending ≡ map (λ o. o.birth) pending.now → b.anonymous ≡ anonymous → IfRefused result (λ stage code. (1 ≤ stage) × (stage ≤ 4) × (added b (wanted driver.now (option_map (λ t. t.now) id.entry) (option_map (λ t. t.now) bus.entry) props) ≡ record { refusal = Some (stage, code); board = b })) }
+    ensures refused { (b : Board) (props : List Given) → Shows b heap.now → b.pending ≡ map (λ o. o.birth) pending.now → b.anonymous ≡ anonymous → IfRefused result (λ stage code. (1 ≤ stage) × (stage ≤ 4) × (plug b (wanted driver.now (option_map (λ t. t.now) id.entry) (option_map (λ t. t.now) bus.entry) props) ≡ record { refusal = Some (stage, code); board = b })) }
 {
-    let kind = match driver_kind(driver) {
+    let kind = match device_kind(driver) {
         Ok(kind) => kind,
         Err(code) => return Err(AddRefusal::Refused { stage: 1, code }),
     };

@@ -1,7 +1,7 @@
 //! Why a device is refused before anything of it is made: its type, its id, its bus, and the room
 //! for its objects. The first that stands is the refusal, decided on the board before.
 
-ghost use Rattle.std.specs.Prelude.{◌≡◌, ◌≤◌, Err, Some, None, IfNone, IfOk, IfSome, codes, is_some, map, option_map};
+ghost use Rattle.std.specs.Prelude.{◌≡◌, ◌≤◌, true, Err, Some, None, IfNone, IfOk, IfSome, codes, is_some, map, option_map};
 ghost use Rattle.qo_values.specs.declared.codes.Code.{Code};
 ghost use Rattle.qo_values.specs.declared.codes.Code.TheVariants.{E26};
 ghost use Rattle.qo_model.specs.Board.{Board};
@@ -24,6 +24,7 @@ use std::sync::ledger::Ledger;
 /// name, `E21` where it is abstract, `E22` where it is not one of devices.
 pub fn device_kind(driver: &str) -> Result<TypeId, Code>
     ensures kind { IfOk result (λ kind. option_map (λ r. r.id) (row_named driver.now) ≡ Some kind) }
+    ensures device { IfOk result (λ kind. is_a kind (codes "device") ≡ true) }
     ensures refused { refusal_in result ≡ type_barred driver.now }
 {
     let Some(kind) = TypeTable::board().find(driver) else {

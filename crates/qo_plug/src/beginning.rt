@@ -1,28 +1,31 @@
 //! Beginning a device, the stages 1 to 4 of adding: it is admitted, what is given for its properties
 //! is looked at, and it is made; or an attempt at it is given up. It stands nowhere yet.
 
-ghost use Rattle.std.specs.Prelude.{◌≡◌, ◌≤◌, ◌==◌, ℕ, List, true, false, Err, IfOk, None, OnErr, OnOk, option_map};
-ghost use Rattle.qo_model.specs.Board.{Board};
+ghost use Rattle.std.specs.Prelude.{◌≡◌, ◌≤◌, ◌==◌, ℕ, List, true, false, codes, Err, IfOk, None, OnErr, OnOk, option_map};
+ghost use Rattle.qo_model.specs.Board.{Board, Ring};
 ghost use Rattle.qo_model.specs.Objects.{refusal_of};
 ghost use Rattle.qo_model.specs.Plug.{Wanted, plug_attempt};
+ghost use Rattle.qo_model.specs.Types.{is_a};
 ghost use Rattle.qo_sound.specs.Kept.{SoundTree};
 ghost use Rattle.qo_table.specs.Rows.{IsLive};
 ghost use Rattle.qo_heap.specs.Board.{Shows};
 ghost use Rattle.qo_properties.specs.Claims.{KeepsBook};
 ghost use Rattle.qo_plug.specs.declared.refusals.AddRefusal.TheVariants.{Memory};
-ghost use Rattle.qo_plug.specs.Added.{IfRefused, IsAdmitted, is_built, wanted};
+ghost use Rattle.qo_plug.specs.Added.{IfRefused, IsAdmitted, wanted};
 ghost use Rattle.qo_plug.specs.Adding.{IsCut, IsRefused, IsShown, turned_down};
 ghost use Rattle.qo_plug.specs.Drafts.{CutShort};
 ghost use Rattle.qo_plug.specs.Stages.{IsBegun, IsHeld, IsJudged};
 
 use crate::admitting::{Site, admit};
 use crate::drafting::{give_up, make_device};
-use crate::judging::device_slot;
-use crate::refusals::AddRefusal;
+use crate::judging::judge;
+use crate::refusals::{AddRefusal, Barred};
+use crate::spots::Spot;
 use qo_heap::{Heap, Oid, Steps};
 use qo_hotplug::Hotplug;
 use qo_properties::{Fill, attempt_whole, check_given, plan_of};
 use qo_reset::Resets;
+use qo_rings::Rings;
 use qo_values::{Code, PropList, TypeId};
 use std::alloc::{AllocError, Global};
 use std::sync::ledger::Ledger;
@@ -36,8 +39,8 @@ pub struct Begun {
     pub device: Oid,
     /// What its own slots are to be filled with.
     pub plan: Vec<Fill>,
-    /// Its slot of its bus, or why it has none there.
-    pub slot: Result<u8, Code>,
+    /// Its spot on its bus, or why it has none there.
+    pub spot: Result<Spot, Barred>,
     /// Whether no hold is on its bus.
     pub out: bool,
 }
@@ -61,23 +64,24 @@ pub(crate) fn turn_down<L: Ledger>(
     }
 }
 
-/// Makes an admitted device, for which this was judged of its slot. What its slots are to be filled
+/// Makes an admitted device, for which this was judged of its spot. What its slots are to be filled
 /// with, and what is learnt of its bus, is learnt before. The error is want of memory: an attempt was
 /// cut.
 pub(crate) fn make<L: Ledger>(
     heap: &mut Heap,
     resets: &Resets,
     site: Site,
-    slot: Result<u8, Code>,
+    rings: &Rings,
+    spot: Result<Spot, Barred>,
     props: &PropList,
     alloc: Global,
     steps: &mut Steps<L>,
 ) -> Result<Begun, AllocError>
-    requires built { is_built site.kind ≡ true }
+    requires device { is_a site.kind (codes "device") ≡ true }
     requires container { IsLive heap.old.rows site.place.container }
     requires bus { IsLive heap.old.rows site.bus }
-    requires slot { IsJudged site slot props.now heap.old }
-    ensures begun { (b : Board) (a : Wanted) → Shows b heap.old → SoundTree b → b.holds ≡ resets.now.births → IsAdmitted b a site → a.props ≡ props.now → refusal_of b site.kind a.props ≡ None → IfOk result (λ d. IsBegun b a d heap.new) }
+    requires spot { IsJudged site rings.now spot props.now heap.old }
+    ensures begun { (b : Board) (a : Wanted) → Shows b heap.old → SoundTree b → b.holds ≡ resets.now.births → b.rings ≡ rings.now → IsAdmitted b a site → a.props ≡ props.now → refusal_of b site.kind a.props ≡ None → IfOk result (λ d. IsBegun b a d heap.new) }
     ensures held { IfOk result (λ d. IsHeld d heap.new) }
     ensures err { OnErr result ((b : Board) → Shows b heap.old → SoundTree b → CutShort b site.kind heap.new) }
     ensures book { KeepsBook heap.old heap.new }
@@ -90,7 +94,7 @@ pub(crate) fn make<L: Ledger>(
         site,
         device,
         plan,
-        slot,
+        spot,
         out,
     })
 }
@@ -112,11 +116,11 @@ pub(crate) fn choose<L: Ledger>(
     steps: &mut Steps<L>,
 ) -> Result<Site, AddRefusal>
     ensures live { IfOk result (λ s. IsLive heap.new.rows s.place.container × IsLive heap.new.rows s.bus) }
-    ensures built { IfOk result (λ s. is_built s.kind ≡ true) }
+    ensures device { IfOk result (λ s. is_a s.kind (codes "device") ≡ true) }
     ensures same { OnOk result (heap.new ≡ heap.old) }
-    ensures admitted { (b : Board) (holds : List ℕ) → IsShown b anonymous holds hotplug.now heap.old → IfOk result (λ s. IsAdmitted b (wanted driver.now (option_map (λ t. t.now) id.entry) (option_map (λ t. t.now) bus.entry) props.now) s × (refusal_of b s.kind props.now ≡ None)) }
-    ensures refused { (b : Board) (holds : List ℕ) → IsShown b anonymous holds hotplug.now heap.old → IfRefused result (λ stage code. (1 ≤ stage) × (stage ≤ 4) × IsRefused b (wanted driver.now (option_map (λ t. t.now) id.entry) (option_map (λ t. t.now) bus.entry) props.now) stage code heap.new) }
-    ensures memory { (b : Board) (holds : List ℕ) → IsShown b anonymous holds hotplug.now heap.old → result ≡ Err Memory → IsCut b (wanted driver.now (option_map (λ t. t.now) id.entry) (option_map (λ t. t.now) bus.entry) props.now) heap.new }
+    ensures admitted { (b : Board) (holds : List ℕ) (rings : List Ring) → IsShown b anonymous holds rings hotplug.now heap.old → IfOk result (λ s. IsAdmitted b (wanted driver.now (option_map (λ t. t.now) id.entry) (option_map (λ t. t.now) bus.entry) props.now) s × (refusal_of b s.kind props.now ≡ None)) }
+    ensures refused { (b : Board) (holds : List ℕ) (rings : List Ring) → IsShown b anonymous holds rings hotplug.now heap.old → IfRefused result (λ stage code. (1 ≤ stage) × (stage ≤ 4) × IsRefused b (wanted driver.now (option_map (λ t. t.now) id.entry) (option_map (λ t. t.now) bus.entry) props.now) stage code heap.new) }
+    ensures memory { (b : Board) (holds : List ℕ) (rings : List Ring) → IsShown b anonymous holds rings hotplug.now heap.old → result ≡ Err Memory → IsCut b (wanted driver.now (option_map (λ t. t.now) id.entry) (option_map (λ t. t.now) bus.entry) props.now) heap.new }
     ensures book { KeepsBook heap.old heap.new }
 {
     let site = match admit(
@@ -138,6 +142,26 @@ pub(crate) fn choose<L: Ledger>(
     }
 }
 
+/// What is judged of the spot of an admitted device: where it stands, or why it can't. The error is want
+/// of memory.
+fn judged<L: Ledger>(
+    heap: &Heap,
+    rings: &Rings,
+    site: &Site,
+    props: &PropList,
+    alloc: Global,
+    steps: &mut Steps<L>,
+) -> Result<Result<Spot, Barred>, AllocError>
+    requires { IsLive heap.now.rows site.now.bus }
+    ensures { IfOk result (λ spot. IsJudged site.now rings.now spot props.now heap.now) }
+{
+    match judge(heap, rings, site.kind, site.bus, props, alloc, steps) {
+        Ok(spot) => Ok(Ok(spot)),
+        Err(AddRefusal::Refused { stage, code }) => Ok(Err(Barred { stage, code })),
+        Err(AddRefusal::Memory) => Err(AllocError),
+    }
+}
+
 /// Begins a device of a type's name, with an id, the path of its bus and properties, where these are
 /// given: the stages 1 to 4. `anonymous` is how many devices without an id were added before. A
 /// refusal is the first in the order of the stages: those of `admit`, before which nothing of the
@@ -147,6 +171,7 @@ pub fn begin<L: Ledger>(
     heap: &mut Heap,
     resets: &Resets,
     hotplug: &Hotplug,
+    rings: &Rings,
     anonymous: u64,
     driver: &str,
     id: Option<&str>,
@@ -155,10 +180,10 @@ pub fn begin<L: Ledger>(
     alloc: Global,
     steps: &mut Steps<L>,
 ) -> Result<Begun, AddRefusal>
-    ensures begun { (b : Board) → IsShown b anonymous resets.now.births hotplug.now heap.old → IfOk result (λ d. IsBegun b (wanted driver.now (option_map (λ t. t.now) id.entry) (option_map (λ t. t.now) bus.entry) props.now) d heap.new) }
+    ensures begun { (b : Board) → IsShown b anonymous resets.now.births rings.now hotplug.now heap.old → IfOk result (λ d. IsBegun b (wanted driver.now (option_map (λ t. t.now) id.entry) (option_map (λ t. t.now) bus.entry) props.now) d heap.new) }
     ensures held { IfOk result (λ d. IsHeld d heap.new) }
-    ensures refused { (b : Board) → IsShown b anonymous resets.now.births hotplug.now heap.old → IfRefused result (λ stage code. (1 ≤ stage) × (stage ≤ 4) × IsRefused b (wanted driver.now (option_map (λ t. t.now) id.entry) (option_map (λ t. t.now) bus.entry) props.now) stage code heap.new) }
-    ensures memory { (b : Board) → IsShown b anonymous resets.now.births hotplug.now heap.old → result ≡ Err Memory → IsCut b (wanted driver.now (option_map (λ t. t.now) id.entry) (option_map (λ t. t.now) bus.entry) props.now) heap.new }
+    ensures refused { (b : Board) → IsShown b anonymous resets.now.births rings.now hotplug.now heap.old → IfRefused result (λ stage code. (1 ≤ stage) × (stage ≤ 4) × IsRefused b (wanted driver.now (option_map (λ t. t.now) id.entry) (option_map (λ t. t.now) bus.entry) props.now) stage code heap.new) }
+    ensures memory { (b : Board) → IsShown b anonymous resets.now.births rings.now hotplug.now heap.old → result ≡ Err Memory → IsCut b (wanted driver.now (option_map (λ t. t.now) id.entry) (option_map (λ t. t.now) bus.entry) props.now) heap.new }
     ensures book { KeepsBook heap.old heap.new }
 {
     let site = match choose(
@@ -167,8 +192,8 @@ pub fn begin<L: Ledger>(
         Ok(site) => site,
         Err(refusal) => return Err(refusal),
     };
-    let slot = device_slot(heap, site.kind, site.bus, props, steps);
-    match make(heap, resets, site, slot, props, alloc, steps) {
+    let spot = judged(heap, rings, &site, props, alloc, steps)?;
+    match make(heap, resets, site, rings, spot, props, alloc, steps) {
         Ok(begun) => Ok(begun),
         Err(_) => Err(AddRefusal::Memory),
     }
@@ -184,7 +209,7 @@ pub fn abandon<L: Ledger>(heap: &mut Heap, begun: Begun, steps: &mut Steps<L>)
         site: _site,
         device,
         plan: _plan,
-        slot: _slot,
+        spot: _spot,
         out: _out,
     } = begun;
     give_up(heap, device, steps);

@@ -14,6 +14,7 @@ mod finishing;
 mod judging;
 mod placing;
 mod refusals;
+mod spots;
 mod standing;
 mod starting;
 
@@ -25,5 +26,6 @@ pub use drafting::{give_up, make_device};
 pub use finishing::finish;
 pub use placing::{Placed, Way, place};
 pub use refusals::{AddRefusal, Barred};
+pub use spots::{Memory, Spot};
 pub use standing::{Seat, stand};
 pub use starting::start;

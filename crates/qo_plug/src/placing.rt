@@ -1,7 +1,7 @@
 //! Placing a device that was begun, the stages 5 to 7 of adding: it takes its place in a slot of its
 //! bus, or is given up. Where the notices will refuse it, it stands nowhere.
 
-ghost use Rattle.std.specs.Prelude.{◌≡◌, ◌<◌, Err, IfOk, OnErr, length, nat_le};
+ghost use Rattle.std.specs.Prelude.{◌≡◌, ◌<◌, ◌≤◌, Err, IfOk, OnErr, length, nat_le};
 ghost use Rattle.qo_values.specs.declared.limits.TheConstants.{BUS_SLOTS, NOTICES_MAX};
 ghost use Rattle.qo_model.specs.Board.{Board};
 ghost use Rattle.qo_model.specs.Plug.{Wanted};
@@ -14,7 +14,8 @@ ghost use Rattle.qo_plug.specs.Stages.{IsBegun, IsHeld, IsReady, IsSettled};
 use crate::admitting::{Place, Site};
 use crate::beginning::Begun;
 use crate::drafting::give_up;
-use crate::refusals::AddRefusal;
+use crate::refusals::{AddRefusal, Barred};
+use crate::spots::Spot;
 use crate::standing::{Seat, stand};
 use qo_heap::{Heap, Oid, Steps};
 use qo_hotplug::Hotplug;
@@ -51,12 +52,12 @@ fn are_full(hotplug: &Hotplug) -> bool
     hotplug.notices().len() as u64 >= NOTICES_MAX
 }
 
-/// Where a device is to stand in a slot of its bus, and its id, if it has one.
-fn seat_at(site: Site, slot: u8) -> (Seat, Option<Id>)
+/// Where a device is to stand in a spot of its bus, and its id, if it has one.
+fn seat_at(site: Site, spot: Spot) -> (Seat, Option<Id>)
     ensures container { result.0.container ≡ site.place.container }
     ensures name { result.0.name ≡ site.place.name }
     ensures bus { result.0.bus ≡ site.bus }
-    ensures slot { result.0.slot ≡ slot }
+    ensures spot { result.0.spot ≡ spot }
     ensures id { result.1 ≡ site.place.id }
 {
     let Site { place, bus, .. } = site;
@@ -69,13 +70,13 @@ fn seat_at(site: Site, slot: u8) -> (Seat, Option<Id>)
         container,
         name,
         bus,
-        slot,
+        spot,
     };
     (seat, id)
 }
 
-/// Places a device that was begun: the stages 5 to 7. A refusal is that of its slot or its depth
-/// (stage 5: `E28`, `E29`, `E30`, `E42`). An error gives the device up: its births and notes are left.
+/// Places a device that was begun: the stages 5 to 7. A refusal is that of its slot, its depth or its
+/// memory (stage 5: `E28`, `E29`, `E30`, `E42`, `E38` to `E41`), or of its ring (6: `E36`, `E37`). An error gives the device up: its births and notes are left.
 /// Where as many notices wait as may, the device takes no place, since `finish` refuses it then.
 pub fn place<L: Ledger>(
     heap: &mut Heap,
@@ -87,7 +88,7 @@ pub fn place<L: Ledger>(
     requires { IsHeld begun heap.old }
     ensures settled { (b : Board) (a : Wanted) → IsBegun b a begun heap.old → b.notices ≡ hotplug.now.notices → IfOk result (λ p. IsSettled b a p heap.new) }
     ensures ready { IfOk result (λ p. IsReady p hotplug.now heap.new) }
-    ensures refused { (b : Board) (a : Wanted) → IsBegun b a begun heap.old → IfRefused result (λ stage code. (stage ≡ 5) × IsRefused b a stage code heap.new) }
+    ensures refused { (b : Board) (a : Wanted) → IsBegun b a begun heap.old → IfRefused result (λ stage code. (5 ≤ stage) × (stage ≤ 6) × IsRefused b a stage code heap.new) }
     ensures memory { (b : Board) (a : Wanted) → IsBegun b a begun heap.old → result ≡ Err Memory → IsCut b a heap.new }
     ensures book { KeepsBook heap.old heap.new }
 {
@@ -95,21 +96,22 @@ pub fn place<L: Ledger>(
         site,
         device,
         plan,
-        slot,
+        spot,
         out,
     } = begun;
-    let slot = match slot {
-        Ok(slot) => slot,
-        Err(code) => {
+    let spot = match spot {
+        Ok(spot) => spot,
+        Err(Barred { stage, code }) => {
             give_up(heap, device, steps);
-            return Err(AddRefusal::Refused { stage: 5, code });
+            return Err(AddRefusal::Refused { stage, code });
         }
     };
+    let slot = spot.slot;
     if are_full(hotplug) {
         let way = Way::Full { out };
         return Ok(Placed { device, slot, way });
     }
-    let (seat, id) = seat_at(site, slot);
+    let (seat, id) = seat_at(site, spot);
     match stand(heap, device, seat, id, plan, alloc, steps) {
         Ok(path) => Ok(Placed {
             device,

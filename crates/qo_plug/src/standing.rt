@@ -1,12 +1,14 @@
 //! A device takes its place: it joins its container and its bus, its slots have the values that were
-//! given, it keeps its id and its claims, and its clock has its source (include/hw/qdev-core.h: the
-//! bus of a device; docs/devel/clocks.rst). All that takes memory comes first, and is taken back
-//! where it fails.
+//! given, a DIMM stands on its range, it keeps its id and its claims, and its clock has its source
+//! (include/hw/qdev-core.h: the bus of a device; docs/devel/clocks.rst). All that takes memory comes
+//! first, and is taken back where it fails.
 
 ghost use Rattle.std.specs.Prelude.{◌≡◌, ◌==◌, ◌≤◌, ◌<◌, ◌++◌, ◌∷◌, List, true, false, Some, None, IfOk, IfSome, IfNone, OnOk, OnErr, codes, length, option_map, option_and_then, slice_get};
 ghost use Rattle.std.specs.List.{AllByRecursion, AllZip};
 ghost use Rattle.std.specs.Option.{option_map_or};
 ghost use Rattle.qo_claims.specs.declared.claims.Claimed.{Claimed};
+ghost use Rattle.qo_claims.specs.declared.claims.Claimed.TheVariants as on;
+ghost use Rattle.qo_kinds.specs.Bodies.{registers_of, with_registers};
 ghost use Rattle.qo_values.specs.declared.births.TheConstants.{SYSTEM_CLOCK_BIRTH};
 ghost use Rattle.qo_values.specs.declared.limits.TheConstants.{BUS_SLOTS};
 ghost use Rattle.qo_values.specs.declared.properties.Val.{Val};
@@ -14,7 +16,8 @@ ghost use Rattle.qo_model.specs.Board.{Board, kind_of};
 ghost use Rattle.qo_model.specs.Devices.{clock_of};
 ghost use Rattle.qo_model.specs.Objects.{Given};
 ghost use Rattle.qo_model.specs.Paths.{canonical};
-ghost use Rattle.qo_model.specs.Plug.{Wanted, link_named, source_for, valued, with_source};
+ghost use Rattle.qo_model.specs.Plug.{Wanted, addressed_at, link_named, registers_on, source_for, valued, with_body_of, with_source};
+ghost use Rattle.qo_model.specs.Release.{edit};
 ghost use Rattle.qo_model.specs.Unplug.{set_named};
 ghost use Rattle.qo_object.specs.declared.slots.Slot.TheVariants.{Link};
 ghost use Rattle.qo_values.specs.declared.kinds.TypeId.TheVariants.{Device};
@@ -27,12 +30,16 @@ ghost use Rattle.qo_properties.specs.Claims.{KeepsBook};
 ghost use Rattle.qo_properties.specs.Filling.{Fits, IsGiven, filled_at, fits_at, target_in};
 ghost use Rattle.qo_properties.specs.Start.{KeepsNames};
 ghost use Rattle.qo_plug.specs.Drafts.{is_own, own_slots_of};
-ghost use Rattle.qo_plug.specs.Standing.{IsSeat, Stays, Stood, joined_on, spot_in, with_own};
+ghost use Rattle.qo_plug.specs.Standing.{Alike, IsDimm, IsSeat, Stays, Stood, joined_on, range_in, ranged, spot_in, with_own};
+ghost use Rattle.qo_plug.specs.Taking.{labels_out};
 
-use crate::claiming::{Taken, give_back, keep_label, keep_slot, take_claims};
+use crate::claiming::{Label, Taken, give_back, keep_claims, keep_label, take_claims};
+use crate::spots::{Memory, Spot};
 use qo_buses::{bridge_of, clock_of, join_bus, kid_name, point_bus, set_named};
 use qo_clocks::connect;
+use qo_dimm::Dimm;
 use qo_heap::{Heap, Oid, Slot, Steps};
+use qo_kinds::Body;
 use qo_paths::canonical;
 use qo_properties::Fill;
 use qo_values::{Id, Name, SYSTEM_CLOCK_BIRTH, Text, Val};
@@ -48,8 +55,8 @@ pub struct Seat {
     pub name: Name,
     /// Its bus.
     pub bus: Oid,
-    /// Its slot there, below `BUS_SLOTS`.
-    pub slot: u8,
+    /// Where it stands there, in a slot below `BUS_SLOTS`, and what it claims besides.
+    pub spot: Spot,
 }
 
 /// Whether a slot is an object's own: a value or a link, and neither a child nor an alias.
@@ -131,12 +138,33 @@ fn put_bus<L: Ledger>(heap: &mut Heap, device: Oid, bus: Oid, steps: &mut Steps<
     point_bus(heap, device, bus, steps);
 }
 
-/// Gives a device the values that were given to it, its bus, its slot there, and that it is realized.
+/// Gives a DIMM the address of its memory; a device without memory has none.
+fn put_address<L: Ledger>(
+    heap: &mut Heap,
+    device: Oid,
+    memory: Option<Memory>,
+    steps: &mut Steps<L>,
+)
+    requires { IsLive heap.old.rows device }
+    ensures shown { (b : Board) → Shows b heap.old → Shows (addressed_at device.birth (range_in memory) b) heap.new }
+    ensures stays { Stays heap.old heap.new }
+{
+    match memory {
+        Some(Memory { range, .. }) => {
+            put_value(heap, device, "addr", Val::Uint(range.at), steps);
+        }
+        None => {}
+    }
+}
+
+/// Gives a device the values that were given to it, its bus, its slot there, that it is realized, and
+/// the address of its memory, if it has one.
 fn put_values<L: Ledger>(
     heap: &mut Heap,
     device: Oid,
     bus: Oid,
     slot: u8,
+    memory: Option<Memory>,
     plan: Vec<Fill>,
     steps: &mut Steps<L>,
 )
@@ -144,7 +172,7 @@ fn put_values<L: Ledger>(
     requires bus { IsLive heap.old.rows bus }
     requires targets { AllByRecursion (λ f. IfSome (target_in f) (IsLive heap.old.rows)) plan.items }
     requires fits { AllZip Fits plan.items (own_slots_of heap.old device.birth) }
-    ensures shown { (b c : Board) (props : List Given) → Shows c heap.old → AllZip (IsGiven b props) plan.items (own_slots_of heap.old device.birth) → Shows (valued b device.birth props (spot_in bus.birth slot) c) heap.new }
+    ensures shown { (b c : Board) (props : List Given) → Shows c heap.old → AllZip (IsGiven b props) plan.items (own_slots_of heap.old device.birth) → Shows (addressed_at device.birth (range_in memory) (valued b device.birth props (record { bus = bus.birth; slot = slot; range = range_in memory }) c)) heap.new }
     ensures stays { Stays heap.old heap.new }
 {
     heap.facts();
@@ -152,6 +180,55 @@ fn put_values<L: Ledger>(
     put_value(heap, device, "slot", Val::Uint(u64::from(slot)), steps);
     put_bus(heap, device, bus, steps);
     put_value(heap, device, "realized", Val::Bool(true), steps);
+    put_address(heap, device, memory, steps);
+}
+
+/// The body of a DIMM stands on the range of its memory; one without memory stays, and so does any
+/// other body.
+fn put_range(body: &mut Body, memory: Option<Memory>)
+    ensures { body.new ≡ with_registers (registers_on (range_in memory) (registers_of body.old)) body.old }
+{
+    let Some(Memory { range, .. }) = memory else {
+        return;
+    };
+    if let Body::Dimm(dimm, _) = body {
+        *dimm = Dimm {
+            addr: range.at,
+            size: range.size,
+        };
+    }
+}
+
+/// The body of a device stands on the range of its memory, if it has one.
+fn set_range<L: Ledger>(heap: &mut Heap, device: Oid, memory: Option<Memory>, steps: &mut Steps<L>)
+    requires { IsLive heap.old.rows device }
+    ensures { heap.new ≡ with_edit device.birth (ranged (range_in memory)) heap.old }
+{
+    heap.facts();
+    put_range(heap.body_mut(device, steps), memory);
+}
+
+/// A DIMM stands on the range of its memory, and a device has its id and keeps the claim on it, if it
+/// has one.
+fn put_body<L: Ledger>(
+    heap: &mut Heap,
+    device: Oid,
+    memory: Option<Memory>,
+    label: Option<Label>,
+    steps: &mut Steps<L>,
+)
+    requires live { IsLive heap.old.rows device }
+    requires dimm { IfSome memory (λ m. IfSome (content_of heap.old device.birth) (λ c. IsDimm c.body)) }
+    requires on { IfSome label (λ l. l.claim ≡ on.Device l.id) }
+    requires unnamed { option_and_then (λ c. c.device_id) (content_of heap.old device.birth) ≡ None }
+    ensures shown { (b : Board) → Shows b heap.old → Shows (edit device.birth (with_body_of (option_map (λ l. l.id) label) (range_in memory)) b) heap.new }
+    ensures alike { Alike heap.old heap.new }
+    ensures spare { heap.new.events.spare ≡ heap.old.events.spare }
+    ensures book { (out : List Claimed) → IsBook (labels_out label ++ out) heap.old → IsBook out heap.new }
+{
+    heap.facts();
+    set_range(heap, device, memory, steps);
+    keep_label(heap, device, label, steps);
 }
 
 /// The clock that the clock of a device on a bus goes by: that of the device whose bus this is, or the
@@ -242,8 +319,8 @@ fn join<L: Ledger>(
     requires live { IsLive heap.old.rows device }
     requires container { IsLive heap.old.rows seat.container }
     requires bus { IsLive heap.old.rows seat.bus }
-    requires slot { seat.slot < BUS_SLOTS }
-    ensures now { OnOk result (heap.new ≡ joined_on seat.container seat.name seat.bus seat.slot device heap.old) }
+    requires slot { seat.spot.slot < BUS_SLOTS }
+    ensures now { OnOk result (heap.new ≡ joined_on seat.container seat.name seat.bus seat.spot.slot device heap.old) }
     ensures path { IfOk result (λ path. (b : Board) → Shows b heap.new → canonical b device.birth ≡ Some path) }
     ensures err { OnErr result (heap.new ≡ heap.old) }
 {
@@ -252,9 +329,10 @@ fn join<L: Ledger>(
         container,
         name,
         bus,
-        slot,
+        spot,
     } = seat;
-    let link = kid_name(slot, alloc)?;
+    let link = kid_name(spot.slot, alloc)?;
+    drop(spot);
     let at = heap.slot_count(container, steps);
     heap.add_child(container, name, device, steps)?;
     match join_to(heap, device, bus, link, alloc, steps) {
@@ -267,9 +345,10 @@ fn join<L: Ledger>(
 }
 
 /// A device that was made takes its place: it joins its container and its bus, has the values that
-/// are planned for its own slots, its id if it has one, its claims, and its clock's source; answers
-/// its canonical path. A place for an event on it is kept free. The error is want of memory, and
-/// leaves all boards as they were.
+/// are planned for its own slots, its id if it has one, its claims, and its clock's source, and a DIMM
+/// stands on its range; answers its canonical path. A place for an event on it is kept free. The error
+/// is want of memory, or that a claim is held or its range has no bytes, which is on no sound board;
+/// it leaves all boards as they were.
 pub fn stand<L: Ledger>(
     heap: &mut Heap,
     device: Oid,
@@ -282,12 +361,13 @@ pub fn stand<L: Ledger>(
     requires live { IsLive heap.old.rows device }
     requires container { IsLive heap.old.rows seat.container }
     requires bus { IsLive heap.old.rows seat.bus }
-    requires slot { seat.slot < BUS_SLOTS }
+    requires slot { seat.spot.slot < BUS_SLOTS }
     requires apart { (device.birth == seat.bus.birth) ≡ false }
     requires new { IfSome (content_of heap.old device.birth) HasNoClaim }
+    requires dimm { IfSome seat.spot.memory (λ m. IfSome (content_of heap.old device.birth) (λ c. IsDimm c.body)) }
     requires targets { AllByRecursion (λ f. IfSome (target_in f) (IsLive heap.old.rows)) plan.items }
     requires fits { AllZip Fits plan.items (own_slots_of heap.old device.birth) }
-    ensures stood { IfOk result (λ path. (b c : Board) (a : Wanted) → Shows c heap.old → IsSeat b a seat.container.birth seat.name id → source_for b seat.bus.birth ≡ source_for c seat.bus.birth → AllZip (IsGiven b a.props) plan.items (own_slots_of heap.old device.birth) → Stood b c device.birth a (spot_in seat.bus.birth seat.slot) path heap.new) }
+    ensures stood { IfOk result (λ path. (b c : Board) (a : Wanted) → Shows c heap.old → IsSeat b a seat.container.birth seat.name id → source_for b seat.bus.birth ≡ source_for c seat.bus.birth → AllZip (IsGiven b a.props) plan.items (own_slots_of heap.old device.birth) → Stood b c device.birth a (spot_in seat.bus.birth seat.spot) path heap.new) }
     ensures room { OnOk result (1 ≤ heap.new.events.spare) }
     ensures err { OnErr result ((b : Board) → Shows b heap.old → Shows b heap.new) }
     ensures names { KeepsNames heap.old heap.new }
@@ -298,14 +378,14 @@ pub fn stand<L: Ledger>(
     heap.facts();
     heap.reserve_event()?;
     let source = source_of(heap, seat.bus, steps);
-    let (bus, slot) = (seat.bus, seat.slot);
-    let taken = take_claims(heap, id, bus.birth, slot)?;
+    let (bus, slot, memory) = (seat.bus, seat.spot.slot, seat.spot.memory);
+    let taken = take_claims(heap, id, bus.birth, &seat.spot)?;
     match join(heap, device, seat, alloc, steps) {
         Ok(path) => {
-            let Taken { label, slot: place } = taken;
-            keep_slot(heap, device, place, steps);
-            put_values(heap, device, bus, slot, plan, steps);
-            keep_label(heap, device, label, steps);
+            let Taken { label, kept } = taken;
+            keep_claims(heap, device, kept, steps);
+            put_values(heap, device, bus, slot, memory, plan, steps);
+            put_body(heap, device, memory, label, steps);
             connect_clock(heap, device, source, steps);
             heap.facts();
             Ok(path)

@@ -1,12 +1,10 @@
 -- What is written to the clocks of the board, and read of them, by its heap.
-use Rattle.std.proofs.Common.{◌≡◌, refl, ap, sym, subst, ◌∙◌, ℕ, Bool, true, false, cond, List, find, codes, Option, None, Some, is_some, option_map, IfOk, OnOk, OnErr, Result, Ok, Err}
-use Rattle.std.specs.Option.{option_and_then, option_map_or}
+use Rattle.std.proofs.Common.{◌≡◌, refl, ap, sym, ◌∙◌, ℕ, true, false, cond, List, find, codes, Option, None, Some, is_some, option_map, OnOk, OnErr, Result, Ok, Err}
+use Rattle.std.specs.Option.{option_and_then}
 use Rattle.std.specs.Str.{bytes_eq}
-use Rattle.qo_values.specs.Properties.{admits}
 use Rattle.qo_values.specs.declared.codes.Code.{Code}
-use Rattle.qo_values.specs.declared.codes.Code.TheVariants.{E17, E18, E19}
+use Rattle.qo_values.specs.declared.codes.Code.TheVariants.{E17, E18}
 use Rattle.qo_values.specs.declared.kinds.TypeId.{TypeId}
-use Rattle.qo_values.specs.declared.properties.PropType.{PropType}
 use Rattle.qo_values.specs.declared.properties.Val.{Val}
 use Rattle.qo_values.specs.declared.properties.Val.TheVariants as val
 use Rattle.qo_slots.specs.declared.keys.Key.{Key}
@@ -16,16 +14,12 @@ use Rattle.qo_object.specs.Content.{Content}
 use Rattle.qo_object.specs.Shown.{birth_of, shown_slot}
 use Rattle.qo_object.specs.Slots.{Named, with_val}
 use Rattle.qo_model.specs.Board as board
-use Rattle.qo_model.specs.ClockProperties.{in_slot, is_set, kind_written, led_by, led_to, number_written, only_set, own_property, set_property, set_row, typed_written}
-use Rattle.qo_model.specs.Clocks.{derived_period, period}
+use Rattle.qo_model.specs.ClockProperties.{in_slot, is_set, led_by, led_to, only_set, own_property, set_row}
+use Rattle.qo_model.specs.Clocks.{derived_period, period, source_of}
 use Rattle.qo_model.specs.Properties.{row_of_property}
 use Rattle.qo_model.specs.declared.properties.Mark.{Mark}
 use Rattle.qo_model.specs.declared.properties.Mark.TheVariants as mark
 use Rattle.qo_model.specs.declared.properties.Property.{Property}
-use Rattle.qo_model.specs.declared.properties.PropertyName.{PropertyName}
-use Rattle.qo_model.specs.declared.properties.PropertyName.TheVariants as prop
-use Rattle.qo_model.specs.declared.properties.RowKind.{RowKind}
-use Rattle.qo_model.specs.declared.properties.RowKind.TheVariants as row
 use Rattle.qo_heap.specs.Acts.{Acts}
 use Rattle.qo_heap.specs.Board.{Shows, pins_in}
 use Rattle.qo_heap.specs.Objects.{Objects, content_of, slots_of}
@@ -136,3 +130,6 @@ scale-pins v c mul div =
 pub derived-is : (b : board.Board) (v : Objects) → Shows b v → (n : ℕ) (o : Option Key) → o ≡ source_on v n
     → derived_period b n ≡ option_map (λ (k : ℕ). period b n) (birth_of o)
 derived-is b v s n o e = ap (option_map (λ (k : ℕ). period b n)) (shows-source b v s n ∙ ap birth_of (sym e))
+
+pub source-there : (b : board.Board) (v : Objects) → Shows b v → (n : ℕ) (key : Key) → Some key ≡ source_on v n → is_some (source_of b n) ≡ true
+source-there b v s n key e = ap is_some (shows-source b v s n ∙ ap birth_of (sym e))

@@ -22,7 +22,7 @@ use Rattle.qo_heap.specs.Objects.{IsHeap, Objects, content_of, refs_of, slots_of
 use Rattle.qo_heap.specs.Board.{Shows, record_of}
 use Rattle.qo_heap.proofs.PlacesLemmas.{at-key, object-at-place}
 use Rattle.qo_heap.proofs.ShowsReads.{shows-parent, shows-refs, shows-slot_named}
-use Rattle.qo_properties.specs.Reads.{detached_in}
+use Rattle.qo_properties.specs.Reads.{derived_in, detached_in, is_derived, reads_derived}
 
 -- objects without a parent
 
@@ -113,7 +113,28 @@ parent-test None n t is other = let no : eqb n 1 ≡ false = grind arith in rw (
 parent-test (Some key) n t is other = let no : eqb n 1 ≡ false = grind arith in rw (no, ← is) refl
 
 -- an alias reads as what it passes on to
-pub read-alias : (b : board.Board) (v : Objects) → Shows b v → (n : ℕ) (name : List ℕ) (t : Named) → Some t ≡ find (λ (t : Named). bytes_eq name t.0) (slots_of v n) → (key : Key) (of : List ℕ) → t.1 ≡ Alias key of → option_map (own_value b key.birth of) (board.slot_named b key.birth of) ≡ value_of b n name
-read-alias b v s n name t e key of is =
-    let there : board.slot_named b n name ≡ Some (board.alias key.birth of) = named-is b v s n name (Some t) e ∙ ap (λ (x : Slot). Some (shown_slot x)) is in
-    sym (ap (option_and_then (slot_value b n name)) there)
+module _ (b : board.Board) (v : Objects) (s : Shows b v) (n : ℕ) (name : List ℕ) (t : Named) where
+  alias-there : Some t ≡ find (λ (t : Named). bytes_eq name t.0) (slots_of v n) → (key : Key) (of : List ℕ) → t.1 ≡ Alias key of
+      → board.slot_named b n name ≡ Some (board.alias key.birth of)
+  alias-there e key of is = named-is b v s n name (Some t) e ∙ ap (λ (x : Slot). Some (shown_slot x)) is
+
+  pub read-alias : Some t ≡ find (λ (t : Named). bytes_eq name t.0) (slots_of v n) → (key : Key) (of : List ℕ) → t.1 ≡ Alias key of
+      → option_map (own_value b key.birth of) (board.slot_named b key.birth of) ≡ value_of b n name
+  read-alias e key of is = sym (ap (option_and_then (slot_value b n name)) (alias-there e key of is))
+
+  -- a period by a source is read of a slot where it is read of what the alias passes on to, or of a slot that is none
+  pub derived-alias : Some t ≡ find (λ (t : Named). bytes_eq name t.0) (slots_of v n) → (key : Key) (of : List ℕ) → t.1 ≡ Alias key of
+      → reads_derived b n name ≡ is_derived b key.birth of
+  derived-alias e key of is = ap (λ (o : Option board.Slot). option_map_or (derived_in b n name) o false) (alias-there e key of is)
+
+  pub derived-own : Some t ≡ find (λ (t : Named). bytes_eq name t.0) (slots_of v n) → ((key : Key) (of : List ℕ) → t.1 ≡ Alias key of → ⊥)
+      → reads_derived b n name ≡ is_derived b n name
+  derived-own e other =
+      ap (λ (o : Option board.Slot). option_map_or (derived_in b n name) o false) (named-is b v s n name (Some t) e) ∙ own t.1 other
+    where
+      own : (x : Slot) → ((key : Key) (of : List ℕ) → x ≡ Alias key of → ⊥) → derived_in b n name (shown_slot x) ≡ is_derived b n name
+      own (Plain val) other = refl
+      own (Child key) other = refl
+      own (Link ty true target) other = refl
+      own (Link ty false target) other = refl
+      own (Alias key of) other = absurd (other key of refl)

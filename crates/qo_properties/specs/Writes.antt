@@ -11,8 +11,9 @@ use Rattle.qo_slots.specs.declared.keys.Key.{Key}
 use Rattle.qo_model.specs.Board as board
 use Rattle.qo_model.specs.Board.{Board}
 use Rattle.qo_model.specs.Changes.{set}
+use Rattle.qo_model.specs.ClockProperties.{set_row}
 use Rattle.qo_model.specs.Paths.{missing, resolve}
-use Rattle.qo_model.specs.Properties.{link_written}
+use Rattle.qo_model.specs.Properties.{link_written, object_at}
 use Rattle.qo_object.specs.declared.slots.Slot.{Slot}
 use Rattle.qo_object.specs.declared.slots.Slot.TheVariants.{Plain, Link}
 use Rattle.qo_object.specs.Shown.{birth_of}
@@ -27,6 +28,13 @@ abbrev pub Writes : {T : Type 0} → Objects → Result T Refusal → Result Boa
 Writes v (Ok done) given = (b : Board) × (given ≡ Ok b) × Shows b v
 Writes v (Err (Refused code)) given = given ≡ Err code
 Writes v (Err Memory) given = ⊤
+
+-- whether a name of n is one of a number of a clock, and a name of the object at a path
+abbrev pub is_of_clock : Board → ℕ → List ℕ → Bool
+is_of_clock b n name = is_some (set_row b n name)
+
+abbrev pub is_of_clock_at : Board → List ℕ → List ℕ → Bool
+is_of_clock_at b path name = elim (object_at b path) [ Ok n ↦ is_of_clock b n name | Err code ↦ false ]
 
 -- the target of a link that is answered, or the code
 abbrev pub target_told : Result (Option Key) Code → Result (Option ℕ) Code

@@ -3,7 +3,7 @@ use Rattle.std.proofs.Common.{◌≡◌, refl, ap, sym, subst, ◌∙◌, ℕ, B
 use Rattle.std.specs.Prelude.{drop, option_and_then}
 use Rattle.qo_hotplug.specs.Asked as hotplug
 use Rattle.qo_hotplug.specs.Asked.{Asked, ask_refusal}
-use Rattle.qo_model.specs.Board.{Board, Notice, Slot, child, slot_named}
+use Rattle.qo_model.specs.Board.{Board, Notice, Slot, child, slot_named, Ring}
 use Rattle.qo_model.specs.Board as model
 use Rattle.qo_model.specs.Devices.{child_named}
 use Rattle.qo_model.specs.Objects.{Changed}
@@ -33,9 +33,9 @@ child-alike (Some (model.alias n name)) = refl
 with_asked-shows : (b : Board) (h : Asked) (v : Objects) → Shows b v → Shows (with_asked b h) v
 with_asked-shows b h v s = record { records = s.records; born = s.born; pins = s.pins; notes = s.notes; events = s.events; now = s.now }
 
-with_asked-stands : (b : Board) (anonymous : ℕ) (running : Bool) (holds : HoldList) (old new : Asked) (v : Objects)
-    → Stands b (parts_of anonymous running holds old v) → Stands (with_asked b new) (parts_of anonymous running holds new v)
-with_asked-stands b anonymous running holds old new v s =
+with_asked-stands : (b : Board) (rings : List Ring) (anonymous : ℕ) (running : Bool) (holds : HoldList) (old new : Asked) (v : Objects)
+    → Stands b (parts_of rings anonymous running holds old v) → Stands (with_asked b new) (parts_of rings anonymous running holds new v)
+with_asked-stands b rings anonymous running holds old new v s =
     record {
       shows = with_asked-shows b new v s.shows;
       anonymous = s.anonymous;
@@ -48,37 +48,44 @@ with_asked-stands b anonymous running holds old new v s =
     }
 
 -- what is asked for is the board's
-pub is_asked : (b : Board) (anonymous : ℕ) (running : Bool) (holds : HoldList) (asked : Asked) (v : Objects) → Stands b (parts_of anonymous running holds asked v) → IsAsked b asked
-is_asked b anonymous running holds asked v s = record { pending = s.pending; notices = s.notices }
+pub is_asked : (b : Board) (rings : List Ring) (anonymous : ℕ) (running : Bool) (holds : HoldList) (asked : Asked) (v : Objects)
+    → Stands b (parts_of rings anonymous running holds asked v) → IsAsked b asked
+is_asked b rings anonymous running holds asked v s = record { pending = s.pending; notices = s.notices }
 
 -- a removal was asked for, or refused
-pub asks-stands : (b : Board) (anonymous : ℕ) (running : Bool) (holds : HoldList) (old new : Asked) (v : Objects) (change : Changed) (result : Result Unit Refusal)
-    → Stands b (parts_of anonymous running holds old v) → Asks b change result new → OnErr result (new ≡ old)
-    → Changes change b result (parts_of anonymous running holds new v)
-asks-stands b anonymous running holds old new v change (Ok u) s is same = (
+pub asks-stands : (b : Board) (rings : List Ring) (anonymous : ℕ) (running : Bool) (holds : HoldList) (old new : Asked) (v : Objects)
+    (change : Changed) (result : Result Unit Refusal)
+    → Stands b (parts_of rings anonymous running holds old v) → Asks b change result new → OnErr result (new ≡ old)
+    → Changes change b result (parts_of rings anonymous running holds new v)
+asks-stands b rings anonymous running holds old new v change (Ok u) s is same = (
   ap (λ (c : Changed). c.refusal) is,
-  subst (λ (c : Board). Stands c (parts_of anonymous running holds new v)) (sym (ap (λ (c : Changed). c.board) is)) (with_asked-stands b anonymous running holds old new v s),
+  subst (λ (c : Board). Stands c (parts_of rings anonymous running holds new v)) (sym (ap (λ (c : Changed). c.board) is))
+      (with_asked-stands b rings anonymous running holds old new v s),
 )
-asks-stands b anonymous running holds old new v change (Err (Refused code)) s is same =
-    (is, subst (λ (h : Asked). Stands b (parts_of anonymous running holds h v)) (sym same) s)
-asks-stands b anonymous running holds old new v change (Err Memory) s is same = subst (λ (h : Asked). Stands b (parts_of anonymous running holds h v)) (sym same) s
+asks-stands b rings anonymous running holds old new v change (Err (Refused code)) s is same =
+    (is, subst (λ (h : Asked). Stands b (parts_of rings anonymous running holds h v)) (sym same) s)
+asks-stands b rings anonymous running holds old new v change (Err Memory) s is same =
+    subst (λ (h : Asked). Stands b (parts_of rings anonymous running holds h v)) (sym same) s
 
-pub asks-sound : (b : Board) (anonymous : ℕ) (running : Bool) (holds : HoldList) (old new : Asked) (v : Objects) (change : Changed) (result : Result Unit Refusal)
-    → Stands b (parts_of anonymous running holds old v) → Good b → Good change.board → Asks b change result new → OnErr result (new ≡ old)
-    → StandsForGood (parts_of anonymous running holds new v)
-asks-sound b anonymous running holds old new v change (Ok u) s sound behind is same =
-    (with_asked b new, with_asked-stands b anonymous running holds old new v s, subst Good (ap (λ (c : Changed). c.board) is) behind)
-asks-sound b anonymous running holds old new v change (Err e) s sound behind is same = (b, subst (λ (h : Asked). Stands b (parts_of anonymous running holds h v)) (sym same) s, sound)
+pub asks-sound : (b : Board) (rings : List Ring) (anonymous : ℕ) (running : Bool) (holds : HoldList) (old new : Asked) (v : Objects)
+    (change : Changed) (result : Result Unit Refusal)
+    → Stands b (parts_of rings anonymous running holds old v) → Good b → Good change.board → Asks b change result new → OnErr result (new ≡ old)
+    → StandsForGood (parts_of rings anonymous running holds new v)
+asks-sound b rings anonymous running holds old new v change (Ok u) s sound behind is same =
+    (with_asked b new, with_asked-stands b rings anonymous running holds old new v s, subst Good (ap (λ (c : Changed). c.board) is) behind)
+asks-sound b rings anonymous running holds old new v change (Err e) s sound behind is same =
+    (b, subst (λ (h : Asked). Stands b (parts_of rings anonymous running holds h v)) (sym same) s, sound)
 
-pub asks-err : {T E : Type 0} (r : Result T E) (anonymous : ℕ) (running : Bool) (holds : HoldList) (old new : Asked) (v : Objects) (p : Parts)
-    → parts_of anonymous running holds old v ≡ p → OnErr r (new ≡ old) → OnErr r (parts_of anonymous running holds new v ≡ p)
-asks-err (Ok t) anonymous running holds old new v p is same = tt
-asks-err (Err e) anonymous running holds old new v p is same = ap (λ (h : Asked). parts_of anonymous running holds h v) same ∙ is
+pub asks-err : {T E : Type 0} (r : Result T E) (rings : List Ring) (anonymous : ℕ) (running : Bool) (holds : HoldList) (old new : Asked)
+    (v : Objects) (p : Parts)
+    → parts_of rings anonymous running holds old v ≡ p → OnErr r (new ≡ old) → OnErr r (parts_of rings anonymous running holds new v ≡ p)
+asks-err (Ok t) rings anonymous running holds old new v p is same = tt
+asks-err (Err e) rings anonymous running holds old new v p is same = ap (λ (h : Asked). parts_of rings anonymous running holds h v) same ∙ is
 
 -- a notice was taken
-pub polled-stands : (b : Board) (anonymous : ℕ) (running : Bool) (holds : HoldList) (old : Asked) (v : Objects)
-    → Stands b (parts_of anonymous running holds old v) → Stands (polled b) (parts_of anonymous running holds (hotplug.behind_first old) v)
-polled-stands b anonymous running holds old v s =
+pub polled-stands : (b : Board) (rings : List Ring) (anonymous : ℕ) (running : Bool) (holds : HoldList) (old : Asked) (v : Objects)
+    → Stands b (parts_of rings anonymous running holds old v) → Stands (polled b) (parts_of rings anonymous running holds (hotplug.behind_first old) v)
+polled-stands b rings anonymous running holds old v s =
     record {
       shows = record { records = s.shows.records; born = s.shows.born; pins = s.shows.pins; notes = s.shows.notes; events = s.shows.events; now = s.shows.now };
       anonymous = s.anonymous;

@@ -6,7 +6,7 @@ use Rattle.qo_slots.specs.declared.keys.Key.{Key}
 use Rattle.qo_table.specs.Rows.{object_at}
 use Rattle.qo_object.specs.Content.{Content}
 use Rattle.qo_hotplug.specs.Asked.{Asked}
-use Rattle.qo_model.specs.Board.{Board}
+use Rattle.qo_model.specs.Board.{Board, Ring}
 use Rattle.qo_model.specs.Depth.{among}
 use Rattle.qo_model.specs.Hotplug.{completed}
 use Rattle.qo_model.specs.Unplug.{detach}
@@ -40,7 +40,8 @@ pins-within : (n : ℕ) (rows : List (Key × Content)) → option_map_or (λ (c 
 pins-within n [] = omega arith
 pins-within n (row ∷ rows) = go (row.0.birth == n) refl (pins-within n rows)
   where
-    go : (b : Bool) → (row.0.birth == n) ≡ b → option_map_or (λ (c : Content). c.pins) (object_at rows n) 0 ≤ length (pins_in rows) → option_map_or (λ (c : Content). c.pins) (object_at (row ∷ rows) n) 0 ≤ length (pins_in (row ∷ rows))
+    go : (b : Bool) → (row.0.birth == n) ≡ b → option_map_or (λ (c : Content). c.pins) (object_at rows n) 0 ≤ length (pins_in rows)
+        → option_map_or (λ (c : Content). c.pins) (object_at (row ∷ rows) n) 0 ≤ length (pins_in (row ∷ rows))
     go true p rest = rw p (omega (arith, length-more row.1.pins row.0.birth (pins_in rows)))
     go false p rest = rw p (omega (arith, rest, length-more row.1.pins row.0.birth (pins_in rows)))
 
@@ -50,15 +51,15 @@ pinned-once v only n =
     omega (arith, pins-within n v.rows, one)
 
 -- what is beside the heap is the board's
-pub is_beside : (b : Board) (anonymous : ℕ) (running : Bool) (holds : HoldList) (asked : Asked) (v : Objects)
-    → Stands b (parts_of anonymous running holds asked v) → Beside b v holds.births asked
-is_beside b anonymous running holds asked v s = record { shown = s.shows; holds = s.holds; pending = s.pending; notices = s.notices }
+pub is_beside : (b : Board) (rings : List Ring) (anonymous : ℕ) (running : Bool) (holds : HoldList) (asked : Asked) (v : Objects)
+    → Stands b (parts_of rings anonymous running holds asked v) → Beside b v holds.births asked
+is_beside b rings anonymous running holds asked v s = record { shown = s.shows; holds = s.holds; pending = s.pending; notices = s.notices }
 
 -- the board without the device stands
-pub completed-stands : (b : Board) (n anonymous : ℕ) (running : Bool) (held holds : HoldList) (old new : Asked) (v w : Objects)
-    → Stands b (parts_of anonymous running held old v) → Beside (detach b n) w holds.births new → KeepsBook v w
-    → Stands (completed b n) (parts_of anonymous running holds new w)
-completed-stands b n anonymous running held holds old new v w s beside keeps =
+pub completed-stands : (b : Board) (n : ℕ) (rings : List Ring) (anonymous : ℕ) (running : Bool) (held holds : HoldList) (old new : Asked) (v w : Objects)
+    → Stands b (parts_of rings anonymous running held old v) → Beside (detach b n) w holds.births new → KeepsBook v w
+    → Stands (completed b n) (parts_of rings anonymous running holds new w)
+completed-stands b n rings anonymous running held holds old new v w s beside keeps =
     let l : DetachLeaves b (detach b n) = devices_stay_lem.detached b n in
     record {
       shows = beside.shown;
@@ -71,12 +72,12 @@ completed-stands b n anonymous running held holds old new v w s beside keeps =
       book = keeps [] s.book;
     }
 
-pub completed-sound : (n anonymous : ℕ) (running : Bool) (held holds : HoldList) (old new : Asked) (v w : Objects)
-    → among old.pending n ≡ true → StandsForGood (parts_of anonymous running held old v)
+pub completed-sound : (n : ℕ) (rings : List Ring) (anonymous : ℕ) (running : Bool) (held holds : HoldList) (old new : Asked) (v w : Objects)
+    → among old.pending n ≡ true → StandsForGood (parts_of rings anonymous running held old v)
     → ((b : Board) → SoundTree b → SoundClocks b → Beside b v held.births old → Beside (detach b n) w holds.births new) → KeepsBook v w
-    → OnlyRootPinned w × StandsForGood (parts_of anonymous running holds new w)
-completed-sound n anonymous running held holds old new v w pending (b, s, good) detaches keeps =
+    → OnlyRootPinned w × StandsForGood (parts_of rings anonymous running holds new w)
+completed-sound n rings anonymous running held holds old new v w pending (b, s, good) detaches keeps =
     let behind : Good (completed b n) = completed-good b n (ap (λ (ns : List ℕ). among ns n) s.pending ∙ pending) good in
-    let stands : Stands (completed b n) (parts_of anonymous running holds new w) = completed-stands b n anonymous running held holds old new v w s
-    (detaches b good.devices.tree good.clocks (is_beside b anonymous running held old v s)) keeps in
-    (root-pinned (completed b n) (parts_of anonymous running holds new w) stands behind, (completed b n, stands, behind))
+    let stands : Stands (completed b n) (parts_of rings anonymous running holds new w) = completed-stands b n rings anonymous running held holds old new v w s
+    (detaches b good.devices.tree good.clocks (is_beside b rings anonymous running held old v s)) keeps in
+    (root-pinned (completed b n) (parts_of rings anonymous running holds new w) stands behind, (completed b n, stands, behind))

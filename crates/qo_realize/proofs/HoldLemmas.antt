@@ -2,7 +2,7 @@
 use Rattle.std.proofs.Common.{◌≡◌, refl, ap, sym, subst, ◌∙◌, ap₂, ℕ, Bool, true, false, not, if◌then◌else◌, List, [], Some, None, Result, Ok, Err, OnErr}
 use Rattle.qo_values.specs.declared.codes.Code.{Code}
 use Rattle.qo_values.specs.declared.codes.Code.TheVariants.{E15, E48, E49}
-use Rattle.qo_model.specs.Board.{Board}
+use Rattle.qo_model.specs.Board.{Board, Ring}
 use Rattle.qo_model.specs.Depth.{among}
 use Rattle.qo_model.specs.Objects.{Changed}
 use Rattle.qo_model.specs.Paths.{attached}
@@ -83,12 +83,12 @@ released_at-good b path good = released_at-all Good b path good (λ n. released-
 pub acts-keep : (v w : Objects) → Acts v w → KeepsBook v w
 acts-keep v w acts out = acts-book out v w acts
 
-module _ (anonymous : ℕ) (running : Bool) (old new : HoldList) (asked : Asked) (v w : Objects) (book : KeepsBook v w) where
+module _ (rings : List Ring) (anonymous : ℕ) (running : Bool) (old new : HoldList) (asked : Asked) (v w : Objects) (book : KeepsBook v w) where
   abbrev before : Parts
-  before = parts_of anonymous running old asked v
+  before = parts_of rings anonymous running old asked v
 
   abbrev behind : Parts
-  behind = parts_of anonymous running new asked w
+  behind = parts_of rings anonymous running new asked w
 
   pub reset-stands : (b c : Board) → Stands b before → ResetLeaves b c → Holds c new.births w → Stands c behind
   reset-stands b c s l h =
@@ -104,7 +104,7 @@ module _ (anonymous : ℕ) (running : Bool) (old new : HoldList) (asked : Asked)
       }
 
   same-parts : (w ≡ v) × (new.births ≡ old.births) → behind ≡ before
-  same-parts h = ap₂ (λ (x : Objects) (holds : List ℕ). parts_of anonymous running (record { births = holds; spare = 0 }) asked x) h.0 h.1
+  same-parts h = ap₂ (λ (x : Objects) (holds : List ℕ). parts_of rings anonymous running (record { births = holds; spare = 0 }) asked x) h.0 h.1
 
   pub left-stands : (b : Board) → Stands b before → (w ≡ v) × (new.births ≡ old.births) → Stands b behind
   left-stands b s h = subst (λ (p : Parts). Stands b p) (sym (same-parts h)) s
@@ -134,16 +134,19 @@ module _ (anonymous : ℕ) (running : Bool) (old new : HoldList) (asked : Asked)
   pub good-pinned : (b : Board) → Stands b behind → Good b → OnlyRootPinned w × StandsForGood behind
   good-pinned b s good = (root-pinned b behind s good, (b, s, good))
 
-  hold-good : (b : Board) (path : List ℕ) (result : Result Unit Refusal) → Good b → Changes (held_at b path) b result behind → OnlyRootPinned w × StandsForGood behind
+  hold-good : (b : Board) (path : List ℕ) (result : Result Unit Refusal) → Good b → Changes (held_at b path) b result behind
+      → OnlyRootPinned w × StandsForGood behind
   hold-good b path (Ok u) good h = good-pinned (held_at b path).board h.1 (held_at-good b path good)
   hold-good b path (Err (Refused code)) good h = good-pinned b h.1 good
   hold-good b path (Err Memory) good h = good-pinned b h good
 
-  pub hold-keeps : (path : List ℕ) (result : Result Unit Refusal) → StandsForGood before → ((b : Board) → Holds b old.births v → Resets b (held_at b path) result new.births w)
+  pub hold-keeps : (path : List ℕ) (result : Result Unit Refusal) → StandsForGood before → ((b : Board) → Holds b old.births v
+      → Resets b (held_at b path) result new.births w)
       → OnErr result ((w ≡ v) × (new.births ≡ old.births)) → OnlyRootPinned w × StandsForGood behind
   hold-keeps path result (b, s, good) h same = hold-good b path result good (hold-changes b path result s (h b (s.shows, s.holds)) same)
 
-  pub release-keeps : (path : List ℕ) (result : Result Unit Code) → StandsForGood before → ((b : Board) → Holds b old.births v → Releases b (released_at b path) result new.births w)
+  pub release-keeps : (path : List ℕ) (result : Result Unit Code) → StandsForGood before → ((b : Board) → Holds b old.births v
+      → Releases b (released_at b path) result new.births w)
       → OnErr result ((w ≡ v) × (new.births ≡ old.births)) → OnlyRootPinned w × StandsForGood behind
   release-keeps path result (b, s, good) h same =
       good-pinned (released_at b path).board (release-answers b path result s (h b (s.shows, s.holds)) same).board (released_at-good b path good)
@@ -151,5 +154,6 @@ module _ (anonymous : ℕ) (running : Bool) (old new : HoldList) (asked : Asked)
   pub pulse-stands : (b : Board) (n : ℕ) → Stands b before → Holds (pulse b n) new.births w → Stands (pulse b n) behind
   pulse-stands b n s h = reset-stands b (pulse b n) s (devices_stay_lem.pulsed b n) h
 
-  pub pulse-keeps : (n : ℕ) → StandsForGood before → ((b : Board) → Holds b old.births v → Holds (pulse b n) new.births w) → OnlyRootPinned w × StandsForGood behind
+  pub pulse-keeps : (n : ℕ) → StandsForGood before → ((b : Board) → Holds b old.births v → Holds (pulse b n) new.births w)
+      → OnlyRootPinned w × StandsForGood behind
   pulse-keeps n (b, s, good) h = good-pinned (pulse b n) (pulse-stands b n s (h b (s.shows, s.holds))) (pulsed-good b n good)

@@ -1,4 +1,5 @@
 pub mod AskLemmas
+pub mod ChardevLemmas
 pub mod CompleteLemmas
 pub mod DeviceLemmas
 pub mod GuestLemmas
@@ -13,3 +14,4 @@ pub mod StandsLemmas
 pub mod TimeLemmas
 pub mod WriteLemmas
 pub mod WrittenLemmas
+pub mod UserLemmas

@@ -1,12 +1,12 @@
 -- What stands where the guest refuses the removal of a device.
-use Rattle.std.proofs.Common.{◌≡◌, refl, ap, sym, subst, ◌∙◌, ℕ, Bool, [], ◌++◌, Option, None, Some, Result, Ok, Err, OnErr, OnOk, option_map}
+use Rattle.std.proofs.Common.{◌≡◌, refl, ap, sym, subst, ◌∙◌, ℕ, Bool, [], ◌++◌, Option, None, Some, Result, Ok, Err, OnErr, OnOk, option_map, List}
 use Rattle.std.specs.Prelude.{◌==◌, ◌||◌, filter, not, option_and_then, option_to_list}
 use Rattle.std.proofs.lemmas.Option.{same_Some}
 use Rattle.std.proofs.lemmas.List.{append-nil}
 use Rattle.qo_events.specs.Waiting.{Waiting}
 use Rattle.qo_hotplug.specs.Asked as hotplug
 use Rattle.qo_hotplug.specs.Asked.{Asked}
-use Rattle.qo_model.specs.Board.{Board, DeviceEvent, Notice, Record, record_of}
+use Rattle.qo_model.specs.Board.{Board, DeviceEvent, Notice, Record, record_of, Ring}
 use Rattle.qo_model.specs.Unplug.{without_all}
 use Rattle.qo_heap.specs.Book.{IsBook}
 use Rattle.qo_model.specs.Hotplug.{refused}
@@ -68,10 +68,10 @@ refused-book v w n spare is = go (content_of v n) is
     go (Some c) same = λ out book. subst (IsBook out) (same_Some (told_refused v spare c) w same) book
 
 -- the board's part
-pub refused-stands : (b : Board) (anonymous : ℕ) (running : Bool) (holds : HoldList) (old new : Asked) (v w : Objects) (n : ℕ)
-    → Stands b (parts_of anonymous running holds old v) → Shows (refused b n) w → IsAsked (refused b n) new → KeepsBook v w
-    → Stands (refused b n) (parts_of anonymous running holds new w)
-refused-stands b anonymous running holds old new v w n s shows asked keeps =
+pub refused-stands : (b : Board) (rings : List Ring) (anonymous : ℕ) (running : Bool) (holds : HoldList) (old new : Asked) (v w : Objects) (n : ℕ)
+    → Stands b (parts_of rings anonymous running holds old v) → Shows (refused b n) w → IsAsked (refused b n) new → KeepsBook v w
+    → Stands (refused b n) (parts_of rings anonymous running holds new w)
+refused-stands b rings anonymous running holds old new v w n s shows asked keeps =
     record {
       shows = shows;
       anonymous = s.anonymous;
@@ -87,24 +87,28 @@ refused-stands b anonymous running holds old new v w n s shows asked keeps =
 abbrev pub IfRefused : {E : Type 0} → Result Unit E → Objects → Objects → Asked → Asked → ℕ → Type 0
 IfRefused r v w old new n = OnOk r ((b : Board) → Shows b v → IsAsked b old → Shows (refused b n) w × IsAsked (refused b n) new)
 
-pub refuse-returns : {E : Type 0} (b : Board) (anonymous : ℕ) (running : Bool) (holds : HoldList) (old new : Asked) (v w : Objects) (n : ℕ) (r : Result Unit E)
-    → Stands b (parts_of anonymous running holds old v) → IfRefused r v w old new n → KeepsBook v w
-    → OnOk r (Stands (refused b n) (parts_of anonymous running holds new w))
-refuse-returns b anonymous running holds old new v w n (Err e) s told keeps = tt
-refuse-returns b anonymous running holds old new v w n (Ok u) s told keeps =
-    let both = told b s.shows (is_asked b anonymous running holds old v s) in
-    refused-stands b anonymous running holds old new v w n s both.0 both.1 keeps
+pub refuse-returns : {E : Type 0} (b : Board) (rings : List Ring) (anonymous : ℕ) (running : Bool) (holds : HoldList) (old new : Asked)
+    (v w : Objects) (n : ℕ) (r : Result Unit E)
+    → Stands b (parts_of rings anonymous running holds old v) → IfRefused r v w old new n → KeepsBook v w
+    → OnOk r (Stands (refused b n) (parts_of rings anonymous running holds new w))
+refuse-returns b rings anonymous running holds old new v w n (Err e) s told keeps = tt
+refuse-returns b rings anonymous running holds old new v w n (Ok u) s told keeps =
+    let both = told b s.shows (is_asked b rings anonymous running holds old v s) in
+    refused-stands b rings anonymous running holds old new v w n s both.0 both.1 keeps
 
-pub refuse-invariant : {E : Type 0} (anonymous : ℕ) (running : Bool) (holds : HoldList) (old new : Asked) (v w : Objects) (n : ℕ) (r : Result Unit E)
-    → OnlyRootPinned v × StandsForGood (parts_of anonymous running holds old v) → IfRefused r v w old new n → KeepsBook v w → OnErr r ((w ≡ v) × (new ≡ old))
-    → OnlyRootPinned w × StandsForGood (parts_of anonymous running holds new w)
-refuse-invariant anonymous running holds old new v w n (Err e) h told keeps (heap, asked) =
-    subst (λ (x : Objects). OnlyRootPinned x × StandsForGood (parts_of anonymous running holds new x)) (sym heap)
-    (subst (λ (x : Asked). OnlyRootPinned v × StandsForGood (parts_of anonymous running holds x v)) (sym asked) h)
-refuse-invariant anonymous running holds old new v w n (Ok u) h told keeps same =
+pub refuse-invariant : {E : Type 0} (rings : List Ring) (anonymous : ℕ) (running : Bool) (holds : HoldList) (old new : Asked) (v w : Objects)
+    (n : ℕ) (r : Result Unit E)
+    → OnlyRootPinned v × StandsForGood (parts_of rings anonymous running holds old v) → IfRefused r v w old new n → KeepsBook v w
+    → OnErr r ((w ≡ v) × (new ≡ old))
+    → OnlyRootPinned w × StandsForGood (parts_of rings anonymous running holds new w)
+refuse-invariant rings anonymous running holds old new v w n (Err e) h told keeps (heap, asked) =
+    subst (λ (x : Objects). OnlyRootPinned x × StandsForGood (parts_of rings anonymous running holds new x)) (sym heap)
+    (subst (λ (x : Asked). OnlyRootPinned v × StandsForGood (parts_of rings anonymous running holds x v)) (sym asked) h)
+refuse-invariant rings anonymous running holds old new v w n (Ok u) h told keeps same =
     let (b, s, sound) = h.1 in
-    let stands : Stands (refused b n) (parts_of anonymous running holds new w) = refuse-returns b anonymous running holds old new v w n (the (Result Unit Unit) (Ok tt)) s told keeps in
-    (root-pinned (refused b n) (parts_of anonymous running holds new w) stands (refused-good b n sound), (refused b n, stands, refused-good b n sound))
+    let stands : Stands (refused b n) (parts_of rings anonymous running holds new w) =
+    refuse-returns b rings anonymous running holds old new v w n (the (Result Unit Unit) (Ok tt)) s told keeps in
+    (root-pinned (refused b n) (parts_of rings anonymous running holds new w) stands (refused-good b n sound), (refused b n, stands, refused-good b n sound))
   where
     the : (T : Type 0) → T → T
     the T x = x

@@ -1,9 +1,11 @@
 -- The registers of a device as the guest reads and writes them: what the heap's body has is the board's, and what stands behind a write.
-use Rattle.std.proofs.Common.{◌≡◌, refl, ap, sym, subst, ◌∙◌, ℕ, Bool, false, List, [], count_by, Option, None, Some, IfNone, IfSome, option_map, arith}
+use Rattle.std.proofs.Common.{◌≡◌, refl, ap, ap₂, sym, subst, ◌∙◌, ℕ, Bool, List, [], count_by, Option, None, Some, IfNone, IfSome, is_some, option_map, arith}
 use Rattle.std.specs.Option.{option_map_or}
 use Rattle.std.proofs.lemmas.Option.{same_Some}
 use Rattle.qo_values.specs.Bodies.{Effect, body_write}
+use Rattle.qo_values.specs.Bodies as effect
 use Rattle.qo_values.specs.Registers.{Registers, bare}
+use Rattle.qo_backends.specs.Rings.{claimed_ring}
 use Rattle.qo_kinds.specs.Bodies.{IsTimely, kept_of, registers_of}
 use Rattle.qo_kinds.specs.declared.bodies.Body.{Body}
 use Rattle.qo_kinds.specs.declared.bodies.Body.TheVariants.{Uart, Timer, Dimm, Bridge, Bus, Clock, Backend, Plain}
@@ -12,8 +14,10 @@ use Rattle.qo_slots.specs.declared.keys.Key.{Key}
 use Rattle.qo_table.specs.Rows.{IsLive}
 use Rattle.qo_object.specs.Content.{Content}
 use Rattle.qo_object.specs.Shown.{shown}
-use Rattle.qo_model.specs.Board.{Board, Record, record_of}
+use Rattle.qo_model.specs.Board.{Board, Record, record_of, Ring}
 use Rattle.qo_model.specs.Clocks.{ClocksFit, device_period}
+use Rattle.qo_model.specs.Devices.{first_bus}
+use Rattle.qo_model.specs.Reset.{pulse}
 use Rattle.qo_heap.specs.Board.{Shows}
 use Rattle.qo_heap.specs.Book.{claim_eq, kept_times}
 use Rattle.qo_heap.specs.Objects.{IsHeap, Objects, content_of, with_edit}
@@ -28,15 +32,16 @@ use Rattle.qo_properties.specs.Pinned.{OnlyRootPinned}
 use Rattle.qo_registers.specs.Effects.{effect_told}
 use Rattle.qo_reset.specs.HoldList.{HoldList}
 use Rattle.qo_reset.specs.Phases.{Holds}
+use Rattle.qo_sound.proofs.DevicesStayLemmas.{devices_stay_lem}
 use Rattle.qo_sound_clocks.specs.RegistersKept.{registers_set, with_registers}
 use Rattle.qo_sound_clocks.specs.SoundTimes as boards
 use Rattle.qo_sound_clocks.proofs.TimesLemmas.{times_kept_lem}
+use Rattle.qo_realize.specs.Good.{Good}
 use Rattle.qo_realize.specs.Parts.{Parts, parts_of}
-use Rattle.qo_realize.specs.Registers.{GuestWrites, HasWritten, Written, behind_effect, guest_written, registers_at, registers_written}
+use Rattle.qo_realize.specs.Registers.{GuestWrites, HasWritten, IsHeld, Written, behind_effect, guest_written, registers_at, registers_written}
 use Rattle.qo_realize.specs.Stands.{Stands, StandsForGood}
-use Rattle.qo_realize.proofs.SoundLemmas.{written-good}
-use Rattle.qo_realize.proofs.WrittenLemmas.{written-leaves}
-use Rattle.qo_realize.proofs.HoldLemmas.{good-pinned, left-stands, reset-stands}
+use Rattle.qo_realize.proofs.SoundLemmas.{root-pinned, written-good}
+use Rattle.qo_realize.proofs.WrittenLemmas.{WriteLeaves, written-leaves}
 
 -- the body of an object that is there
 body-there : (v : Objects) (o : Key) (body : Body) → IsLive v.rows o → option_map (λ (c : Content). c.body) (content_of v o.birth) ≡ Some body
@@ -100,12 +105,15 @@ shows-put : (b : Board) (v : Objects) → Shows b v → (n : ℕ) (body : Body) 
 shows-put b v s n body = shows-edit n (put body) b v s (with_registers (registers_of body)) (λ m c. refl) (λ c. refl)
 
 pub has-written : (b : Board) (v : Objects) → Shows b v → (o : Key) (old new : Body) (reg value : ℕ) → IsLive v.rows o
-    → option_map (λ (c : Content). c.body) (content_of v o.birth) ≡ Some old → (time period : ℕ) → time ≡ v.time → period ≡ device_period b o.birth
-    → (result : Option told.Effect)
-    → option_map (λ (e : told.Effect). (registers_of new, effect_told e)) result ≡ body_write (registers_of old) reg value false time period
+    → option_map (λ (c : Content). c.body) (content_of v o.birth) ≡ Some old → (ring : Bool) (time period : ℕ) → ring ≡ is_some (claimed_ring b o.birth)
+    → time ≡ v.time → period ≡ device_period b o.birth → (result : Option told.Effect)
+    → option_map (λ (e : told.Effect). (registers_of new, effect_told e)) result ≡ body_write (registers_of old) reg value ring time period
     → HasWritten b o.birth (registers_written b o.birth reg value) result (with_edit o.birth (put new) v)
-has-written b v s o old new reg value live is time period at by result came =
-    go result (sym (came ∙ board-call (λ (r : Registers) (now p : ℕ). body_write r reg value false now p) b v s o old live is time period at by))
+has-written b v s o old new reg value live is ring time period claimed at by result came =
+    go result
+    (sym
+    (came ∙ board-call (λ (r : Registers) (now p : ℕ). body_write r reg value ring now p) b v s o old live is time period at by
+    ∙ ap (λ (x : Bool). body_write (registers_at b o.birth) reg value x b.now (device_period b o.birth)) claimed))
   where
     go : (r : Option told.Effect) → registers_written b o.birth reg value ≡ option_map (λ (e : told.Effect). (registers_of new, effect_told e)) r
         → HasWritten b o.birth (registers_written b o.birth reg value) r (with_edit o.birth (put new) v)
@@ -137,36 +145,66 @@ put-none v good o old new live is (Some e) same = tt
 pub put-live : (v : Objects) (o : Key) (new : Body) → IsLive v.rows o → IsLive (with_edit o.birth (put new) v).rows o
 put-live v o new live = live-edit o.birth (put new) v.rows o live
 
+-- what is done beside
+
+-- a bus goes through a pulse, which leaves the rings
+pub pulse-held : (b : Board) (d m : ℕ) (holds next : List ℕ) (rings : List Ring) (v w : Objects) → IsHeld b holds rings v → first_bus b d ≡ Some m
+    → Holds (pulse b m) next w → IsHeld (behind_effect d effect.pulse b) next rings w
+pulse-held b d m holds next rings v w h is behind =
+    subst (λ (bus : Option ℕ). IsHeld (option_map_or (pulse b) bus b) next rings w) (sym is)
+    (record { held = behind; rings_are = (devices_stay_lem.pulsed b m).rings ∙ h.rings_are })
+
 -- the board behind the write
-pub was-written : (b : Board) (d reg value : ℕ) (e : told.Effect) (holds next : List ℕ) (v w : Objects) → b.holds ≡ holds
-    → HasWritten b d (registers_written b d reg value) (Some e) v → ((c : Board) → Holds c holds v → Holds (behind_effect d (effect_told e) c) next w)
-    → Written (guest_written b d reg value) (Some tt) next w
-was-written b d reg value e holds next v w held (registers, is, shows) through = (
+pub was-written : (b : Board) (d reg value : ℕ) (e : told.Effect) (holds next : List ℕ) (rings others : List Ring) (v w : Objects) → b.holds ≡ holds
+    → b.rings ≡ rings → HasWritten b d (registers_written b d reg value) (Some e) v
+    → ((c : Board) → IsHeld c holds rings v → IsHeld (behind_effect d (effect_told e) c) next others w)
+    → Written (guest_written b d reg value) (Some tt) next others w
+was-written b d reg value e holds next rings others v w held kept (registers, is, shows) through = (
   behind_effect d (effect_told e) (registers_set b d registers),
   ap (option_map (λ (x : Registers × Effect). behind_effect d x.1 (registers_set b d x.0))) is,
-  through (registers_set b d registers) (shows, held),
+  through (registers_set b d registers) (record { held = (shows, held); rings_are = kept }),
 )
 
 -- what stands behind it
 
-module _ (anonymous : ℕ) (running : Bool) (old new : HoldList) (asked : Asked) (v w : Objects) (book : KeepsBook v w) (d reg value : ℕ) where
+module _ (rings others : List Ring) (anonymous : ℕ) (running : Bool) (old new : HoldList) (asked : Asked) (v w : Objects) (book : KeepsBook v w)
+    (d reg value : ℕ) where
   abbrev before : Parts
-  before = parts_of anonymous running old asked v
+  before = parts_of rings anonymous running old asked v
 
   abbrev behind : Parts
-  behind = parts_of anonymous running new asked w
+  behind = parts_of others anonymous running new asked w
 
-  pub write-stands : (b : Board) (result : Option (Unit {0})) → Stands b before → Written (guest_written b d reg value) result new.births w
+  written-stands : (b c : Board) → Stands b before → WriteLeaves b c → IsHeld c new.births others w → Stands c behind
+  written-stands b c s l h =
+      record {
+        shows = h.held.0;
+        anonymous = l.anonymous ∙ s.anonymous;
+        running = l.running ∙ s.running;
+        holds = h.held.1;
+        pending = l.pending ∙ s.pending;
+        notices = l.notices ∙ s.notices;
+        rings = h.rings_are;
+        book = book [] s.book;
+      }
+
+  same-parts : (w ≡ v) × (new.births ≡ old.births) × (others ≡ rings) → behind ≡ before
+  same-parts h =
+      ap (λ (r : List Ring). parts_of r anonymous running new asked w) h.2
+      ∙ ap₂ (λ (x : Objects) (holds : List ℕ). parts_of rings anonymous running (record { births = holds; spare = 0 }) asked x) h.0 h.1
+
+  pub write-stands : (b : Board) (result : Option (Unit {0})) → Stands b before → Written (guest_written b d reg value) result new.births others w
       → GuestWrites (guest_written b d reg value) result behind
-  write-stands b (Some u) s (c, is, holds) = (c, is, reset-stands anonymous running old new asked v w book b c s (written-leaves b d reg value c is) holds)
+  write-stands b (Some u) s (c, is, held) = (c, is, written-stands b c s (written-leaves b d reg value c is) held)
   write-stands b None s is = is
 
+  stands-pinned : (b : Board) → Stands b behind → Good b → OnlyRootPinned w × StandsForGood behind
+  stands-pinned b s good = (root-pinned b behind s good, (b, s, good))
+
   pub write-keeps : (result : Option (Unit {0})) → StandsForGood before
-      → ((b : Board) → Holds b old.births v → ClocksFit b → Written (guest_written b d reg value) result new.births w)
-      → IfNone result ((w ≡ v) × (new.births ≡ old.births)) → OnlyRootPinned w × StandsForGood behind
-  write-keeps None (b, s, good) h same =
-      good-pinned anonymous running old new asked v w book b (left-stands anonymous running old new asked v w book b s same) good
+      → ((b : Board) → IsHeld b old.births rings v → ClocksFit b → Written (guest_written b d reg value) result new.births others w)
+      → IfNone result ((w ≡ v) × (new.births ≡ old.births) × (others ≡ rings)) → OnlyRootPinned w × StandsForGood behind
+  write-keeps None (b, s, good) h same = stands-pinned b (subst (λ (p : Parts). Stands b p) (sym (same-parts same)) s) good
   write-keeps (Some u) (b, s, good) h same =
-      let (c, is, holds) = h b (s.shows, s.holds) good.clocks.fit in
-      good-pinned anonymous running old new asked v w book c
-      (reset-stands anonymous running old new asked v w book b c s (written-leaves b d reg value c is) holds) (written-good b d reg value c is good)
+      let (c, is, held) = h b (record { held = (s.shows, s.holds); rings_are = s.rings }) good.clocks.fit in
+      stands-pinned c (written-stands b c s (written-leaves b d reg value c is) held) (written-good b d reg value c is good)

@@ -1,25 +1,22 @@
 -- The board that stands is good behind each call.
-use Rattle.std.proofs.Common.{◌≡◌, ◌≤◌, arith, refl, ap, sym, subst, ◌∙◌, ℕ, Bool, true, false, List, [], ◌∷◌, drop, Option, None, Some, Result, Ok, Err, if◌then◌else◌}
+use Rattle.std.proofs.Common.{◌≡◌, ◌≤◌, arith, refl, ap, sym, subst, ◌∙◌, ℕ, Bool, true, false, List, [], ◌∷◌, drop, Option, None, Some, is_some, if◌then◌else◌}
 use Rattle.std.specs.Option.{option_map_or}
 use Rattle.qo_values.specs.Bodies.{Effect}
 use Rattle.qo_values.specs.Registers.{Registers, bare}
 use Rattle.qo_values.specs.declared.codes.Code.{Code}
 use Rattle.qo_values.specs.declared.kinds.TypeId.{TypeId}
-use Rattle.qo_values.specs.declared.properties.Val.{Val}
-use Rattle.qo_model.specs.Access.{write_at}
-use Rattle.qo_model.specs.Board.{Board, Notice, Record, record_of}
+use Rattle.qo_backends.specs.Rings.{claimed_ring}
+use Rattle.qo_model.specs.Board.{Board, Notice, Record, Ring, record_of}
 use Rattle.qo_model.specs.Clocks.{device_period}
 use Rattle.qo_model.specs.Depth.{among}
-use Rattle.qo_model.specs.FinalNotesRuns.{Change, behind_write, changed, wrote}
+use Rattle.qo_model.specs.FinalNotesRuns.{Change, changed}
 use Rattle.qo_model.specs.Hotplug.{asked, completed, refused}
 use Rattle.qo_model.specs.Objects.{attempted_as, barred_by, with_attempt}
 use Rattle.qo_model.specs.Opening.{opening_board}
-use Rattle.qo_model.specs.Plug.{Plugged, Wanted, barred_early, cut_attempt, objects_in, plug, plug_attempt}
-use Rattle.qo_model.specs.Properties.{object_at, write}
+use Rattle.qo_model.specs.Plug.{Plugged, Wanted, barred_early, cut_attempt, objects_in, plug, plug_attempt, type_barred}
 use Rattle.qo_model.specs.Reset.{held, pulse, released}
 use Rattle.qo_model.specs.SoundGraph.{graph_of}
 use Rattle.qo_model.specs.Types.{TypeRow, row_named}
-use Rattle.qo_plug.specs.Added.{added, driver_barred}
 use Rattle.qo_plug.specs.Cuts.{cut_as, cut_of, cut_open}
 use Rattle.qo_plug.proofs.PlugSteps.{cut-whole}
 use Rattle.qo_properties.specs.Pinned.{OnlyRootPinned}
@@ -27,12 +24,13 @@ use Rattle.qo_sound_devices.specs.SoundDevices.{SoundDevices}
 use Rattle.qo_sound_devices.specs.SoundLists.{IsOn}
 use Rattle.qo_sound_devices.proofs.DevicesLawLemmas.{devices_kept_lem}
 use Rattle.qo_sound_devices.proofs.PlugLemmas.{among-all}
-use Rattle.qo_sound_clocks.specs.RegistersKept.{registers_set, with_registers}
+use Rattle.qo_sound_clocks.specs.RegistersKept.{registers_set}
 use Rattle.qo_sound_clocks.specs.SoundTimes.{IsTimely, SoundTimes}
 use Rattle.qo_sound_clocks.proofs.LawLemmas.{clocks_kept_lem}
 use Rattle.qo_sound_clocks.proofs.NumbersLemmas.{numbers_kept_lem}
 use Rattle.qo_sound_clocks.proofs.RegisterLemmas.{registers_kept_lem}
 use Rattle.qo_sound_clocks.proofs.TimesLemmas.{times_kept_lem}
+use Rattle.qo_realize.specs.Chardevs.{with_rings}
 use Rattle.qo_realize.specs.Good.{Good}
 use Rattle.qo_realize.specs.Guest.{polled}
 use Rattle.qo_realize.specs.Parts.{Parts}
@@ -67,7 +65,8 @@ attempt-good b t h =
 pub attempted-good : (b : Board) (driver id : List ℕ) → Good b → Good (attempted_as b driver id)
 attempted-good b driver id good = by (barred_by b driver id) (row_named driver)
   where
-    by : (bar : Option Code) (row : Option TypeRow) → Good (elim bar as (λ o. Board) [ Some code ↦ b | None ↦ option_map_or (λ (row : TypeRow). with_attempt b row.id) row b ])
+    by : (bar : Option Code) (row : Option TypeRow)
+        → Good (elim bar as (λ o. Board) [ Some code ↦ b | None ↦ option_map_or (λ (row : TypeRow). with_attempt b row.id) row b ])
     by (Some code) row = good
     by None None = good
     by None (Some row) = attempt-good b row.id good
@@ -103,6 +102,10 @@ timed-good b now = good-alike b (at_time now b) refl refl refl refl refl refl
 
 pub switched-good : (b : Board) (on : Bool) → Good b → Good (with_running on b)
 switched-good b on = good-alike b (with_running on b) refl refl refl refl refl refl (omega arith)
+
+-- other rings
+pub ringed-good : (b : Board) (rings : List Ring) → Good b → Good (with_rings rings b)
+ringed-good b rings = good-alike b (with_rings rings b) refl refl refl refl refl refl (omega arith)
 
 pub refused-good : (b : Board) (n : ℕ) → Good b → Good (refused b n)
 refused-good b n h =
@@ -141,19 +144,14 @@ opening-good =
     }
 
 -- a device is added, or not
-pub added-good : (b : Board) (a : Wanted) → Good b → Good (added b a).board
-unfolding added
-added-good b a good = by (driver_barred a.driver)
-  where
-    by : (bar : Option Code) → Good (elim bar as (λ o. Plugged) [ Some code ↦ record { refusal = Some (1, code); board = b } | None ↦ plug b a ]).board
-    by (Some code) = good
-    by None =
-        record {
-          devices = devices_kept_lem.plugged b a good.devices;
-          clocks = clocks_kept_lem.plugged b a good.devices.tree good.clocks;
-          numbers = numbers_kept_lem.plugged b a good.devices.tree good.numbers;
-          times = times_kept_lem.plugged b a good.times;
-        }
+pub added-good : (b : Board) (a : Wanted) → Good b → Good (plug b a).board
+added-good b a good =
+    record {
+      devices = devices_kept_lem.plugged b a good.devices;
+      clocks = clocks_kept_lem.plugged b a good.devices.tree good.clocks;
+      numbers = numbers_kept_lem.plugged b a good.devices.tree good.numbers;
+      times = times_kept_lem.plugged b a good.times;
+    }
 
 -- an attempt at one is cut
 cut-good : (b : Board) (t : TypeId) (i : ℕ) (joined : Bool) → Good b → Good (cut_attempt b t i joined)
@@ -167,7 +165,7 @@ cut-good b t i joined good =
 
 pub cut_as-good : (b : Board) (a : Wanted) (i : ℕ) (joined : Bool) → Good b → Good (cut_as b a i joined)
 unfolding cut_as
-cut_as-good b a i joined good = by (driver_barred a.driver) (row_named a.driver)
+cut_as-good b a i joined good = by (type_barred a.driver) (row_named a.driver)
   where
     some : (t : TypeId) (u : Bool) → Good (if u then cut_attempt b t i joined else b)
     some t true = cut-good b t i joined good
@@ -177,7 +175,8 @@ cut_as-good b a i joined good = by (driver_barred a.driver) (row_named a.driver)
     free row None = some row.id _
     free row (Some found) = good
 
-    by : (bar : Option Code) (row : Option TypeRow) → Good (elim bar as (λ o. Board) [ Some code ↦ b | None ↦ option_map_or (λ (row : TypeRow). cut_open b a row i joined) row b ])
+    by : (bar : Option Code) (row : Option TypeRow)
+        → Good (elim bar as (λ o. Board) [ Some code ↦ b | None ↦ option_map_or (λ (row : TypeRow). cut_open b a row i joined) row b ])
     by (Some code) row = good
     by None None = good
     by None (Some row) = free row (barred_early b row.id a)
@@ -247,11 +246,13 @@ set-good b d reg value registers e is good =
     }
   where
     timely : IsTimely b.now registers
-    timely = times_kept_lem.wrote (registers_at b d) registers e reg value false b.now (device_period b d) is (registers-timely b d good.times)
+    timely =
+        times_kept_lem.wrote (registers_at b d) registers e reg value (is_some (claimed_ring b d)) b.now (device_period b d) is
+        (registers-timely b d good.times)
 
 pub written-good : (b : Board) (d reg value : ℕ) (c : Board) → guest_written b d reg value ≡ Some c → Good b → Good c
 written-good b d reg value c is good =
-    written-all Good b d reg value (λ registers e by. set-good b d reg value registers e by good)
+    written-all Good b d reg value (λ registers e by. set-good b d reg value registers e by good) (λ x rings h. ringed-good x rings h)
     (λ x m is h. pulsed-good x m h) c is
 
 -- each board that stands at the same parts as a good one is good

@@ -1,8 +1,8 @@
 -- What stands behind each stage of an add.
-use Rattle.std.proofs.Common.{◌≡◌, refl, ap, sym, subst, ◌∙◌, ℕ, ◌≤◌, Bool, true, Option, Some, Ok, Err, Result, arith}
+use Rattle.std.proofs.Common.{◌≡◌, refl, ap, sym, subst, ◌∙◌, ℕ, ◌≤◌, Bool, true, Option, Some, Ok, Err, Result, arith, List}
 use Rattle.std.proofs.lemmas.Option.{same_Some}
 use Rattle.qo_hotplug.specs.Asked.{Asked}
-use Rattle.qo_model.specs.Board.{Board}
+use Rattle.qo_model.specs.Board.{Board, Ring}
 use Rattle.qo_model.specs.Plug.{Wanted, objects_in, plug_attempt}
 use Rattle.qo_model.specs.Stays.{Stays}
 use Rattle.qo_heap.specs.Board.{Shows}
@@ -35,10 +35,10 @@ use Rattle.qo_realize.proofs.SoundLemmas.{given_up-good}
 books : (u v w : Objects) → KeepsBook u v → KeepsBook v w → KeepsBook u w
 books u v w one two = λ out h. two out (one out h)
 
-module _ (b : Board) (a : Wanted) (anonymous next : ℕ) (running : Bool) (holds : HoldList) (old : Asked) where
+module _ (b : Board) (a : Wanted) (rings : List Ring) (anonymous next : ℕ) (running : Bool) (holds : HoldList) (old : Asked) where
   -- the parts of the board with these objects
   abbrev at : Objects → Parts
-  at v = parts_of anonymous running holds old v
+  at v = parts_of rings anonymous running holds old v
 
   pub since-begun : (v w : Objects) → Stands b (at v) → Good b → next ≡ counts anonymous a.id → KeepsBook v w → Since b a (at w) next
   since-begun v w s good is keeps = record { before = v; stood = s; book = keeps; good = good; counted = is ∙ ap (λ (n : ℕ). counts n a.id) (sym s.anonymous) }
@@ -58,9 +58,9 @@ module _ (b : Board) (a : Wanted) (anonymous next : ℕ) (running : Bool) (holds
       -- it is refused, or an attempt is cut
       since-barred : (new : Asked) → new ≡ old → (e : AddRefusal)
           → IfRefused (the (Result device.Added AddRefusal) (Err e)) (λ stage code. IsRefused b a stage code w)
-          → (e ≡ Memory → IsCut b a w) → Plugs b a (Err e) (parts_of anonymous running holds new w)
+          → (e ≡ Memory → IsCut b a w) → Plugs b a (Err e) (parts_of rings anonymous running holds new w)
       since-barred new same e refused memory =
-          barred-stands b a anonymous running holds old new since.before w e since.stood refused (λ is. memory (cc is)) same kept
+          barred-stands b a rings anonymous running holds old new since.before w e since.stood refused (λ is. memory (cc is)) same kept
 
       pub begin-barred : (e : AddRefusal)
           → IfRefused (the (Result device.Added AddRefusal) (Err e)) (λ stage code. (1 ≤ stage) × (stage ≤ 4) × IsRefused b a stage code w)
@@ -69,16 +69,16 @@ module _ (b : Board) (a : Wanted) (anonymous next : ℕ) (running : Bool) (holds
       begin-barred Memory h memory = (tt, since-barred old refl Memory tt memory)
 
       pub place-barred : (e : AddRefusal)
-          → IfRefused (the (Result device.Added AddRefusal) (Err e)) (λ stage code. (stage ≡ 5) × IsRefused b a stage code w)
+          → IfRefused (the (Result device.Added AddRefusal) (Err e)) (λ stage code. (5 ≤ stage) × (stage ≤ 6) × IsRefused b a stage code w)
           → (e ≡ Memory → IsCut b a w) → IsWithin 5 7 e × Plugs b a (Err e) (at w)
-      place-barred (Refused stage code) h memory = ((omega (arith, h.0), omega (arith, h.0)), since-barred old refl (Refused stage code) h.1 memory)
+      place-barred (Refused stage code) h memory = ((h.0, omega (arith, h.1)), since-barred old refl (Refused stage code) h.2 memory)
       place-barred Memory h memory = (tt, since-barred old refl Memory tt memory)
 
       pub finish-barred : (new : Asked) → new ≡ old → (stage : ℕ) (code : Code) → ◌≡◌ {A = Option (ℕ × Code)} (Some (stage, code)) (Some (8, E44))
-          → IsRefused b a 8 E44 w → (Refused stage code ≡ Refused 8 E44) × Plugs b a (Err (Refused stage code)) (parts_of anonymous running holds new w)
+          → IsRefused b a 8 E44 w → (Refused stage code ≡ Refused 8 E44) × Plugs b a (Err (Refused stage code)) (parts_of rings anonymous running holds new w)
       finish-barred new same stage code is refused = (
         ap (λ (r : ℕ × Code). Refused r.0 r.1) pair,
-        subst (λ (r : ℕ × Code). Plugs b a (Err (Refused r.0 r.1)) (parts_of anonymous running holds new w)) (sym pair)
+        subst (λ (r : ℕ × Code). Plugs b a (Err (Refused r.0 r.1)) (parts_of rings anonymous running holds new w)) (sym pair)
             (since-barred new same (Refused 8 E44) refused (λ clash. cc)),
       )
         where
@@ -86,15 +86,15 @@ module _ (b : Board) (a : Wanted) (anonymous next : ℕ) (running : Bool) (holds
           pair = same_Some (stage, code) (8, E44) is
 
       -- it is added
-      pub since-added : (new : Asked) (d : device.Added) → IsAdded b a d new w → Plugs b a (Ok d) (parts_of next running holds new w)
+      pub since-added : (new : Asked) (d : device.Added) → IsAdded b a d new w → Plugs b a (Ok d) (parts_of rings next running holds new w)
       since-added new d added =
-          added-stands b a anonymous next running holds old new since.before w d since.stood added
+          added-stands b a rings anonymous next running holds old new since.before w d since.stood added
           (since.counted ∙ ap (λ (n : ℕ). counts n a.id) since.stood.anonymous) kept
 
       -- it is given up
       pub since-given_up : (t : TypeId) (bus : ℕ) → Shows (plug_attempt b t bus 4) w → Stands (plug_attempt b t bus 4) (at w)
       since-given_up t bus s =
-          cut-stands b (plug_attempt b t bus 4) anonymous running holds old since.before w since.stood given_up-stays s kept
+          cut-stands b (plug_attempt b t bus 4) rings anonymous running holds old since.before w since.stood given_up-stays s kept
         where
           given_up-stays : Stays b (plug_attempt b t bus 4)
           given_up-stays = subst (Stays b) (sym (cut-whole b t bus)) (devices_stay_lem.cut b t (objects_in t) true).stays

@@ -8,7 +8,7 @@ use Rattle.std.specs.Option.{option_map_or}
 use Rattle.qo_events.specs.Waiting.{told}
 use Rattle.qo_object.specs.Content.{Content}
 use Rattle.qo_object.specs.Shown.{shown_slots}
-use Rattle.qo_model.specs.Board.{Board, Slot}
+use Rattle.qo_model.specs.Board.{Board, Slot, Ring}
 use Rattle.qo_model.specs.Listing.{listing, type_text}
 use Rattle.qo_heap.proofs.ShowsReads.{shows-slots}
 use Rattle.qo_model.specs.FinalNotesRuns.{added, deleted, severed}
@@ -42,7 +42,7 @@ use Rattle.qo_realize.specs.Good.{Good}
 use Rattle.qo_realize.proofs.SoundLemmas.{changed-good}
 use Rattle.qo_realize.proofs.SoundLemmas.{attempted-good}
 use Rattle.qo_realize.proofs.WriteLemmas.{wrote-good}
-use Rattle.qo_realize.specs.Parts.{Parts, parts_of, ring_claim}
+use Rattle.qo_realize.specs.Parts.{Parts, parts_of}
 use Rattle.qo_realize.specs.Stands.{Stands, StandsForGood}
 
 -- other objects, beside the same
@@ -60,25 +60,29 @@ stands-by b c p v s stays shows keeps =
       pending = stays.pending ∙ s.pending;
       notices = stays.notices ∙ s.notices;
       rings = stays.rings ∙ s.rings;
-      book = keeps (map ring_claim p.rings) s.book;
+      book = keeps [] s.book;
     }
 
 -- a write
-pub write-stands : (b : Board) (p : Parts) (v : Objects) (path name : List ℕ) (val : Val) (result : Result (Unit {0}) Refusal) → Stands b p → writes.Writes v result (write_at b path name val) → KeepsBook p.objects v → Writes (with_objects v p) result (write_at b path name val)
+pub write-stands : (b : Board) (p : Parts) (v : Objects) (path name : List ℕ) (val : Val) (result : Result (Unit {0}) Refusal) → Stands b p
+    → writes.Writes v result (write_at b path name val) → KeepsBook p.objects v → Writes (with_objects v p) result (write_at b path name val)
 write-stands b p v path name val (Ok u) s (c, is, shows) keeps = (c, is, stands-by b c p v s (write_at-stays b c path name val is) shows keeps)
 write-stands b p v path name val (Err (Refused code)) s is keeps = is
 write-stands b p v path name val (Err Memory) s is keeps = tt
 
 -- changes of objects
-pub del-stands : (b : Board) (p : Parts) (v : Objects) (id : List ℕ) (result : Result (Unit {0}) Code) → Stands b p → changes.IsAnswered (object_del b id) result v → KeepsBook p.objects v → IsAnswered (object_del b id) result (with_objects v p)
+pub del-stands : (b : Board) (p : Parts) (v : Objects) (id : List ℕ) (result : Result (Unit {0}) Code) → Stands b p
+    → changes.IsAnswered (object_del b id) result v → KeepsBook p.objects v → IsAnswered (object_del b id) result (with_objects v p)
 del-stands b p v id result s h keeps =
     record { refusal = h.refusal; board = stands-by b (object_del b id).board p v s (stays_lem.change b (deleted id)) h.board keeps }
 
-pub sever-stands : (b : Board) (p : Parts) (v : Objects) (n : ℕ) (result : Result (Unit {0}) Code) → Stands b p → changes.IsAnswered (sever b n) result v → KeepsBook p.objects v → IsAnswered (sever b n) result (with_objects v p)
+pub sever-stands : (b : Board) (p : Parts) (v : Objects) (n : ℕ) (result : Result (Unit {0}) Code) → Stands b p
+    → changes.IsAnswered (sever b n) result v → KeepsBook p.objects v → IsAnswered (sever b n) result (with_objects v p)
 sever-stands b p v n result s h keeps =
     record { refusal = h.refusal; board = stands-by b (sever b n).board p v s (stays_lem.change b (severed n)) h.board keeps }
 
-pub add-stands : (b : Board) (p : Parts) (v : Objects) (driver id : List ℕ) (props : List Given) (result : Result (Unit {0}) Refusal) → Stands b p → properties.Adds b driver id props result v → KeepsBook p.objects v → Adds b driver id props result (with_objects v p)
+pub add-stands : (b : Board) (p : Parts) (v : Objects) (driver id : List ℕ) (props : List Given) (result : Result (Unit {0}) Refusal) → Stands b p
+    → properties.Adds b driver id props result v → KeepsBook p.objects v → Adds b driver id props result (with_objects v p)
 add-stands b p v driver id props (Ok u) s (none, shows) keeps =
     (none, stands-by b (object_add b driver id props).board p v s (stays_lem.change b (added driver id props)) shows keeps)
 add-stands b p v driver id props (Err (Refused code)) s (some, shows) keeps =
@@ -88,10 +92,11 @@ add-stands b p v driver id props (Err Memory) s (inr shows) keeps =
     inr (stands-by b (attempted_as b driver id) p v s (attempted_as-stays b driver id) shows keeps)
 
 -- an error leaves the objects
-pub err-stays : {T E : Type 0} (r : Result T E) (anonymous : ℕ) (running : Bool) (holds : HoldList) (asked : Asked) (v w : Objects) (p : Parts)
-    → parts_of anonymous running holds asked v ≡ p → OnErr r (w ≡ v) → OnErr r (parts_of anonymous running holds asked w ≡ p)
-err-stays (Ok t) anonymous running holds asked v w p is same = tt
-err-stays (Err e) anonymous running holds asked v w p is same = ap (parts_of anonymous running holds asked) same ∙ is
+pub err-stays : {T E : Type 0} (r : Result T E) (rings : List Ring) (anonymous : ℕ) (running : Bool) (holds : HoldList) (asked : Asked)
+    (v w : Objects) (p : Parts)
+    → parts_of rings anonymous running holds asked v ≡ p → OnErr r (w ≡ v) → OnErr r (parts_of rings anonymous running holds asked w ≡ p)
+err-stays (Ok t) rings anonymous running holds asked v w p is same = tt
+err-stays (Err e) rings anonymous running holds asked v w p is same = ap (parts_of rings anonymous running holds asked) same ∙ is
 
 -- a sound board stands behind each call
 pub answered-sound : (change : Changed) (result : Result (Unit {0}) Code) (p : Parts) → Good change.board → IsAnswered change result p → StandsForGood p
@@ -110,19 +115,20 @@ added-sound b driver id props (Err Memory) p sound (inl s) = (b, s, sound)
 added-sound b driver id props (Err Memory) p sound (inr s) = (attempted_as b driver id, s, attempted-good b driver id sound)
 
 -- the beginning
-opening-stands : (v : Objects) → Shows opening_board v → IsBook [] v → Stands opening_board (parts_of 0 true no_holds nothing_asked v)
+opening-stands : (v : Objects) → Shows opening_board v → IsBook [] v → Stands opening_board (parts_of [] 0 true no_holds nothing_asked v)
 unfolding opening_board
 opening-stands v shows book =
     record { shows = shows; anonymous = refl; running = refl; holds = refl; pending = refl; notices = refl; rings = refl; book = book }
 
 pub opens : (v w : Objects) → v ≡ no_objects_made → ((b : Board) → Shows b v → Shows (with_all b) w) → KeepsBook v w
-    → (holds : HoldList) (asked : Asked) → holds ≡ no_holds → asked ≡ nothing_asked
-    → OnlyRootPinned w × Stands opening_board (parts_of 0 true holds asked w)
-opens v w none makes keeps holds asked held told = (
+    → (holds : HoldList) (asked : Asked) (rings : List Ring) → holds ≡ no_holds → asked ≡ nothing_asked → rings ≡ []
+    → OnlyRootPinned w × Stands opening_board (parts_of rings 0 true holds asked w)
+opens v w none makes keeps holds asked rings held told empty = (
   opening-pinned w shows,
-  subst (λ (h : HoldList). Stands opening_board (parts_of 0 true h asked w)) (sym held)
-      (subst (λ (x : Asked). Stands opening_board (parts_of 0 true no_holds x w)) (sym told)
-      (opening-stands w shows (keeps [] (subst (λ (x : Objects). IsBook [] x) (sym none) book-none)))),
+  subst (λ (r : List Ring). Stands opening_board (parts_of r 0 true holds asked w)) (sym empty)
+      (subst (λ (h : HoldList). Stands opening_board (parts_of [] 0 true h asked w)) (sym held)
+      (subst (λ (x : Asked). Stands opening_board (parts_of [] 0 true no_holds x w)) (sym told)
+      (opening-stands w shows (keeps [] (subst (λ (x : Objects). IsBook [] x) (sym none) book-none))))),
 )
   where
     shows : Shows opening_board w
@@ -142,9 +148,10 @@ pub notes-told : (notes : List Note) (l : Log) → IsLogOf notes l → (start : 
 notes-told notes l h start = ap (log.given_from start) (log-of notes l h)
 
 -- the events that waited were let go
-pub cleared-stands : (b : Board) (anonymous : ℕ) (running : Bool) (holds : HoldList) (asked : Asked) (v : Objects) → Stands b (parts_of anonymous running holds asked v)
-    → Stands (record b { events = [] }) (parts_of anonymous running holds asked (record v { events = told v.events }))
-cleared-stands b anonymous running holds asked v s =
+pub cleared-stands : (b : Board) (rings : List Ring) (anonymous : ℕ) (running : Bool) (holds : HoldList) (asked : Asked) (v : Objects)
+    → Stands b (parts_of rings anonymous running holds asked v)
+    → Stands (record b { events = [] }) (parts_of rings anonymous running holds asked (record v { events = told v.events }))
+cleared-stands b rings anonymous running holds asked v s =
     record {
       shows = record { records = s.shows.records; born = s.shows.born; pins = s.shows.pins; notes = s.shows.notes; events = refl; now = s.shows.now };
       anonymous = s.anonymous;

@@ -3,8 +3,7 @@ use Rattle.std.specs.Prelude.{◌≡◌, ℕ, Bool, List, ◌⊎◌, Some, None,
 use Rattle.qo_values.specs.declared.codes.Code.{Code}
 use Rattle.qo_model.specs.Board.{Board}
 use Rattle.qo_model.specs.Objects.{Changed, Given, attempted_as, object_add}
-use Rattle.qo_model.specs.Plug.{Wanted}
-use Rattle.qo_plug.specs.Added.{added}
+use Rattle.qo_model.specs.Plug.{Wanted, plug}
 use Rattle.qo_plug.specs.Cuts.{cut_as}
 use Rattle.qo_plug.specs.declared.adding.Added.{Added}
 use Rattle.qo_plug.specs.declared.refusals.AddRefusal.{AddRefusal}
@@ -40,6 +39,6 @@ Changes change b (Err Memory) p = Stands b p
 
 -- `device_add`: the definition's refusal and board; for want of memory the board as it was, or that of an attempt that was cut
 abbrev pub Plugs : Board → Wanted → Result Added AddRefusal → Parts → Type 0
-Plugs b a (Ok device) p = ((added b a).refusal ≡ None) × Stands (added b a).board p
-Plugs b a (Err (Barred stage code)) p = ((added b a).refusal ≡ Some (stage, code)) × Stands (added b a).board p
+Plugs b a (Ok device) p = ((plug b a).refusal ≡ None) × Stands (plug b a).board p
+Plugs b a (Err (Barred stage code)) p = ((plug b a).refusal ≡ Some (stage, code)) × Stands (plug b a).board p
 Plugs b a (Err NoMemory) p = Stands b p ⊎ ((i : ℕ) × (joined : Bool) × Stands (cut_as b a i joined) p)

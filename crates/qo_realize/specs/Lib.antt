@@ -1,4 +1,5 @@
 pub mod Answers
+pub mod Chardevs
 pub mod Good
 pub mod Guest
 pub mod Parts
@@ -8,3 +9,4 @@ pub mod Resets
 pub mod Stages
 pub mod Stands
 pub mod Time
+pub mod Users

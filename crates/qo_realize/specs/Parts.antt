@@ -1,7 +1,5 @@
 -- What contracts see of a board: its objects, and what stands beside them.
-use Rattle.std.specs.Prelude.{ℕ, ◌+◌, Bool, List, [], Option, None, Some}
-use Rattle.qo_claims.specs.declared.claims.Claimed.{Claimed}
-use Rattle.qo_claims.specs.declared.claims.Claimed.TheVariants as on
+use Rattle.std.specs.Prelude.{ℕ, ◌+◌, Bool, List, Option, None, Some}
 use Rattle.qo_model.specs.Board.{Notice, Ring}
 use Rattle.qo_heap.specs.Objects.{Objects}
 use Rattle.qo_hotplug.specs.Asked.{Asked}
@@ -19,14 +17,10 @@ pub record Parts : Type 0 where
   pub notices : List Notice
   pub rings : List Ring
 
--- the claim that a ring keeps: that on its id
-abbrev pub ring_claim : Ring → Claimed
-ring_claim r = on.RingId r.id
-
--- what is seen of a board by its fields; it has no rings yet
-abbrev pub parts_of : ℕ → Bool → HoldList → Asked → Objects → Parts
-parts_of anonymous running holds asked v =
-    record { objects = v; anonymous = anonymous; running = running; holds = holds.births; pending = asked.pending; notices = asked.notices; rings = [] }
+-- what is seen of a board by its fields
+abbrev pub parts_of : List Ring → ℕ → Bool → HoldList → Asked → Objects → Parts
+parts_of rings anonymous running holds asked v =
+    record { objects = v; anonymous = anonymous; running = running; holds = holds.births; pending = asked.pending; notices = asked.notices; rings = rings }
 
 -- how many devices without an id were added behind one more, with an id or without
 abbrev pub counts : ℕ → Option (List ℕ) → ℕ

@@ -1,19 +1,23 @@
 -- The registers of devices, as the guest reads and writes them (docs/PROFILE.md, guest lines and device registers).
-use Rattle.std.specs.Prelude.{◌≡◌, ℕ, false, List, Option, None, Some, option_map}
+use Rattle.std.specs.Prelude.{◌≡◌, ℕ, List, Option, None, Some, is_some, option_map}
 use Rattle.std.specs.Option.{option_map_or}
 use Rattle.qo_values.specs.Bodies.{Effect, body_read, body_write}
 use Rattle.qo_values.specs.Bodies as effect
 use Rattle.qo_values.specs.Registers.{Registers, bare}
-use Rattle.qo_model.specs.Board.{Board, Record, record_of}
+use Rattle.qo_values.specs.Rings.{ring_push}
+use Rattle.qo_model.specs.Board.{Board, Record, Ring, record_of}
 use Rattle.qo_model.specs.Clocks.{device_period}
 use Rattle.qo_model.specs.Devices.{first_bus}
 use Rattle.qo_model.specs.Reset.{pulse}
 use Rattle.qo_heap.specs.Board.{Shows}
 use Rattle.qo_heap.specs.Objects.{Objects}
 use Rattle.qo_kinds.specs.declared.bodies.Effect as told
+use Rattle.qo_backends.specs.Rings.{claimed_ring}
 use Rattle.qo_registers.specs.Effects.{effect_told}
 use Rattle.qo_reset.specs.Phases.{Holds}
+use Rattle.qo_rings.specs.Rings.{ring_changed}
 use Rattle.qo_sound_clocks.specs.RegistersKept.{registers_set}
+use Rattle.qo_realize.specs.Chardevs.{with_rings}
 use Rattle.qo_realize.specs.Parts.{Parts}
 use Rattle.qo_realize.specs.Stands.{Stands}
 
@@ -21,18 +25,23 @@ use Rattle.qo_realize.specs.Stands.{Stands}
 abbrev pub registers_at : Board → ℕ → Registers
 registers_at b n = option_map_or (λ (r : Record). r.registers) (record_of b n) bare
 
--- what a register of a device reads; none where it is absent. No ring is built yet, so that none is claimed
+-- what a register of a device reads; none where it is absent
 abbrev pub guest_read : Board → ℕ → ℕ → Option ℕ
-guest_read b d reg = body_read (registers_at b d) reg false b.now (device_period b d)
+guest_read b d reg = body_read (registers_at b d) reg (is_some (claimed_ring b d)) b.now (device_period b d)
 
 -- the registers of a device behind a write to one, with what the write does beside; none where the register is absent
 abbrev pub registers_written : Board → ℕ → ℕ → ℕ → Option (Registers × Effect)
-registers_written b d reg value = body_write (registers_at b d) reg value false b.now (device_period b d)
+registers_written b d reg value = body_write (registers_at b d) reg value (is_some (claimed_ring b d)) b.now (device_period b d)
 
--- the board behind what a write does beside the registers: the first bus of the device goes through a pulse; a byte goes nowhere yet
+-- a byte goes behind those of a ring
+abbrev pub pushed : ℕ → Board → List ℕ → Board
+pushed n b id = with_rings (ring_changed (λ m. ring_push m n) id b.rings) b
+
+-- the board behind what a write does beside the registers: the first bus of the device goes through a pulse; a byte goes to the ring that it has claimed
 abbrev pub behind_effect : ℕ → Effect → Board → Board
+behind_effect d effect.nothing b = b
 behind_effect d effect.pulse b = option_map_or (pulse b) (first_bus b d) b
-behind_effect d effect b = b
+behind_effect d (effect.byte n) b = option_map_or (pushed n b) (claimed_ring b d) b
 
 -- the board behind a write to a register of a device; none where the register is absent
 abbrev pub guest_written : Board → ℕ → ℕ → ℕ → Option Board
@@ -44,10 +53,15 @@ abbrev pub HasWritten : Board → ℕ → Option (Registers × Effect) → Optio
 HasWritten b d defined (Some e) v = (r : Registers) × (defined ≡ Some (r, effect_told e)) × Shows (registers_set b d r) v
 HasWritten b d defined None v = defined ≡ None
 
--- the write was made: a heap and holds are those of its board; or the register is absent
-abbrev pub Written : Option Board → Option (Unit {0}) → List ℕ → Objects → Type 0
-Written defined (Some done) holds v = (b : Board) × (defined ≡ Some b) × Holds b holds v
-Written defined None holds v = defined ≡ None
+-- a heap, holds and rings are those of a board
+pub record IsHeld (b : Board) (holds : List ℕ) (rings : List Ring) (v : Objects) : Type 0 where
+  pub held : Holds b holds v
+  pub rings_are : b.rings ≡ rings
+
+-- the write was made: a heap, holds and rings are those of its board; or the register is absent
+abbrev pub Written : Option Board → Option (Unit {0}) → List ℕ → List Ring → Objects → Type 0
+Written defined (Some done) holds rings v = (b : Board) × (defined ≡ Some b) × IsHeld b holds rings v
+Written defined None holds rings v = defined ≡ None
 
 -- and the same of the whole board
 abbrev pub GuestWrites : Option Board → Option (Unit {0}) → Parts → Type 0

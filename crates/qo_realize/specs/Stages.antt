@@ -2,10 +2,9 @@
 use Rattle.std.specs.Prelude.{◌≡◌, ℕ, ◌<◌, ◌≤◌, IfSome, Result, Ok, Err, ⊤}
 use Rattle.qo_values.specs.declared.codes.Code.TheVariants.{E44}
 use Rattle.qo_model.specs.Board.{Board}
-use Rattle.qo_model.specs.Plug.{Wanted, plug_attempt}
+use Rattle.qo_model.specs.Plug.{Wanted, plug, plug_attempt}
 use Rattle.qo_heap.specs.Objects.{Objects}
 use Rattle.qo_properties.specs.Claims.{KeepsBook}
-use Rattle.qo_plug.specs.Added.{added}
 use Rattle.qo_plug.specs.Stages.{IsBegun, IsSettled}
 use Rattle.qo_plug.specs.declared.adding.Added.{Added}
 use Rattle.qo_plug.specs.declared.beginning.Begun.{Begun}
@@ -41,12 +40,12 @@ pub record Since (b : Board) (a : Wanted) (p : Parts) (next : ℕ) : Type 0 wher
 pub record IsDrafted (b : Board) (a : Wanted) (d : Drafting) : Type 0 where
   pub since : Since b a d.parts d.next
   pub begun : IsBegun b a d.begun d.parts.objects
-  pub passed : IfSome (added b a).refusal (λ refusal. 4 < refusal.0)
+  pub passed : IfSome (plug b a).refusal (λ refusal. 4 < refusal.0)
 
 pub record IsPlugged (b : Board) (a : Wanted) (p : Plugging) : Type 0 where
   pub since : Since b a p.parts p.next
   pub settled : IsSettled b a p.placed p.parts.objects
-  pub passed : IfSome (added b a).refusal (λ refusal. 7 < refusal.0)
+  pub passed : IfSome (plug b a).refusal (λ refusal. 7 < refusal.0)
 
 abbrev pub DraftOfGood : Drafting → Type 0
 DraftOfGood d = (b : Board) × (a : Wanted) × IsDrafted b a d

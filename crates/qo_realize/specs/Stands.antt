@@ -1,12 +1,12 @@
 -- The board that a machine stands at.
-use Rattle.std.specs.Prelude.{◌≡◌, map}
+use Rattle.std.specs.Prelude.{◌≡◌, []}
 use Rattle.qo_model.specs.Board.{Board}
 use Rattle.qo_heap.specs.Board.{Shows}
 use Rattle.qo_heap.specs.Book.{IsBook}
 use Rattle.qo_realize.specs.Good.{Good}
-use Rattle.qo_realize.specs.Parts.{Parts, ring_claim}
+use Rattle.qo_realize.specs.Parts.{Parts}
 
--- the heap shows the board's objects, and what stands beside them is the board's; each claim is kept by a body or by a ring
+-- the heap shows the board's objects, and what stands beside them is the board's; each claim is kept by a body
 pub record Stands (b : Board) (p : Parts) : Type 0 where
   pub shows : Shows b p.objects
   pub anonymous : b.anonymous ≡ p.anonymous
@@ -15,7 +15,7 @@ pub record Stands (b : Board) (p : Parts) : Type 0 where
   pub pending : b.pending ≡ p.pending
   pub notices : b.notices ≡ p.notices
   pub rings : b.rings ≡ p.rings
-  pub book : IsBook (map ring_claim p.rings) p.objects
+  pub book : IsBook [] p.objects
 
 -- there is a board that they stand for, and it is good
 abbrev pub StandsForGood : Parts → Type 0

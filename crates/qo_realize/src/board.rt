@@ -6,6 +6,7 @@ ghost use Rattle.qo_realize.specs.Parts.{counts};
 
 use crate::guests::address_of;
 use crate::removals::{ask, refuse};
+use crate::users::is_used;
 use qo_buses::by_address;
 use qo_events::DeviceEvent;
 use qo_guest::{Addr, Steps9};
@@ -18,6 +19,7 @@ use qo_properties::{
     set, sever,
 };
 use qo_reset::Resets;
+use qo_rings::Rings;
 use qo_unplug::detach;
 use qo_values::{Code, PropList, TIME_MAX, TypeText, Val};
 use std::alloc::{AllocError, Global};
@@ -35,6 +37,7 @@ pub struct Board {
     pub(crate) running: bool,
     pub(crate) resets: Resets,
     pub(crate) hotplug: Hotplug,
+    pub(crate) rings: Rings,
 }
 
 impl Model for Board {
@@ -44,9 +47,9 @@ impl Model for Board {
 
     ghost Value = { Parts };
 
-    ghost view = { λ b. parts_of b.anonymous b.running b.resets b.hotplug b.heap };
+    ghost view = { λ b. parts_of b.rings b.anonymous b.running b.resets b.hotplug b.heap };
 
-    ghost invariant = { λ b. OnlyRootPinned b.heap × StandsForGood (parts_of b.anonymous b.running b.resets b.hotplug b.heap) };
+    ghost invariant = { λ b. OnlyRootPinned b.heap × StandsForGood (parts_of b.rings b.anonymous b.running b.resets b.hotplug b.heap) };
 }
 
 /// How many devices without an id there are behind the add of one, with an id or without; `None` where
@@ -94,6 +97,7 @@ impl Board {
     ghost use Rattle.qo_realize.specs.Answers.{Adds, Changes, IsAnswered, Plugs, Writes};
     ghost use Rattle.qo_realize.specs.Guest.{address_of, first_notice, polled};
     ghost use Rattle.qo_realize.specs.Stands.{Stands, StandsForGood};
+    ghost use Rattle.qo_realize.specs.Users.{object_removed};
     ghost use Rattle.qo_realize.specs.Time.{Advances, advanced, switches, with_running};
 
     /// The opening board: the eight objects that every machine begins with; it runs. The error is
@@ -109,6 +113,7 @@ impl Board {
             running: true,
             resets: Resets::new(alloc),
             hotplug: Hotplug::new(alloc)?,
+            rings: Rings::new(alloc),
         })
     }
 
@@ -307,11 +312,15 @@ impl Board {
 
     /// Removes the user's object of an id: its slot at `/objects` is let go, and it is finalised
     /// where nothing else refers to it (QEMU's QAPI, `object-del`). `E15` comes exactly where there
-    /// is no such slot. An error leaves the board as it was.
+    /// is no such slot, and `E32` exactly where it is a memory backend on which a DIMM stands. An error
+    /// leaves the board as it was.
     pub fn object_del<L: Ledger>(&mut self, id: &str, steps: &mut Steps<L>) -> Result<(), Code>
-        ensures change { (b : model.Board) → Stands b self.old → IsAnswered (objects.object_del b id.now) result self.new }
+        ensures change { (b : model.Board) → Stands b self.old → IsAnswered (object_removed b id.now) result self.new }
         ensures err { OnErr result (self.new ≡ self.old) }
     {
+        if is_used(&self.heap, id, steps) {
+            return Err(Code::E32);
+        }
         remove(&mut self.heap, id, steps)
     }
 
@@ -349,6 +358,7 @@ impl Board {
             &mut self.heap,
             &self.resets,
             &mut self.hotplug,
+            &self.rings,
             self.anonymous,
             driver,
             id,

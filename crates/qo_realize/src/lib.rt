@@ -3,11 +3,13 @@
 #![tactic(auto)]
 
 mod board;
+mod chardevs;
 mod guests;
 mod registers;
 mod removals;
 mod resets;
 mod stages;
+mod users;
 
 pub use board::Board;
 pub use stages::{Draft, NotAdded, Plugged};

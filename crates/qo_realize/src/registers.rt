@@ -1,29 +1,37 @@
 //! The registers of devices, as the guest reads and writes them (docs/PROFILE.md, guest lines).
 
-ghost use Rattle.std.specs.Prelude.{◌≡◌, IfNone, IfSome};
+ghost use Rattle.std.specs.Prelude.{◌≡◌, IfNone, IfSome, List, is_some, ℕ};
+ghost use Rattle.qo_values.specs.Bodies as bodies;
 ghost use Rattle.qo_kinds.specs.Bodies.{IsTimely};
-ghost use Rattle.qo_model.specs.Board.{Board as Tree};
+ghost use Rattle.qo_model.specs.Board.{Board as Tree, Ring};
 ghost use Rattle.qo_model.specs.Clocks.{ClocksFit};
 ghost use Rattle.qo_table.specs.Rows.{IsLive};
 ghost use Rattle.qo_heap.specs.Board.{Shows};
 ghost use Rattle.qo_heap.specs.Objects.{content_of};
 ghost use Rattle.qo_properties.specs.Claims.{KeepsBook};
-ghost use Rattle.qo_reset.specs.Phases.{Holds};
 ghost use Rattle.qo_registers.specs.Effects.{effect_told};
-ghost use Rattle.qo_realize.specs.Registers.{GuestWrites, HasWritten, Written, behind_effect, guest_read, guest_written, registers_written};
+ghost use Rattle.qo_backends.specs.Rings.{claimed_ring};
+ghost use Rattle.qo_realize.specs.Registers.{GuestWrites, HasWritten, IsHeld, Written, behind_effect, guest_read, guest_written, registers_written};
 ghost use Rattle.qo_realize.specs.Stands.{Stands};
 
 use crate::board::Board;
+use qo_backends::claimed_ring;
 use qo_buses::first_bus;
 use qo_clocks::device_period;
 use qo_heap::{Heap, Oid, Steps};
 use qo_kinds::Effect;
 use qo_registers::{read, write};
 use qo_reset::Resets;
+use qo_rings::Rings;
 use std::sync::ledger::Ledger;
 
-/// Whether a ring is claimed by a device: none is built yet.
-const RING: bool = false;
+/// Whether a device has claimed a ring.
+fn has_ring<L: Ledger>(heap: &Heap, dev: Oid, steps: &mut Steps<L>) -> bool
+    requires { IsLive heap.now.rows dev }
+    ensures { (b : Tree) → Shows b heap.now → result ≡ is_some (claimed_ring b dev.birth) }
+{
+    claimed_ring(heap, dev, steps).is_some()
+}
 
 /// Writes to a register of a device, and answers what the write does beside; `None` exactly where the
 /// register is absent, which leaves all as it was.
@@ -42,39 +50,60 @@ fn write_register<L: Ledger>(
     ensures absent { IfNone result (heap.new ≡ heap.old) }
 {
     heap.facts();
+    let ring = has_ring(heap, dev, steps);
     let period = device_period(heap, dev, steps);
     let time = heap.time();
-    write(heap.body_mut(dev, steps), reg, value, RING, time, period)
+    write(heap.body_mut(dev, steps), reg, value, ring, time, period)
+}
+
+/// Adds a byte to the ring that a device has claimed; it goes nowhere where there is none.
+fn send<L: Ledger>(heap: &Heap, rings: &mut Rings, dev: Oid, byte: u8, steps: &mut Steps<L>)
+    requires { IsLive heap.now.rows dev }
+    ensures { (b : Tree) → (holds : List ℕ) → IsHeld b holds rings.old heap.now → IsHeld (behind_effect dev.birth (bodies.byte byte) b) holds rings.new heap.now }
+{
+    if let Some(id) = claimed_ring(heap, dev, steps) {
+        rings.push(id.as_str(), byte);
+    }
+}
+
+/// The first bus of a device goes through the phases of a reset.
+fn pulse_bus<L: Ledger>(heap: &mut Heap, resets: &mut Resets, dev: Oid, steps: &mut Steps<L>)
+    requires { IsLive heap.old.rows dev }
+    ensures shown { (b : Tree) → (rings : List Ring) → IsHeld b resets.old.births rings heap.old → IsHeld (behind_effect dev.birth bodies.pulse b) resets.new.births rings heap.new }
+    ensures book { KeepsBook heap.old heap.new }
+{
+    if let Some(bus) = first_bus(heap, dev, steps) {
+        resets.pulse(heap, bus, steps);
+    }
 }
 
 /// Does what a write to a register of a device does beside: its first bus goes through the phases of a
-/// reset; a byte goes nowhere yet.
+/// reset; a byte goes to the ring that it has claimed.
 fn do_beside<L: Ledger>(
     heap: &mut Heap,
     resets: &mut Resets,
+    rings: &mut Rings,
     dev: Oid,
     effect: Effect,
     steps: &mut Steps<L>,
 )
     requires { IsLive heap.old.rows dev }
-    ensures shown { (b : Tree) → Holds b resets.old.births heap.old → Holds (behind_effect dev.birth (effect_told effect) b) resets.new.births heap.new }
+    ensures shown { (b : Tree) → IsHeld b resets.old.births rings.old heap.old → IsHeld (behind_effect dev.birth (effect_told effect) b) resets.new.births rings.new heap.new }
     ensures book { KeepsBook heap.old heap.new }
 {
     match effect {
-        Effect::Nothing | Effect::Byte(_) => {}
-        Effect::Pulse => {
-            if let Some(bus) = first_bus(heap, dev, steps) {
-                resets.pulse(heap, bus, steps);
-            }
-        }
+        Effect::Nothing => {}
+        Effect::Byte(byte) => send(heap, rings, dev, byte, steps),
+        Effect::Pulse => pulse_bus(heap, resets, dev, steps),
     }
 }
 
-/// Writes to a register of a device, whose first bus goes through the phases of a reset where the write
-/// says so; `None` exactly where the register is absent, which leaves all as it was.
+/// Writes to a register of a device, and does what the write does beside; `None` exactly where the
+/// register is absent, which leaves all as it was.
 fn write_through<L: Ledger>(
     heap: &mut Heap,
     resets: &mut Resets,
+    rings: &mut Rings,
     dev: Oid,
     reg: u8,
     value: u32,
@@ -82,12 +111,12 @@ fn write_through<L: Ledger>(
 ) -> Option<()>
     requires live { IsLive heap.old.rows dev }
     requires timely { IfSome (content_of heap.old dev.birth) (λ c. IsTimely heap.old.time c.body) }
-    ensures written { (b : Tree) → Holds b resets.old.births heap.old → ClocksFit b → Written (guest_written b dev.birth reg value) result resets.new.births heap.new }
+    ensures written { (b : Tree) → IsHeld b resets.old.births rings.old heap.old → ClocksFit b → Written (guest_written b dev.birth reg value) result resets.new.births rings.new heap.new }
     ensures book { KeepsBook heap.old heap.new }
-    ensures absent { IfNone result ((heap.new ≡ heap.old) × (resets.new.births ≡ resets.old.births)) }
+    ensures absent { IfNone result ((heap.new ≡ heap.old) × (resets.new.births ≡ resets.old.births) × (rings.new ≡ rings.old)) }
 {
     let effect = write_register(heap, dev, reg, value, steps)?;
-    do_beside(heap, resets, dev, effect, steps);
+    do_beside(heap, resets, rings, dev, effect, steps);
     Some(())
 }
 
@@ -98,13 +127,15 @@ impl Board {
         requires { IsLive self.now.objects.rows dev }
         ensures { (b : Tree) → Stands b self.now → result ≡ guest_read b dev.birth reg }
     {
+        let ring = has_ring(&self.heap, dev, steps);
         let period = device_period(&self.heap, dev, steps);
         let time = self.heap.time();
-        read(self.heap.body(dev, steps), reg, RING, time, period)
+        read(self.heap.body(dev, steps), reg, ring, time, period)
     }
 
     /// Writes `value` to a register of a device, and does what the write does beside: a bridge whose bit
-    /// is raised has its first bus go through the phases of a reset (docs/PROFILE.md, device registers).
+    /// is raised has its first bus go through the phases of a reset, and a byte that a UART sends goes to
+    /// the ring that it has claimed (docs/PROFILE.md, device registers).
     /// `None` comes exactly where the device has no such register, and leaves the board as it was. It
     /// takes no memory.
     pub fn guest_write<L: Ledger>(
@@ -118,6 +149,14 @@ impl Board {
         ensures written { (b : Tree) → Stands b self.old → GuestWrites (guest_written b dev.birth reg value) result self.new }
         ensures absent { IfNone result (self.new ≡ self.old) }
     {
-        write_through(&mut self.heap, &mut self.resets, dev, reg, value, steps)
+        write_through(
+            &mut self.heap,
+            &mut self.resets,
+            &mut self.rings,
+            dev,
+            reg,
+            value,
+            steps,
+        )
     }
 }

@@ -14,6 +14,7 @@ use qo_heap::{Heap, Steps};
 use qo_hotplug::Hotplug;
 use qo_plug::{AddRefusal, Added, Barred, Begun, Placed, abandon, begin, finish, place};
 use qo_reset::Resets;
+use qo_rings::Rings;
 use qo_values::PropList;
 use std::alloc::Global;
 use std::marker::Model;
@@ -34,6 +35,7 @@ struct Beside {
     running: bool,
     resets: Resets,
     hotplug: Hotplug,
+    rings: Rings,
 }
 
 /// A board on which a device was begun: it is made, and stands nowhere. It can't be let go: it is
@@ -54,9 +56,9 @@ impl Model for Draft {
 
     ghost Value = { Drafting };
 
-    ghost view = { λ d. record { parts = parts_of d.beside.anonymous d.beside.running d.beside.resets d.beside.hotplug d.heap; next = d.next; begun = d.begun } };
+    ghost view = { λ d. record { parts = parts_of d.beside.rings d.beside.anonymous d.beside.running d.beside.resets d.beside.hotplug d.heap; next = d.next; begun = d.begun } };
 
-    ghost invariant = { λ d. IsHeld d.begun d.heap × DraftOfGood (record { parts = parts_of d.beside.anonymous d.beside.running d.beside.resets d.beside.hotplug d.heap; next = d.next; begun = d.begun }) };
+    ghost invariant = { λ d. IsHeld d.begun d.heap × DraftOfGood (record { parts = parts_of d.beside.rings d.beside.anonymous d.beside.running d.beside.resets d.beside.hotplug d.heap; next = d.next; begun = d.begun }) };
 }
 
 /// A board on which a device was placed, and is not finished yet. It can't be let go: it is spent by
@@ -75,14 +77,14 @@ impl Model for Plugged {
 
     ghost Value = { Plugging };
 
-    ghost view = { λ p. record { parts = parts_of p.beside.anonymous p.beside.running p.beside.resets p.beside.hotplug p.heap; next = p.next; placed = p.placed } };
+    ghost view = { λ p. record { parts = parts_of p.beside.rings p.beside.anonymous p.beside.running p.beside.resets p.beside.hotplug p.heap; next = p.next; placed = p.placed } };
 
-    ghost invariant = { λ p. IsReady p.placed p.beside.hotplug p.heap × PluggedOnGood (record { parts = parts_of p.beside.anonymous p.beside.running p.beside.resets p.beside.hotplug p.heap; next = p.next; placed = p.placed }) };
+    ghost invariant = { λ p. IsReady p.placed p.beside.hotplug p.heap × PluggedOnGood (record { parts = parts_of p.beside.rings p.beside.anonymous p.beside.running p.beside.resets p.beside.hotplug p.heap; next = p.next; placed = p.placed }) };
 }
 
 /// The objects of a board, and what stands beside them.
 fn parts(board: Board) -> (Heap, Beside)
-    ensures whole { parts_of result.1.anonymous result.1.running result.1.resets result.1.hotplug result.0 ≡ board }
+    ensures whole { parts_of result.1.rings result.1.anonymous result.1.running result.1.resets result.1.hotplug result.0 ≡ board }
     ensures good { StandsForGood board }
 {
     let Board {
@@ -91,26 +93,29 @@ fn parts(board: Board) -> (Heap, Beside)
         running,
         resets,
         hotplug,
+        rings,
     } = board;
     let beside = Beside {
         anonymous,
         running,
         resets,
         hotplug,
+        rings,
     };
     (heap, beside)
 }
 
 /// The board of its objects, and of what stands beside them.
 fn board_of(heap: Heap, beside: Beside) -> Board
-    requires { StandsForGood (parts_of beside.anonymous beside.running beside.resets beside.hotplug heap) }
-    ensures { result ≡ parts_of beside.anonymous beside.running beside.resets beside.hotplug heap }
+    requires { StandsForGood (parts_of beside.rings beside.anonymous beside.running beside.resets beside.hotplug heap) }
+    ensures { result ≡ parts_of beside.rings beside.anonymous beside.running beside.resets beside.hotplug heap }
 {
     let Beside {
         anonymous,
         running,
         resets,
         hotplug,
+        rings,
     } = beside;
     Board {
         heap,
@@ -118,6 +123,7 @@ fn board_of(heap: Heap, beside: Beside) -> Board
         running,
         resets,
         hotplug,
+        rings,
     }
 }
 
@@ -149,6 +155,7 @@ impl Board {
             &mut heap,
             &beside.resets,
             &beside.hotplug,
+            &beside.rings,
             beside.anonymous,
             driver,
             id,
@@ -173,8 +180,8 @@ impl Board {
 
 impl Draft {
     /// Places the device, by the stages 5 to 7: it stands in a slot of its bus. Refused, as by `add`, by
-    /// the first condition of these stages that stands: with `E28`, `E29`, `E30` or `E42` (stage 5), behind
-    /// an attempt that is given up. Where memory wants, an attempt was cut.
+    /// the first condition of these stages that stands: with `E28`, `E29`, `E30`, `E42`, or `E38` to `E41`
+    /// (stage 5), `E36` or `E37` (6), behind an attempt that is given up. Where memory wants, an attempt was cut.
     pub fn place<L: Ledger>(self, alloc: Global, steps: &mut Steps<L>) -> Result<Plugged, NotAdded>
         ensures { (b : model.Board) (a : Wanted) → IsDrafted b a self → Places b a result }
     {

@@ -4,6 +4,8 @@
 #![tactic(auto)]
 
 #[cfg(test)]
+mod backends;
+#[cfg(test)]
 mod buses;
 #[cfg(test)]
 mod plug;

@@ -6,6 +6,7 @@ use qo_hotplug::Hotplug;
 use qo_plug::{AddRefusal, Added, add, give_up, make_device};
 use qo_properties::make_all;
 use qo_reset::Resets;
+use qo_rings::Rings;
 use qo_values::{BUS_SLOTS, Code, NOTICES_MAX, PropList, ROOT_BUS_BIRTH, Text, TypeId, Val};
 use std::alloc::{AllocError, Global};
 use std::marker::Brand;
@@ -52,8 +53,9 @@ fn bridge<L: Ledger>(
     steps: &mut Steps<L>,
 ) -> Result<Added, AddRefusal> {
     let driver = "slot-bridge";
+    let rings = Rings::new(alloc);
     add(
-        heap, resets, hotplug, 0, driver, None, None, props, alloc, steps,
+        heap, resets, hotplug, &rings, 0, driver, None, None, props, alloc, steps,
     )
 }
 

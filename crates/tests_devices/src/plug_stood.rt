@@ -4,7 +4,7 @@ ghost use Rattle.std.specs.Prelude.{◌≡◌, ◌<◌};
 use qo_buses::{anonymous_name, is_realized};
 use qo_heap::{Heap, Steps};
 use qo_hotplug::Hotplug;
-use qo_plug::{Seat, make_device, stand, start};
+use qo_plug::{Seat, Spot, make_device, stand, start};
 use qo_properties::{make_all, plan_of};
 use qo_reset::Resets;
 use qo_values::{ANONYMOUS_BIRTH, PropList, ROOT_BUS_BIRTH, TypeId};
@@ -36,11 +36,16 @@ fn started<L: Ledger>(alloc: Global, blank: Blank) -> Result<bool, AllocError>
     if device.birth == bus.birth {
         return Ok(false);
     }
+    let spot = Spot {
+        slot: 0,
+        ring: None,
+        memory: None,
+    };
     let seat = Seat {
         container,
         name,
         bus,
-        slot: 0,
+        spot,
     };
     let path = stand(&mut heap, device, seat, None, plan, alloc, &mut steps)?;
     let stands = path.as_str() == "/machine/peripheral-anon/device[0]";

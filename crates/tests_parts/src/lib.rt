@@ -14,6 +14,8 @@ mod events;
 #[cfg(test)]
 mod hotplug;
 #[cfg(test)]
+mod rings;
+#[cfg(test)]
 mod timer;
 #[cfg(test)]
 mod uart;

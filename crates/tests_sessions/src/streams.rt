@@ -198,7 +198,7 @@ fn length_has_its_limit(rt: HostRuntime) -> Result<(), Fail> {
 }
 
 /// Commands, and the lines that answer them.
-const ANSWERED: [(&str, &str); 7] = [
+const ANSWERED: [(&str, &str); 8] = [
     (NEGOTIATE, EMPTY),
     (
         "{\"execute\":\"query-status\",\"id\":\"é😀\"}\n",
@@ -206,7 +206,7 @@ const ANSWERED: [(&str, &str); 7] = [
     ),
     (
         "{\"execute\":\"query-commands\"}",
-        "0 {\"return\":[{\"name\":\"cont\"},{\"name\":\"device-list-properties\"},{\"name\":\"device_add\"},{\"name\":\"device_del\"},{\"name\":\"object-add\"},{\"name\":\"object-del\"},{\"name\":\"qmp_capabilities\"},{\"name\":\"qom-get\"},{\"name\":\"qom-list\"},{\"name\":\"qom-list-types\"},{\"name\":\"qom-set\"},{\"name\":\"query-commands\"},{\"name\":\"query-status\"},{\"name\":\"query-version\"},{\"name\":\"quit\"},{\"name\":\"stop\"},{\"name\":\"system_reset\"},{\"name\":\"x-guest\"},{\"name\":\"x-query-detached\"},{\"name\":\"x-query-notes\"},{\"name\":\"x-reset-hold\"},{\"name\":\"x-reset-release\"},{\"name\":\"x-sever\"},{\"name\":\"x-step\"}]}\r\n",
+        "0 {\"return\":[{\"name\":\"chardev-add\"},{\"name\":\"chardev-remove\"},{\"name\":\"cont\"},{\"name\":\"device-list-properties\"},{\"name\":\"device_add\"},{\"name\":\"device_del\"},{\"name\":\"object-add\"},{\"name\":\"object-del\"},{\"name\":\"qmp_capabilities\"},{\"name\":\"qom-get\"},{\"name\":\"qom-list\"},{\"name\":\"qom-list-types\"},{\"name\":\"qom-set\"},{\"name\":\"query-commands\"},{\"name\":\"query-status\"},{\"name\":\"query-version\"},{\"name\":\"quit\"},{\"name\":\"ringbuf-read\"},{\"name\":\"ringbuf-write\"},{\"name\":\"stop\"},{\"name\":\"system_reset\"},{\"name\":\"x-guest\"},{\"name\":\"x-query-detached\"},{\"name\":\"x-query-notes\"},{\"name\":\"x-reset-hold\"},{\"name\":\"x-reset-release\"},{\"name\":\"x-sever\"},{\"name\":\"x-step\"}]}\r\n",
     ),
     (
         "{\"execute\":\"query-version\"}",
@@ -214,6 +214,10 @@ const ANSWERED: [(&str, &str); 7] = [
     ),
     (
         "{\"execute\":\"chardev-remove\",\"arguments\":{\"id\":\"r\"}}",
+        "0 {\"error\":{\"class\":\"GenericError\",\"desc\":\"E36 ring not found\"}}\r\n",
+    ),
+    (
+        "{\"execute\":\"chardev-change\",\"arguments\":{\"id\":\"r\"}}",
         "0 {\"error\":{\"class\":\"CommandNotFound\",\"desc\":\"E10 unknown command\"}}\r\n",
     ),
     (

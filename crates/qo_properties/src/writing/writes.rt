@@ -16,7 +16,7 @@ ghost use Rattle.qo_heap.specs.Board.{Shows, pins_in};
 ghost use Rattle.qo_heap.specs.Objects.{content_of, slots_of};
 ghost use Rattle.qo_heap.specs.Timely.{Timely};
 ghost use Rattle.qo_properties.specs.Claims.{KeepsBook};
-ghost use Rattle.qo_properties.specs.Writes.{Writes, is_link_at, is_plain_at, link_type_at, no_target, target_told, to_link, to_plain};
+ghost use Rattle.qo_properties.specs.Writes.{Writes, is_link_at, is_of_clock, is_of_clock_at, is_plain_at, link_type_at, no_target, target_told, to_link, to_plain};
 
 use crate::reading::lookup::place_named;
 use crate::reading::naming::object_at;
@@ -270,7 +270,7 @@ fn set_property<L: Ledger>(
 ) -> Result<(), Refusal>
     requires live { IsLive heap.old.rows o }
     requires timely { Timely heap.old }
-    ensures written { (b : Tree) → Shows b heap.old → ClocksFit b → Writes heap.new result (set_property b o.birth name.now val.now) }
+    ensures written { (b : Tree) → Shows b heap.old → (is_of_clock b o.birth name.now ≡ true → ClocksFit b) → Writes heap.new result (set_property b o.birth name.now val.now) }
     ensures err { OnErr result (heap.new ≡ heap.old) }
     ensures pins { pins_in heap.new.rows ≡ pins_in heap.old.rows }
     ensures book { KeepsBook heap.old heap.new }
@@ -303,7 +303,7 @@ pub fn set<L: Ledger>(
     steps: &mut Steps<L>,
 ) -> Result<(), Refusal>
     requires timely { Timely heap.old }
-    ensures written { (b : Tree) → Shows b heap.old → ClocksFit b → Writes heap.new result (write_at b path.now name.now val.now) }
+    ensures written { (b : Tree) → Shows b heap.old → (is_of_clock_at b path.now name.now ≡ true → ClocksFit b) → Writes heap.new result (write_at b path.now name.now val.now) }
     ensures err { OnErr result (heap.new ≡ heap.old) }
     ensures pins { pins_in heap.new.rows ≡ pins_in heap.old.rows }
     ensures book { KeepsBook heap.old heap.new }

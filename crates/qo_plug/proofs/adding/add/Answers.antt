@@ -1,40 +1,53 @@
 -- It is chosen where the device goes, its slot is judged, and it is made, placed and finished.
-use Rattle.std.proofs.Common.{refl, ap, sym, subst, ◌∙◌, ℕ, option_map, Err}
+use Rattle.std.proofs.Common.{◌≡◌, ◌≤◌, ◌==◌, refl, ap, sym, subst, ◌∙◌, ℕ, false, Some, option_map, Err, arith}
+use Rattle.std.proofs.lemmas.Bool.Decides.{nat_tests}
 use Rattle.qo_model.specs.Plug.{Wanted}
-use Rattle.qo_properties.specs.Changes.{refusal_in}
 use Rattle.qo_heap.specs.Board.{Shows}
 use Rattle.qo_plug.specs.Added.{wanted}
-use Rattle.qo_plug.proofs.AddLemmas.{cut-late, refused-at, refused-last, slot-cut, slot-refused}
+use Rattle.qo_plug.specs.Stages.{spot_barred}
+use Rattle.qo_plug.proofs.JudgeLemmas.{refused-told}
+use Rattle.qo_plug.proofs.AddLemmas.{cut-late, refused-last, refused-within, spot-cut, spot-refused}
 use Rattle.qo_plug.proofs.adding.add.Goals as goal
 
 pub returns-in-Err-clause-memory : goal.returns-in-Err-clause-memory
-returns-in-Err-clause-memory g c = λ b is e. c.choose.ensures.memory b c.args.resets.now.births is (c.in-Err.is ∙ ap (λ r. Err r) (cc e))
+returns-in-Err-clause-memory g c = λ b is e. c.choose.ensures.memory b c.args.resets.now.births c.args.rings.now is (c.in-Err.is ∙ ap (λ r. Err r) (cc e))
 
-pub returns-in-Err-slot-clause-refused : goal.returns-in-Err-slot-clause-refused
-returns-in-Err-slot-clause-refused g c = λ b is.
+pub returns-in-Err-Refused-clause-refused : goal.returns-in-Err-Refused-clause-refused
+returns-in-Err-Refused-clause-refused g c = λ b is.
     let a : Wanted = wanted c.args.driver.now (option_map (λ t. t.now) c.args.id) (option_map (λ t. t.now) c.args.bus) c.args.props.now in
-    let (admitted, given) = c.in-Ok.ensures.admitted b c.args.resets.now.births is in
+    let (admitted, given) = c.in-Ok.ensures.admitted b c.args.resets.now.births c.args.rings.now is in
     let shown = subst (Shows b) (sym c.in-Ok.ensures.same) is.shown in
-    slot-refused b a c.in-Ok.site admitted c.turn_down.new.heap c.in-Err-slot.code (sym given)
-    (sym (ap (λ r. refusal_in r) c.in-Err-slot.is) ∙ c.device_slot-slot.ensures.refused b shown) ℕ c.turn_down.result
-    (c.turn_down.ensures.down b c.in-Ok.site.bus.birth shown refl)
+    let stage = c.in-Err-Refused.stage in
+    let code = c.in-Err-Refused.code in
+    let is_refused = c.in-Err-Refused.field-0-is in
+    let stages : (5 ≤ stage) × (stage ≤ 6) =
+    refused-told ℕ (λ at told. (5 ≤ at) × (at ≤ 6)) c.in-Err-Refused.field-0 stage code is_refused c.in-Err-Refused.ensures.stages in
+    let early : (stage == 8) ≡ false = grind (arith, nat_tests, stages.1) in
+    spot-refused b a c.in-Ok.site admitted c.turn_down.new.heap (record { stage = stage; code = code }) (sym given)
+    (sym (refused-told ℕ (λ at told. spot_barred b c.in-Ok.site.kind c.in-Ok.site.bus.birth c.args.props.now ≡ Some (at, told)) c.in-Err-Refused.field-0
+    stage code is_refused (c.in-Err-Refused.ensures.refused b shown is.rings_are))) ℕ c.turn_down.result (c.turn_down.ensures.down b c.in-Ok.site.bus.birth shown early)
 
-pub returns-in-Err-slot-clause-memory : goal.returns-in-Err-slot-clause-memory
-returns-in-Err-slot-clause-memory g c = λ b is e.
+pub returns-in-Err-Refused-clause-memory : goal.returns-in-Err-Refused-clause-memory
+returns-in-Err-Refused-clause-memory g c = λ b is e.
     let a : Wanted = wanted c.args.driver.now (option_map (λ t. t.now) c.args.id) (option_map (λ t. t.now) c.args.bus) c.args.props.now in
-    let (admitted, given) = c.in-Ok.ensures.admitted b c.args.resets.now.births is in
+    let (admitted, given) = c.in-Ok.ensures.admitted b c.args.resets.now.births c.args.rings.now is in
     let shown = subst (Shows b) (sym c.in-Ok.ensures.same) is.shown in
-    slot-cut b a c.in-Ok.site admitted c.turn_down.new.heap c.in-Err-slot.code (sym given)
-    (sym (ap (λ r. refusal_in r) c.in-Err-slot.is) ∙ c.device_slot-slot.ensures.refused b shown) c.turn_down.result
-    (c.turn_down.ensures.down b c.in-Ok.site.bus.birth shown refl) (cc e)
+    let stage = c.in-Err-Refused.stage in
+    let code = c.in-Err-Refused.code in
+    let is_refused = c.in-Err-Refused.field-0-is in
+    let stages : (5 ≤ stage) × (stage ≤ 6) =
+    refused-told ℕ (λ at told. (5 ≤ at) × (at ≤ 6)) c.in-Err-Refused.field-0 stage code is_refused c.in-Err-Refused.ensures.stages in
+    let early : (stage == 8) ≡ false = grind (arith, nat_tests, stages.1) in
+    spot-cut b a c.in-Ok.site admitted c.turn_down.new.heap (record { stage = stage; code = code }) c.turn_down.result
+    (c.turn_down.ensures.down b c.in-Ok.site.bus.birth shown early) (cc e)
 
-pub returns-in-Err-slot-clause-book : goal.returns-in-Err-slot-clause-book
-returns-in-Err-slot-clause-book g c = λ out h. c.turn_down.ensures.book out (c.choose.ensures.book out h)
+pub returns-in-Err-Refused-clause-book : goal.returns-in-Err-Refused-clause-book
+returns-in-Err-Refused-clause-book g c = λ out h. c.turn_down.ensures.book out (c.choose.ensures.book out h)
 
 pub returns-in-Err-make-clause-memory : goal.returns-in-Err-make-clause-memory
 returns-in-Err-make-clause-memory g c = λ b is e.
     let a : Wanted = wanted c.args.driver.now (option_map (λ t. t.now) c.args.id) (option_map (λ t. t.now) c.args.bus) c.args.props.now in
-    let (admitted, given) = c.in-Ok.ensures.admitted b c.args.resets.now.births is in
+    let (admitted, given) = c.in-Ok.ensures.admitted b c.args.resets.now.births c.args.rings.now is in
     cut-late b a c.in-Ok.site admitted c.make.new.heap (c.in-Err-make.ensures.err b (subst (Shows b) (sym c.in-Ok.ensures.same) is.shown) is.sound)
 
 pub returns-in-Err-make-clause-book : goal.returns-in-Err-make-clause-book
@@ -43,15 +56,15 @@ returns-in-Err-make-clause-book g c = λ out h. c.make.ensures.book out (c.choos
 pub returns-in-Err-place-clause-refused : goal.returns-in-Err-place-clause-refused
 returns-in-Err-place-clause-refused g c = λ b is.
     let a : Wanted = wanted c.args.driver.now (option_map (λ t. t.now) c.args.id) (option_map (λ t. t.now) c.args.bus) c.args.props.now in
-    let (admitted, given) = c.in-Ok.ensures.admitted b c.args.resets.now.births is in
-    let begun = c.in-Ok-make.ensures.begun b a (subst (Shows b) (sym c.in-Ok.ensures.same) is.shown) is.sound is.holds_are admitted refl given in
-    refused-at b a 5 ℕ ℕ c.in-Err-place.refusal c.place.new.heap (c.in-Err-place.ensures.refused b a begun)
+    let (admitted, given) = c.in-Ok.ensures.admitted b c.args.resets.now.births c.args.rings.now is in
+    let begun = c.in-Ok-make.ensures.begun b a (subst (Shows b) (sym c.in-Ok.ensures.same) is.shown) is.sound is.holds_are is.rings_are admitted refl given in
+    refused-within b a 5 6 ℕ ℕ c.in-Err-place.refusal c.place.new.heap (c.in-Err-place.ensures.refused b a begun)
 
 pub returns-in-Err-place-clause-memory : goal.returns-in-Err-place-clause-memory
 returns-in-Err-place-clause-memory g c = λ b is e.
     let a : Wanted = wanted c.args.driver.now (option_map (λ t. t.now) c.args.id) (option_map (λ t. t.now) c.args.bus) c.args.props.now in
-    let (admitted, given) = c.in-Ok.ensures.admitted b c.args.resets.now.births is in
-    let begun = c.in-Ok-make.ensures.begun b a (subst (Shows b) (sym c.in-Ok.ensures.same) is.shown) is.sound is.holds_are admitted refl given in
+    let (admitted, given) = c.in-Ok.ensures.admitted b c.args.resets.now.births c.args.rings.now is in
+    let begun = c.in-Ok-make.ensures.begun b a (subst (Shows b) (sym c.in-Ok.ensures.same) is.shown) is.sound is.holds_are is.rings_are admitted refl given in
     c.in-Err-place.ensures.memory b a begun (ap (λ r. Err r) (cc e))
 
 pub returns-in-Err-place-clause-book : goal.returns-in-Err-place-clause-book
@@ -60,8 +73,8 @@ returns-in-Err-place-clause-book g c = λ out h. c.place.ensures.book out (c.mak
 pub returns-in-Ok-finish-clause-ok : goal.returns-in-Ok-finish-clause-ok
 returns-in-Ok-finish-clause-ok g c = λ b is.
     let a : Wanted = wanted c.args.driver.now (option_map (λ t. t.now) c.args.id) (option_map (λ t. t.now) c.args.bus) c.args.props.now in
-    let (admitted, given) = c.in-Ok.ensures.admitted b c.args.resets.now.births is in
-    let begun = c.in-Ok-make.ensures.begun b a (subst (Shows b) (sym c.in-Ok.ensures.same) is.shown) is.sound is.holds_are admitted refl given in
+    let (admitted, given) = c.in-Ok.ensures.admitted b c.args.resets.now.births c.args.rings.now is in
+    let begun = c.in-Ok-make.ensures.begun b a (subst (Shows b) (sym c.in-Ok.ensures.same) is.shown) is.sound is.holds_are is.rings_are admitted refl given in
     c.in-Ok-finish.ensures.ok b a (c.in-Ok-place.ensures.settled b a begun is.notices)
     (record { holds_are = is.holds_are; pending = is.pending; notices = is.notices })
 
@@ -71,8 +84,8 @@ returns-in-Ok-finish-clause-book g c = λ out h. c.finish.ensures.book out (c.pl
 pub returns-in-Err-finish-clause-refused : goal.returns-in-Err-finish-clause-refused
 returns-in-Err-finish-clause-refused g c = λ b is.
     let a : Wanted = wanted c.args.driver.now (option_map (λ t. t.now) c.args.id) (option_map (λ t. t.now) c.args.bus) c.args.props.now in
-    let (admitted, given) = c.in-Ok.ensures.admitted b c.args.resets.now.births is in
-    let begun = c.in-Ok-make.ensures.begun b a (subst (Shows b) (sym c.in-Ok.ensures.same) is.shown) is.sound is.holds_are admitted refl given in
+    let (admitted, given) = c.in-Ok.ensures.admitted b c.args.resets.now.births c.args.rings.now is in
+    let begun = c.in-Ok-make.ensures.begun b a (subst (Shows b) (sym c.in-Ok.ensures.same) is.shown) is.sound is.holds_are is.rings_are admitted refl given in
     refused-last b a ℕ ℕ c.in-Err-finish.field-0 c.finish.new.heap c.in-Err-finish.ensures.code
     (c.in-Err-finish.ensures.refused b a (c.in-Ok-place.ensures.settled b a begun is.notices))
 

@@ -6,17 +6,17 @@ use Rattle.qo_plug.specs.Added.{wanted}
 use Rattle.qo_plug.proofs.AddLemmas.{cut-late}
 use Rattle.qo_plug.proofs.beginning.begin.Goals as goal
 
-pub make-requires-clause-slot : goal.make-requires-clause-slot
-make-requires-clause-slot g c = record { within = c.device_slot-slot.ensures.within; refused = c.device_slot-slot.ensures.refused; spot = c.device_slot-slot.ensures.spot }
+pub make-requires-clause-spot : goal.make-requires-clause-spot
+make-requires-clause-spot g c = c.in_ok-spot.ensures
 
 pub returns-in-Err-clause-memory : goal.returns-in-Err-clause-memory
-returns-in-Err-clause-memory g c = λ b is e. c.choose.ensures.memory b c.args.resets.now.births is (c.in-Err.is ∙ ap (λ r. Err r) (cc e))
+returns-in-Err-clause-memory g c = λ b is e. c.choose.ensures.memory b c.args.resets.now.births c.args.rings.now is (c.in-Err.is ∙ ap (λ r. Err r) (cc e))
 
 pub returns-in-Ok-make-clause-begun : goal.returns-in-Ok-make-clause-begun
 returns-in-Ok-make-clause-begun g c = λ b is.
     let a : Wanted = wanted c.args.driver.now (option_map (λ t. t.now) c.args.id) (option_map (λ t. t.now) c.args.bus) c.args.props.now in
-    let (admitted, given) = c.in-Ok.ensures.admitted b c.args.resets.now.births is in
-    c.in-Ok-make.ensures.begun b a (subst (Shows b) (sym c.in-Ok.ensures.same) is.shown) is.sound is.holds_are admitted refl given
+    let (admitted, given) = c.in-Ok.ensures.admitted b c.args.resets.now.births c.args.rings.now is in
+    c.in-Ok-make.ensures.begun b a (subst (Shows b) (sym c.in-Ok.ensures.same) is.shown) is.sound is.holds_are is.rings_are admitted refl given
 
 pub returns-in-Ok-make-clause-book : goal.returns-in-Ok-make-clause-book
 returns-in-Ok-make-clause-book g c = λ out h. c.make.ensures.book out (c.choose.ensures.book out h)
@@ -24,7 +24,7 @@ returns-in-Ok-make-clause-book g c = λ out h. c.make.ensures.book out (c.choose
 pub returns-in-Err-make-clause-memory : goal.returns-in-Err-make-clause-memory
 returns-in-Err-make-clause-memory g c = λ b is e.
     let a : Wanted = wanted c.args.driver.now (option_map (λ t. t.now) c.args.id) (option_map (λ t. t.now) c.args.bus) c.args.props.now in
-    let (admitted, given) = c.in-Ok.ensures.admitted b c.args.resets.now.births is in
+    let (admitted, given) = c.in-Ok.ensures.admitted b c.args.resets.now.births c.args.rings.now is in
     cut-late b a c.in-Ok.site admitted c.make.new.heap (c.in-Err-make.ensures.err b (subst (Shows b) (sym c.in-Ok.ensures.same) is.shown) is.sound)
 
 pub returns-in-Err-make-clause-book : goal.returns-in-Err-make-clause-book

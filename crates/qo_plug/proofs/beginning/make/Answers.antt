@@ -3,11 +3,12 @@ use Rattle.std.proofs.Common.{◌≡◌, ◌≤◌, ◌+◌, ap, sym, subst, ◌
 use Rattle.std.specs.Prelude.{IfOk}
 use Rattle.std.specs.List.{AllZip}
 use Rattle.qo_model.specs.Objects.{Given}
-use Rattle.qo_model.specs.Plug.{place_barred, spot_of}
+use Rattle.qo_model.specs.Plug.{spot_of}
 use Rattle.qo_model.specs.Reset.{count}
 use Rattle.qo_object.specs.Slots.{Named}
 use Rattle.qo_properties.specs.Filling.{Fits, IsGiven}
 use Rattle.qo_properties.specs.Fresh.{new_slots}
+use Rattle.qo_plug.specs.Stages.{spot_barred}
 use Rattle.qo_plug.specs.Standing.{spot_in}
 use Rattle.qo_plug.proofs.AddLemmas.{plan-live}
 use Rattle.qo_plug.proofs.GrowsLemmas.{live-low, unborn-quiet}
@@ -21,12 +22,14 @@ returns-clause-held g c =
     let born : c.in_ok-device.device.birth ≡ c.args.heap.now.born + 1 = made.birth in
     let low : c.args.site.bus.birth ≤ c.args.heap.now.born = live-low c.args.heap.now c.facts.ensures c.args.site.bus c.requires.bus in
     record {
-      built = c.requires.built;
+      device_is = c.requires.device;
       live = made.live;
       container = grows.names c.args.site.place.container c.requires.container;
       bus = grows.names c.args.site.bus c.requires.bus;
       older = omega (arith, born, low);
-      slot = c.requires.slot.within;
+      within = c.requires.spot.within;
+      dimm = c.requires.spot.dimm;
+      stages = c.requires.spot.stages;
       pinned = c.in_ok-device.ensures.pinned;
       rest = made.rest;
       quiet = λ n le. grows.quiet n (unborn-quiet c.args.heap.now c.facts.ensures n (omega (arith, born, le)));
@@ -35,7 +38,7 @@ returns-clause-held g c =
     }
 
 pub returns-clause-begun : goal.returns-clause-begun
-returns-clause-begun g c = λ b a s sound holds admitted props given.
+returns-clause-begun g c = λ b a s sound holds rings admitted props given.
     let made = c.in_ok-device.ensures.made in
     let bus = c.args.site.bus.birth in
     record {
@@ -44,9 +47,9 @@ returns-clause-begun g c = λ b a s sound holds admitted props given.
       admitted = admitted;
       given = given;
       birth = made.birth ∙ sym (ap (λ (k : ℕ). k + 1) s.born);
-      barred = c.requires.slot.refused b s ∙ ap (place_barred b c.args.site.kind bus) (sym props);
+      barred = c.requires.spot.refused b s rings ∙ ap (spot_barred b c.args.site.kind bus) (sym props);
       spot =
-          subst (λ (l : List Given). IfOk c.args.slot (λ slot. spot_of b c.args.site.kind bus l ≡ spot_in bus slot)) (sym props) (c.requires.slot.spot b s);
+          subst (λ (l : List Given). IfOk c.args.spot (λ at. spot_of b c.args.site.kind bus l ≡ spot_in bus at)) (sym props) (c.requires.spot.spot b s);
       out = cut-none c.count-out.result (count b c.args.site.bus.birth) (c.count-out.ensures b (s, holds));
       plan = subst (λ (slots : List Named). AllZip (IsGiven b a.props) c.in_ok-plan.plan.items slots) (sym made.own)
           (subst (λ (l : List Given). AllZip (IsGiven b l) c.in_ok-plan.plan.items (new_slots c.args.site.kind)) (sym props) (c.in_ok-plan.ensures.told b s));

@@ -6,7 +6,7 @@ use Rattle.qo_heap.specs.Objects.{with_edit}
 use Rattle.qo_plug.specs.declared.claiming.Label.{Label}
 use Rattle.qo_plug.specs.Standing.{named}
 use Rattle.qo_plug.specs.Taking.{labels_out}
-use Rattle.qo_plug.proofs.StandSteps.{named-book, named-none}
+use Rattle.qo_plug.proofs.TakeLemmas.{named-book, named-none}
 use Rattle.qo_plug.proofs.claiming.keep_label.Goals as goal
 
 pub returns-in-Some-clause-book : goal.returns-in-Some-clause-book

@@ -1,5 +1,6 @@
 -- The device is judged already: it takes its place, or is given up.
-use Rattle.std.proofs.Common.{◌≡◌, refl, ap, sym, ◌∙◌, List, length, nat_le}
+use Rattle.std.proofs.Common.{◌≡◌, ◌≤◌, ◌==◌, refl, ap, sym, ◌∙◌, List, false, length, nat_le, arith}
+use Rattle.std.proofs.lemmas.Bool.Decides.{nat_tests}
 use Rattle.qo_values.specs.declared.limits.TheConstants.{NOTICES_MAX}
 use Rattle.qo_model.specs.Board.{Notice}
 use Rattle.qo_model.specs.Plug.{source_for}
@@ -7,15 +8,29 @@ use Rattle.qo_slots.specs.declared.keys.Key.{Key}
 use Rattle.qo_plug.specs.Drafts.{held_draft}
 use Rattle.qo_plug.specs.Standing.{IsSeat}
 use Rattle.qo_plug.proofs.SourceLemmas.{source-same}
-use Rattle.qo_plug.proofs.StageLemmas.{bus-low, given_up-cut, opened, seat-of, slot-refused}
+use Rattle.qo_plug.proofs.StageLemmas.{bus-low, full-barred, given_up-cut, opened, seat-of, spot-refused}
 use Rattle.qo_plug.proofs.placing.place.Goals as goal
 
 pub returns-in-Err-clause-refused : goal.returns-in-Err-clause-refused
-returns-in-Err-clause-refused g c = λ b a is. (
-  refl,
-  slot-refused b a c.args.begun c.args.heap.now is c.in-Err.code c.in-Err.is c.give_up.new.heap
-      (c.give_up.ensures.shown b c.args.begun.site.kind c.args.begun.site.bus.birth 5 is.sound is.birth refl is.shown),
-)
+returns-in-Err-clause-refused g c = λ b a is.
+    let bar = c.in-Err.field-0 in
+    let stages : (5 ≤ bar.stage) × (bar.stage ≤ 6) = rw c.in-Err.is at c.requires.stages in
+    let early : (bar.stage == 8) ≡ false = grind (arith, nat_tests, stages.1) in (
+      stages.0,
+      stages.1,
+      spot-refused b a c.args.begun c.args.heap.now is bar c.in-Err.is c.give_up.new.heap
+          (c.give_up.ensures.shown b c.args.begun.site.kind c.args.begun.site.bus.birth bar.stage is.sound is.birth early is.shown),
+    )
+
+pub returns-then-are_full-clause-settled : goal.returns-then-are_full-clause-settled
+returns-then-are_full-clause-settled g c = λ b a is notices.
+    let d = c.args.begun in
+    let full = ap (λ (l : List Notice). nat_le NOTICES_MAX (length l)) notices ∙ sym c.are_full.ensures ∙ c.if-are_full.true in
+    record {
+      sound = is.sound;
+      birth = is.birth;
+      site = (d.site, c.requires.device_is, (is.admitted, full-barred b a d c.args.heap.now is c.in-Ok.spot c.in-Ok.is full, is.out, is.shown));
+    }
 
 pub returns-in-Ok-stand-clause-settled : goal.returns-in-Ok-stand-clause-settled
 returns-in-Ok-stand-clause-settled g c = λ b a is notices.
@@ -31,7 +46,7 @@ returns-in-Ok-stand-clause-settled g c = λ b a is notices.
     record {
       sound = is.sound;
       birth = is.birth;
-      site = (d.site, c.requires.built, (opened b a d c.args.heap.now is c.requires c.in-Ok.slot c.in-Ok.is room, rw (ens.bus, ens.slot) at stood));
+      site = (d.site, c.requires.device_is, (c.in-Ok.spot, refl, opened b a d c.args.heap.now is c.in-Ok.spot c.in-Ok.is room, rw (ens.bus, ens.spot) at stood));
     }
 
 pub returns-in-Err-stand-clause-memory : goal.returns-in-Err-stand-clause-memory

@@ -1,9 +1,11 @@
 -- Each step keeps what the ones before it made.
-use Rattle.std.proofs.Common.{◌++◌, List, option_map, sym, subst, ◌∙◌}
+use Rattle.std.proofs.Common.{◌++◌, ℕ, List, Option, sym, subst, ◌∙◌}
 use Rattle.std.specs.List.{AllZip}
 use Rattle.qo_table.specs.Rows.{IsLive}
 use Rattle.qo_model.specs.Board.{Board}
-use Rattle.qo_model.specs.Plug.{joined, valued}
+use Rattle.qo_values.specs.declared.ranges.Range.{Range}
+use Rattle.qo_model.specs.Plug.{Spot, addressed_at, joined, stood, valued, with_body_of}
+use Rattle.qo_model.specs.Release.{edit}
 use Rattle.qo_object.specs.Slots.{Named}
 use Rattle.qo_heap.specs.Board.{Shows}
 use Rattle.qo_heap.specs.Book.{IsBook}
@@ -11,12 +13,12 @@ use Rattle.qo_heap.specs.Objects.{Objects}
 use Rattle.qo_properties.specs.Filling.{Fits, IsGiven}
 use Rattle.qo_properties.proofs.FillingLemmas.{all-live}
 use Rattle.qo_properties.proofs.WriteLemmas.{some-live}
-use Rattle.qo_plug.specs.declared.claiming.Label.{Label}
 use Rattle.qo_plug.specs.Drafts.{own_slots_of}
-use Rattle.qo_plug.specs.Standing.{slot_kept, spot_in}
-use Rattle.qo_plug.specs.Taking.{labels_out, taken_out}
+use Rattle.qo_plug.specs.Standing.{range_in, spot_in}
+use Rattle.qo_plug.specs.Taking.{kept_out, labels_out, taken_out}
+use Rattle.qo_plug.proofs.RangeLemmas.{still-dimm}
 use Rattle.qo_plug.proofs.StandSteps.{alike-then, pinned-same}
-use Rattle.qo_plug.proofs.StandLemmas.{joined-alike, joined-bare, named-alike, named-shown, placed-alike, placed-book, placed-ids, placed-kept, placed-own, placed-shown, reserved-book, reserved-live, reserved-shows, rows-joined, stands, still-unnamed}
+use Rattle.qo_plug.proofs.StandLemmas.{joined-alike, joined-bare, placed-alike, placed-book, placed-ids, placed-kept, placed-own, placed-registers, placed-shown, reserved-book, reserved-live, reserved-shows, rows-joined, stands, still-unnamed}
 use Rattle.qo_plug.proofs.standing.stand.Goals as goal
 
 pub returns-in_err-taken-clause-book : goal.returns-in_err-taken-clause-book
@@ -24,145 +26,156 @@ returns-in_err-taken-clause-book g c = λ out h.
     c.in_err-taken.ensures.err out (reserved-book out c.args.heap.now c.reserve_event.new.self c.reserve_event.new.self.events.spare
     c.reserve_event.ensures.kept h)
 
-pub keep_slot-requires-clause-live : goal.keep_slot-requires-clause-live
-keep_slot-requires-clause-live g c =
-    (joined-alike c.args.heap.now c.join.new.heap c.args.seat.container c.args.seat.bus c.args.device c.args.seat.name c.args.seat.slot (rows-joined
+pub keep_claims-requires-clause-live : goal.keep_claims-requires-clause-live
+keep_claims-requires-clause-live g c =
+    (joined-alike c.args.heap.now c.join.new.heap c.args.seat.container c.args.seat.bus c.args.device c.args.seat.name c.args.seat.spot.slot (rows-joined
     c.args.heap.now c.reserve_event.new.self c.take_claims.new.heap c.join.new.heap c.reserve_event.new.self.events.spare c.args.seat.container
-    c.args.seat.bus c.args.device c.args.seat.name c.args.seat.slot c.reserve_event.ensures.kept c.in_ok-taken.ensures.rest
+    c.args.seat.bus c.args.device c.args.seat.name c.args.seat.spot.slot c.reserve_event.ensures.kept c.in_ok-taken.ensures.rest
     c.in-Ok.ensures.now)).names c.args.device c.requires.live
 
-pub keep_slot-requires-clause-bare : goal.keep_slot-requires-clause-bare
-keep_slot-requires-clause-bare g c =
-    joined-bare c.args.heap.now c.join.new.heap c.args.seat.container c.args.seat.bus c.args.device c.args.seat.name c.args.seat.slot (rows-joined
+pub keep_claims-requires-clause-bare : goal.keep_claims-requires-clause-bare
+keep_claims-requires-clause-bare g c =
+    joined-bare c.args.heap.now c.join.new.heap c.args.seat.container c.args.seat.bus c.args.device c.args.seat.name c.args.seat.spot.slot (rows-joined
     c.args.heap.now c.reserve_event.new.self c.take_claims.new.heap c.join.new.heap c.reserve_event.new.self.events.spare c.args.seat.container
-    c.args.seat.bus c.args.device c.args.seat.name c.args.seat.slot c.reserve_event.ensures.kept c.in_ok-taken.ensures.rest c.in-Ok.ensures.now)
+    c.args.seat.bus c.args.device c.args.seat.name c.args.seat.spot.slot c.reserve_event.ensures.kept c.in_ok-taken.ensures.rest c.in-Ok.ensures.now)
     c.args.device.birth c.requires.new
 
 pub put_values-requires-clause-live : goal.put_values-requires-clause-live
 put_values-requires-clause-live g c =
-    (placed-alike c.args.heap.now c.reserve_event.new.self c.take_claims.new.heap c.join.new.heap c.keep_slot.new.heap
-    c.reserve_event.new.self.events.spare c.args.device c.args.seat.container c.args.seat.bus c.args.seat.name c.args.seat.slot (slot_kept
-    c.in_ok-taken.taken.slot) c.reserve_event.ensures.kept c.in_ok-taken.ensures.rest c.in-Ok.ensures.now c.keep_slot.ensures.rest).names
+    (placed-alike c.args.heap.now c.reserve_event.new.self c.take_claims.new.heap c.join.new.heap c.keep_claims.new.heap
+    c.reserve_event.new.self.events.spare c.args.device c.args.seat.container c.args.seat.bus c.args.seat.name c.args.seat.spot.slot
+    c.in_ok-taken.taken.kept c.reserve_event.ensures.kept c.in_ok-taken.ensures.rest c.in-Ok.ensures.now c.keep_claims.ensures.rest).names
     c.args.device c.requires.live
 
 pub put_values-requires-clause-bus : goal.put_values-requires-clause-bus
 put_values-requires-clause-bus g c =
-    (placed-alike c.args.heap.now c.reserve_event.new.self c.take_claims.new.heap c.join.new.heap c.keep_slot.new.heap
-    c.reserve_event.new.self.events.spare c.args.device c.args.seat.container c.args.seat.bus c.args.seat.name c.args.seat.slot (slot_kept
-    c.in_ok-taken.taken.slot) c.reserve_event.ensures.kept c.in_ok-taken.ensures.rest c.in-Ok.ensures.now c.keep_slot.ensures.rest).names
+    (placed-alike c.args.heap.now c.reserve_event.new.self c.take_claims.new.heap c.join.new.heap c.keep_claims.new.heap
+    c.reserve_event.new.self.events.spare c.args.device c.args.seat.container c.args.seat.bus c.args.seat.name c.args.seat.spot.slot
+    c.in_ok-taken.taken.kept c.reserve_event.ensures.kept c.in_ok-taken.ensures.rest c.in-Ok.ensures.now c.keep_claims.ensures.rest).names
     c.args.seat.bus c.requires.bus
 
 pub put_values-requires-clause-targets : goal.put_values-requires-clause-targets
 put_values-requires-clause-targets g c =
-    all-live (IsLive c.args.heap.now.rows) (IsLive c.keep_slot.new.heap.rows) (placed-alike c.args.heap.now c.reserve_event.new.self
-    c.take_claims.new.heap c.join.new.heap c.keep_slot.new.heap c.reserve_event.new.self.events.spare c.args.device c.args.seat.container
-    c.args.seat.bus c.args.seat.name c.args.seat.slot (slot_kept c.in_ok-taken.taken.slot) c.reserve_event.ensures.kept c.in_ok-taken.ensures.rest
-    c.in-Ok.ensures.now c.keep_slot.ensures.rest).names c.args.plan.items c.requires.targets
+    all-live (IsLive c.args.heap.now.rows) (IsLive c.keep_claims.new.heap.rows) (placed-alike c.args.heap.now c.reserve_event.new.self
+    c.take_claims.new.heap c.join.new.heap c.keep_claims.new.heap c.reserve_event.new.self.events.spare c.args.device c.args.seat.container
+    c.args.seat.bus c.args.seat.name c.args.seat.spot.slot c.in_ok-taken.taken.kept c.reserve_event.ensures.kept c.in_ok-taken.ensures.rest
+    c.in-Ok.ensures.now c.keep_claims.ensures.rest).names c.args.plan.items c.requires.targets
 
 pub put_values-requires-clause-fits : goal.put_values-requires-clause-fits
 put_values-requires-clause-fits g c =
     subst (λ (l : List Named). AllZip Fits c.args.plan.items l) (sym (placed-own c.args.heap.now c.reserve_event.new.self c.take_claims.new.heap
-    c.join.new.heap c.keep_slot.new.heap c.reserve_event.new.self.events.spare c.args.device c.args.seat.container c.args.seat.bus c.args.seat.name
-    c.args.seat.slot (slot_kept c.in_ok-taken.taken.slot) c.reserve_event.ensures.kept c.in_ok-taken.ensures.rest c.in-Ok.ensures.now
-    c.keep_slot.ensures.rest c.requires.apart)) c.requires.fits
+    c.join.new.heap c.keep_claims.new.heap c.reserve_event.new.self.events.spare c.args.device c.args.seat.container c.args.seat.bus c.args.seat.name
+    c.args.seat.spot.slot c.in_ok-taken.taken.kept c.reserve_event.ensures.kept c.in_ok-taken.ensures.rest c.in-Ok.ensures.now
+    c.keep_claims.ensures.rest c.requires.apart)) c.requires.fits
 
-pub keep_label-requires-clause-live : goal.keep_label-requires-clause-live
-keep_label-requires-clause-live g c =
-    (alike-then c.args.heap.now c.keep_slot.new.heap c.put_values.new.heap (placed-alike c.args.heap.now c.reserve_event.new.self
-    c.take_claims.new.heap c.join.new.heap c.keep_slot.new.heap c.reserve_event.new.self.events.spare c.args.device c.args.seat.container
-    c.args.seat.bus c.args.seat.name c.args.seat.slot (slot_kept c.in_ok-taken.taken.slot) c.reserve_event.ensures.kept c.in_ok-taken.ensures.rest
-    c.in-Ok.ensures.now c.keep_slot.ensures.rest) c.put_values.ensures.stays.alike).names c.args.device c.requires.live
+pub put_body-requires-clause-live : goal.put_body-requires-clause-live
+put_body-requires-clause-live g c =
+    (alike-then c.args.heap.now c.keep_claims.new.heap c.put_values.new.heap (placed-alike c.args.heap.now c.reserve_event.new.self
+    c.take_claims.new.heap c.join.new.heap c.keep_claims.new.heap c.reserve_event.new.self.events.spare c.args.device c.args.seat.container
+    c.args.seat.bus c.args.seat.name c.args.seat.spot.slot c.in_ok-taken.taken.kept c.reserve_event.ensures.kept c.in_ok-taken.ensures.rest
+    c.in-Ok.ensures.now c.keep_claims.ensures.rest) c.put_values.ensures.stays.alike).names c.args.device c.requires.live
 
-pub keep_label-requires-clause-unnamed : goal.keep_label-requires-clause-unnamed
-keep_label-requires-clause-unnamed g c =
+pub put_body-requires-clause-dimm : goal.put_body-requires-clause-dimm
+put_body-requires-clause-dimm g c =
+    still-dimm c.args.seat.spot.memory _ _ (c.put_values.ensures.stays.registers c.args.device.birth
+    ∙ placed-registers c.args.heap.now c.reserve_event.new.self c.take_claims.new.heap
+    c.join.new.heap c.keep_claims.new.heap c.reserve_event.new.self.events.spare c.args.device c.args.seat.container
+    c.args.seat.bus c.args.seat.name c.args.seat.spot.slot c.in_ok-taken.taken.kept c.reserve_event.ensures.kept
+    c.in_ok-taken.ensures.rest c.in-Ok.ensures.now c.keep_claims.ensures.rest
+    c.args.device.birth) c.requires.dimm
+
+pub put_body-requires-clause-unnamed : goal.put_body-requires-clause-unnamed
+put_body-requires-clause-unnamed g c =
     still-unnamed _ _ (c.put_values.ensures.stays.ids c.args.device.birth ∙ placed-ids c.args.heap.now c.reserve_event.new.self
-    c.take_claims.new.heap c.join.new.heap c.keep_slot.new.heap c.reserve_event.new.self.events.spare c.args.device c.args.seat.container
-    c.args.seat.bus c.args.seat.name c.args.seat.slot (slot_kept c.in_ok-taken.taken.slot) c.reserve_event.ensures.kept c.in_ok-taken.ensures.rest
-    c.in-Ok.ensures.now c.keep_slot.ensures.rest c.args.device.birth) c.requires.new
+    c.take_claims.new.heap c.join.new.heap c.keep_claims.new.heap c.reserve_event.new.self.events.spare c.args.device c.args.seat.container
+    c.args.seat.bus c.args.seat.name c.args.seat.spot.slot c.in_ok-taken.taken.kept c.reserve_event.ensures.kept c.in_ok-taken.ensures.rest
+    c.in-Ok.ensures.now c.keep_claims.ensures.rest c.args.device.birth) c.requires.new
 
 pub connect_clock-requires-clause-live : goal.connect_clock-requires-clause-live
 connect_clock-requires-clause-live g c =
-    (alike-then c.args.heap.now c.put_values.new.heap c.keep_label.new.heap (alike-then c.args.heap.now c.keep_slot.new.heap c.put_values.new.heap
-    (placed-alike c.args.heap.now c.reserve_event.new.self c.take_claims.new.heap c.join.new.heap c.keep_slot.new.heap
-    c.reserve_event.new.self.events.spare c.args.device c.args.seat.container c.args.seat.bus c.args.seat.name c.args.seat.slot (slot_kept
-    c.in_ok-taken.taken.slot) c.reserve_event.ensures.kept c.in_ok-taken.ensures.rest c.in-Ok.ensures.now c.keep_slot.ensures.rest)
-    c.put_values.ensures.stays.alike) (named-alike c.put_values.new.heap c.keep_label.new.heap c.args.device.birth (option_map (λ (l : Label). l.id)
-    c.in_ok-taken.taken.label) c.keep_label.ensures.now)).names c.args.device c.requires.live
+    (alike-then c.args.heap.now c.put_values.new.heap c.put_body.new.heap (alike-then c.args.heap.now c.keep_claims.new.heap c.put_values.new.heap
+    (placed-alike c.args.heap.now c.reserve_event.new.self c.take_claims.new.heap c.join.new.heap c.keep_claims.new.heap
+    c.reserve_event.new.self.events.spare c.args.device c.args.seat.container c.args.seat.bus c.args.seat.name c.args.seat.spot.slot
+    c.in_ok-taken.taken.kept c.reserve_event.ensures.kept c.in_ok-taken.ensures.rest c.in-Ok.ensures.now c.keep_claims.ensures.rest)
+    c.put_values.ensures.stays.alike) c.put_body.ensures.alike).names c.args.device c.requires.live
 
 pub connect_clock-requires-clause-source : goal.connect_clock-requires-clause-source
 connect_clock-requires-clause-source g c =
-    some-live (IsLive c.reserve_event.new.self.rows) (IsLive c.keep_label.new.heap.rows) (λ key live. (alike-then c.args.heap.now
-    c.put_values.new.heap c.keep_label.new.heap (alike-then c.args.heap.now c.keep_slot.new.heap c.put_values.new.heap (placed-alike c.args.heap.now
-    c.reserve_event.new.self c.take_claims.new.heap c.join.new.heap c.keep_slot.new.heap c.reserve_event.new.self.events.spare c.args.device
-    c.args.seat.container c.args.seat.bus c.args.seat.name c.args.seat.slot (slot_kept c.in_ok-taken.taken.slot) c.reserve_event.ensures.kept
-    c.in_ok-taken.ensures.rest c.in-Ok.ensures.now c.keep_slot.ensures.rest) c.put_values.ensures.stays.alike) (named-alike c.put_values.new.heap
-    c.keep_label.new.heap c.args.device.birth (option_map (λ (l : Label). l.id) c.in_ok-taken.taken.label) c.keep_label.ensures.now)).names key
-    (reserved-live c.args.heap.now c.reserve_event.new.self c.take_claims.new.heap c.join.new.heap c.keep_slot.new.heap
-    c.reserve_event.new.self.events.spare c.args.device c.args.seat.container c.args.seat.bus c.args.seat.name c.args.seat.slot (slot_kept
-    c.in_ok-taken.taken.slot) c.reserve_event.ensures.kept c.in_ok-taken.ensures.rest c.in-Ok.ensures.now c.keep_slot.ensures.rest key live))
+    some-live (IsLive c.reserve_event.new.self.rows) (IsLive c.put_body.new.heap.rows) (λ key live. (alike-then c.args.heap.now
+    c.put_values.new.heap c.put_body.new.heap (alike-then c.args.heap.now c.keep_claims.new.heap c.put_values.new.heap (placed-alike c.args.heap.now
+    c.reserve_event.new.self c.take_claims.new.heap c.join.new.heap c.keep_claims.new.heap c.reserve_event.new.self.events.spare c.args.device
+    c.args.seat.container c.args.seat.bus c.args.seat.name c.args.seat.spot.slot c.in_ok-taken.taken.kept c.reserve_event.ensures.kept
+    c.in_ok-taken.ensures.rest c.in-Ok.ensures.now c.keep_claims.ensures.rest) c.put_values.ensures.stays.alike) c.put_body.ensures.alike).names key
+    (reserved-live c.args.heap.now c.reserve_event.new.self c.take_claims.new.heap c.join.new.heap c.keep_claims.new.heap
+    c.reserve_event.new.self.events.spare c.args.device c.args.seat.container c.args.seat.bus c.args.seat.name c.args.seat.spot.slot
+    c.in_ok-taken.taken.kept c.reserve_event.ensures.kept c.in_ok-taken.ensures.rest c.in-Ok.ensures.now c.keep_claims.ensures.rest key live))
     c.source_of-source.result c.source_of-source.ensures.live
 
 pub returns-in-Ok-clause-stood : goal.returns-in-Ok-clause-stood
 returns-in-Ok-clause-stood g c = λ b d a s seat same told.
-    let here : Board = joined b c.args.device.birth a (spot_in c.args.seat.bus.birth c.args.seat.slot) d in
+    let range : Option Range = range_in c.args.seat.spot.memory in
+    let spot : Spot = spot_in c.args.seat.bus.birth c.args.seat.spot in
+    let here : Board = joined b c.args.device.birth a spot d in
+    let there : Board = addressed_at c.args.device.birth range (valued b c.args.device.birth a.props spot here) in
     let first : Shows d c.reserve_event.new.self =
     reserved-shows d c.args.heap.now c.reserve_event.new.self c.reserve_event.new.self.events.spare c.reserve_event.ensures.kept s in
-    let given : AllZip (IsGiven b a.props) c.args.plan.items (own_slots_of c.keep_slot.new.heap c.args.device.birth) =
+    let given : AllZip (IsGiven b a.props) c.args.plan.items (own_slots_of c.keep_claims.new.heap c.args.device.birth) =
     subst (λ (l : List Named). AllZip (IsGiven b a.props) c.args.plan.items l) (sym (placed-own c.args.heap.now c.reserve_event.new.self
-    c.take_claims.new.heap c.join.new.heap c.keep_slot.new.heap c.reserve_event.new.self.events.spare c.args.device c.args.seat.container
-    c.args.seat.bus c.args.seat.name c.args.seat.slot (slot_kept c.in_ok-taken.taken.slot) c.reserve_event.ensures.kept c.in_ok-taken.ensures.rest
-    c.in-Ok.ensures.now c.keep_slot.ensures.rest c.requires.apart)) told in
-    let valued_is : Shows (valued b c.args.device.birth a.props (spot_in c.args.seat.bus.birth c.args.seat.slot) here) c.put_values.new.heap =
-    c.put_values.ensures.shown b here a.props (placed-kept c.args.heap.now c.reserve_event.new.self c.take_claims.new.heap c.join.new.heap
-    c.keep_slot.new.heap c.reserve_event.new.self.events.spare c.args.device c.args.seat.container c.args.seat.bus c.args.seat.name c.args.seat.slot
-    (slot_kept c.in_ok-taken.taken.slot) c.reserve_event.ensures.kept c.in_ok-taken.ensures.rest c.in-Ok.ensures.now c.keep_slot.ensures.rest b d a
-    c.args.id s seat) given in
-    stands b d a c.args.device c.args.seat.bus c.args.seat.slot c.in-Ok.path c.keep_label.new.heap c.connect_clock.new.heap c.source_of-source.result
-    (c.in-Ok.ensures.path here (placed-shown c.args.heap.now c.reserve_event.new.self c.take_claims.new.heap c.join.new.heap c.keep_slot.new.heap
-    c.reserve_event.new.self.events.spare c.args.device c.args.seat.container c.args.seat.bus c.args.seat.name c.args.seat.slot (slot_kept
-    c.in_ok-taken.taken.slot) c.reserve_event.ensures.kept c.in_ok-taken.ensures.rest c.in-Ok.ensures.now c.keep_slot.ensures.rest b d a c.args.id s
-    seat)) (named-shown (valued b c.args.device.birth a.props (spot_in c.args.seat.bus.birth c.args.seat.slot) here) c.put_values.new.heap
-    c.keep_label.new.heap c.args.device.birth a.id (option_map (λ (l : Label). l.id) c.in_ok-taken.taken.label) c.keep_label.ensures.now (seat.id_is
-    ∙ sym c.in_ok-taken.ensures.id) valued_is) (c.source_of-source.ensures.source d first) (c.source_of-source.ensures.none d first)
+    c.take_claims.new.heap
+    c.join.new.heap c.keep_claims.new.heap c.reserve_event.new.self.events.spare c.args.device c.args.seat.container
+    c.args.seat.bus c.args.seat.name c.args.seat.spot.slot c.in_ok-taken.taken.kept c.reserve_event.ensures.kept
+    c.in_ok-taken.ensures.rest c.in-Ok.ensures.now c.keep_claims.ensures.rest c.requires.apart)) told in
+    let valued_is : Shows there c.put_values.new.heap =
+    c.put_values.ensures.shown b here a.props (placed-kept c.args.heap.now c.reserve_event.new.self c.take_claims.new.heap
+    c.join.new.heap c.keep_claims.new.heap c.reserve_event.new.self.events.spare c.args.device c.args.seat.container
+    c.args.seat.bus c.args.seat.name c.args.seat.spot.slot c.in_ok-taken.taken.kept c.reserve_event.ensures.kept
+    c.in_ok-taken.ensures.rest c.in-Ok.ensures.now c.keep_claims.ensures.rest b d a c.args.id range s seat) given in
+    let body_is : Shows (stood b c.args.device.birth a spot d) c.put_body.new.heap =
+    subst (λ (id : Option (List ℕ)). Shows (edit c.args.device.birth (with_body_of id range) there) c.put_body.new.heap)
+    (sym (seat.id_is ∙ sym c.in_ok-taken.ensures.id)) (c.put_body.ensures.shown there valued_is) in
+    stands b d a c.args.device spot c.in-Ok.path c.put_body.new.heap c.connect_clock.new.heap c.source_of-source.result
+    (c.in-Ok.ensures.path here (placed-shown c.args.heap.now c.reserve_event.new.self c.take_claims.new.heap
+    c.join.new.heap c.keep_claims.new.heap c.reserve_event.new.self.events.spare c.args.device c.args.seat.container
+    c.args.seat.bus c.args.seat.name c.args.seat.spot.slot c.in_ok-taken.taken.kept c.reserve_event.ensures.kept
+    c.in_ok-taken.ensures.rest c.in-Ok.ensures.now c.keep_claims.ensures.rest b d a c.args.id range s seat)) body_is
+    (c.source_of-source.ensures.source d first) (c.source_of-source.ensures.none d first)
     c.connect_clock.ensures.shown c.connect_clock.ensures.none same
 
 pub returns-in-Ok-clause-names : goal.returns-in-Ok-clause-names
 returns-in-Ok-clause-names g c =
-    (alike-then c.args.heap.now c.keep_label.new.heap c.connect_clock.new.heap (alike-then c.args.heap.now c.put_values.new.heap
-    c.keep_label.new.heap (alike-then c.args.heap.now c.keep_slot.new.heap c.put_values.new.heap (placed-alike c.args.heap.now
-    c.reserve_event.new.self c.take_claims.new.heap c.join.new.heap c.keep_slot.new.heap c.reserve_event.new.self.events.spare c.args.device
-    c.args.seat.container c.args.seat.bus c.args.seat.name c.args.seat.slot (slot_kept c.in_ok-taken.taken.slot) c.reserve_event.ensures.kept
-    c.in_ok-taken.ensures.rest c.in-Ok.ensures.now c.keep_slot.ensures.rest) c.put_values.ensures.stays.alike) (named-alike c.put_values.new.heap
-    c.keep_label.new.heap c.args.device.birth (option_map (λ (l : Label). l.id) c.in_ok-taken.taken.label) c.keep_label.ensures.now))
+    (alike-then c.args.heap.now c.put_body.new.heap c.connect_clock.new.heap (alike-then c.args.heap.now c.put_values.new.heap
+    c.put_body.new.heap (alike-then c.args.heap.now c.keep_claims.new.heap c.put_values.new.heap (placed-alike c.args.heap.now
+    c.reserve_event.new.self c.take_claims.new.heap c.join.new.heap c.keep_claims.new.heap c.reserve_event.new.self.events.spare c.args.device
+    c.args.seat.container c.args.seat.bus c.args.seat.name c.args.seat.spot.slot c.in_ok-taken.taken.kept c.reserve_event.ensures.kept
+    c.in_ok-taken.ensures.rest c.in-Ok.ensures.now c.keep_claims.ensures.rest) c.put_values.ensures.stays.alike) c.put_body.ensures.alike)
     c.connect_clock.ensures.stays.alike).names
 
 pub returns-in-Ok-clause-paths : goal.returns-in-Ok-clause-paths
 returns-in-Ok-clause-paths g c =
-    (alike-then c.args.heap.now c.keep_label.new.heap c.connect_clock.new.heap (alike-then c.args.heap.now c.put_values.new.heap
-    c.keep_label.new.heap (alike-then c.args.heap.now c.keep_slot.new.heap c.put_values.new.heap (placed-alike c.args.heap.now
-    c.reserve_event.new.self c.take_claims.new.heap c.join.new.heap c.keep_slot.new.heap c.reserve_event.new.self.events.spare c.args.device
-    c.args.seat.container c.args.seat.bus c.args.seat.name c.args.seat.slot (slot_kept c.in_ok-taken.taken.slot) c.reserve_event.ensures.kept
-    c.in_ok-taken.ensures.rest c.in-Ok.ensures.now c.keep_slot.ensures.rest) c.put_values.ensures.stays.alike) (named-alike c.put_values.new.heap
-    c.keep_label.new.heap c.args.device.birth (option_map (λ (l : Label). l.id) c.in_ok-taken.taken.label) c.keep_label.ensures.now))
+    (alike-then c.args.heap.now c.put_body.new.heap c.connect_clock.new.heap (alike-then c.args.heap.now c.put_values.new.heap
+    c.put_body.new.heap (alike-then c.args.heap.now c.keep_claims.new.heap c.put_values.new.heap (placed-alike c.args.heap.now
+    c.reserve_event.new.self c.take_claims.new.heap c.join.new.heap c.keep_claims.new.heap c.reserve_event.new.self.events.spare c.args.device
+    c.args.seat.container c.args.seat.bus c.args.seat.name c.args.seat.spot.slot c.in_ok-taken.taken.kept c.reserve_event.ensures.kept
+    c.in_ok-taken.ensures.rest c.in-Ok.ensures.now c.keep_claims.ensures.rest) c.put_values.ensures.stays.alike) c.put_body.ensures.alike)
     c.connect_clock.ensures.stays.alike).paths c.args.device.birth
 
 pub returns-in-Ok-clause-pinned : goal.returns-in-Ok-clause-pinned
 returns-in-Ok-clause-pinned g c =
-    pinned-same c.args.heap.now c.connect_clock.new.heap c.facts.ensures c.facts-in-Ok.ensures (alike-then c.args.heap.now c.keep_label.new.heap
-    c.connect_clock.new.heap (alike-then c.args.heap.now c.put_values.new.heap c.keep_label.new.heap (alike-then c.args.heap.now c.keep_slot.new.heap
-    c.put_values.new.heap (placed-alike c.args.heap.now c.reserve_event.new.self c.take_claims.new.heap c.join.new.heap c.keep_slot.new.heap
-    c.reserve_event.new.self.events.spare c.args.device c.args.seat.container c.args.seat.bus c.args.seat.name c.args.seat.slot (slot_kept
-    c.in_ok-taken.taken.slot) c.reserve_event.ensures.kept c.in_ok-taken.ensures.rest c.in-Ok.ensures.now c.keep_slot.ensures.rest)
-    c.put_values.ensures.stays.alike) (named-alike c.put_values.new.heap c.keep_label.new.heap c.args.device.birth (option_map (λ (l : Label). l.id)
-    c.in_ok-taken.taken.label) c.keep_label.ensures.now)) c.connect_clock.ensures.stays.alike).pins c.args.device.birth
+    pinned-same c.args.heap.now c.connect_clock.new.heap c.facts.ensures c.facts-in-Ok.ensures (alike-then c.args.heap.now c.put_body.new.heap
+    c.connect_clock.new.heap (alike-then c.args.heap.now c.put_values.new.heap c.put_body.new.heap (alike-then c.args.heap.now c.keep_claims.new.heap
+    c.put_values.new.heap (placed-alike c.args.heap.now c.reserve_event.new.self c.take_claims.new.heap c.join.new.heap c.keep_claims.new.heap
+    c.reserve_event.new.self.events.spare c.args.device c.args.seat.container c.args.seat.bus c.args.seat.name c.args.seat.spot.slot
+    c.in_ok-taken.taken.kept c.reserve_event.ensures.kept c.in_ok-taken.ensures.rest c.in-Ok.ensures.now c.keep_claims.ensures.rest)
+    c.put_values.ensures.stays.alike) c.put_body.ensures.alike) c.connect_clock.ensures.stays.alike).pins c.args.device.birth
 
 pub returns-in-Ok-clause-book : goal.returns-in-Ok-clause-book
 returns-in-Ok-clause-book g c = λ out h.
-    c.connect_clock.ensures.stays.book out (c.keep_label.ensures.book out (c.put_values.ensures.stays.book (labels_out c.in_ok-taken.taken.label ++
-    out) (placed-book c.args.heap.now c.reserve_event.new.self c.take_claims.new.heap c.join.new.heap c.keep_slot.new.heap
-    c.reserve_event.new.self.events.spare c.args.device c.args.seat.container c.args.seat.bus c.args.seat.name c.args.seat.slot (slot_kept
-    c.in_ok-taken.taken.slot) c.reserve_event.ensures.kept c.in_ok-taken.ensures.rest c.in-Ok.ensures.now c.keep_slot.ensures.rest
-    c.in_ok-taken.taken.slot (labels_out c.in_ok-taken.taken.label) out c.keep_slot.ensures.book (c.in_ok-taken.ensures.book out (reserved-book out
+    c.connect_clock.ensures.stays.book out (c.put_body.ensures.book out (c.put_values.ensures.stays.book (labels_out c.in_ok-taken.taken.label ++
+    out) (placed-book c.args.heap.now c.reserve_event.new.self c.take_claims.new.heap
+    c.join.new.heap c.keep_claims.new.heap c.reserve_event.new.self.events.spare c.args.device c.args.seat.container
+    c.args.seat.bus c.args.seat.name c.args.seat.spot.slot c.in_ok-taken.taken.kept c.reserve_event.ensures.kept
+    c.in_ok-taken.ensures.rest c.in-Ok.ensures.now c.keep_claims.ensures.rest (kept_out c.in_ok-taken.taken.kept) (labels_out c.in_ok-taken.taken.label) out
+    c.keep_claims.ensures.book (c.in_ok-taken.ensures.book out (reserved-book out
     c.args.heap.now c.reserve_event.new.self c.reserve_event.new.self.events.spare c.reserve_event.ensures.kept h)))))
 
 pub returns-in-Err-clause-book : goal.returns-in-Err-clause-book

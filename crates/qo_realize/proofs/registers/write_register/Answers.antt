@@ -5,7 +5,8 @@ use Rattle.qo_realize.proofs.registers.write_register.Goals as goal
 pub returns-clause-written : goal.returns-clause-written
 returns-clause-written g c = λ b s fit.
     has-written b c.args.heap.now s c.args.dev c.body_mut.result.now c.write.new.body c.args.reg c.args.value c.requires.live c.body_mut.ensures.body
-    c.time-time.result c.device_period-period.result c.time-time.ensures (c.device_period-period.ensures b s fit) c.write.result c.write.ensures.written
+    c.has_ring-ring.result c.time-time.result c.device_period-period.result (c.has_ring-ring.ensures b s) c.time-time.ensures
+    (c.device_period-period.ensures b s fit) c.write.result c.write.ensures.written
 
 pub returns-clause-book : goal.returns-clause-book
 returns-clause-book g c =

@@ -4,8 +4,9 @@ use Rattle.qo_realize.proofs.registers.write_through.Goals as goal
 
 pub returns-clause-written : goal.returns-clause-written
 returns-clause-written g c = λ b h fit.
-    was-written b c.args.dev.birth c.args.reg c.args.value c.in_ok-effect.effect c.args.resets.now.births c.do_beside.new.resets.births c.write_register.new.heap
-    c.do_beside.new.heap h.1 (c.in_ok-effect.ensures.written b h.0 fit) c.do_beside.ensures.shown
+    was-written b c.args.dev.birth c.args.reg c.args.value c.in_ok-effect.effect c.args.resets.now.births c.do_beside.new.resets.births c.args.rings.now
+    c.do_beside.new.rings c.write_register.new.heap c.do_beside.new.heap h.held.1 h.rings_are (c.in_ok-effect.ensures.written b h.held.0 fit)
+    c.do_beside.ensures.shown
 
 pub returns-clause-book : goal.returns-clause-book
 returns-clause-book g c = λ out h. c.do_beside.ensures.book out (c.write_register.ensures.book out h)

@@ -13,9 +13,11 @@ invariant_of-self g c =
     let (b, s, good) = c.self.invariant.1 in
     let inside = c.self.inside in
     let a = wanted c.args.driver.now (option_map (λ t. t.now) c.args.id) (option_map (λ t. t.now) c.args.bus) c.args.props.now in
-    let h = c.in-Ok.ensures.ok b (is_shown b inside.anonymous inside.running inside.resets inside.hotplug inside.heap s good) in
-    let stands = added-stands b a inside.anonymous c.in-Some.next inside.running inside.resets inside.hotplug c.add.new.hotplug inside.heap c.add.new.heap c.in-Ok.added s h c.in-Some.ensures c.in-Ok.ensures.book in
-    let held = plugs-good b a (Ok c.in-Ok.added) (parts_of c.in-Some.next inside.running inside.resets c.add.new.hotplug c.add.new.heap) good stands in
+    let h = c.in-Ok.ensures.ok b (is_shown b inside.rings inside.anonymous inside.running inside.resets inside.hotplug inside.heap s good) in
+    let stands = added-stands b a inside.rings inside.anonymous c.in-Some.next inside.running inside.resets inside.hotplug c.add.new.hotplug
+    inside.heap c.add.new.heap c.in-Ok.added s h c.in-Some.ensures c.in-Ok.ensures.book in
+    let held = plugs-good b a (Ok c.in-Ok.added)
+    (parts_of inside.rings c.in-Some.next inside.running inside.resets c.add.new.hotplug c.add.new.heap) good stands in
     (stands-pinned _ held, held)
 
 pub invariant_of-self-in-Err : goal.invariant_of-self-in-Err
@@ -23,9 +25,11 @@ invariant_of-self-in-Err g c =
     let (b, s, good) = c.self.invariant.1 in
     let inside = c.self.inside in
     let a = wanted c.args.driver.now (option_map (λ t. t.now) c.args.id) (option_map (λ t. t.now) c.args.bus) c.args.props.now in
-    let shown = is_shown b inside.anonymous inside.running inside.resets inside.hotplug inside.heap s good in
-    let stands = barred-stands b a inside.anonymous inside.running inside.resets inside.hotplug c.add.new.hotplug inside.heap c.add.new.heap c.in-Err.refusal s (c.in-Err.ensures.refused b shown) (c.in-Err.ensures.memory b shown) c.in-Err.ensures.asked c.in-Err.ensures.book in
-    let held = plugs-good b a (Err c.in-Err.refusal) (parts_of inside.anonymous inside.running inside.resets c.add.new.hotplug c.add.new.heap) good stands in
+    let shown = is_shown b inside.rings inside.anonymous inside.running inside.resets inside.hotplug inside.heap s good in
+    let stands = barred-stands b a inside.rings inside.anonymous inside.running inside.resets inside.hotplug c.add.new.hotplug inside.heap
+    c.add.new.heap c.in-Err.refusal s (c.in-Err.ensures.refused b shown) (c.in-Err.ensures.memory b shown) c.in-Err.ensures.asked c.in-Err.ensures.book in
+    let held = plugs-good b a (Err c.in-Err.refusal)
+    (parts_of inside.rings inside.anonymous inside.running inside.resets c.add.new.hotplug c.add.new.heap) good stands in
     (stands-pinned _ held, held)
 
 pub returns-in-Ok : goal.returns-in-Ok
@@ -34,10 +38,11 @@ returns-in-Ok g c =
       change = λ b s.
           let inside = c.self.inside in
           let seen = subst (λ (p : Parts). Stands b p) (sym c.self.view_is) s in
-          let good = good-of (parts_of inside.anonymous inside.running inside.resets inside.hotplug inside.heap) c.self.invariant.1 b seen in
+          let good = good-of (parts_of inside.rings inside.anonymous inside.running inside.resets inside.hotplug inside.heap) c.self.invariant.1 b seen in
           let a = wanted c.args.driver.now (option_map (λ t. t.now) c.args.id) (option_map (λ t. t.now) c.args.bus) c.args.props.now in
-          let h = c.in-Ok.ensures.ok b (is_shown b inside.anonymous inside.running inside.resets inside.hotplug inside.heap seen good) in
-          added-stands b a inside.anonymous c.in-Some.next inside.running inside.resets inside.hotplug c.add.new.hotplug inside.heap c.add.new.heap c.in-Ok.added seen h c.in-Some.ensures c.in-Ok.ensures.book;
+          let h = c.in-Ok.ensures.ok b (is_shown b inside.rings inside.anonymous inside.running inside.resets inside.hotplug inside.heap seen good) in
+          added-stands b a inside.rings inside.anonymous c.in-Some.next inside.running inside.resets inside.hotplug c.add.new.hotplug inside.heap
+          c.add.new.heap c.in-Ok.added seen h c.in-Some.ensures c.in-Ok.ensures.book;
     }
 
 pub returns-in-Err : goal.returns-in-Err
@@ -46,8 +51,9 @@ returns-in-Err g c =
       change = λ b s.
           let inside = c.self.inside in
           let seen = subst (λ (p : Parts). Stands b p) (sym c.self.view_is) s in
-          let good = good-of (parts_of inside.anonymous inside.running inside.resets inside.hotplug inside.heap) c.self.invariant.1 b seen in
+          let good = good-of (parts_of inside.rings inside.anonymous inside.running inside.resets inside.hotplug inside.heap) c.self.invariant.1 b seen in
           let a = wanted c.args.driver.now (option_map (λ t. t.now) c.args.id) (option_map (λ t. t.now) c.args.bus) c.args.props.now in
-          let shown = is_shown b inside.anonymous inside.running inside.resets inside.hotplug inside.heap seen good in
-          barred-stands b a inside.anonymous inside.running inside.resets inside.hotplug c.add.new.hotplug inside.heap c.add.new.heap c.in-Err.refusal seen (c.in-Err.ensures.refused b shown) (c.in-Err.ensures.memory b shown) c.in-Err.ensures.asked c.in-Err.ensures.book;
+          let shown = is_shown b inside.rings inside.anonymous inside.running inside.resets inside.hotplug inside.heap seen good in
+          barred-stands b a inside.rings inside.anonymous inside.running inside.resets inside.hotplug c.add.new.hotplug inside.heap c.add.new.heap
+          c.in-Err.refusal seen (c.in-Err.ensures.refused b shown) (c.in-Err.ensures.memory b shown) c.in-Err.ensures.asked c.in-Err.ensures.book;
     }

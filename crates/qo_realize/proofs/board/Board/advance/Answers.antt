@@ -13,5 +13,6 @@ invariant_of-self c =
     let time = c.in-Some.time in
     let on : c.time-now.result ≤ time = later-is c.time-now.result c.args.ns time (sym c.in-Some.is ∙ c.later.ensures) in
     let later : inside.heap.time ≤ time = subst (λ (now : ℕ). now ≤ time) c.time-now.ensures on in
-    subst (λ (w : Objects). OnlyRootPinned w × StandsForGood (parts_of inside.anonymous inside.running inside.resets inside.hotplug w)) (sym c.set_time.ensures)
-    (c.self.invariant.0, timed-for-good inside.anonymous inside.running inside.resets inside.hotplug inside.heap time later c.self.invariant.1)
+    subst (λ (w : Objects). OnlyRootPinned w × StandsForGood (parts_of inside.rings inside.anonymous inside.running inside.resets inside.hotplug w))
+    (sym c.set_time.ensures)
+    (c.self.invariant.0, timed-for-good inside.rings inside.anonymous inside.running inside.resets inside.hotplug inside.heap time later c.self.invariant.1)

@@ -8,8 +8,9 @@ pub invariant_of-self : goal.invariant_of-self
 invariant_of-self g c =
     let (b, s, sound) = c.self.invariant.1 in
     let inside = c.self.inside in
-    let told = is_asked b inside.anonymous inside.running inside.resets inside.hotplug inside.heap s in (
+    let told = is_asked b inside.rings inside.anonymous inside.running inside.resets inside.hotplug inside.heap s in (
       c.self.invariant.0,
-      asks-sound b inside.anonymous inside.running inside.resets inside.hotplug c.ask.new.hotplug inside.heap (asked b c.args.id.now) c.ask.result s sound
+      asks-sound b inside.rings inside.anonymous inside.running inside.resets inside.hotplug c.ask.new.hotplug inside.heap (asked b c.args.id.now)
+          c.ask.result s sound
           (asked-good b c.args.id.now sound) (c.ask.ensures.asked b s.shows told) c.ask.ensures.err,
     )

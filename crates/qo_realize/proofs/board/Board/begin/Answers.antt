@@ -16,9 +16,10 @@ invariant_of-result g c =
     let x = c.parts-heap.result.1 in
     let heap = c.parts-heap.result.0 in
     let seen = subst (λ (p : Parts). Stands b p) (sym c.parts-heap.ensures.whole) s in
-    let shown = is_shown b x.anonymous x.running x.resets x.hotplug heap seen good in
+    let shown = is_shown b x.rings x.anonymous x.running x.resets x.hotplug heap seen good in
     let drafted =
-    drafted-is b a x.anonymous c.in-Some.next x.running x.resets x.hotplug heap c.begin.new.heap c.in-Ok.begun seen good c.in-Some.ensures c.in-Ok.ensures.book
+    drafted-is b a x.rings x.anonymous c.in-Some.next x.running x.resets x.hotplug heap c.begin.new.heap c.in-Ok.begun seen good c.in-Some.ensures
+    c.in-Ok.ensures.book
     (c.in-Ok.ensures.begun b shown) in
     (c.in-Ok.ensures.held, (b, a, drafted))
 
@@ -29,10 +30,10 @@ board_of-requires-in-Err g c =
     let x = c.parts-heap.result.1 in
     let heap = c.parts-heap.result.0 in
     let seen = subst (λ (p : Parts). Stands b p) (sym c.parts-heap.ensures.whole) s in
-    let shown = is_shown b x.anonymous x.running x.resets x.hotplug heap seen good in
-    let since = since-begun b a x.anonymous c.in-Some.next x.running x.resets x.hotplug heap heap seen good c.in-Some.ensures (λ out h. h) in
+    let shown = is_shown b x.rings x.anonymous x.running x.resets x.hotplug heap seen good in
+    let since = since-begun b a x.rings x.anonymous c.in-Some.next x.running x.resets x.hotplug heap heap seen good c.in-Some.ensures (λ out h. h) in
     let barred =
-    begin-barred b a x.anonymous c.in-Some.next x.running x.resets x.hotplug heap since c.begin.new.heap c.in-Err.ensures.book c.in-Err.refusal
+    begin-barred b a x.rings x.anonymous c.in-Some.next x.running x.resets x.hotplug heap since c.begin.new.heap c.in-Err.ensures.book c.in-Err.refusal
     (c.in-Err.ensures.refused b shown) (λ m. c.in-Err.ensures.memory b shown (cc m)) in
     plugs-good b a (Err c.in-Err.refusal) _ good barred.1
 
@@ -43,8 +44,9 @@ returns-in-Ok g c = λ b s.
     let x = c.parts-heap.result.1 in
     let heap = c.parts-heap.result.0 in
     let seen = subst (λ (p : Parts). Stands b p) (sym c.parts-heap.ensures.whole) s in
-    let shown = is_shown b x.anonymous x.running x.resets x.hotplug heap seen good in
-    drafted-is b a x.anonymous c.in-Some.next x.running x.resets x.hotplug heap c.begin.new.heap c.in-Ok.begun seen good c.in-Some.ensures c.in-Ok.ensures.book
+    let shown = is_shown b x.rings x.anonymous x.running x.resets x.hotplug heap seen good in
+    drafted-is b a x.rings x.anonymous c.in-Some.next x.running x.resets x.hotplug heap c.begin.new.heap c.in-Ok.begun seen good c.in-Some.ensures
+    c.in-Ok.ensures.book
     (c.in-Ok.ensures.begun b shown)
 
 pub returns-in-Err : goal.returns-in-Err
@@ -54,9 +56,9 @@ returns-in-Err g c = λ b s.
     let x = c.parts-heap.result.1 in
     let heap = c.parts-heap.result.0 in
     let seen = subst (λ (p : Parts). Stands b p) (sym c.parts-heap.ensures.whole) s in
-    let shown = is_shown b x.anonymous x.running x.resets x.hotplug heap seen good in
-    let since = since-begun b a x.anonymous c.in-Some.next x.running x.resets x.hotplug heap heap seen good c.in-Some.ensures (λ out h. h) in
+    let shown = is_shown b x.rings x.anonymous x.running x.resets x.hotplug heap seen good in
+    let since = since-begun b a x.rings x.anonymous c.in-Some.next x.running x.resets x.hotplug heap heap seen good c.in-Some.ensures (λ out h. h) in
     let barred =
-    begin-barred b a x.anonymous c.in-Some.next x.running x.resets x.hotplug heap since c.begin.new.heap c.in-Err.ensures.book c.in-Err.refusal
+    begin-barred b a x.rings x.anonymous c.in-Some.next x.running x.resets x.hotplug heap since c.begin.new.heap c.in-Err.ensures.book c.in-Err.refusal
     (c.in-Err.ensures.refused b shown) (λ m. c.in-Err.ensures.memory b shown (cc m)) in
     rw c.board_of-in-Err.ensures barred

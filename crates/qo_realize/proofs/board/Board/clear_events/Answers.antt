@@ -13,5 +13,12 @@ invariant_of-self c =
     let (b, s, sound) = c.self.invariant.1 in
     let inside = c.self.inside in
     let v : Objects = inside.heap in
-    subst (λ (w : Objects). OnlyRootPinned w × StandsForGood (parts_of inside.anonymous inside.running inside.resets inside.hotplug w)) (sym c.clear_events.ensures)
-    (c.self.invariant.0, (record b { events = [] }, cleared-stands b inside.anonymous inside.running inside.resets inside.hotplug v s, cleared-good b sound))
+    subst (λ (w : Objects). OnlyRootPinned w × StandsForGood (parts_of inside.rings inside.anonymous inside.running inside.resets inside.hotplug w))
+    (sym c.clear_events.ensures) (
+      c.self.invariant.0,
+      (
+        record b { events = [] },
+        cleared-stands b inside.rings inside.anonymous inside.running inside.resets inside.hotplug v s,
+        cleared-good b sound,
+      ),
+    )

@@ -9,7 +9,8 @@ use Rattle.qo_realize.proofs.board.Board.complete.Goals as goal
 
 pub detach-requires-clause-timely : goal.detach-requires-clause-timely
 detach-requires-clause-timely g c =
-    let inside = c.self.inside in timely-heap (parts_of inside.anonymous inside.running inside.resets inside.hotplug inside.heap) c.self.invariant.1
+    let inside = c.self.inside in timely-heap (parts_of inside.rings inside.anonymous inside.running inside.resets inside.hotplug inside.heap)
+    c.self.invariant.1
 
 pub detach-requires-clause-pins : goal.detach-requires-clause-pins
 detach-requires-clause-pins g c = pinned-once c.self.inside.heap c.self.invariant.0
@@ -17,13 +18,16 @@ detach-requires-clause-pins g c = pinned-once c.self.inside.heap c.self.invarian
 pub invariant_of-self : goal.invariant_of-self
 invariant_of-self g c =
     let inside = c.self.inside in
-    completed-sound c.args.dev.birth inside.anonymous inside.running inside.resets c.detach.new.resets inside.hotplug c.detach.new.hotplug inside.heap c.detach.new.heap
+    completed-sound c.args.dev.birth inside.rings inside.anonymous inside.running inside.resets c.detach.new.resets inside.hotplug
+    c.detach.new.hotplug inside.heap c.detach.new.heap
     (ap (λ (p : Parts). among p.pending c.args.dev.birth) c.self.view_is ∙ c.requires.pending) c.self.invariant.1 c.detach.ensures.shown c.detach.ensures.book
 
 pub returns : goal.returns
 returns g c = λ b s.
     let inside = c.self.inside in
     let seen = subst (λ (p : Parts). Stands b p) (sym c.self.view_is) s in
-    let good = good-of (parts_of inside.anonymous inside.running inside.resets inside.hotplug inside.heap) c.self.invariant.1 b seen in
-    completed-stands b c.args.dev.birth inside.anonymous inside.running inside.resets c.detach.new.resets inside.hotplug c.detach.new.hotplug inside.heap c.detach.new.heap seen
-    (c.detach.ensures.shown b good.devices.tree good.clocks (is_beside b inside.anonymous inside.running inside.resets inside.hotplug inside.heap seen)) c.detach.ensures.book
+    let good = good-of (parts_of inside.rings inside.anonymous inside.running inside.resets inside.hotplug inside.heap) c.self.invariant.1 b seen in
+    completed-stands b c.args.dev.birth inside.rings inside.anonymous inside.running inside.resets c.detach.new.resets inside.hotplug
+    c.detach.new.hotplug inside.heap c.detach.new.heap seen
+    (c.detach.ensures.shown b good.devices.tree good.clocks
+    (is_beside b inside.rings inside.anonymous inside.running inside.resets inside.hotplug inside.heap seen)) c.detach.ensures.book

@@ -9,6 +9,7 @@ pub returns-clause-first : goal.returns-clause-first
 returns-clause-first c =
     let inside = c.self.inside in
     let is : first_of inside.hotplug.pending ≡ Some c.in_ok-first.first.birth = sym (first-same inside.hotplug.pending) ∙ sym c.in_ok-first.ensures in
-    first-told (parts_of inside.anonymous inside.running inside.resets inside.hotplug inside.heap) c.in_ok-first.first.birth c.by_birth.result c.self.invariant.1 is
+    first-told (parts_of inside.rings inside.anonymous inside.running inside.resets inside.hotplug inside.heap) c.in_ok-first.first.birth
+    c.by_birth.result c.self.invariant.1 is
     c.by_birth.ensures.born c.by_birth.ensures.none
     ∙ ap (λ (p : Parts). first_of p.pending) c.self.view_is

@@ -9,20 +9,23 @@ use Rattle.qo_realize.proofs.board.Board.guest_write.Goals as goal
 pub write_through-requires-clause-timely : goal.write_through-requires-clause-timely
 write_through-requires-clause-timely g c =
     let inside = c.self.inside in
-    timely-there (parts_of inside.anonymous inside.running inside.resets inside.hotplug inside.heap) c.self.invariant.1 c.args.dev.birth
+    timely-there (parts_of inside.rings inside.anonymous inside.running inside.resets inside.hotplug inside.heap) c.self.invariant.1 c.args.dev.birth
 
 pub invariant_of-self : goal.invariant_of-self
 invariant_of-self g c =
     let inside = c.self.inside in
-    write-keeps inside.anonymous inside.running inside.resets c.write_through.new.resets inside.hotplug inside.heap c.write_through.new.heap
+    write-keeps inside.rings c.write_through.new.rings inside.anonymous inside.running inside.resets c.write_through.new.resets inside.hotplug
+    inside.heap c.write_through.new.heap
     c.write_through.ensures.book c.args.dev.birth c.args.reg c.args.value c.write_through.result c.self.invariant.1 c.write_through.ensures.written
     c.write_through.ensures.absent
 
 pub returns-clause-written : goal.returns-clause-written
 returns-clause-written g c = λ b s.
     let inside = c.self.inside in
-    let before : Parts = parts_of inside.anonymous inside.running inside.resets inside.hotplug inside.heap in
+    let before : Parts = parts_of inside.rings inside.anonymous inside.running inside.resets inside.hotplug inside.heap in
     let seen : Stands b before = subst (λ (p : Parts). Stands b p) (sym c.self.view_is) s in
-    write-stands inside.anonymous inside.running inside.resets c.write_through.new.resets inside.hotplug inside.heap c.write_through.new.heap
+    write-stands inside.rings c.write_through.new.rings inside.anonymous inside.running inside.resets c.write_through.new.resets inside.hotplug
+    inside.heap c.write_through.new.heap
     c.write_through.ensures.book c.args.dev.birth c.args.reg c.args.value b c.write_through.result seen
-    (c.write_through.ensures.written b (seen.shows, seen.holds) (good-of before c.self.invariant.1 b seen).clocks.fit)
+    (c.write_through.ensures.written b (record { held = (seen.shows, seen.holds); rings_are = seen.rings })
+    (good-of before c.self.invariant.1 b seen).clocks.fit)

@@ -8,12 +8,14 @@ use Rattle.qo_realize.proofs.board.Board.hold.Goals as goal
 pub invariant_of-self : goal.invariant_of-self
 invariant_of-self g c =
     let inside = c.self.inside in
-    hold-keeps inside.anonymous inside.running inside.resets c.hold.new.resets inside.hotplug inside.heap c.hold.new.heap (acts-keep inside.heap c.hold.new.heap c.hold.ensures.acts) c.args.path.now c.hold.result
+    hold-keeps inside.rings inside.anonymous inside.running inside.resets c.hold.new.resets inside.hotplug inside.heap c.hold.new.heap
+    (acts-keep inside.heap c.hold.new.heap c.hold.ensures.acts) c.args.path.now c.hold.result
     c.self.invariant.1 c.hold.ensures.held c.hold.ensures.err
 
 pub returns-clause-held : goal.returns-clause-held
 returns-clause-held g c = λ b s.
     let inside = c.self.inside in
     let seen = subst (λ (p : Parts). Stands b p) (sym c.self.view_is) s in
-    hold-changes inside.anonymous inside.running inside.resets c.hold.new.resets inside.hotplug inside.heap c.hold.new.heap (acts-keep inside.heap c.hold.new.heap c.hold.ensures.acts) b c.args.path.now c.hold.result seen
+    hold-changes inside.rings inside.anonymous inside.running inside.resets c.hold.new.resets inside.hotplug inside.heap c.hold.new.heap
+    (acts-keep inside.heap c.hold.new.heap c.hold.ensures.acts) b c.args.path.now c.hold.result seen
     (c.hold.ensures.held b (seen.shows, seen.holds)) c.hold.ensures.err

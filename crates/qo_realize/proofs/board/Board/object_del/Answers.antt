@@ -2,19 +2,27 @@ use Rattle.std.proofs.Common.{sym, subst, ◌∙◌}
 use Rattle.qo_model.specs.FinalNotesRuns.{deleted}
 use Rattle.qo_realize.proofs.SoundLemmas.{changed-good}
 use Rattle.qo_realize.specs.Parts.{Parts}
+use Rattle.qo_realize.proofs.UserLemmas.{answered-free, answered-used}
 use Rattle.qo_realize.specs.Stands.{Stands}
 use Rattle.qo_realize.proofs.StandsLemmas.{answered-sound, err-stays, del-stands}
 use Rattle.qo_realize.proofs.board.Board.object_del.Goals as goal
 
+pub returns-then-is_used-clause-change : goal.returns-then-is_used-clause-change
+returns-then-is_used-clause-change g c = λ b s.
+    let seen = subst (λ (p : Parts). Stands b p) (sym c.self.view_is) s in
+    answered-used b c.args.id.now c.args.self.now (sym (c.is_used.ensures b seen.shows) ∙ c.if-is_used.true) s
+
 pub returns-clause-change : goal.returns-clause-change
 returns-clause-change g c = λ b s.
     let seen = subst (λ (p : Parts). Stands b p) (sym c.self.view_is) s in
-    del-stands b _ c.remove.new.heap c.args.id.now c.remove.result seen (c.remove.ensures.change b seen.shows) c.remove.ensures.book
+    let h = del-stands b _ c.remove.new.heap c.args.id.now c.remove.result seen (c.remove.ensures.change b seen.shows) c.remove.ensures.book in
+    answered-free b c.args.id.now _ c.remove.result (sym (c.is_used.ensures b seen.shows) ∙ c.if-is_used.false) h
 
 pub returns-clause-err : goal.returns-clause-err
 returns-clause-err g c =
     let inside = c.self.inside in
-    err-stays c.remove.result inside.anonymous inside.running inside.resets inside.hotplug inside.heap c.remove.new.heap _ c.self.view_is c.remove.ensures.err
+    err-stays c.remove.result inside.rings inside.anonymous inside.running inside.resets inside.hotplug inside.heap c.remove.new.heap _
+    c.self.view_is c.remove.ensures.err
 
 pub invariant_of-self : goal.invariant_of-self
 invariant_of-self g c =

@@ -13,6 +13,6 @@ invariant_of-self c =
     let (b, s, sound) = c.self.invariant.1 in
     let inside = c.self.inside in (
       c.self.invariant.0,
-      subst (λ (h : Asked). StandsForGood (parts_of inside.anonymous inside.running inside.resets h inside.heap)) (sym c.poll.ensures.rest)
-          (polled b, polled-stands b inside.anonymous inside.running inside.resets inside.hotplug inside.heap s, polled-good b sound),
+      subst (λ (h : Asked). StandsForGood (parts_of inside.rings inside.anonymous inside.running inside.resets h inside.heap)) (sym c.poll.ensures.rest)
+          (polled b, polled-stands b inside.rings inside.anonymous inside.running inside.resets inside.hotplug inside.heap s, polled-good b sound),
     )

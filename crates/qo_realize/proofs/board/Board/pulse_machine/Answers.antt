@@ -10,20 +10,23 @@ use Rattle.qo_realize.proofs.board.Board.pulse_machine.Goals as goal
 pub invariant_of-self : goal.invariant_of-self
 invariant_of-self g c =
     let inside = c.self.inside in
-    pulse-keeps inside.anonymous inside.running inside.resets c.pulse.new.self inside.hotplug inside.heap c.pulse.new.heap (acts-keep inside.heap c.pulse.new.heap c.pulse.ensures.acts) c.in-Some.machine.birth
+    pulse-keeps inside.rings inside.anonymous inside.running inside.resets c.pulse.new.self inside.hotplug inside.heap c.pulse.new.heap
+    (acts-keep inside.heap c.pulse.new.heap c.pulse.ensures.acts) c.in-Some.machine.birth
     c.self.invariant.1 c.pulse.ensures.shown
 
 pub returns-in-Some : goal.returns-in-Some
 returns-in-Some g c = λ b s.
     let inside = c.self.inside in
     let seen = subst (λ (p : Parts). Stands b p) (sym c.self.view_is) s in
-    subst (λ (n : ℕ). Stands (pulse b n) (parts_of inside.anonymous inside.running c.pulse.new.self inside.hotplug c.pulse.new.heap)) c.in-Some.ensures.born
-    (pulse-stands inside.anonymous inside.running inside.resets c.pulse.new.self inside.hotplug inside.heap c.pulse.new.heap (acts-keep inside.heap c.pulse.new.heap c.pulse.ensures.acts) b c.in-Some.machine.birth seen
+    subst (λ (n : ℕ). Stands (pulse b n) (parts_of inside.rings inside.anonymous inside.running c.pulse.new.self inside.hotplug c.pulse.new.heap))
+    c.in-Some.ensures.born
+    (pulse-stands inside.rings inside.anonymous inside.running inside.resets c.pulse.new.self inside.hotplug inside.heap c.pulse.new.heap
+    (acts-keep inside.heap c.pulse.new.heap c.pulse.ensures.acts) b c.in-Some.machine.birth seen
     (c.pulse.ensures.shown b (seen.shows, seen.holds)))
 
 pub returns-in_default : goal.returns-in_default
 returns-in_default g c = λ b s.
     let inside = c.self.inside in
     absurd
-    (machine-there (parts_of inside.anonymous inside.running inside.resets inside.hotplug inside.heap) c.self.invariant.1
+    (machine-there (parts_of inside.rings inside.anonymous inside.running inside.resets inside.hotplug inside.heap) c.self.invariant.1
     (none-said c.by_birth.result _ c.in_default.not-Some c.by_birth.ensures.none))

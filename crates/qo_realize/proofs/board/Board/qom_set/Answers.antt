@@ -12,14 +12,16 @@ set-requires g c = let (b, s, good) = c.self.invariant.1 in record { timely = ti
 pub returns-clause-written : goal.returns-clause-written
 returns-clause-written g c = λ b s.
     let seen = subst (λ (p : Parts). Stands b p) (sym c.self.view_is) s in
-    write-stands b _ c.set.new.heap c.args.path.now c.args.name.now c.args.val.now c.set.result seen (c.set.ensures.written b seen.shows (good-of _ c.self.invariant.1 b seen).clocks.fit) c.set.ensures.book
+    write-stands b _ c.set.new.heap c.args.path.now c.args.name.now c.args.val.now c.set.result seen
+    (c.set.ensures.written b seen.shows (λ clock. (good-of _ c.self.invariant.1 b seen).clocks.fit)) c.set.ensures.book
 
 pub returns-clause-err : goal.returns-clause-err
 returns-clause-err g c =
     let inside = c.self.inside in
-    err-stays c.set.result inside.anonymous inside.running inside.resets inside.hotplug inside.heap c.set.new.heap _ c.self.view_is c.set.ensures.err
+    err-stays c.set.result inside.rings inside.anonymous inside.running inside.resets inside.hotplug inside.heap c.set.new.heap _ c.self.view_is
+    c.set.ensures.err
 
 pub invariant_of-self : goal.invariant_of-self
 invariant_of-self g c =
     let (b, s, sound) = c.self.invariant.1 in
-    (c.set.ensures.pins ∙ c.self.invariant.0, written-sound b _ c.set.new.heap c.args.path.now c.args.name.now c.args.val.now c.set.result s sound (write-stands b _ c.set.new.heap c.args.path.now c.args.name.now c.args.val.now c.set.result s (c.set.ensures.written b s.shows sound.clocks.fit) c.set.ensures.book) c.set.ensures.err)
+    (c.set.ensures.pins ∙ c.self.invariant.0, written-sound b _ c.set.new.heap c.args.path.now c.args.name.now c.args.val.now c.set.result s sound (write-stands b _ c.set.new.heap c.args.path.now c.args.name.now c.args.val.now c.set.result s (c.set.ensures.written b s.shows (λ clock. sound.clocks.fit)) c.set.ensures.book) c.set.ensures.err)

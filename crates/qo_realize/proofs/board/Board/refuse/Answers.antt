@@ -8,12 +8,14 @@ use Rattle.qo_realize.proofs.board.Board.refuse.Goals as goal
 pub invariant_of-self : goal.invariant_of-self
 invariant_of-self g c =
     let inside = c.self.inside in
-    refuse-invariant inside.anonymous inside.running inside.resets inside.hotplug c.refuse.new.hotplug inside.heap c.refuse.new.heap c.args.dev.birth c.refuse.result
+    refuse-invariant inside.rings inside.anonymous inside.running inside.resets inside.hotplug c.refuse.new.hotplug inside.heap c.refuse.new.heap
+    c.args.dev.birth c.refuse.result
     c.self.invariant c.refuse.ensures.refused c.refuse.ensures.book c.refuse.ensures.err
 
 pub returns-clause-refused : goal.returns-clause-refused
 returns-clause-refused g c = λ b s.
     let inside = c.self.inside in
     let seen = subst (λ (p : Parts). Stands b p) (sym c.self.view_is) s in
-    refuse-returns b inside.anonymous inside.running inside.resets inside.hotplug c.refuse.new.hotplug inside.heap c.refuse.new.heap c.args.dev.birth c.refuse.result seen
+    refuse-returns b inside.rings inside.anonymous inside.running inside.resets inside.hotplug c.refuse.new.hotplug inside.heap c.refuse.new.heap
+    c.args.dev.birth c.refuse.result seen
     c.refuse.ensures.refused c.refuse.ensures.book

@@ -8,12 +8,14 @@ use Rattle.qo_realize.proofs.board.Board.release.Goals as goal
 pub invariant_of-self : goal.invariant_of-self
 invariant_of-self g c =
     let inside = c.self.inside in
-    release-keeps inside.anonymous inside.running inside.resets c.release.new.resets inside.hotplug inside.heap c.release.new.heap (acts-keep inside.heap c.release.new.heap c.release.ensures.acts) c.args.path.now
+    release-keeps inside.rings inside.anonymous inside.running inside.resets c.release.new.resets inside.hotplug inside.heap c.release.new.heap
+    (acts-keep inside.heap c.release.new.heap c.release.ensures.acts) c.args.path.now
     c.release.result c.self.invariant.1 c.release.ensures.released c.release.ensures.err
 
 pub returns-clause-released : goal.returns-clause-released
 returns-clause-released g c = λ b s.
     let inside = c.self.inside in
     let seen = subst (λ (p : Parts). Stands b p) (sym c.self.view_is) s in
-    release-answers inside.anonymous inside.running inside.resets c.release.new.resets inside.hotplug inside.heap c.release.new.heap (acts-keep inside.heap c.release.new.heap c.release.ensures.acts) b c.args.path.now
+    release-answers inside.rings inside.anonymous inside.running inside.resets c.release.new.resets inside.hotplug inside.heap c.release.new.heap
+    (acts-keep inside.heap c.release.new.heap c.release.ensures.acts) b c.args.path.now
     c.release.result seen (c.release.ensures.released b (seen.shows, seen.holds)) c.release.ensures.err

@@ -14,7 +14,8 @@ returns-clause-change g c = λ b s.
 pub returns-clause-err : goal.returns-clause-err
 returns-clause-err g c =
     let inside = c.self.inside in
-    err-stays c.sever.result inside.anonymous inside.running inside.resets inside.hotplug inside.heap c.sever.new.heap _ c.self.view_is c.sever.ensures.err
+    err-stays c.sever.result inside.rings inside.anonymous inside.running inside.resets inside.hotplug inside.heap c.sever.new.heap _ c.self.view_is
+    c.sever.ensures.err
 
 pub invariant_of-self : goal.invariant_of-self
 invariant_of-self g c =

@@ -5,10 +5,14 @@ use Rattle.qo_realize.proofs.board.Board.start.Goals as goal
 
 pub returns : goal.returns
 returns g c =
-    let opened = opens _ c.make_all.new.heap c.in_ok-heap.ensures c.in_ok-make_all.ensures.shown c.in_ok-make_all.ensures.book c.new-2.result c.in_ok-new.field-0 c.new-2.ensures c.in_ok-new.ensures in
+    let opened = opens _ c.make_all.new.heap c.in_ok-heap.ensures c.in_ok-make_all.ensures.shown c.in_ok-make_all.ensures.book c.new-2.result
+    c.in_ok-new.field-0 c.new-4.result c.new-2.ensures
+    c.in_ok-new.ensures c.new-4.ensures in
     opened.1
 
 pub invariant_of-result : goal.invariant_of-result
 invariant_of-result g c =
-    let opened = opens _ c.make_all.new.heap c.in_ok-heap.ensures c.in_ok-make_all.ensures.shown c.in_ok-make_all.ensures.book c.new-2.result c.in_ok-new.field-0 c.new-2.ensures c.in_ok-new.ensures in
+    let opened = opens _ c.make_all.new.heap c.in_ok-heap.ensures c.in_ok-make_all.ensures.shown c.in_ok-make_all.ensures.book c.new-2.result
+    c.in_ok-new.field-0 c.new-4.result c.new-2.ensures
+    c.in_ok-new.ensures c.new-4.ensures in
     (opened.0, (opening_board, opened.1, opening-good))

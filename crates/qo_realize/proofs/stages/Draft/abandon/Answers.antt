@@ -9,7 +9,7 @@ board_of-requires g c =
     let (b, a, is) = c.self.invariant.1 in
     let i = c.self.inside in
     let x = i.beside in
-    given_up-stands b a x.anonymous i.next x.running x.resets x.hotplug i.heap is.since
+    given_up-stands b a x.rings x.anonymous i.next x.running x.resets x.hotplug i.heap is.since
     c.abandon.new.heap c.abandon.ensures.book i.begun.site.kind i.begun.site.bus.birth
     (c.abandon.ensures.given_up b a is.begun)
 
@@ -19,6 +19,6 @@ returns g c = λ b a given.
     let i = c.self.inside in
     let x = i.beside in
     rw (c.board_of.ensures, sym c.self.view_is)
-    (since-given_up b a x.anonymous i.next x.running x.resets x.hotplug i.heap is.since
+    (since-given_up b a x.rings x.anonymous i.next x.running x.resets x.hotplug i.heap is.since
     c.abandon.new.heap c.abandon.ensures.book i.begun.site.kind i.begun.site.bus.birth
     (c.abandon.ensures.given_up b a is.begun))

@@ -12,7 +12,7 @@ invariant_of-result g c =
     let x = i.beside in
     let settled = c.in-Ok.ensures.settled b a is.begun is.since.stood.notices in
     let placed =
-    plugged-is b a x.anonymous i.next x.running x.resets x.hotplug i.heap c.place.new.heap c.in-Ok.placed is.since c.in-Ok.ensures.book settled in
+    plugged-is b a x.rings x.anonymous i.next x.running x.resets x.hotplug i.heap c.place.new.heap c.in-Ok.placed is.since c.in-Ok.ensures.book settled in
     (c.in-Ok.ensures.ready, (b, a, placed))
 
 pub board_of-requires : goal.board_of-requires
@@ -21,7 +21,7 @@ board_of-requires g c =
     let i = c.self.inside in
     let x = i.beside in
     let barred =
-    place-barred b a x.anonymous i.next x.running x.resets x.hotplug i.heap is.since
+    place-barred b a x.rings x.anonymous i.next x.running x.resets x.hotplug i.heap is.since
     c.place.new.heap c.in-Err.ensures.book c.in-Err.refusal
     (c.in-Err.ensures.refused b a is.begun) (λ m. c.in-Err.ensures.memory b a is.begun (cc m)) in
     plugs-good b a (Err c.in-Err.refusal) _ is.since.good barred.1
@@ -31,7 +31,7 @@ returns-in-Ok g c = λ b a given.
     let is = subst (λ (d : Drafting). IsDrafted b a d) (sym c.self.view_is) given in
     let i = c.self.inside in
     let x = i.beside in
-    plugged-is b a x.anonymous i.next x.running x.resets x.hotplug i.heap c.place.new.heap c.in-Ok.placed is.since c.in-Ok.ensures.book
+    plugged-is b a x.rings x.anonymous i.next x.running x.resets x.hotplug i.heap c.place.new.heap c.in-Ok.placed is.since c.in-Ok.ensures.book
     (c.in-Ok.ensures.settled b a is.begun is.since.stood.notices)
 
 pub returns-in-Err : goal.returns-in-Err
@@ -40,6 +40,6 @@ returns-in-Err g c = λ b a given.
     let i = c.self.inside in
     let x = i.beside in
     rw c.board_of.ensures
-    (place-barred b a x.anonymous i.next x.running x.resets x.hotplug i.heap is.since
+    (place-barred b a x.rings x.anonymous i.next x.running x.resets x.hotplug i.heap is.since
     c.place.new.heap c.in-Err.ensures.book c.in-Err.refusal
     (c.in-Err.ensures.refused b a is.begun) (λ m. c.in-Err.ensures.memory b a is.begun (cc m)))

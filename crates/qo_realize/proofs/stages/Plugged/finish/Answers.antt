@@ -11,10 +11,10 @@ board_of-requires g c =
     let (b, a, is) = c.self.invariant.1 in
     let i = c.self.inside in
     let x = i.beside in
-    let beside = since-beside b a x.anonymous i.next x.running x.resets x.hotplug i.heap is.since in
+    let beside = since-beside b a x.rings x.anonymous i.next x.running x.resets x.hotplug i.heap is.since in
     let added = c.in-Ok.ensures.ok b a is.settled beside in
     plugs-good b a (Ok c.in-Ok.added) _ is.since.good
-    (since-added b a x.anonymous i.next x.running x.resets x.hotplug i.heap is.since
+    (since-added b a x.rings x.anonymous i.next x.running x.resets x.hotplug i.heap is.since
     c.finish.new.heap c.in-Ok.ensures.book c.finish.new.hotplug c.in-Ok.added added)
 
 pub board_of-requires-in-Err : goal.board_of-requires-in-Err
@@ -24,7 +24,7 @@ board_of-requires-in-Err g c =
     let x = i.beside in
     let bar = c.in-Err.field-0 in
     let barred =
-    finish-barred b a x.anonymous i.next x.running x.resets x.hotplug i.heap is.since
+    finish-barred b a x.rings x.anonymous i.next x.running x.resets x.hotplug i.heap is.since
     c.finish.new.heap c.in-Err.ensures.book c.finish.new.hotplug c.in-Err.ensures.asked
     bar.stage bar.code c.in-Err.ensures.code (c.in-Err.ensures.refused b a is.settled) in
     plugs-good b a (Err (Refused bar.stage bar.code)) _ is.since.good barred.1
@@ -34,10 +34,10 @@ returns-in-Ok g c = λ b a given.
     let is = subst (λ (p : Plugging). IsPlugged b a p) (sym c.self.view_is) given in
     let i = c.self.inside in
     let x = i.beside in
-    let beside = since-beside b a x.anonymous i.next x.running x.resets x.hotplug i.heap is.since in
+    let beside = since-beside b a x.rings x.anonymous i.next x.running x.resets x.hotplug i.heap is.since in
     let added = c.in-Ok.ensures.ok b a is.settled beside in
     rw c.board_of.ensures
-    (since-added b a x.anonymous i.next x.running x.resets x.hotplug i.heap is.since
+    (since-added b a x.rings x.anonymous i.next x.running x.resets x.hotplug i.heap is.since
     c.finish.new.heap c.in-Ok.ensures.book c.finish.new.hotplug c.in-Ok.added added)
 
 pub returns-in-Err : goal.returns-in-Err
@@ -47,6 +47,6 @@ returns-in-Err g c = λ b a given.
     let x = i.beside in
     let bar = c.in-Err.field-0 in
     rw c.board_of-in-Err.ensures
-    (finish-barred b a x.anonymous i.next x.running x.resets x.hotplug i.heap is.since
+    (finish-barred b a x.rings x.anonymous i.next x.running x.resets x.hotplug i.heap is.since
     c.finish.new.heap c.in-Err.ensures.book c.finish.new.hotplug c.in-Err.ensures.asked
     bar.stage bar.code c.in-Err.ensures.code (c.in-Err.ensures.refused b a is.settled))

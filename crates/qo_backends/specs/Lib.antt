@@ -1,0 +1,2 @@
+pub mod Dimms
+pub mod Rings

@@ -1,0 +1,22 @@
+-- The board without the ring stands, or the board as it was.
+use Rattle.std.proofs.Common.{sym, subst}
+use Rattle.qo_realize.specs.Chardevs.{chardev_removed}
+use Rattle.qo_realize.specs.Parts.{Parts, parts_of}
+use Rattle.qo_realize.specs.Stands.{Stands}
+use Rattle.qo_realize.proofs.ChardevLemmas.{rings-answer, rings-sound}
+use Rattle.qo_realize.proofs.board.Board.chardev_remove.Goals as goal
+
+pub invariant_of-self : goal.invariant_of-self
+invariant_of-self g c =
+    let inside = c.self.inside in (
+      c.self.invariant.0,
+      rings-sound inside.rings c.remove.new.rings inside.anonymous inside.running inside.resets inside.hotplug inside.heap c.self.invariant.1,
+    )
+
+pub returns-clause-change : goal.returns-clause-change
+returns-clause-change g c = λ b s.
+    let inside = c.self.inside in
+    let before : Parts = parts_of inside.rings inside.anonymous inside.running inside.resets inside.hotplug inside.heap in
+    let seen : Stands b before = subst (λ (p : Parts). Stands b p) (sym c.self.view_is) s in
+    rings-answer inside.rings c.remove.new.rings inside.anonymous inside.running inside.resets inside.hotplug inside.heap b
+    (chardev_removed b c.args.id.now) c.remove.result seen (c.remove.ensures.change b seen.shows seen.rings) c.remove.ensures.err

@@ -1,0 +1,10 @@
+//! The rings of a board, by their ids: the back ends of its UARTs.
+#![tactic(auto)]
+
+mod errors;
+mod kept;
+mod rings;
+
+pub use errors::{RingAddError, RingTakeError};
+pub use qo_chardev::RingError;
+pub use rings::{RING_SIZE_DEFAULT, Rings};
