@@ -29,7 +29,7 @@ use Rattle.qo_sound_clocks.proofs.NumbersLemmas.{numbers_kept_lem}
 use Rattle.qo_sound_clocks.proofs.RegisterLemmas.{registers_kept_lem}
 use Rattle.qo_sound_clocks.proofs.TimesLemmas.{times_kept_lem}
 use Rattle.qo_machine.proofs.DevicesLemmas.{devices_free, devices_kept, ringed-devices}
-use Rattle.qo_machine.proofs.KeepLemmas.{KeepsBoard, KeepsCommands, broken_keeps, keeps_commands, step_keeps}
+use Rattle.qo_machine.proofs.KeepLemmas.{any-rings, KeepsBoard, KeepsCommands, broken_keeps, keeps_commands, step_keeps}
 use Rattle.qo_machine.proofs.MachineLemmas.{in_at}
 use Rattle.qo_machine.specs.Machine.{Answers, BreaksOff, IsIn, Message, Seen, State, opening, state_at, step}
 use Rattle.qo_sound_devices.specs.SoundDevices.{SoundDevices}
@@ -128,12 +128,12 @@ run_kept =
       written = λ b at d reg value c there is h.
           written-all SoundRun b d reg value (λ registers e so. registers_run b d reg value registers e so h)
           (λ x rings q. ringed_run x rings q) (λ x m on q. pulsed_run x m q) c is;
-      ringed = λ b rings h. ringed_run b rings h;
-      timed = λ b now on h. beside_run b (at_time now b) refl on (devices_kept.timed b now on h.devices) h;
+      rings = any-rings SoundRun (λ b rings h. ringed_run b rings h);
+      timed = λ b now on low h. beside_run b (at_time now b) refl on (devices_kept.timed b now on low h.devices) h;
       switched = λ b on h. beside_run b (with_running on b) refl (omega arith) (devices_kept.switched b on h.devices) h;
-      held_so = λ b n is home h.
+      held_so = λ b n is home deep h.
           record {
-            devices = devices_kept.held_so b n is home h.devices;
+            devices = devices_kept.held_so b n is home deep h.devices;
             clocks = clocks_kept_lem.held_so b n h.clocks;
             numbers = numbers_kept_lem.held_so b n h.numbers;
             times = times_kept_lem.held_so b n h.times;

@@ -68,6 +68,23 @@ use Rattle.qo_machine.specs.Machine.{BreaksOff, BreaksOffAt, Choice, Made, Seen,
 use Rattle.qo_machine.proofs.LeftLemmas.{fed_board}
 use Rattle.qo_machine.specs.Runs.{Turn, after, state_after}
 
+-- what each change of the rings keeps: one is added, as nothing bars it; one that nothing bars from it goes; the oldest bytes of one are taken; and bytes come behind those of one
+pub record KeepsRings (P : Board → Type 0) : Type 0 where
+  pub added : (b : Board) (id kind : List ℕ) (size : ℕ) → chardev_barred b id kind size ≡ None → P b → P (with_rings (b.rings ++ new_ring id size ∷ []) b)
+  pub removed : (b : Board) (id : List ℕ) → removal_barred b id ≡ None → P b → P (with_rings (without_ring id b.rings) b)
+  pub read : (b : Board) (id : List ℕ) (most : ℕ) → P b → P (with_rings (ring_changed (λ m. ring_drop m most) id b.rings) b)
+  pub written : (b : Board) (id bytes : List ℕ) → P b → P (with_rings (ring_changed (λ m. ring_add m bytes) id b.rings) b)
+
+-- so does what has no part in them
+pub any-rings : (P : Board → Type 0) → ((b : Board) (rings : List Ring) → P b → P (with_rings rings b)) → KeepsRings P
+any-rings P ringed =
+    record {
+      added = λ b id kind size free p. ringed b (b.rings ++ new_ring id size ∷ []) p;
+      removed = λ b id free p. ringed b (without_ring id b.rings) p;
+      read = λ b id most p. ringed b (ring_changed (λ m. ring_drop m most) id b.rings) p;
+      written = λ b id bytes p. ringed b (ring_changed (λ m. ring_add m bytes) id b.rings) p;
+    }
+
 -- what each change of the board keeps, and each attempt
 pub record KeepsBoard (P : Board → Type 0) : Type 0 where
   pub change : (b : Board) (change : Change) → P b → P (changed b change)
@@ -87,12 +104,12 @@ pub record KeepsBoard (P : Board → Type 0) : Type 0 where
   -- the guest writes to a register of the device at an address
   pub written : (b : Board) (at : Addr) (d reg value : ℕ) (c : Board) → addressed b at ≡ Some d → guest_written b d reg value ≡ Some c → P b → P c
   -- it has other rings
-  pub ringed : (b : Board) (rings : List Ring) → P b → P (with_rings rings b)
+  pub rings : KeepsRings P
   -- it comes to a later moment, and runs or stands still
-  pub timed : (b : Board) (now : ℕ) → b.now ≤ now → P b → P (at_time now b)
+  pub timed : (b : Board) (now : ℕ) → b.now ≤ now → now ≤ TIME_MAX → P b → P (at_time now b)
   pub switched : (b : Board) (on : Bool) → P b → P (with_running on b)
-  -- an attached object that may be is held in reset, and one that is held is released; and the whole board is reset
-  pub held_so : (b : Board) (n : ℕ) → is_of b (codes "resettable") n ≡ true → attached b n ≡ true → P b → P (held b n)
+  -- an attached object that may be is held in reset, where it is not held too often, and one that is held is released; and the whole board is reset
+  pub held_so : (b : Board) (n : ℕ) → is_of b (codes "resettable") n ≡ true → attached b n ≡ true → is_deep b n ≡ false → P b → P (held b n)
   pub released_so : (b : Board) (n : ℕ) → is_of b (codes "resettable") n ≡ true → among b.holds n ≡ true → P b → P (released b n)
   pub reset : (b : Board) → P b → P (reset_whole b)
 
@@ -206,8 +223,8 @@ timed_board P c p = by c.refusal
     by None = p
     by (Some code) = p
 
-pub advanced-all : (P : Board → Type 0) (b : Board) (ns : ℕ) → P b → P (at_time (b.now + ns) b) → P (advanced b ns).board
-advanced-all P b ns p q = by b.running (nat_lt TIME_MAX (b.now + ns))
+pub advanced-all : (P : Board → Type 0) (b : Board) (ns : ℕ) → P b → (b.now + ns ≤ TIME_MAX → P (at_time (b.now + ns) b)) → P (advanced b ns).board
+advanced-all P b ns p q = by b.running (nat_lt TIME_MAX (b.now + ns)) refl
   where
     come : Bool → Bool → Changed
     come runs over =
@@ -215,14 +232,14 @@ advanced-all P b ns p q = by b.running (nat_lt TIME_MAX (b.now + ns))
         else if over then record { refusal = Some E53; board = b }
         else record { refusal = None; board = at_time (b.now + ns) b }
 
-    by : (runs over : Bool) → P (come runs over).board
-    by false over = p
-    by true true = p
-    by true false = q
+    by : (runs over : Bool) → nat_lt TIME_MAX (b.now + ns) ≡ over → P (come runs over).board
+    by false over e = p
+    by true true e = p
+    by true false e = q (grind (arith, e))
 
 -- holds
 held_of-keeps : (P : Board → Type 0) → KeepsBoard P → (b : Board) (n : ℕ) → is_of b (codes "resettable") n ≡ true → P b → P (held_of b n).board
-held_of-keeps P k b n is p = by (attached b n) refl (is_deep b n)
+held_of-keeps P k b n is p = by (attached b n) refl (is_deep b n) refl
   where
     come : Bool → Bool → Changed
     come home deep =
@@ -230,10 +247,10 @@ held_of-keeps P k b n is p = by (attached b n) refl (is_deep b n)
         else if deep then record { refusal = Some E48; board = b }
         else record { refusal = None; board = held b n }
 
-    by : (home : Bool) → attached b n ≡ home → (deep : Bool) → P (come home deep).board
-    by false e deep = p
-    by true e true = p
-    by true e false = k.held_so b n is e p
+    by : (home : Bool) → attached b n ≡ home → (deep : Bool) → is_deep b n ≡ deep → P (come home deep).board
+    by false e deep d = p
+    by true e true d = p
+    by true e false d = k.held_so b n is e d p
 
 released_of-keeps : (P : Board → Type 0) → KeepsBoard P → (b : Board) (n : ℕ) → is_of b (codes "resettable") n ≡ true → P b → P (released_of b n).board
 released_of-keeps P k b n is p = by (among b.holds n) refl
@@ -255,8 +272,8 @@ at_path-keeps P b path change p q = by (resolve b path (codes "resettable")) ref
     by several e = rw (resettable_at, e) p
 
 -- rings
-by_code-keeps : (P : Board → Type 0) (b c : Board) (bar : Option Code) → P b → P c → P (by_code b c bar).board
-by_code-keeps P b c None p q = q
+by_code-keeps : (P : Board → Type 0) (b c : Board) (bar : Option Code) → P b → (bar ≡ None → P c) → P (by_code b c bar).board
+by_code-keeps P b c None p q = q refl
 by_code-keeps P b c (Some code) p q = p
 
 abbrev taken_of : Board → List ℕ → ℕ → Form → Option Ring → Reading
@@ -268,7 +285,7 @@ taken-keeps P k b id most form (Some r) p = by (told form (ring_oldest (bytes_in
   where
     by : (text : Option (List ℕ)) → P (taken_as b id most text).board
     by None = p
-    by (Some text) = k.ringed b (ring_changed (λ m. ring_drop m most) id b.rings) p
+    by (Some text) = k.rings.read b id most p
 
 abbrev gained_of : Board → List ℕ → Option (List ℕ) → Option Ring → Changed
 gained_of b id bytes o = elim o [ None ↦ record { refusal = Some E36; board = b } | Some r ↦ written_as b id bytes ]
@@ -276,7 +293,7 @@ gained_of b id bytes o = elim o [ None ↦ record { refusal = Some E36; board = 
 gained-keeps : (P : Board → Type 0) → KeepsBoard P → (b : Board) (id : List ℕ) (bytes : Option (List ℕ)) (o : Option Ring) → P b → P (gained_of b id bytes o).board
 gained-keeps P k b id bytes None p = p
 gained-keeps P k b id None (Some r) p = p
-gained-keeps P k b id (Some bytes) (Some r) p = k.ringed b (ring_changed (λ m. ring_add m bytes) id b.rings) p
+gained-keeps P k b id (Some bytes) (Some r) p = k.rings.written b id bytes p
 
 -- an object is deleted, or stays as it is in use
 removed-keeps : (P : Board → Type 0) → KeepsBoard P → (b : Board) (id : List ℕ) → P b → P (object_removed b id).board
@@ -311,10 +328,11 @@ performed_keeps P k b (DeviceDel id) p = changed_board P (asked b id) (k.asked b
 performed_keeps P k b (ChardevAdd id kind size) p =
     let more : List Ring = b.rings ++ new_ring id (unwrap_or size RING_SIZE_DEFAULT) ∷ [] in
     changed_board P (chardev_added b id kind size)
-    (by_code-keeps P b (with_rings more b) (chardev_barred b id kind (unwrap_or size RING_SIZE_DEFAULT)) p (k.ringed b more p))
+    (by_code-keeps P b (with_rings more b) (chardev_barred b id kind (unwrap_or size RING_SIZE_DEFAULT)) p
+    (λ free. k.rings.added b id kind (unwrap_or size RING_SIZE_DEFAULT) free p))
 performed_keeps P k b (ChardevRemove id) p =
     let fewer : List Ring = without_ring id b.rings in
-    changed_board P (chardev_removed b id) (by_code-keeps P b (with_rings fewer b) (removal_barred b id) p (k.ringed b fewer p))
+    changed_board P (chardev_removed b id) (by_code-keeps P b (with_rings fewer b) (removal_barred b id) p (λ free. k.rings.removed b id free p))
 performed_keeps P k b (RingbufRead device size format) p =
     let reading : Reading = ringbuf_read b device size format in
     answered_board P reading.board string reading.text (taken-keeps P k b device size (unwrap_or format Utf8) (ring_named device b.rings) p)
@@ -327,7 +345,7 @@ performed_keeps P k b (XSever birth) p = changed_board P (sever b birth) (k.chan
 performed_keeps P k b (XQueryNotes start) p = p
 performed_keeps P k b XQueryDetached p = p
 performed_keeps P k b (XGuest line) p = heard_keeps P k b line p
-performed_keeps P k b (XStep ns) p = timed_board P (advanced b ns) (advanced-all P b ns p (k.timed b (b.now + ns) (omega arith) p))
+performed_keeps P k b (XStep ns) p = timed_board P (advanced b ns) (advanced-all P b ns p (λ low. k.timed b (b.now + ns) (omega arith) low p))
 
 -- so does each command, where the events that wait are no matter
 pub keeps_commands : (P : Board → Type 0) → KeepsBoard P → ((b : Board) → P b → P (without_events b)) → KeepsCommands P
@@ -335,7 +353,7 @@ keeps_commands P k free =
     record {
       command = λ b r p. free (performed b r).board (performed_keeps P k b r p);
       attempt = λ b r i joined p. attempted-all P b r i joined p (λ t. k.attempt b t p) (λ t. k.cut b t i joined p);
-      advance = λ b ns p. advanced-all P b ns p (k.timed b (b.now + ns) (omega arith) p);
+      advance = λ b ns p. advanced-all P b ns p (λ low. k.timed b (b.now + ns) (omega arith) low p);
     }
 
 -- Items, steps and runs.

@@ -22,7 +22,7 @@ use Rattle.qo_sound_devices.proofs.ResetLemmas.{first-on}
 use Rattle.qo_sound_clocks.proofs.KeepLemmas.{writes_keep_lem}
 use Rattle.qo_sound_clocks.proofs.RegisterLemmas.{registers_kept_lem}
 use Rattle.qo_machine.proofs.AddressLemmas.{address-there, bus-live}
-use Rattle.qo_machine.proofs.KeepLemmas.{KeepsBoard, KeepsCommands, keeps_commands, run_keeps}
+use Rattle.qo_machine.proofs.KeepLemmas.{any-rings, KeepsBoard, KeepsCommands, keeps_commands, run_keeps}
 use Rattle.qo_machine.proofs.DevicesLemmas.{devices_free, devices_kept, ringed-devices}
 use Rattle.qo_machine.specs.Laws.{FinalOnceInRuns}
 use Rattle.qo_machine.specs.Machine.{opening}
@@ -78,10 +78,10 @@ notes_kept =
           (λ registers e so. (registers_kept_lem.devices b d registers o.0, registers_kept_lem.notes b d registers o.1))
           (λ x rings q. (ringed-devices x rings q.0, notes_kept_lem.beside x (with_rings rings x) refl refl refl q.1))
           (λ x m on q. (devices_kept_lem.pulsed x m q.0, notes_kept_lem.pulsed x m q.0.tree (bus-live x d m on) q.1)) c is;
-      ringed = λ b rings o. (ringed-devices b rings o.0, notes_kept_lem.beside b (with_rings rings b) refl refl refl o.1);
-      timed = λ b now on o. (devices_kept.timed b now on o.0, notes_kept_lem.beside b (at_time now b) refl refl refl o.1);
+      rings = any-rings Ordered (λ b rings o. (ringed-devices b rings o.0, notes_kept_lem.beside b (with_rings rings b) refl refl refl o.1));
+      timed = λ b now on low o. (devices_kept.timed b now on low o.0, notes_kept_lem.beside b (at_time now b) refl refl refl o.1);
       switched = λ b on o. (devices_kept.switched b on o.0, notes_kept_lem.beside b (with_running on b) refl refl refl o.1);
-      held_so = λ b n is home o. (devices_kept.held_so b n is home o.0, notes_kept_lem.held_so b n o.0.tree (of-live b (codes "resettable") n is) o.1);
+      held_so = λ b n is home deep o. (devices_kept.held_so b n is home deep o.0, notes_kept_lem.held_so b n o.0.tree (of-live b (codes "resettable") n is) o.1);
       released_so = λ b n is held o. (devices_kept.released_so b n is held o.0, notes_kept_lem.released_so b n o.0.tree (of-live b (codes "resettable") n is) o.1);
       reset = λ b o. (devices_kept.reset b o.0, reset-notes b o);
     }

@@ -32,7 +32,7 @@ use Rattle.qo_sound_phases.specs.PhaseRuns.{SoundResets}
 use Rattle.qo_sound_phases.specs.PhasesKept.{may_reset}
 use Rattle.qo_sound_phases.proofs.LawLemmas.{phases_kept_lem, phases_say_lem}
 use Rattle.qo_machine.proofs.DevicesLemmas.{devices_free, devices_kept, ringed-devices}
-use Rattle.qo_machine.proofs.KeepLemmas.{KeepsBoard, KeepsCommands, keeps_commands, run_keeps, step_keeps}
+use Rattle.qo_machine.proofs.KeepLemmas.{any-rings, KeepsBoard, KeepsCommands, keeps_commands, run_keeps, step_keeps}
 use Rattle.qo_machine.specs.Laws.{PhasesInRuns}
 use Rattle.qo_machine.specs.Machine.{opening}
 use Rattle.qo_machine.specs.Runs.{Turn, state_after}
@@ -127,10 +127,10 @@ phases_kept =
       polled = λ b h.
           record { devices = devices_kept.polled b h.devices; phases = phases_kept_lem.beside b (polled b) refl refl refl refl h.phases };
       written = λ b at d reg value c there is h. written-so b d (standing b at d there h) h reg value c is;
-      ringed = λ b rings h. ringed-so b rings h;
-      timed = λ b now on h.
+      rings = any-rings SoundResets (λ b rings h. ringed-so b rings h);
+      timed = λ b now on low h.
           record {
-            devices = devices_kept.timed b now on h.devices;
+            devices = devices_kept.timed b now on low h.devices;
             phases = phases_kept_lem.beside b (at_time now b) refl refl refl refl h.phases;
           };
       switched = λ b on h.
@@ -138,9 +138,9 @@ phases_kept =
             devices = devices_kept.switched b on h.devices;
             phases = phases_kept_lem.beside b (with_running on b) refl refl refl refl h.phases;
           };
-      held_so = λ b n is home h.
+      held_so = λ b n is home deep h.
           record {
-            devices = devices_kept.held_so b n is home h.devices;
+            devices = devices_kept.held_so b n is home deep h.devices;
             phases = phases_kept_lem.held_so b n (may-so b n is home) h.devices h.phases;
           };
       released_so = λ b n is on h.

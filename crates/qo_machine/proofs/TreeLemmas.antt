@@ -23,7 +23,7 @@ use Rattle.qo_machine.proofs.AddressLemmas.{asked-tree, polled-tree, refused-tre
 use Rattle.qo_machine.proofs.ClocksLemmas.{opening_run, run_commands}
 use Rattle.qo_machine.proofs.DevicesLemmas.{devices_commands}
 use Rattle.qo_sound_clocks.proofs.KeepLemmas.{writes_keep_lem}
-use Rattle.qo_machine.proofs.KeepLemmas.{KeepsBoard, KeepsCommands, advanced-all, broken_keeps, keeps_commands, run_keeps, step_keeps}
+use Rattle.qo_machine.proofs.KeepLemmas.{any-rings, KeepsBoard, KeepsCommands, advanced-all, broken_keeps, keeps_commands, run_keeps, step_keeps}
 use Rattle.qo_machine.proofs.MachineLemmas.{in_at}
 use Rattle.qo_machine.proofs.SoundLemmas.{sound_by}
 use Rattle.qo_machine.specs.Laws.{KeptInRuns, SoundInRuns}
@@ -65,10 +65,10 @@ tree_kept =
       written = λ b at d reg value c there is h.
           written-all SoundTree b d reg value (λ registers e so. registers_kept_lem.tree b d registers h) (λ x rings q. ringed-tree x rings q)
           (λ x m on q. pulsed-tree x m q) c is;
-      ringed = λ b rings h. ringed-tree b rings h;
-      timed = λ b now on h. timed-tree b now h;
+      rings = any-rings SoundTree (λ b rings h. ringed-tree b rings h);
+      timed = λ b now on low h. timed-tree b now h;
       switched = λ b on h. switched-tree b on h;
-      held_so = λ b n is home h. sound_kept_lem.held_so b n h;
+      held_so = λ b n is home deep h. sound_kept_lem.held_so b n h;
       released_so = λ b n is held h. sound_kept_lem.released_so b n h;
       reset = λ b h. sound_kept_lem.reset b h;
     }
@@ -90,7 +90,7 @@ drained_commands =
     record {
       command = λ b r p. refl;
       attempt = λ b r i joined p. attempted-all IsDrained b r i joined p (λ t. p) (λ t. p);
-      advance = λ b ns p. advanced-all IsDrained b ns p p;
+      advance = λ b ns p. advanced-all IsDrained b ns p (λ low. p);
     }
 
 -- the groups of a sound board
