@@ -1,6 +1,7 @@
 -- Steps keep the tree of the board sound.
 use Rattle.std.proofs.Common.{◌≡◌, ℕ, Bool, List, [], refl}
 use Rattle.qo_causes.specs.declared.inputs.Input.{Input}
+use Rattle.qo_model.proofs.CycleLemmas.{cycle_lem}
 use Rattle.qo_model.proofs.OpeningLemmas.{opening_sound}
 use Rattle.qo_model.proofs.TreeLemmas.{frame_lem}
 use Rattle.qo_model.specs.Board.{Board, Ring}
@@ -26,7 +27,8 @@ use Rattle.qo_sound_clocks.proofs.KeepLemmas.{writes_keep_lem}
 use Rattle.qo_machine.proofs.KeepLemmas.{any-rings, KeepsBoard, KeepsCommands, advanced-all, broken_keeps, keeps_commands, run_keeps, step_keeps}
 use Rattle.qo_machine.proofs.MachineLemmas.{in_at}
 use Rattle.qo_machine.proofs.SoundLemmas.{sound_by}
-use Rattle.qo_machine.specs.Laws.{KeptInRuns, SoundInRuns}
+use Rattle.qo_machine.specs.Laws.{HeldInRuns, KeptInRuns, SoundInRuns}
+use Rattle.qo_machine.specs.Runs.{state_after}
 use Rattle.qo_machine.specs.Machine.{Answers, BreaksOff, IsIn, Message, Seen, State, opening, state_at, step}
 
 -- the time and whether it goes on are no matter to the tree, nor are the rings
@@ -107,6 +109,9 @@ sound_in_runs =
       devices = kept_in_runs SoundDevices devices_commands devices_kept_lem.opening;
       clocks = kept_in_runs SoundRun run_commands opening_run;
     }
+
+pub held_in_runs : HeldInRuns
+held_in_runs turns n there apart = cycle_lem (state_after opening turns).board (sound_in_runs.tree.run turns).0 n there apart
 
 -- a step of a machine
 pub stepped_sound : (old new : Seen) (i : Input) (outs : List Message) → ((s : State) → IsIn s old → Answers s i outs new) → (s : State) → IsIn s old → IsSound s.board → (t : State) → IsIn t new → IsSound t.board

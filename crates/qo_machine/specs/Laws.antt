@@ -1,5 +1,5 @@
 -- What holds of the machine alone.
-use Rattle.std.specs.Prelude.{◌≡◌, ◌≢◌, ℕ, true, List, [], ◌∷◌, ◌++◌, Some, ⊤}
+use Rattle.std.specs.Prelude.{◌≡◌, ◌≢◌, ℕ, true, false, List, [], ◌∷◌, ◌++◌, Some, ⊤}
 use Rattle.std.specs.List.{AllByRecursion}
 use Rattle.qo_causes.specs.declared.hubs.Lane.TheVariants.{Session as to_session}
 use Rattle.qo_causes.specs.declared.inputs.Input.{Input}
@@ -7,8 +7,10 @@ use Rattle.qo_causes.specs.declared.inputs.Moment.{Moment}
 use Rattle.qo_causes.specs.declared.inputs.What.{What}
 use Rattle.qo_causes.specs.declared.inputs.What.TheVariants.{Open, Bytes, Shut, Guest}
 use Rattle.qo_framing.specs.declared.items.Item.{Item}
-use Rattle.qo_model.specs.Board.{Board}
+use Rattle.qo_model.specs.Board.{Board, is_live}
 use Rattle.qo_model.specs.FinalNotes.{FinalOnce, NotesInOrder}
+use Rattle.qo_model.specs.Holders.{HeldFrom}
+use Rattle.qo_model.specs.Paths.{attached}
 use Rattle.qo_sound.specs.Kept.{SoundTree}
 use Rattle.qo_sound_devices.specs.SoundDevices.{SoundDevices}
 use Rattle.qo_sound_clocks.specs.ClockRuns.{SoundRun}
@@ -100,3 +102,9 @@ pub record PhasesInRuns : Type 0 where
   pub in_turn : (turns : List Turn) (n : ℕ) → IsInTurn (phases_of n (state_after opening turns).board.notes)
   pub in_reset : (turns : List Turn) (n : ℕ) → may_reset (state_after opening turns).board n ≡ true
       → stage_of n (state_after opening turns).board.notes ≡ Some (stage_now (state_after opening turns).board n)
+
+-- over every run, what is there and is not attached is held from a cycle of child slots and strong links, or from an attached object
+abbrev pub HeldInRuns : Type 0
+HeldInRuns =
+    (turns : List Turn) (n : ℕ) → is_live (state_after opening turns).board n ≡ true → attached (state_after opening turns).board n ≡ false
+    → HeldFrom (state_after opening turns).board n

@@ -1,7 +1,7 @@
 //! What holds of the machine alone: who is touched by what, that pieces of bytes may be cut anywhere, and
 //! what holds of objects over whole runs.
 
-ghost use Rattle.qo_machine.specs.Laws.{ChunksAreFree, FinalOnceInRuns, LanesAreApart, PhasesInRuns, SoundInRuns};
+ghost use Rattle.qo_machine.specs.Laws.{ChunksAreFree, FinalOnceInRuns, HeldInRuns, LanesAreApart, PhasesInRuns, SoundInRuns};
 
 /// Opening, shutting, and each item of a session that is no command leave the board, the guest line
 /// and all other sessions as they are, and send to that session alone.
@@ -36,4 +36,11 @@ pub fn law_sound()
 /// hold is on it or above it, and nowhere else.
 pub fn law_phases()
     ensures { PhasesInRuns }
+{}
+
+/// Over every run an object that is there and not attached is held, through child slots and strong links,
+/// from an object on a cycle of such, or from an attached object: nothing else outlives its place in the
+/// tree.
+pub fn law_cycle()
+    ensures { HeldInRuns }
 {}
