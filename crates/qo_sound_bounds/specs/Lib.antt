@@ -1,0 +1,2 @@
+pub mod BoundsKept
+pub mod SoundBounds

@@ -1,0 +1,15 @@
+//! The rest of what a sound board is: that it stays within the profile's limits. Functions without
+//! effect, whose contracts say what keeps it so. The definitions stand in `specs/`.
+#![tactic(auto)]
+
+ghost use Rattle.qo_sound_bounds.specs.BoundsKept.{BoundsKeptLaw};
+
+/// There are no more objects than the profile allows, and the virtual time is no later, on the opening
+/// board, and behind each command on objects, a device that is added, refused at any stage or cut, a
+/// removal that is asked for or refused, a device that is detached, acts and holds, the reset of the
+/// whole board, a write of a clock's numbers that is not refused, other registers of an object, and
+/// what changes no object and sets a time that is no later.
+#[tactic(auto, using(crate::proofs::BoundsLemmas::bounds_kept_lem))]
+pub fn law_bounds_kept()
+    ensures { BoundsKeptLaw }
+{}
