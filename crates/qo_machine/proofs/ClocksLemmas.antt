@@ -81,7 +81,7 @@ pulsed_run b m h =
     }
 
 -- changes and attempts keep them
-run_kept : KeepsBoard SoundRun
+pub run_kept : KeepsBoard SoundRun
 run_kept =
     record {
       change = λ b change h.
@@ -154,8 +154,12 @@ run_kept =
           };
     }
 
+-- events are no matter to them
+pub run_free : (b : Board) → SoundRun b → SoundRun (without_events b)
+run_free b h = beside_run b (without_events b) refl (omega arith) (devices_free b h.devices) h
+
 pub run_commands : KeepsCommands SoundRun
-run_commands = keeps_commands SoundRun run_kept (λ b h. beside_run b (without_events b) refl (omega arith) (devices_free b h.devices) h)
+run_commands = keeps_commands SoundRun run_kept run_free
 
 -- so it is at first
 pub opening_run : SoundRun opening_board
@@ -170,7 +174,7 @@ good_run b good = record { devices = good.devices; clocks = good.clocks; numbers
 not_before : (m n : ℕ) → m ≡ n → m ≤ n
 not_before m n e = subst (λ (k : ℕ). m ≤ k) e (omega arith)
 
-run_by : (s t : State) (m : Seen) → IsIn s m → IsIn t m → SoundRun s.board → SoundRun t.board
+pub run_by : (s t : State) (m : Seen) → IsIn s m → IsIn t m → SoundRun s.board → SoundRun t.board
 run_by s t m p q h =
     beside_run s.board t.board (q.stands.shows.records ∙ sym p.stands.shows.records)
     (not_before s.board.now t.board.now (p.stands.shows.now ∙ sym q.stands.shows.now))

@@ -1,4 +1,5 @@
 pub mod AddressLemmas
+pub mod BoardLemmas
 pub mod ChunkLemmas
 pub mod ClocksLemmas
 pub mod DevicesLemmas

@@ -21,12 +21,14 @@ use Rattle.qo_sound_devices.proofs.DevicesLawLemmas.{devices_kept_lem}
 use Rattle.qo_sound_clocks.specs.ClockRuns.{SoundRun}
 use Rattle.qo_sound_clocks.proofs.RegisterLemmas.{registers_kept_lem}
 use Rattle.qo_machine.proofs.AddressLemmas.{asked-tree, polled-tree, refused-tree}
+use Rattle.qo_machine.proofs.BoardLemmas.{board_commands, opening_sound_board}
 use Rattle.qo_machine.proofs.ClocksLemmas.{opening_run, run_commands}
 use Rattle.qo_machine.proofs.DevicesLemmas.{devices_commands}
 use Rattle.qo_sound_clocks.proofs.KeepLemmas.{writes_keep_lem}
 use Rattle.qo_machine.proofs.KeepLemmas.{any-rings, KeepsBoard, KeepsCommands, advanced-all, broken_keeps, keeps_commands, run_keeps, step_keeps}
 use Rattle.qo_machine.proofs.MachineLemmas.{in_at}
 use Rattle.qo_machine.proofs.SoundLemmas.{sound_by}
+use Rattle.qo_machine.specs.SoundBoard.{SoundBoard}
 use Rattle.qo_machine.specs.Laws.{HeldInRuns, KeptInRuns, SoundInRuns}
 use Rattle.qo_machine.specs.Runs.{state_after}
 use Rattle.qo_machine.specs.Machine.{Answers, BreaksOff, IsIn, Message, Seen, State, opening, state_at, step}
@@ -108,6 +110,7 @@ sound_in_runs =
       tree = kept_in_runs SoundTree tree_commands (opening_sound.graph, opening_sound.aliases);
       devices = kept_in_runs SoundDevices devices_commands devices_kept_lem.opening;
       clocks = kept_in_runs SoundRun run_commands opening_run;
+      whole = kept_in_runs SoundBoard board_commands opening_sound_board;
     }
 
 pub held_in_runs : HeldInRuns

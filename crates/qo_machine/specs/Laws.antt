@@ -22,6 +22,7 @@ use Rattle.qo_sessions.specs.Acts.{act}
 use Rattle.qo_sessions.specs.declared.acts.SessionAct.{SessionAct}
 use Rattle.qo_sessions.specs.declared.acts.SessionAct.TheVariants.{Answer, Negotiated, Do}
 use Rattle.qo_machine.specs.Machine.{Choice, Message, State, item_step, mode_of, opening, session_of, step}
+use Rattle.qo_machine.specs.SoundBoard.{SoundBoard}
 use Rattle.qo_machine.specs.Runs.{Turn, outs_of, state_after}
 
 -- only one session changes, and only it is sent anything
@@ -95,6 +96,8 @@ pub record SoundInRuns : Type 0 where
   pub tree : KeptInRuns SoundTree
   pub devices : KeptInRuns SoundDevices
   pub clocks : KeptInRuns SoundRun
+  -- and the whole of what a sound board is
+  pub whole : KeptInRuns SoundBoard
 
 -- over every run the phases of resets that are noted of each birth are in turn: the beginning of enter, hold, exit, repeated; and who is attached and may be held in reset is held by its notes where a hold is on it or above it, and nowhere else
 pub record PhasesInRuns : Type 0 where

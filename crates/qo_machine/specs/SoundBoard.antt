@@ -1,0 +1,11 @@
+-- When the board of a machine is sound: what holds of it between two inputs.
+use Rattle.qo_model.specs.Board.{Board}
+use Rattle.qo_sound_bounds.specs.SoundBounds.{SoundBounds}
+use Rattle.qo_sound_clocks.specs.ClockRuns.{SoundRun}
+
+-- all groups of facts but those on the events, none of which waits, and on the notes of phases
+pub record SoundBoard (b : Board) : Type 0 where
+  -- the tree is sound, devices stand in their places, and the lists that name devices name those; and so are the clocks with their numbers, and the moments of timers
+  pub run : SoundRun b
+  -- there are no more objects than there may be, and it is no later than it may be
+  pub bounds : SoundBounds b
