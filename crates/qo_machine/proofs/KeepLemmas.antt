@@ -130,7 +130,8 @@ device_board : (P : Board → Type 0) (b : Board) (row : Option TypeRow) → P b
 device_board P b None p = p
 device_board P b (Some row) p = by (is_a row.id (codes "device"))
   where
-    by : (d : Bool) → P (if d then commands.returned b (array (items_of (map commands.property_data (commands.adding_properties row.id)))) else commands.refused_with b E22).board
+    by : (d : Bool)
+        → P (if d then commands.returned b (array (items_of (map commands.property_data (commands.adding_properties row.id)))) else commands.refused_with b E22).board
     by true = p
     by false = p
 
@@ -262,7 +263,8 @@ released_of-keeps P k b n is p = by (among b.holds n) refl
     by true e = k.released_so b n is e p
     by false e = p
 
-at_path-keeps : (P : Board → Type 0) (b : Board) (path : List ℕ) (change : ℕ → Changed) → P b → ((n : ℕ) → is_of b (codes "resettable") n ≡ true → P (change n).board)
+at_path-keeps : (P : Board → Type 0) (b : Board) (path : List ℕ) (change : ℕ → Changed) → P b
+    → ((n : ℕ) → is_of b (codes "resettable") n ≡ true → P (change n).board)
     → P (at_path b change (resettable_at b path)).board
 at_path-keeps P b path change p q = by (resolve b path (codes "resettable")) refl
   where
@@ -279,7 +281,8 @@ by_code-keeps P b c (Some code) p q = p
 abbrev taken_of : Board → List ℕ → ℕ → Form → Option Ring → Reading
 taken_of b id most form o = elim o [ None ↦ record { text = Err E36; board = b } | Some r ↦ taken_as b id most (told form (ring_oldest (bytes_in r) most)) ]
 
-taken-keeps : (P : Board → Type 0) → KeepsBoard P → (b : Board) (id : List ℕ) (most : ℕ) (form : Form) (o : Option Ring) → P b → P (taken_of b id most form o).board
+taken-keeps : (P : Board → Type 0) → KeepsBoard P → (b : Board) (id : List ℕ) (most : ℕ) (form : Form) (o : Option Ring) → P b
+    → P (taken_of b id most form o).board
 taken-keeps P k b id most form None p = p
 taken-keeps P k b id most form (Some r) p = by (told form (ring_oldest (bytes_in r) most))
   where
@@ -290,7 +293,8 @@ taken-keeps P k b id most form (Some r) p = by (told form (ring_oldest (bytes_in
 abbrev gained_of : Board → List ℕ → Option (List ℕ) → Option Ring → Changed
 gained_of b id bytes o = elim o [ None ↦ record { refusal = Some E36; board = b } | Some r ↦ written_as b id bytes ]
 
-gained-keeps : (P : Board → Type 0) → KeepsBoard P → (b : Board) (id : List ℕ) (bytes : Option (List ℕ)) (o : Option Ring) → P b → P (gained_of b id bytes o).board
+gained-keeps : (P : Board → Type 0) → KeepsBoard P → (b : Board) (id : List ℕ) (bytes : Option (List ℕ)) (o : Option Ring) → P b
+    → P (gained_of b id bytes o).board
 gained-keeps P k b id bytes None p = p
 gained-keeps P k b id None (Some r) p = p
 gained-keeps P k b id (Some bytes) (Some r) p = k.rings.written b id bytes p
@@ -340,7 +344,8 @@ performed_keeps P k b (RingbufWrite device payload format) p =
     changed_board P (ringbuf_written b device payload format)
     (gained-keeps P k b device (given_bytes (unwrap_or format Utf8) payload) (ring_named device b.rings) p)
 performed_keeps P k b (XResetHold path) p = changed_board P (held_at b path) (at_path-keeps P b path (held_of b) p (λ n is. held_of-keeps P k b n is p))
-performed_keeps P k b (XResetRelease path) p = changed_board P (released_at b path) (at_path-keeps P b path (released_of b) p (λ n is. released_of-keeps P k b n is p))
+performed_keeps P k b (XResetRelease path) p =
+    changed_board P (released_at b path) (at_path-keeps P b path (released_of b) p (λ n is. released_of-keeps P k b n is p))
 performed_keeps P k b (XSever birth) p = changed_board P (sever b birth) (k.change b (severed birth) p)
 performed_keeps P k b (XQueryNotes start) p = p
 performed_keeps P k b XQueryDetached p = p
@@ -362,15 +367,18 @@ ends_board : (P : Board → Type 0) (e : Bool) (s : State) → P s.board → P (
 ends_board P true s p = p
 ends_board P false s p = p
 
-made_board : (P : Board → Type 0) → KeepsCommands P → (choice : Choice) (at : Moment) (n : ℕ) (s : State) (what : SessionAct) → P s.board → P (made_by choice at n s what).state.board
+made_board : (P : Board → Type 0) → KeepsCommands P → (choice : Choice) (at : Moment) (n : ℕ) (s : State) (what : SessionAct) → P s.board
+    → P (made_by choice at n s what).state.board
 made_board P k (refused i joined) at n s (Answer code id) p = p
 made_board P k (refused i joined) at n s (Negotiated id) p = p
 made_board P k (refused i joined) at n s (Do request id) p = k.attempt s.board request i joined p
 made_board P k defined at n s (Answer code id) p = p
 made_board P k defined at n s (Negotiated id) p = p
-made_board P k defined at n s (Do request id) p = ends_board P (perform s.board request).ends (with_board s (perform s.board request).board) (k.command s.board request p)
+made_board P k defined at n s (Do request id) p =
+    ends_board P (perform s.board request).ends (with_board s (perform s.board request).board) (k.command s.board request p)
 
-item_board : (P : Board → Type 0) → KeepsCommands P → (choice : Choice) (at : Moment) (n : ℕ) (s : State) (item : Item) → P s.board → P (item_step choice at n s item).state.board
+item_board : (P : Board → Type 0) → KeepsCommands P → (choice : Choice) (at : Moment) (n : ℕ) (s : State) (item : Item) → P s.board
+    → P (item_step choice at n s item).state.board
 unfolding item_step
 item_board P k choice at n s item p = made_board P k choice at n s (act (mode_of s n) item) p
 
@@ -379,7 +387,8 @@ unless_board P true a b p q = p
 unless_board P false a b p q = q
 
 -- a line of the guest keeps what it does as a command
-line_board : (P : Board → Type 0) → KeepsCommands P → (choice : Choice) (at : Moment) (s : State) (line : List ℕ) → P s.board → P (line_step choice at s line).state.board
+line_board : (P : Board → Type 0) → KeepsCommands P → (choice : Choice) (at : Moment) (s : State) (line : List ℕ) → P s.board
+    → P (line_step choice at s line).state.board
 unfolding line_step performed
 line_board P k (refused i joined) at s line p = p
 line_board P k defined at s line p =
@@ -387,19 +396,24 @@ line_board P k defined at s line p =
     ends_board P o.ends (with_board s (without_events o.board)) (k.command s.board (XGuest (without_return line)) p)
 
 -- what is served in turn keeps what each keeps
-serve_board_by : {X : Type 0} (P : Board → Type 0) (f : Choice → State → X → Made) → ((choice : Choice) (s : State) (x : X) → P s.board → P (f choice s x).state.board) → (xs : List X) (s : State) (cs : List Choice) → P s.board → P (serve_by f xs s cs).state.board
+serve_board_by : {X : Type 0} (P : Board → Type 0) (f : Choice → State → X → Made)
+    → ((choice : Choice) (s : State) (x : X) → P s.board → P (f choice s x).state.board) → (xs : List X) (s : State) (cs : List Choice) → P s.board
+    → P (serve_by f xs s cs).state.board
 serve_board_by P f keeps [] s cs p = p
 serve_board_by P f keeps (x ∷ xs) s cs p =
     unless_board P s.ended (unchanged s cs) (behind (f (first cs) s x).outs (serve_by f xs (f (first cs) s x).state (others cs))) p (serve_board_by P f keeps xs (f (first cs) s x).state (others cs) (keeps (first cs) s x p))
 
-serve_board : (P : Board → Type 0) → KeepsCommands P → (items : List Item) (at : Moment) (n : ℕ) (s : State) (cs : List Choice) → P s.board → P (serve at n items s cs).state.board
+serve_board : (P : Board → Type 0) → KeepsCommands P → (items : List Item) (at : Moment) (n : ℕ) (s : State) (cs : List Choice) → P s.board
+    → P (serve at n items s cs).state.board
 serve_board P k items at n s cs p = serve_board_by P (by_item at n) (λ choice t item q. item_board P k choice at n t item q) items s cs p
 
-lines_board : (P : Board → Type 0) → KeepsCommands P → (lines : List (List ℕ)) (at : Moment) (s : State) (cs : List Choice) → P s.board → P (serve_lines at lines s cs).state.board
+lines_board : (P : Board → Type 0) → KeepsCommands P → (lines : List (List ℕ)) (at : Moment) (s : State) (cs : List Choice) → P s.board
+    → P (serve_lines at lines s cs).state.board
 lines_board P k lines at s cs p = serve_board_by P (by_line at) (λ choice t line q. line_board P k choice at t line q) lines s cs p
 
 -- a step that was broken off: the machine's objects stand for a board that keeps it too
-pub broken_keeps : (P : Board → Type 0) → KeepsCommands P → (s : State) (i : Input) (m : Seen) → BreaksOff s i m → P s.board → (b : Board) × Stands b m.board × P b
+pub broken_keeps : (P : Board → Type 0) → KeepsCommands P → (s : State) (i : Input) (m : Seen) → BreaksOff s i m → P s.board
+    → (b : Board) × Stands b m.board × P b
 broken_keeps P k s i m broken p = by i.what broken
   where
     by : (w : What) → BreaksOffAt s i.at w m → (b : Board) × Stands b m.board × P b

@@ -117,7 +117,8 @@ pub held_in_runs : HeldInRuns
 held_in_runs turns n there apart = cycle_lem (state_after opening turns).board (sound_in_runs.tree.run turns).0 n there apart
 
 -- a step of a machine
-pub stepped_sound : (old new : Seen) (i : Input) (outs : List Message) → ((s : State) → IsIn s old → Answers s i outs new) → (s : State) → IsIn s old → IsSound s.board → (t : State) → IsIn t new → IsSound t.board
+pub stepped_sound : (old new : Seen) (i : Input) (outs : List Message) → ((s : State) → IsIn s old → Answers s i outs new) → (s : State) → IsIn s old
+    → IsSound s.board → (t : State) → IsIn t new → IsSound t.board
 stepped_sound old new i outs answered s at sound t there =
     let p = answered s at in
     sound_by (step s i p.0).state t new p.2 there
