@@ -1,3 +1,4 @@
+pub mod BoardLemmas
 pub mod GoodLemmas
 pub mod LawLemmas
 pub mod RowLemmas
