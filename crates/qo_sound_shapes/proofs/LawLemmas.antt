@@ -1,5 +1,5 @@
 -- The law: what keeps the objects of a board shaped as their types say.
-use Rattle.qo_sound_shapes.proofs.BoardLemmas.{AllOf}
+use Rattle.qo_sound_shapes.proofs.QuietLemmas.{same-shape}
 use Rattle.qo_sound_shapes.specs.ShapesKept.{ShapesKeptLaw}
 
 pub shapes_kept_lem : ShapesKeptLaw

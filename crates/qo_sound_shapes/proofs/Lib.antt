@@ -1,4 +1,5 @@
 pub mod BoardLemmas
 pub mod GoodLemmas
 pub mod LawLemmas
+pub mod QuietLemmas
 pub mod RowLemmas
