@@ -1,5 +1,7 @@
 pub mod BoardLemmas
+pub mod CommandLemmas
 pub mod GoodLemmas
 pub mod LawLemmas
+pub mod MadeLemmas
 pub mod QuietLemmas
 pub mod RowLemmas
