@@ -1,6 +1,7 @@
 -- The commands on objects keep the shape.
 use Rattle.std.proofs.Common.{◌≡◌, ◌⊎◌, inl, inr, refl, ap, sym, subst, ◌∙◌, rules, ℕ, zero, suc, ◌<◌, ◌≤◌, ◌+◌, Bool, true, false, not, ◌==◌, eqb, List, [], ◌∷◌, ◌++◌, length, map, position, slice_get, codes, Option, Some, None, is_some, option_map, option_and_then, Result, Ok, Err, arith}
 use Rattle.std.specs.Prelude.{get_or}
+use Rattle.std.specs.Bool.{⊤}
 use Rattle.std.specs.List.{AllByRecursion}
 use Rattle.std.specs.Option.{option_map_or}
 use Rattle.std.specs.Str.{bytes_eq}
@@ -192,3 +193,116 @@ added-all b driver id props begun h = go (row_named driver) refl
     go : (row : Option TypeRow) → row_named driver ≡ row → AllOf Good (object_add b driver id props).board
     go None p = rw (object_add, p) h
     go (Some row) p = rw (object_add, p) (by row (barred b row id) refl)
+
+-- `qom-set`
+
+slot-at : (b : Board) (n i : ℕ) (r : Record) (s : List ℕ × Slot) → record_of b n ≡ Some r → slice_get r.slots i ≡ Some s → slot_at b n i ≡ Some s.1
+slot-at b n i r s e at =
+    ap (λ (o : Option Record). option_map (λ (x : List ℕ × Slot). x.1) (slice_get (option_map_or (λ (y : Record). y.slots) o []) i)) e
+    ∙ ap (option_map (λ (x : List ℕ × Slot). x.1)) at
+
+module _ (b : Board) (h : AllOf Good b) (n i : ℕ) where
+  relinked-all : (s : Slot) → slot_at b n i ≡ Some s → child_of s ≡ None → (target : Option ℕ) → AllOf Good (relinked b n i target)
+  unfolding point drop_slot
+  relinked-all s e none target =
+      rw (relinked, e) (all-after Good good-forgotten (held s) (pointed_at target n i (drop_slot b n i)) (points target))
+    where
+      dropped : AllOf Good (drop_slot b n i)
+      dropped =
+          all-edit Good n (with_dropped i) (λ r. refl) b
+          (λ r q own k. good-dropped i r (λ x at. ap child_of (same_Some x.1 s (sym (slot-at b n i r x q at) ∙ e)) ∙ none) k) h
+
+      points : (to : Option ℕ) → AllOf Good (pointed_at to n i (drop_slot b n i))
+      points None = dropped
+      points (Some m) =
+          all-edit Good n (with_changed (pointed m) i) (λ r. refl) (drop_slot b n i)
+          (λ r q own k. good-changed (pointed m) (mild-pointed m) i r (λ p x row at is. rows-pointed m p.kind x.1 is.fits) k) dropped
+
+  linked-all : (s : Slot) → slot_at b n i ≡ Some s → child_of s ≡ None → (target : Result (Option ℕ) Code) → AllOf Good (behind_write b (linked b n i target))
+  linked-all s e none (Ok target) = relinked-all s e none target
+  linked-all s e none (Err code) = h
+
+  link-all : (s : Slot) → slot_at b n i ≡ Some s → child_of s ≡ None → (t : TypeId) (v : Val) → AllOf Good (behind_write b (link_written b n i t v))
+  link-all s e none t (val.Text path) = linked-all s e none (link_target b t path)
+  link-all s e none t (val.Bool v) = h
+  link-all s e none t (val.Int v) = h
+  link-all s e none t (val.Uint v) = h
+  link-all s e none t val.Nothing = h
+
+  module _ (name : List ℕ) (entry : List ℕ × Slot) (at : slice_get (slots_at b n) i ≡ Some entry) (named : bytes_eq entry.0 name ≡ true) where
+    val-all : (v : Val) → ((r : Record) → record_of b n ≡ Some r → Takes r.kind name v) → AllOf Good (set n i v b)
+    unfolding set
+    val-all v takes =
+        all-edit Good n (with_changed (with_val v) i) (λ r. refl) b
+        (λ r q own k. good-set name v i r entry (slot-of b n i r entry q at) named (takes r q) k) h
+
+    written-all : (kind : RowKind) (s : Option Slot) → slot_at b n i ≡ s → (v : Val)
+        → (RowTakes kind v → (r : Record) → record_of b n ≡ Some r → Takes r.kind name v) → AllOf Good (behind_write b (written b n i kind s v))
+    written-all (row.Plain type first) (Some (plain old)) e v takes = go (admits type v) refl
+      where
+        go : (t : Bool) → admits type v ≡ t → AllOf Good (behind_write b (written b n i (row.Plain type first) (Some (plain old)) v))
+        go true p = rw (written, p) (val-all v (takes p))
+        go false p = rw (written, p) h
+    written-all (row.Link t holds) (Some (strong to target)) e v takes = link-all (strong to target) e refl to v
+    written-all (row.Link t holds) (Some (weak to target)) e v takes = link-all (weak to target) e refl to v
+    written-all (row.Plain type first) None e v takes = h
+    written-all (row.Plain type first) (Some (child m)) e v takes = h
+    written-all (row.Plain type first) (Some (strong to target)) e v takes = h
+    written-all (row.Plain type first) (Some (weak to target)) e v takes = h
+    written-all (row.Plain type first) (Some (alias m property)) e v takes = h
+    written-all (row.Link t holds) None e v takes = h
+    written-all (row.Link t holds) (Some (plain old)) e v takes = h
+    written-all (row.Link t holds) (Some (child m)) e v takes = h
+    written-all (row.Link t holds) (Some (alias m property)) e v takes = h
+    written-all (row.Child t) s e v takes = h
+    written-all (row.Alias owner property) s e v takes = h
+
+    by-row : (o : Option Property) → option_and_then (λ t. row_of_property t name) (kind_of b n) ≡ o → (v : Val)
+        → AllOf Good (behind_write b (written_by b n i o v))
+    by-row None e v = h
+    by-row (Some row) e v = go (may_set row.mark) refl
+      where
+        takes : RowTakes row.kind v → (r : Record) → record_of b n ≡ Some r → Takes r.kind name v
+        takes fits r q =
+            let kind : kind_of b n ≡ Some r.kind = ap (option_map (λ (y : Record). y.kind)) q in
+            let found : row_of_property r.kind name ≡ Some row = sym (ap (option_and_then (λ t. row_of_property t name)) kind) ∙ e in
+            subst (λ (o : Option Property). elim o as (λ _. Type 0) [ None ↦ ⊤ | Some x ↦ RowTakes x.kind v ]) (sym found) fits
+
+        go : (t : Bool) → may_set row.mark ≡ t → AllOf Good (behind_write b (written_by b n i (Some row) v))
+        go true p = rw (written_by, p) (written-all row.kind (slot_at b n i) refl v takes)
+        go false p = rw (written_by, p) h
+
+slice-of : (xs : Slots) (j : ℕ) (d : List ℕ × Slot) → j < length xs → slice_get xs j ≡ Some (get_or xs j d)
+slice-of [] j d low = absurd (omega (arith, low))
+slice-of (x ∷ xs) zero d low = refl
+slice-of (x ∷ xs) (suc j) d low = slice-of xs j d (omega (arith, low))
+
+write-all : (b : Board) (n : ℕ) (name : List ℕ) (v : Val) → AllOf Good b → AllOf Good (behind_write b (write b n name v))
+write-all b n name v h = go (position (λ (s : List ℕ × Slot). bytes_eq s.0 name) (slots_at b n)) refl
+  where
+    go : (place : Option ℕ) → position (λ (s : List ℕ × Slot). bytes_eq s.0 name) (slots_at b n) ≡ place → AllOf Good (behind_write b (write b n name v))
+    go None p = rw (write, p) h
+    go (Some i) p =
+        let d : List ℕ × Slot = ([], plain val.Nothing) in
+        let k : (i < length (slots_at b n)) × (bytes_eq (get_or (slots_at b n) i d).0 name ≡ true) ×
+        ((m : ℕ) → m < i → bytes_eq (get_or (slots_at b n) m d).0 name ≡ false) =
+        position-Some (λ (s : List ℕ × Slot). bytes_eq s.0 name) (slots_at b n) i d p in
+        rw (write, p)
+        (by-row b h n i name (get_or (slots_at b n) i d) (slice-of (slots_at b n) i d k.0) k.1
+        (option_and_then (λ t. row_of_property t name) (kind_of b n)) refl v)
+
+-- each of them
+
+changed-all : (b : Board) (change : Change) → 8 ≤ b.born → AllOf Good b → AllOf Good (changed b change)
+changed-all b (added driver id props) begun h = added-all b driver id props begun h
+changed-all b (deleted id) begun h = deleted-all b id h
+changed-all b (wrote n name v) begun h = write-all b n name v h
+changed-all b (severed n) begun h = sever-all b n h
+
+pub begun-devices : (b : Board) → SoundDevices b → 8 ≤ b.born
+begun-devices b h = (rest-from_sound b h.tree).used.firm.begun
+
+pub changed-shape : (b : Board) (change : Change) → SoundDevices b → SoundShape b → SoundShape (changed b change)
+changed-shape b change devices h =
+    shape-all (changed b change) (live-devices (changed b change) (devices_kept_lem.change b change devices))
+    (changed-all b change (begun-devices b devices) (good-all b h))
