@@ -1,5 +1,6 @@
 pub mod BoardLemmas
 pub mod CommandLemmas
+pub mod DetachLemmas
 pub mod GoodLemmas
 pub mod LawLemmas
 pub mod MadeLemmas

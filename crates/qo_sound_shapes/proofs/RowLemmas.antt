@@ -150,6 +150,17 @@ module _ (R : Property → Type 0) (t : TypeId) where
   has-found (suc i) (p ∷ ps) rows (next is rest) s e = has-found i ps rows.1 rest s e
   has-found i (p ∷ ps) rows (missing may rest) s e = has-found i ps rows.1 rest s e
 
+-- what holds of slots of rows, and of further ones, holds of each
+pub has-all : (R : Property → Type 0) (P : List ℕ × Slot → Type 0) (t : TypeId) → ((p : Property) (s : List ℕ × Slot) → R p → IsOfRow p s → P s)
+    → ((s : List ℕ × Slot) → IsFurther t s → P s) → (ps : List Property) → AllByRecursion R ps → {slots : Slots} → HasSlots t ps slots → AllByRecursion P slots
+has-all R P t of more [] rows {slots} (further all) = one slots all
+  where
+    one : (xs : Slots) → AllByRecursion (IsFurther t) xs → AllByRecursion P xs
+    one [] h = tt
+    one (x ∷ xs) h = (more x h.0, one xs h.1)
+has-all R P t of more (p ∷ ps) rows (next {s = s} is rest) = (of p s rows.0 is, has-all R P t of more ps rows.1 rest)
+has-all R P t of more (p ∷ ps) rows (missing may rest) = has-all R P t of more ps rows.1 rest
+
 -- a further slot more
 pub has-added : (t : TypeId) (s : List ℕ × Slot) → IsFurther t s → (ps : List Property) {slots : Slots} → HasSlots t ps slots → HasSlots t ps (slots ++ s ∷ [])
 has-added t s more [] {slots} (further all) = further (one slots all)
