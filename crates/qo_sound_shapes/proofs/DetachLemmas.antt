@@ -19,6 +19,7 @@ use Rattle.qo_model.specs.Changes.{changed_at, cut, set, with_changed, with_cut,
 use Rattle.qo_model.specs.Clocks.{acted, device_period, with_act_on}
 use Rattle.qo_model.specs.Depth.{by_depth}
 use Rattle.qo_model.specs.Devices.{bus_in, bus_of, buses_of, clock_name, clock_of, kids_of, strong_in}
+use Rattle.qo_model.specs.Hotplug.{all_completed, completed, reset_whole}
 use Rattle.qo_model.specs.Objects.{place_from}
 use Rattle.qo_model.specs.Opening.{opening_board}
 use Rattle.qo_model.specs.Paths.{births, child_of, is_child, is_of}
@@ -35,12 +36,18 @@ use Rattle.qo_sound.proofs.FirmLemmas.{FitsKind, Linked}
 use Rattle.qo_sound.proofs.RecordLemmas.{all-both, all-map, found-birth}
 use Rattle.qo_sound.proofs.SlotLemmas.{all-changed, all-dropped}
 use Rattle.qo_sound.proofs.UnplugLemmas.{Found, found-at}
-use Rattle.qo_sound_devices.proofs.ResetLemmas.{first-on}
-use Rattle.qo_sound_shapes.specs.SoundShape.{HasSlots, is_child_row, IsAsRow, IsFurther, IsKidLink, IsOfRow, may_miss}
-use Rattle.qo_sound_shapes.proofs.BoardLemmas.{all-after, all-edit, all-let_go, all-pin, all-unpin, AllOf}
-use Rattle.qo_sound_shapes.proofs.CommandLemmas.{child-row, container-kind, good-emptied}
+use Rattle.qo_sound.proofs.ViewLemmas.{rest-from_sound}
+use Rattle.qo_sound_clocks.proofs.FoundLemmas.{all-found}
+use Rattle.qo_sound_devices.specs.SoundDevices.{SoundDevices}
+use Rattle.qo_sound_devices.specs.SoundLists.{IsOn}
+use Rattle.qo_sound_devices.specs.SoundPlaces.{stands}
+use Rattle.qo_sound_devices.proofs.PlugLemmas.{stands-device}
+use Rattle.qo_sound_devices.proofs.ResetLemmas.{detached-below, first-on}
+use Rattle.qo_sound_shapes.specs.SoundShape.{HasSlots, is_child_row, IsAsRow, IsFurther, IsKidLink, IsOfRow, may_miss, SoundShape}
+use Rattle.qo_sound_shapes.proofs.BoardLemmas.{all-after, all-edit, all-imply_of, all-let_go, all-pin, all-unpin, AllOf, good-all, shape-all}
+use Rattle.qo_sound_shapes.proofs.CommandLemmas.{child-row, container-kind, good-emptied, live-devices}
 use Rattle.qo_sound_shapes.proofs.GoodLemmas.{Good, good-changed, good-dropped, good-forgotten, good-let_go, good-slots, is_first, mild-unseen, rows-unseen}
-use Rattle.qo_sound_shapes.proofs.QuietLemmas.{good-act, good-set, slot-of, Takes}
+use Rattle.qo_sound_shapes.proofs.QuietLemmas.{good-act, good-set, pulse-shape, slot-of, Takes}
 use Rattle.qo_sound_shapes.proofs.RowLemmas.{has-all, has-removed, IsRowOf, own-rows, Slots}
 
 -- an object whose links are to objects of their types, where `kinds` says the types before
@@ -597,3 +604,108 @@ module _ (kinds : ℕ → Option TypeId) where
           kids-fit r.slots
           (all-both LinksDevice (λ (s : List ℕ × Slot). Linked kinds s.1) r.slots
           (links-device r (of-kind (codes "bus") m bus r (found-birth m c.records r q) k) k) k.linked)
+
+  bus-of_in : (c : Board) (xs : Slots) → AllByRecursion (λ m. is_of c (codes "bus") m ≡ true) (filter_map (bus_in c) xs)
+  bus-of_in c [] = tt
+  bus-of_in c ((name, plain v) ∷ xs) = bus-of_in c xs
+  bus-of_in c ((name, strong t target) ∷ xs) = bus-of_in c xs
+  bus-of_in c ((name, weak t target) ∷ xs) = bus-of_in c xs
+  bus-of_in c ((name, alias m property) ∷ xs) = bus-of_in c xs
+  bus-of_in c ((name, child m) ∷ xs) = go (is_of c (codes "bus") m) refl (not (bytes_eq name clock_name)) refl (bus-of_in c xs)
+    where
+      go : (t : Bool) → is_of c (codes "bus") m ≡ t → (u : Bool) → not (bytes_eq name clock_name) ≡ u
+          → AllByRecursion (λ k. is_of c (codes "bus") k ≡ true) (filter_map (bus_in c) xs)
+          → AllByRecursion (λ k. is_of c (codes "bus") k ≡ true) (filter_map (bus_in c) ((name, child m) ∷ xs))
+      go true p true q rest = rw (p, q) (p, rest)
+      go true p false q rest = rw (p, q) rest
+      go false p u q rest = rw p rest
+
+  is-bus : (c : Board) (m : ℕ) → H c → is_of c (codes "bus") m ≡ true → IsKind kinds (codes "bus") m
+  is-bus c m h e = go (record_of c m) refl
+    where
+      go : (o : Option Record) → record_of c m ≡ o → IsKind kinds (codes "bus") m
+      go None q = absurd (let clash : false ≡ true = rw q at e in cc)
+      go (Some r) q =
+          let bus : is_a r.kind (codes "bus") ≡ true = rw q at e in
+          let its : kinds m ≡ Some r.kind = ap kinds (sym (found-birth m c.records r q)) ∙ (h m r q).kind in
+          ap (λ (o : Option TypeId). option_map_or (λ (k : TypeId). is_a k (codes "bus")) o false) its ∙ bus
+
+  first-bus : (c : Board) (d m : ℕ) → H c → first_of (buses_of c d) ≡ Some m → IsKind kinds (codes "bus") m
+  first-bus c d m h e = is-bus c m h (first-on (λ k. is_of c (codes "bus") k ≡ true) (buses_of c d) (bus-of_in c (slots_at c d)) m e)
+
+  module _ (f : ℕ → Board → Board) (keeps : (n : ℕ) → IsKind kinds (codes "device") n → (c : Board) → H c → H (f n c)) where
+    keeps-drained : (times m : ℕ) → IsKind kinds (codes "bus") m → (c : Board) → H c → H (drained f times m c)
+    keeps-drained zero m bus c h = h
+    keeps-drained (suc times) m bus c h = go (first_of (kids_of c m)) refl (keeps-drained times m bus)
+      where
+        go : (o : Option ℕ) → first_of (kids_of c m) ≡ o → ((e : Board) → H e → H (drained f times m e)) → H (drained f (suc times) m c)
+        go None e rest = rw (drained, e) h
+        go (Some k) e rest =
+            rw (drained, e)
+            (rest (f k c) (keeps k (first-on (IsKind kinds (codes "device")) (kids_of c m) (kids-devices c m h bus) k e) c h))
+
+    keeps-lost_bus : (d m : ℕ) → IsKind kinds (codes "device") d → IsKind kinds (codes "bus") m → (c : Board) → H c → H (lost_bus f d m c)
+    keeps-lost_bus d m device bus c h =
+        keeps-bus_slot m d (drained f (length (slots_at c m)) m c) device (keeps-drained (length (slots_at c m)) m bus c h)
+
+    keeps-lost_buses : (times d : ℕ) → IsKind kinds (codes "device") d → (c : Board) → H c → H (lost_buses f times d c)
+    keeps-lost_buses zero d device c h = h
+    keeps-lost_buses (suc times) d device c h = go (first_of (buses_of c d)) refl (keeps-lost_buses times d device)
+      where
+        go : (o : Option ℕ) → first_of (buses_of c d) ≡ o → ((e : Board) → H e → H (lost_buses f times d e)) → H (lost_buses f (suc times) d c)
+        go None e rest = rw (lost_buses, e) h
+        go (Some m) e rest = rw (lost_buses, e) (rest (lost_bus f d m c) (keeps-lost_bus d m device (first-bus c d m h e) c h))
+
+    keeps-taken_by : (d : ℕ) → IsKind kinds (codes "device") d → (c : Board) → H c → H (taken_by f d c)
+    keeps-taken_by d device c h =
+        keeps-left_parent d (left_bus d (lost_buses f (length (slots_at c d)) d c))
+        (keeps-left_bus d (lost_buses f (length (slots_at c d)) d c) device (keeps-lost_buses (length (slots_at c d)) d device c h))
+
+  keeps-within : (depth d : ℕ) → IsKind kinds (codes "device") d → (c : Board) → H c → H (apart_within depth d c)
+  unfolding apart_within
+  keeps-within zero d device c h = h
+  keeps-within (suc depth) d device c h =
+      all-unpin (Keeps kinds) keeps-forgotten d (taken_by (apart_within depth) d (pin c d))
+      (keeps-taken_by (apart_within depth) (keeps-within depth) d device (pin c d) (all-pin (Keeps kinds) d c h))
+
+  pub keeps-detach : (c : Board) (d : ℕ) → IsKind kinds (codes "device") d → H c → H (detach c d)
+  unfolding detach
+  keeps-detach c d device h =
+      let e : Board = unrealize (pin c d) d in
+      all-unpin (Keeps kinds) keeps-forgotten d (taken_by (apart_within (length (births c))) d e)
+      (keeps-taken_by (apart_within (length (births c))) (keeps-within (length (births c))) d device e
+      (keeps-unrealize (pin c d) d (all-pin (Keeps kinds) d c h)))
+
+-- on a board that is sound as far as devices go
+keeps-all : (b : Board) → SoundDevices b → SoundShape b → AllOf (Keeps (kind_of b)) b
+keeps-all b devices h x r e =
+    record {
+      good = good-all b h x r e;
+      linked =
+          all-found (λ (y : Record). AllByRecursion (λ (s : List ℕ × Slot). Linked (kind_of b) s.1) y.slots) x b.records
+          (rest-from_sound b devices.tree).used.firm.linked r e;
+      kind = ap (kind_of b) (found-birth x b.records r e) ∙ ap (option_map (λ (y : Record). y.kind)) e;
+    }
+
+pub detach-shape : (b : Board) (d : ℕ) → SoundDevices b → stands b d ≡ true → SoundShape b → SoundShape (detach b d)
+detach-shape b d devices e h =
+    shape-all (detach b d) (live-devices (detach b d) (detached-below b d devices e))
+    (all-imply_of (Keeps (kind_of b)) Good (λ r k. k.good) (detach b d)
+    (keeps-detach (kind_of b) b d (stands-device devices.places.0 None (λ x. false) b devices.places.1 d e) (keeps-all b devices h)))
+
+-- the reset of the whole board
+
+completed-shape : (times : ℕ) (b : Board) → SoundDevices b → SoundShape b → SoundShape (all_completed times b)
+completed-shape zero b devices h = h
+completed-shape (suc times) b devices h = go (first_of b.pending) refl (completed-shape times)
+  where
+    go : (o : Option ℕ) → first_of b.pending ≡ o → ((c : Board) → SoundDevices c → SoundShape c → SoundShape (all_completed times c))
+        → SoundShape (all_completed (suc times) b)
+    go None e rest = rw (all_completed, e) h
+    go (Some d) e rest =
+        let there : stands b d ≡ true = (first-on (IsOn b) b.pending devices.lists.pending d e).0 in
+        rw (all_completed, e) (rest (completed b d) (detached-below b d devices there) (detach-shape b d devices there h))
+
+pub reset-shape : (b : Board) → SoundDevices b → SoundShape b → SoundShape (reset_whole b)
+unfolding reset_whole
+reset-shape b devices h = pulse-shape (all_completed (length b.pending) b) MACHINE_BIRTH (completed-shape (length b.pending) b devices h)

@@ -8,13 +8,15 @@ use Rattle.qo_model.specs.Board.{Board, Record, record_of}
 use Rattle.qo_model.specs.ClockChanges.{clock_scaled, clock_set}
 use Rattle.qo_model.specs.Clocks.{acted}
 use Rattle.qo_model.specs.FinalNotesRuns.{Change, changed}
-use Rattle.qo_model.specs.Hotplug.{asked, refused}
+use Rattle.qo_model.specs.Hotplug.{asked, refused, reset_whole}
 use Rattle.qo_model.specs.Objects.{with_attempt}
 use Rattle.qo_model.specs.Opening.{opening_board}
 use Rattle.qo_model.specs.Plug.{cut_attempt, plug_attempt}
 use Rattle.qo_model.specs.Reset.{held, pulse, released}
+use Rattle.qo_model.specs.Unplug.{detach}
 use Rattle.qo_sound_clocks.specs.RegistersKept.{registers_set}
 use Rattle.qo_sound_devices.specs.SoundDevices.{SoundDevices}
+use Rattle.qo_sound_devices.specs.SoundPlaces.{stands}
 use Rattle.qo_sound_shapes.specs.SoundShape.{SoundShape, is_like}
 
 -- what keeps them so, some of it where the board is sound as far as devices go
@@ -43,3 +45,6 @@ pub record ShapesKeptLaw : Type 0 where
       → is_like s r ≡ true
   -- each change by command on objects, taken or refused
   pub change : (b : Board) (change : Change) → SoundDevices b → SoundShape b → SoundShape (changed b change)
+  -- a device that stands in a container and is detached, with all that is below it; and the reset of the whole board
+  pub detached : (b : Board) (d : ℕ) → SoundDevices b → stands b d ≡ true → SoundShape b → SoundShape (detach b d)
+  pub reset : (b : Board) → SoundDevices b → SoundShape b → SoundShape (reset_whole b)
