@@ -44,6 +44,23 @@ all-edit Q n change same c keeps h x r e = go (record_of c x) refl (sym (found-e
     go None p q = absurd (let clash : None ≡ Some r = q in cc)
     go (Some y) p q = subst Q (same_Some (edited n change y) r q) (at_record y p (y.birth == n) refl)
 
+-- and where another fact holds behind it
+pub all-becomes : (P Q : Record → Type 0) (n : ℕ) (change : Record → Record) → ((r : Record) → (change r).birth ≡ r.birth) → (c : Board)
+    → ((r : Record) → record_of c n ≡ Some r → r.birth ≡ n → P r → Q (change r)) → ((r : Record) → (r.birth == n) ≡ false → P r → Q r) → AllOf P c
+    → AllOf Q (edit n change c)
+all-becomes P Q n change same c own other h x r e = go (record_of c x) refl (sym (found-edited n change same x c.records) ∙ e)
+  where
+    at_record : (y : Record) → record_of c x ≡ Some y → (t : Bool) → (y.birth == n) ≡ t → Q (edited n change y)
+    at_record y p true k =
+        let its : y.birth ≡ n = eqb-true y.birth n k in
+        let is : x ≡ n = sym (found-birth x c.records y p) ∙ its in
+        rw (edited, k) (own y (subst (λ (m : ℕ). record_of c m ≡ Some y) is p) its (h x y p))
+    at_record y p false k = rw (edited, k) (other y k (h x y p))
+
+    go : (o : Option Record) → record_of c x ≡ o → option_map (edited n change) o ≡ Some r → Q r
+    go None p q = absurd (let clash : None ≡ Some r = q in cc)
+    go (Some y) p q = subst Q (same_Some (edited n change y) r q) (at_record y p (y.birth == n) refl)
+
 -- an object more behind the others
 pub all-new : (Q : Record → Type 0) (r : Record) (b c : Board) → c.records ≡ b.records ++ r ∷ [] → Q r → AllOf Q b → AllOf Q c
 all-new Q r b c e new h x y k = go (record_of b x) refl (sym (ap (found_at x) e ∙ found-append x b.records (r ∷ [])) ∙ k)

@@ -1,6 +1,7 @@
 pub mod BoardLemmas
 pub mod CommandLemmas
 pub mod DetachLemmas
+pub mod DraftLemmas
 pub mod GoodLemmas
 pub mod LawLemmas
 pub mod MadeLemmas
