@@ -60,7 +60,7 @@ abbrev pub IsKind : (ℕ → Option TypeId) → List ℕ → ℕ → Type 0
 IsKind kinds name n = option_map_or (λ (k : TypeId). is_a k name) (kinds n) false ≡ true
 
 -- values that are set
-takes-realized : (t : TypeId) (v : Bool) → Takes t (codes "realized") (val.Bool v)
+pub takes-realized : (t : TypeId) (v : Bool) → Takes t (codes "realized") (val.Bool v)
 unfolding types
 takes-realized Object v = tt
 takes-realized Container v = tt
@@ -209,15 +209,15 @@ device-apart : (r : Record) → Good r → is_a r.kind (codes "device") ≡ true
 unfolding types
 device-apart r h e = apart-by (codes "device") refl refl r h e
 
-bus-apart : (r : Record) → Good r → is_a r.kind (codes "bus") ≡ true → is_first r.birth ≡ false
+pub bus-apart : (r : Record) → Good r → is_a r.kind (codes "bus") ≡ true → is_first r.birth ≡ false
 unfolding types
 bus-apart r h e = apart-by (codes "bus") refl refl r h e
 
-container-three : kind_of opening_board PERIPHERAL_BIRTH ≡ Some Container
+pub container-three : kind_of opening_board PERIPHERAL_BIRTH ≡ Some Container
 unfolding opening_board types
 container-three = refl
 
-container-four : kind_of opening_board ANONYMOUS_BIRTH ≡ Some Container
+pub container-four : kind_of opening_board ANONYMOUS_BIRTH ≡ Some Container
 unfolding opening_board types
 container-four = refl
 

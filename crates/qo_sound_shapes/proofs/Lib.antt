@@ -5,5 +5,6 @@ pub mod DraftLemmas
 pub mod GoodLemmas
 pub mod LawLemmas
 pub mod MadeLemmas
+pub mod PlugLemmas
 pub mod QuietLemmas
 pub mod RowLemmas

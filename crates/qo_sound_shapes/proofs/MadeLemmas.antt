@@ -237,7 +237,7 @@ module _ (b : Board) where
   given-kin (alias m property) v h = absurd h
 
   -- the value that is found for a property was not refused
-  found-given : (t : TypeId) (name : List ℕ) (props : List Given) (g : Given) → find (λ (p : Given). bytes_eq p.0 name) props ≡ Some g
+  pub found-given : (t : TypeId) (name : List ℕ) (props : List Given) (g : Given) → find (λ (p : Given). bytes_eq p.0 name) props ≡ Some g
       → refusal_of b t props ≡ None → (bytes_eq g.0 name ≡ true) × (refusal_by b (row_of_property t g.0) g.1 ≡ None)
   found-given t name [] g e none = cc
   found-given t name (p ∷ props) g e none = go (refusal_by b (row_of_property t p.0) p.1) refl (bytes_eq p.0 name) refl (found-given t name props g)
@@ -252,7 +252,7 @@ module _ (b : Board) where
           (subst (λ (x : Given). bytes_eq x.0 name ≡ true) is r, subst (λ (x : Given). refusal_by b (row_of_property t x.0) x.1 ≡ None) is q)
       go None q false r rest = rest (rw r at e) (rw (refusal_of, q) at none)
 
-  fits-by : (p : Property) (v : Val) → refusal_by b (Some p) v ≡ None → misfit b p.kind v ≡ None
+  pub fits-by : (p : Property) (v : Val) → refusal_by b (Some p) v ≡ None → misfit b p.kind v ≡ None
   fits-by p v e = go (may_add p.mark) refl
     where
       go : (t : Bool) → may_add p.mark ≡ t → misfit b p.kind v ≡ None
