@@ -271,3 +271,213 @@ range-address b t props r none e =
         go (Some m) p =
             range-fits b (number_for props (codes "addr")) (size_of b m) r (λ n. address-given b props n taken)
             (sym (ap (option_and_then (λ m. ok_in (range_for b (number_for props (codes "addr")) (size_of b m)))) p) ∙ q)
+
+module _ (kinds : ℕ → Option TypeId) where
+  abbrev H : Board → Type 0
+  H c = AllOf (Placed kinds) c
+
+  placed-edit : (n : ℕ) (change : Record → Record) → ((r : Record) → (change r).birth ≡ r.birth) → ((r : Record) → (change r).kind ≡ r.kind) → (c : Board)
+      → ((r : Record) → record_of c n ≡ Some r → r.birth ≡ n → Placed kinds r → Good (change r)) → H c → H (edit n change c)
+  placed-edit n change birth same c keeps h =
+      all-edit (Placed kinds) n change birth c
+      (λ r e own k. record { good = keeps r e own k; kind = ap kinds (birth r) ∙ k.kind ∙ ap Some (sym (same r)) }) h
+
+  -- the type of an object
+  placed-kind : (n : ℕ) (t : TypeId) → kinds n ≡ Some t → (r : Record) → r.birth ≡ n → Placed kinds r → r.kind ≡ t
+  placed-kind n t e r own h = same_Some r.kind t (sym h.kind ∙ ap kinds own ∙ e)
+
+  placed-set : (n : ℕ) (name : List ℕ) (v : Val) → ((t : TypeId) → Takes t name v) → (c : Board) → H c → H (set_named n name v c)
+  unfolding set
+  placed-set n name v takes c h = go (place_from (is_named name) 0 (slots_at c n)) refl
+    where
+      go : (o : Option ℕ) → place_from (is_named name) 0 (slots_at c n) ≡ o → H (set_named n name v c)
+      go None e = rw (set_named, e) h
+      go (Some i) e =
+          let f : Found (is_named name) (slots_at c n) i = found-at (is_named name) i (slots_at c n) e in
+          rw (set_named, e)
+          (placed-edit n (with_changed (with_val v) i) (λ r. refl) (λ r. refl) c
+          (λ r q own k. good-set name v i r f.entry (slot-of c n i r f.entry q f.at) f.passes (takes r.kind) k.good) h)
+
+  placed-link : (n : ℕ) (name : List ℕ) (m : ℕ) (c : Board) → H c → H (link_named n name m c)
+  placed-link n name m c h = go (place_from (is_named name) 0 (slots_at c n)) refl
+    where
+      go : (o : Option ℕ) → place_from (is_named name) 0 (slots_at c n) ≡ o → H (link_named n name m c)
+      go None e = rw (link_named, e) h
+      go (Some i) e =
+          rw (link_named, e)
+          (placed-edit n (with_changed (fitted c m) i) (λ r. refl) (λ r. refl) c
+          (λ r q own k.
+          good-changed (fitted c m) (mild-fitted c m) i r (λ p s row at is. rows-fitted c m p.kind s.1 is.fits) k.good) h)
+
+  -- a further slot more
+  placed-add : (n : ℕ) (name : List ℕ) (s : Slot) → ((r : Record) → r.birth ≡ n → Placed kinds r → (is_first r.birth ≡ false) × IsFurther r.kind (name, s)) → (c : Board)
+      → H c → H (add n name s c)
+  unfolding add
+  placed-add n name s more c h =
+      placed-edit n (with_added name s) (λ r. refl) (λ r. refl) c (λ r e own k. good-added name s r (more r own k).0 (more r own k).1 k.good) h
+
+  placed-acted : (act : Act) (n period : ℕ) (c : Board) → H c → H (acted act n period c)
+  unfolding acted
+  placed-acted act n period c h = placed-edit n (with_act_on act c.now period) (λ r. refl) (λ r. refl) c (λ r e own k. good-act act c.now period r k.good) h
+
+  placed-acted_all : (act : Act) (ns : List ℕ) (c : Board) → H c → H (acted_all act ns c)
+  placed-acted_all act [] c h = h
+  placed-acted_all act (n ∷ ns) c h = placed-acted_all act ns (acted act n 0 c) (placed-acted act n 0 c h)
+
+  placed-phased : (act : Act) (ns : List ℕ) (c : Board) → H c → H (phased act ns c)
+  placed-phased act [] c h = h
+  placed-phased act (n ∷ ns) c h = placed-phased act ns (acted act n 0 c) (placed-acted act n 0 c h)
+
+  placed-plugged : (d : ℕ) (c : Board) → H c → H (plugged c d)
+  unfolding plugged
+  placed-plugged d c h =
+      let c1 : Board = phased Enter (post c d) c in
+      let c2 : Board = phased Hold (post c d) c1 in
+      placed-phased Exit (filter (is_out c) (post c d)) c2 (placed-phased Hold (post c d) c1 (placed-phased Enter (post c d) c h))
+
+  placed-told : (n : ℕ) (c : Board) → H c → H (told_plug n c)
+  placed-told n c h =
+      placed-edit n (with_path (canonical c n)) (λ r. refl) (λ r. refl) c
+      (λ r e own k. record { shaped = record { slots = k.good.shaped.slots; registers = k.good.shaped.registers }; kind = k.good.kind; fixed = k.good.fixed }) h
+
+  -- a device n of type t that goes to a spot on a bus
+  module _ (b : Board) (n : ℕ) (t : TypeId) (a : Wanted) (bus : ℕ) (its : kinds n ≡ Some t) (late : 8 < n)
+      (home : (k : TypeId) → kinds bus ≡ Some k → (k ≡ SlotBus) ⊎ (k ≡ MemBus)) (low : (spot_of b t bus a.props).slot < 8)
+      (taken : refusal_of b t a.props ≡ None) where
+    abbrev spot : Spot
+    spot = spot_of b t bus a.props
+
+    placed-container : (c : Board) → H c → H (add (parent_for a.id) (name_for b a.id) (child n) c)
+    placed-container c h = placed-add (parent_for a.id) (name_for b a.id) (child n) (more a.id (name_for b a.id)) c h
+      where
+        at : (m : ℕ) (name : List ℕ) → is_first m ≡ false → kind_of opening_board m ≡ Some Container → (r : Record) → r.birth ≡ m → Placed kinds r
+            → (is_first r.birth ≡ false) × IsFurther r.kind (name, child n)
+        at m name apart container r own k = (
+          ap is_first own ∙ apart,
+          subst (λ (x : TypeId). IsFurther x (name, child n)) (sym (container-kind m container r own k.good)) tt,
+        )
+
+        more : (id : Option (List ℕ)) (name : List ℕ) (r : Record) → r.birth ≡ parent_for id → Placed kinds r → (is_first r.birth ≡ false) × IsFurther r.kind (name, child n)
+        more None name r own k = at ANONYMOUS_BIRTH name refl container-four r own k
+        more (Some id) name r own k = at PERIPHERAL_BIRTH name refl container-three r own k
+
+    placed-kid : (slot : ℕ) (c : Board) → H c → H (add bus (kid_name slot) (strong Device (Some n)) c)
+    placed-kid slot c h = placed-add bus (kid_name slot) (strong Device (Some n)) more c h
+      where
+        kid : (k : TypeId) → (k ≡ SlotBus) ⊎ (k ≡ MemBus) → (is_a k (codes "bus") ≡ true) × IsFurther k (kid_name slot, strong Device (Some n))
+        kid k (inl e) = subst (λ (x : TypeId). (is_a x (codes "bus") ≡ true) × IsFurther x (kid_name slot, strong Device (Some n))) (sym e) (slot-bus, (refl, (slot, refl)))
+        kid k (inr e) = subst (λ (x : TypeId). (is_a x (codes "bus") ≡ true) × IsFurther x (kid_name slot, strong Device (Some n))) (sym e) (memory-bus, (refl, (slot, refl)))
+
+        more : (r : Record) → r.birth ≡ bus → Placed kinds r → (is_first r.birth ≡ false) × IsFurther r.kind (kid_name slot, strong Device (Some n))
+        more r own k =
+            let is = kid r.kind (home r.kind (ap kinds (sym own) ∙ k.kind)) in
+            (bus-apart r k.good is.0, is.1)
+
+    placed-given : (c : Board) → H c → H (edit n (with_given b a.props) c)
+    placed-given c h =
+        placed-edit n (with_given b a.props) (λ r. refl) (λ r. refl) c
+        (λ r e own k.
+        good-slots r (map (slot_given b a.props) r.slots) k.good
+        (given-has b r.kind a.props (subst (λ (x : TypeId). refusal_of b x a.props ≡ None) (sym (placed-kind n t its r own k)) taken) k.good.shaped.slots)
+        (λ first. absurd (let clash : true ≡ false = sym first ∙ ap is_first own ∙ late-first n late in cc))) h
+
+    placed-address : (range : Option Range) → range_of b t a.props ≡ range → (c : Board) → H c → H (addressed_at n range c)
+    placed-address None e c h = h
+    placed-address (Some r) e c h =
+        placed-set n (codes "addr") (val.Uint r.at) (λ k. takes-address k r.at (range-address b t a.props r taken e)) c h
+
+    placed-body : (range : Option Range) → range_of b t a.props ≡ range → (c : Board) → H c → H (edit n (with_body_of a.id range) c)
+    placed-body range e c h = placed-edit n (with_body_of a.id range) (λ r. refl) (λ r. refl) c (λ r q own k. body range e r own k) h
+      where
+        like : (range : Option Range) → range_of b t a.props ≡ range → (r : Record) → r.kind ≡ t → is_like r.registers (fresh_registers r.kind) ≡ true
+            → is_like (registers_on range r.registers) (fresh_registers r.kind) ≡ true
+        like None q r kind is = is
+        like (Some x) q r kind is =
+            subst (λ (k : TypeId). is_like (registers_on (Some x) r.registers) (fresh_registers k) ≡ true) (sym (kind ∙ range-dimm b t a.props x q)) refl
+
+        body : (range : Option Range) → range_of b t a.props ≡ range → (r : Record) → r.birth ≡ n → Placed kinds r → Good (with_body_of a.id range r)
+        body range q r own k =
+            record {
+              shaped = record { slots = k.good.shaped.slots; registers = like range q r (placed-kind n t its r own k) k.good.shaped.registers };
+              kind = k.good.kind;
+              fixed = k.good.fixed;
+            }
+
+    placed-stood : (c : Board) → H c → H (stood b n a (spot_of b t bus a.props) c)
+    placed-stood c h =
+        let c1 : Board = add (parent_for a.id) (name_for b a.id) (child n) c in
+        let c2 : Board = joined b n a spot c in
+        let c3 : Board = edit n (with_given b a.props) c2 in
+        let c4 : Board = set_named n (codes "slot") (val.Uint spot.slot) c3 in
+        let c5 : Board = link_named n (codes "parent_bus") spot.bus c4 in
+        let c6 : Board = valued b n a.props spot c2 in
+        placed-body spot.range refl (addressed_at n spot.range c6)
+        (placed-address spot.range refl c6
+        (placed-set n (codes "realized") (val.Bool true) (λ k. takes-realized k true) c5
+        (placed-link n (codes "parent_bus") spot.bus c4
+        (placed-set n (codes "slot") (val.Uint spot.slot) (λ k. takes-slot k spot.slot low) c3
+        (placed-given c2 (placed-kid spot.slot c1 (placed-container c h)))))))
+
+  placed-source : (source : ℕ) (o : Option ℕ) (c : Board) → H c → H (with_source source o c)
+  placed-source source None c h = h
+  placed-source source (Some x) c h = placed-link x (codes "source") source c h
+
+  placed-counted : (id : Option (List ℕ)) (c : Board) → H c → H (counted id c)
+  placed-counted None c h = h
+  placed-counted (Some id) c h = h
+
+-- the whole
+with_plugged-good : (b : Board) (t : TypeId) (bus : ℕ) (a : Wanted) → SoundDevices b → Accepted b t bus a → AllOf Good b
+    → AllOf Good (with_plugged b t a (spot_of b t bus a.props))
+with_plugged-good b t bus a devices k h =
+    all-imply_of (Placed kinds) Good (λ r p. p.good) (with_plugged b t a spot)
+    (placed-told kinds n (plugged (acted_all Realize (n ∷ bus_births n t) (with_device b t a spot)) n)
+    (placed-plugged kinds n (acted_all Realize (n ∷ bus_births n t) (with_device b t a spot))
+    (placed-acted_all kinds Realize (n ∷ bus_births n t) (with_device b t a spot)
+    (placed-counted kinds a.id (clocked (source_for b spot.bus) n (stood b n a spot (drafted b t)))
+    (placed-source kinds (source_for b spot.bus) (clock_of (stood b n a spot (drafted b t)) n) (stood b n a spot (drafted b t))
+    (placed-stood kinds b n t a bus made.kind (omega (arith, begun)) home goal.low (passes b t bus a k).properties (drafted b t) first))))))
+  where
+    n : ℕ
+    n = b.born + 1
+
+    spot : Spot
+    spot = spot_of b t bus a.props
+
+    kinds : ℕ → Option TypeId
+    kinds = kind_of (drafted b t)
+
+    rest : AtRest b
+    rest = rest-from_sound b devices.tree
+
+    begun : 8 ≤ b.born
+    begun = begun-devices b devices
+
+    goal : Goal devices.places.0 b (b.born + 1) bus (spot_of b t bus a.props).slot a.id t (drafted b t)
+    goal = goal-of devices.places.0 b t bus a rest devices.places.1 k
+
+    made : Made b (b.born + 1) t (drafted b t)
+    made = drafted-made b t (shut-above b.born begun) rest.used goal.device
+
+    home : (x : TypeId) → kind_of (drafted b t) bus ≡ Some x → (x ≡ SlotBus) ⊎ (x ≡ MemBus)
+    home x e =
+        let there : is_live b bus ≡ true = of-live b (bus_type t) bus goal.fits in
+        let was : kind_of b bus ≡ Some x = sym (ap (option_map (λ (y : Record). y.kind)) (made.old bus there)) ∙ e in
+        home-kind x t (sym (ap (λ (o : Option TypeId). option_map_or (λ (y : TypeId). is_a y (bus_type t)) o false) was) ∙ goal.fits)
+
+    none : (o : Option Record) → is_some o ≡ false → o ≡ None
+    none None e = refl
+    none (Some r) e = absurd (let clash : true ≡ false = e in cc)
+
+    first : AllOf (Placed (kind_of (drafted b t))) (drafted b t)
+    first x r e =
+        record {
+          good =
+              drafted-good b t begun (none (record_of b (b.born + 1)) (high-absent b rest.used.firm (b.born + 1) (omega arith))) h x r e;
+          kind = ap (kind_of (drafted b t)) (found-birth x (drafted b t).records r e) ∙ ap (option_map (λ (y : Record). y.kind)) e;
+        }
+
+pub plug-shape : (b : Board) (a : Wanted) → SoundDevices b → SoundShape b → SoundShape (plug b a).board
+plug-shape b a devices h =
+    shape-all (plug b a).board (live-devices (plug b a).board (devices_kept_lem.plugged b a devices))
+    (behind-plug (AllOf Good) b a (good-all b h) (λ t bus stage. good-all b h) (λ t bus k. with_plugged-good b t bus a devices k (good-all b h)))

@@ -11,7 +11,7 @@ use Rattle.qo_model.specs.FinalNotesRuns.{Change, changed}
 use Rattle.qo_model.specs.Hotplug.{asked, refused, reset_whole}
 use Rattle.qo_model.specs.Objects.{with_attempt}
 use Rattle.qo_model.specs.Opening.{opening_board}
-use Rattle.qo_model.specs.Plug.{cut_attempt, plug_attempt}
+use Rattle.qo_model.specs.Plug.{Wanted, cut_attempt, plug, plug_attempt}
 use Rattle.qo_model.specs.Reset.{held, pulse, released}
 use Rattle.qo_model.specs.Unplug.{detach}
 use Rattle.qo_sound_clocks.specs.RegistersKept.{registers_set}
@@ -45,6 +45,8 @@ pub record ShapesKeptLaw : Type 0 where
       → is_like s r ≡ true
   -- each change by command on objects, taken or refused
   pub change : (b : Board) (change : Change) → SoundDevices b → SoundShape b → SoundShape (changed b change)
+  -- adding a device, taken or refused at any stage
+  pub plugged : (b : Board) (a : Wanted) → SoundDevices b → SoundShape b → SoundShape (plug b a).board
   -- a device that stands in a container and is detached, with all that is below it; and the reset of the whole board
   pub detached : (b : Board) (d : ℕ) → SoundDevices b → stands b d ≡ true → SoundShape b → SoundShape (detach b d)
   pub reset : (b : Board) → SoundDevices b → SoundShape b → SoundShape (reset_whole b)
