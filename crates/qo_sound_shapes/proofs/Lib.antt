@@ -1,0 +1,10 @@
+pub mod BoardLemmas
+pub mod CommandLemmas
+pub mod DetachLemmas
+pub mod DraftLemmas
+pub mod GoodLemmas
+pub mod LawLemmas
+pub mod MadeLemmas
+pub mod PlugLemmas
+pub mod QuietLemmas
+pub mod RowLemmas

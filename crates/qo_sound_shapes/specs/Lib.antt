@@ -1,0 +1,2 @@
+pub mod ShapesKept
+pub mod SoundShape
