@@ -1,1 +1,4 @@
 pub mod BoundsLemmas
+pub mod SightLemmas
+pub mod ClockLemmas
+pub mod SourceLemmas
