@@ -106,7 +106,7 @@ module _ (b : Board) (d : ℕ) (s : SoundDevices b) (e : stands b d ≡ true) wh
   abbrev z : Board
   z = detach b d
 
-  kp : Placed (pin b d)
+  pub kp : Placed (pin b d)
   unfolding pin
   kp =
       record {
