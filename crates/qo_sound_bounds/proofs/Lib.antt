@@ -3,3 +3,5 @@ pub mod SightLemmas
 pub mod ClockLemmas
 pub mod SourceLemmas
 pub mod LeaveLemmas
+pub mod DraftLemmas
+pub mod FeedLemmas

@@ -159,27 +159,29 @@ sight-then b c d h k =
     }
 
 -- an edit of an object
+pub edit-seen : (n : ℕ) (change : Record → Record) → ((r : Record) → (change r).birth ≡ r.birth) → (c : Board)
+    → ((r : Record) → record_of c n ≡ Some r → SeesOn r.slots (change r).slots) → (k s : ℕ) → sees s (slots_at c k) ≡ true
+    → sees s (slots_at (edit n change c) k) ≡ true
+edit-seen n change same_birth c on k s e =
+    subst (λ (o : Option Record). sees s (slots_in o) ≡ true) (sym (found-edited n change same_birth k c.records)) (go (record_of c k) refl e)
+  where
+    at_record : (r : Record) → record_of c k ≡ Some r → sees s r.slots ≡ true → (t : Bool) → (r.birth == n) ≡ t → sees s (edited n change r).slots ≡ true
+    at_record r q e true p =
+        let is : k ≡ n = sym (found-birth k c.records r q) ∙ eqb-true r.birth n p in
+        rw (edited, p) (on r (subst (λ (m : ℕ). record_of c m ≡ Some r) is q) s e)
+    at_record r q e false p = rw (edited, p) e
+
+    go : (o : Option Record) → record_of c k ≡ o → sees s (slots_in o) ≡ true → sees s (slots_in (option_map (edited n change) o)) ≡ true
+    go None q e = clash-back e
+    go (Some r) q e = at_record r q e (r.birth == n) refl
+
 pub edit-sight : (n : ℕ) (change : Record → Record) → ((r : Record) → (change r).birth ≡ r.birth) → (c : Board)
     → ((r : Record) → record_of c n ≡ Some r → SeesOn r.slots (change r).slots) → Sight c (edit n change c)
 edit-sight n change same_birth c on =
     record {
-      live = λ x e. sym (ap is_some (found x) ∙ is_some-map (edited n change) (record_of c x)) ∙ e;
-      seen = λ k s i j e. subst (λ (o : Option Record). sees s (slots_in o) ≡ true) (sym (found k)) (go k s (record_of c k) refl e);
+      live = λ x e. sym (ap is_some (found-edited n change same_birth x c.records) ∙ is_some-map (edited n change) (record_of c x)) ∙ e;
+      seen = λ k s i j e. edit-seen n change same_birth c on k s e;
     }
-  where
-    found : (x : ℕ) → record_of (edit n change c) x ≡ option_map (edited n change) (record_of c x)
-    found x = found-edited n change same_birth x c.records
-
-    at_record : (k s : ℕ) (r : Record) → record_of c k ≡ Some r → sees s r.slots ≡ true → (t : Bool) → (r.birth == n) ≡ t
-        → sees s (edited n change r).slots ≡ true
-    at_record k s r q e true p =
-        let is : k ≡ n = sym (found-birth k c.records r q) ∙ eqb-true r.birth n p in
-        rw (edited, p) (on r (subst (λ (m : ℕ). record_of c m ≡ Some r) is q) s e)
-    at_record k s r q e false p = rw (edited, p) e
-
-    go : (k s : ℕ) (o : Option Record) → record_of c k ≡ o → sees s (slots_in o) ≡ true → sees s (slots_in (option_map (edited n change) o)) ≡ true
-    go k s None q e = clash-back e
-    go k s (Some r) q e = at_record k s r q e (r.birth == n) refl
 
 -- a release: but for the objects that are being finalised
 record SightBut (b : Board) (work : List (ℕ × ℕ)) (c : Board) : Type 0 where
