@@ -5,3 +5,4 @@ pub mod SourceLemmas
 pub mod LeaveLemmas
 pub mod DraftLemmas
 pub mod FeedLemmas
+pub mod SourcesLawLemmas
