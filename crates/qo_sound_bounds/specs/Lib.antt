@@ -1,2 +1,4 @@
 pub mod BoundsKept
 pub mod SoundBounds
+pub mod SoundSources
+pub mod SourcesKept

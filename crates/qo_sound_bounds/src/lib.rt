@@ -1,8 +1,10 @@
-//! The rest of what a sound board is: that it stays within the profile's limits. Functions without
-//! effect, whose contracts say what keeps it so. The definitions stand in `specs/`.
+//! The rest of what a sound board is: that it stays within the profile's limits, and that its clocks
+//! go by the clocks that they are connected to. Functions without effect, whose contracts say what
+//! keeps it so. The definitions stand in `specs/`.
 #![tactic(auto)]
 
 ghost use Rattle.qo_sound_bounds.specs.BoundsKept.{BoundsKeptLaw};
+ghost use Rattle.qo_sound_bounds.specs.SourcesKept.{SourcesKeptLaw};
 
 /// There are no more objects than the profile allows, and the virtual time is no later, on the opening
 /// board, and behind each command on objects, a device that is added, refused at any stage or cut, a
@@ -12,4 +14,15 @@ ghost use Rattle.qo_sound_bounds.specs.BoundsKept.{BoundsKeptLaw};
 #[tactic(auto, using(crate::proofs::BoundsLemmas::bounds_kept_lem))]
 pub fn law_bounds_kept()
     ensures { BoundsKeptLaw }
+{}
+
+/// The clock of each realized device goes by that of the bridge whose bus the device is on, or by the
+/// system's, and no other clock goes by one, on the opening board, behind what changes no object, and,
+/// where the board is sound as far as devices go, behind each command on objects, a device that is
+/// added or refused at any stage, one that stands in its place and is detached, acts and holds, the
+/// reset of the whole board, a write of a clock's numbers that is not refused, and other registers of
+/// an object.
+#[tactic(auto, using(crate::proofs::SourcesLawLemmas::sources_kept_lem))]
+pub fn law_sources_kept()
+    ensures { SourcesKeptLaw }
 {}
