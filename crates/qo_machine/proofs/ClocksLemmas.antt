@@ -45,7 +45,7 @@ beside_run b c records on devices h =
       times = times_kept_lem.beside b c records on h.times;
     }
 
-ringed_run : (b : Board) (rings : List Ring) → SoundRun b → SoundRun (with_rings rings b)
+pub ringed_run : (b : Board) (rings : List Ring) → SoundRun b → SoundRun (with_rings rings b)
 ringed_run b rings h = beside_run b (with_rings rings b) refl (omega arith) (ringed-devices b rings h.devices) h
 
 -- a clock that is written
@@ -59,7 +59,7 @@ scaled_run b d c mul div narrow thin is h =
     }
 
 -- a register that is written, and a pulse
-registers_run : (b : Board) (d reg value : ℕ) (registers : Registers) (e : Effect) → registers_written b d reg value ≡ Some (registers, e) → SoundRun b
+pub registers_run : (b : Board) (d reg value : ℕ) (registers : Registers) (e : Effect) → registers_written b d reg value ≡ Some (registers, e) → SoundRun b
     → SoundRun (registers_set b d registers)
 registers_run b d reg value registers e is h =
     record {
@@ -71,7 +71,7 @@ registers_run b d reg value registers e is h =
           (times_kept_lem.wrote (registers_at b d) registers e reg value (is_some (claimed_ring b d)) b.now (device_period b d) is (registers-timely b d h.times)) h.times;
     }
 
-pulsed_run : (b : Board) (m : ℕ) → SoundRun b → SoundRun (pulse b m)
+pub pulsed_run : (b : Board) (m : ℕ) → SoundRun b → SoundRun (pulse b m)
 pulsed_run b m h =
     record {
       devices = devices_kept_lem.pulsed b m h.devices;
