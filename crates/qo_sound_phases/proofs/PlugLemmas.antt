@@ -168,7 +168,7 @@ module _ (b : Board) (kb : Placed b) (h : SoundPhases b) (n on slot : ℕ) (id :
   its-live x s = stands-live b kb.firm x s
 
   -- seen from behind, what was there stands as before
-  back : Frame c b
+  pub back : Frame c b
   back =
       record {
         kind = λ x e g. sym (kind-alike b c x (j.body x g));
@@ -198,14 +198,14 @@ module _ (b : Board) (kb : Placed b) (h : SoundPhases b) (n on slot : ℕ) (id :
           bridges p (old-stands kb.depth b n on slot id t c j kb.firm kb.places p s)
           (ap (list_any (owns_it o)) (j.children p (its-live p s) (shelf-apart p s)) ∙ w)
 
-  new-there : stands c n ≡ true
+  pub new-there : stands c n ≡ true
   new-there = new-stands kb.depth b n on slot id t c j kb.firm kb.places
 
   old-listed : (p o : ℕ) → stands b p ≡ true → owns c p o ≡ true → owns b p o ≡ true
   old-listed p o s w = sym (ap (list_any (owns_it o)) (j.children p (its-live p s) (shelf-apart p s))) ∙ w
 
   -- what is below the device is new
-  below-new : (o : ℕ) → Reach (below c) n o → is_live b o ≡ false
+  pub below-new : (o : ℕ) → Reach (below c) n o → is_live b o ≡ false
   below-new o itself = j.absent
   below-new o (further {p} k e) = decide (is_live b o) (λ live. clash (sym live ∙ dead (below-new p k))) (λ dead. dead)
     where
@@ -232,7 +232,7 @@ module _ (b : Board) (kb : Placed b) (h : SoundPhases b) (n on slot : ℕ) (id :
               (λ new. j.heirs o (owns-listed o (child_entries c n) (subst (λ (x : ℕ). owns c x o ≡ true) new w)))
 
   -- who is reached and is not below the device was reached
-  reached-old : (o : ℕ) → IsReached c o → among (post c n) o ≡ false → IsReached b o
+  pub reached-old : (o : ℕ) → IsReached c o → among (post c n) o ≡ false → IsReached b o
   reached-old o (machine at) apart = machine at
   reached-old o (device s) apart = stands-cases o s device (λ new. clash (sym (reach-post c kc n o (subst (Reach (below c) n) (sym new) itself)) ∙ apart))
   reached-old o (bus is (machines u)) apart =
