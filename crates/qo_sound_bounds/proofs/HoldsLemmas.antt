@@ -1,9 +1,8 @@
 -- The law: what keeps the holds of a board sound.
-use Rattle.std.proofs.Common.{◌≡◌, refl, ap, sym, subst, ◌∙◌, ℕ, zero, suc, ◌+◌, ◌<◌, ◌≤◌, Bool, true, false, cond, ◌&&◌, ◌==◌, eqb, List, [], ◌∷◌, ◌++◌, length, Option, Some, None, is_some, codes, Ok, arith}
+use Rattle.std.proofs.Common.{◌≡◌, refl, ap, sym, subst, ◌∙◌, ℕ, zero, suc, ◌+◌, ◌≤◌, Bool, true, false, ◌==◌, eqb, List, [], ◌∷◌, ◌++◌, length, Option, Some, None, is_some, Ok, arith}
 use Rattle.std.specs.Prelude.{count_by, nat_lt}
 use Rattle.std.specs.List.{AllByRecursion, list_any}
-use Rattle.std.specs.Str.{bytes_eq}
-use Rattle.std.proofs.lemmas.Bool.{eqb-true, eq-eqb}
+use Rattle.std.proofs.lemmas.Bool.{eqb-true}
 use Rattle.std.proofs.lemmas.Bool.Decides.{nat_tests}
 use Rattle.std.proofs.lemmas.List.Sums.{sum_by-cons}
 use Rattle.qo_values.specs.Registers.{Registers}
@@ -11,30 +10,29 @@ use Rattle.qo_values.specs.declared.births.TheConstants.{MACHINE_BIRTH}
 use Rattle.qo_values.specs.declared.kinds.Act.{Act}
 use Rattle.qo_values.specs.declared.kinds.TypeId.{TypeId}
 use Rattle.qo_values.specs.declared.properties.Val.TheVariants as val
-use Rattle.qo_model.specs.Board.{Board, Record, is_live, slots_at}
+use Rattle.qo_model.specs.Board.{Board, is_live, slots_at}
 use Rattle.qo_model.specs.Changes.{set}
 use Rattle.qo_model.specs.ClockChanges.{clock_scaled, clock_set}
 use Rattle.qo_model.specs.Clocks.{acted}
-use Rattle.qo_model.specs.Depth.{among, leads}
+use Rattle.qo_model.specs.Depth.{among}
 use Rattle.qo_model.specs.FinalNotesRuns.{Change, changed}
 use Rattle.qo_model.specs.Hotplug.{all_completed, asked, asked_of, completed, device_at, refused, reset_whole}
 use Rattle.qo_model.specs.Objects.{place_from, with_attempt}
 use Rattle.qo_model.specs.Opening.{opening_board}
-use Rattle.qo_model.specs.Paths.{attached, births, is_of}
+use Rattle.qo_model.specs.Paths.{attached, births}
 use Rattle.qo_model.specs.Plug.{Wanted, cut_attempt, notice_barred, plug, plug_attempt, spot_of, with_plugged}
 use Rattle.qo_model.specs.Release.{without_first}
 use Rattle.qo_model.specs.Reset.{below, count, held, is_deep, post, pulse, released}
 use Rattle.qo_model.specs.Unplug.{detach, first_of, is_named, set_named}
 use Rattle.qo_model.proofs.StaysLemmas.{changed-stays}
 use Rattle.qo_sound.proofs.DevicesStayLemmas.{devices_stay_lem}
-use Rattle.qo_sound.proofs.PlugLemmas.{plugged-rest, shut-above}
 use Rattle.qo_sound.proofs.RecordLemmas.{all-imply}
 use Rattle.qo_sound.proofs.ViewLemmas.{rest-from_sound}
 use Rattle.qo_sound_devices.specs.SoundDevices.{SoundDevices}
 use Rattle.qo_sound_devices.specs.SoundLists.{IsOn}
 use Rattle.qo_sound_devices.specs.SoundPlaces.{stands}
 use Rattle.qo_sound_devices.proofs.DevicesLawLemmas.{devices_kept_lem}
-use Rattle.qo_sound_devices.proofs.JoinedLemmas.{deepened, done, Joined, places-joined}
+use Rattle.qo_sound_devices.proofs.JoinedLemmas.{done, Joined}
 use Rattle.qo_sound_devices.proofs.LowLemmas.{stands-dimmed}
 use Rattle.qo_sound_devices.proofs.PlacesLemmas.{kind-alike}
 use Rattle.qo_sound_devices.proofs.PlugLemmas.{Accepted, behind-plug}
@@ -45,7 +43,7 @@ use Rattle.qo_sound_clocks.specs.RegistersKept.{registers_set, with_registers}
 use Rattle.qo_sound_clocks.proofs.KeepLemmas.{writes_keep_lem}
 use Rattle.qo_sound_clocks.proofs.StepsLemmas.{kept-scaled, kept-set, KeepsNumbers}
 use Rattle.qo_sound_phases.specs.PhaseRuns.{SoundResets}
-use Rattle.qo_sound_phases.specs.SoundPhases.{IsReached, machine, device, bus}
+use Rattle.qo_sound_phases.specs.SoundPhases.{IsReached, bus}
 use Rattle.qo_sound_phases.proofs.BelowLemmas.{forest, kid-leads, Placed, placed, post-reach, reach-post}
 use Rattle.qo_sound_phases.proofs.CommandLemmas.{frame}
 use Rattle.qo_sound_phases.proofs.DetachLemmas as detaching
@@ -58,6 +56,7 @@ use Rattle.qo_sound_phases.proofs.ReachedLemmas.{reached-live, shape-reached}
 use Rattle.qo_sound_phases.proofs.ShapeLemmas.{counted-same, SameShape, shape-acted, shape-back, shape-count, shape-edit, shape-post, shape-records, shape-then}
 use Rattle.qo_sound_bounds.specs.HoldsKept.{HoldsKeptLaw}
 use Rattle.qo_sound_bounds.specs.SoundHolds.{SoundHolds}
+use Rattle.qo_sound_bounds.proofs.FeedLemmas.{added-placed}
 
 -- boards of one shape with the same holds
 
@@ -254,17 +253,12 @@ module _ (b : Board) (a : Wanted) (w : SoundResets b) (h : SoundHolds b) (t : Ty
   abbrev kb : Placed b
   kb = record { depth = w.devices.places.0; places = w.devices.places.1; firm = (rest-from_sound b w.devices.tree).used.firm }
 
-  j : Joined kb.depth b (b.born + 1) at (spot_of b t at a.props).slot a.id t (done b at (spot_of b t at a.props).slot a.id) (with_plugged b t a (spot_of b t at a.props))
+  j : Joined kb.depth b (b.born + 1) at (spot_of b t at a.props).slot a.id t (done b at (spot_of b t at a.props).slot a.id)
+      (with_plugged b t a (spot_of b t at a.props))
   j = accepted-joined w.devices.places.0 b a (rest-from_sound b w.devices.tree) w.devices.places.1 t at k
 
   kc : Placed (with_plugged b t a (spot_of b t at a.props))
-  kc =
-      record {
-        depth = deepened kb.depth (b.born + 1) at c;
-        places = places-joined kb.depth b (b.born + 1) at (spot_of b t at a.props).slot a.id t c j kb.firm kb.places;
-        firm =
-            (plugged-rest b t a (spot_of b t at a.props) (rest-from_sound b w.devices.tree) (shut-above b.born kb.firm.begun) k.place).used.firm;
-      }
+  kc = added-placed b a w.devices t at k
 
   holds : (with_plugged b t a (spot_of b t at a.props)).holds ≡ b.holds
   holds = (devices_stay_lem.added b t a (spot_of b t at a.props)).holds

@@ -52,7 +52,7 @@ use Rattle.qo_sound_phases.proofs.ShapeLemmas.{PhasedSo, phased-so, SameShape, s
 use Rattle.qo_sound_phases.proofs.StageLemmas.{noted-in, noted-out}
 
 -- acts, one after another, are phases as far as their notes go
-same-acts : (act : Act) (ns : List ℕ) (b : Board) → acted_all act ns b ≡ phased act ns b
+pub same-acts : (act : Act) (ns : List ℕ) (b : Board) → acted_all act ns b ≡ phased act ns b
 same-acts act [] b = refl
 same-acts act (n ∷ ns) b = same-acts act ns _
 
@@ -115,13 +115,13 @@ live-shape b c h x =
     sym (is_some-map (λ (r : Record). r.kind) (record_of c x)) ∙ ap is_some (h.kind x) ∙ is_some-map (λ (r : Record). r.kind) (record_of b x)
 
 -- what is told, and the phases of a device that is added
-record StartedSo (f : Board) (n : ℕ) (c : Board) : Type 0 where
-  shape : SameShape f c
+pub record StartedSo (f : Board) (n : ℕ) (c : Board) : Type 0 where
+  pub shape : SameShape f c
   holds : c.holds ≡ f.holds
   born : c.born ≡ f.born
   notes : c.notes ≡ ((f.notes ++ map (did Enter) (post f n)) ++ map (did Hold) (post f n)) ++ map (did Exit) (filter (is_out f) (post f n))
 
-told-so : (n : ℕ) (f : Board) → StartedSo f n (told_plug n (plugged f n))
+pub told-so : (n : ℕ) (f : Board) → StartedSo f n (told_plug n (plugged f n))
 unfolding plugged
 told-so n f =
     let os : List ℕ = post f n in
