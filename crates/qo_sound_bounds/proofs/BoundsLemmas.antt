@@ -41,6 +41,7 @@ use Rattle.qo_sound.proofs.MakeStepsLemmas.{all-any, KeepsActs, KeepsEdits, step
 use Rattle.qo_sound.proofs.DetachStepsLemmas.{KeepsEnds, KeepsLists, KeepsPins, step-detach, step-pin, step-unrealize}
 use Rattle.qo_sound.proofs.ChangeStepsLemmas.{step-object_del, step-sever, step-write}
 use Rattle.qo_sound.proofs.PlugLemmas.{or-none}
+use Rattle.qo_sound_devices.proofs.AcceptedLemmas.{stage-none}
 use Rattle.qo_sound_devices.proofs.PlugLemmas.{Accepted, behind-plug}
 use Rattle.qo_sound_clocks.specs.RegistersKept.{with_registers}
 use Rattle.qo_sound_clocks.proofs.StepsLemmas.{kept-scaled, kept-set, KeepsNumbers}
@@ -194,10 +195,6 @@ drafted-bounds b t room h =
     let made : length (with_new (fresh (b.born + 1) t) b).records ≡ length b.records + 1 = new-length (fresh (b.born + 1) t) b in
     let all = rows-length (b.born + 1) t (slots_of t) (with_new (fresh (b.born + 1) t) b) in
     omega (arith, room, made, all)
-
-stage-none : (stage : ℕ) (o : Option Code) → at_stage stage o ≡ None → o ≡ None
-stage-none stage None e = refl
-stage-none stage (Some code) e = absurd (let clash : Some (stage, code) ≡ None = e in cc)
 
 accepted-room : (b : Board) (t : TypeId) (bus : ℕ) (a : Wanted) → Accepted b t bus a → length b.records + objects_in t ≤ 4096
 accepted-room b t bus a k =

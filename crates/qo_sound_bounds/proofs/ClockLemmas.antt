@@ -10,7 +10,7 @@ use Rattle.std.proofs.lemmas.Slice.Eq.{bytes_eq-Decides}
 use Rattle.std.proofs.Math.Bool.{or-true}
 use Rattle.qo_values.specs.declared.births.TheConstants.{MACHINE_BIRTH, MEMORY_BUS_BIRTH, ROOT_BUS_BIRTH, SYSTEM_CLOCK_BIRTH}
 use Rattle.qo_values.specs.declared.kinds.TypeId.TheVariants.{Clock}
-use Rattle.qo_model.specs.Board.{Board, Record, Slot, plain, child, strong, weak, alias, is_live, kind_of, record_of, slots_at}
+use Rattle.qo_model.specs.Board.{Board, Record, Slot, plain, child, strong, weak, alias, is_live, kind_of, record_of}
 use Rattle.qo_model.specs.Clocks.{source_of}
 use Rattle.qo_model.specs.Depth.{among}
 use Rattle.qo_model.specs.Devices.{bridge_of, bus_of, child_named, clock_of, is_realized}
@@ -159,7 +159,8 @@ module _ (b c : Board) (kb : Placed b) (kc : Placed c) (f : Frame b c) where
       (stays : (x : ℕ) → is_realized e x ≡ true → stands c x ≡ true) (less : (k s : ℕ) → source_of c k ≡ Some s → source_of e k ≡ Some s)
       (kept : (k s : ℕ) → source_of e k ≡ Some s → is_live c k ≡ true → is_live c s ≡ true → source_of c k ≡ Some s)
       (fed : (d bus k : ℕ) → is_realized e d ≡ true → bus_of b d ≡ Some bus → clock_of b d ≡ Some k → source_of e k ≡ Some (source_for b bus))
-      (only : (k s : ℕ) → source_of e k ≡ Some s → IsDeviceClock e k) (h : SoundSources b) (was : (x : ℕ) → is_realized e x ≡ true → is_realized b x ≡ true) where
+      (only : (k s : ℕ) → source_of e k ≡ Some s → IsDeviceClock e k) (h : SoundSources b)
+      (was : (x : ℕ) → is_realized e x ≡ true → is_realized b x ≡ true) where
     kind-on : (k : ℕ) → is_live c k ≡ true → is_live b k ≡ true → kind_of b k ≡ Some Clock → kind_of c k ≡ Some Clock
     kind-on k live before is = f.kind k before live ∙ is
 

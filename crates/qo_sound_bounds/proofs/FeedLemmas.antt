@@ -1,31 +1,27 @@
 -- A device that is added: its clock goes by the one for its bus, and the others go by what they went by.
-use Rattle.std.proofs.Common.{◌≡◌, ◌⊎◌, inl, inr, refl, ap, sym, subst, ◌∙◌, ℕ, suc, ◌+◌, ◌<◌, ◌≤◌, Bool, true, false, ◌||◌, ◌==◌, List, [], ◌∷◌, filter, find, Option, Some, None, is_some, option_map, option_and_then, unwrap_or, codes, arith}
+use Rattle.std.proofs.Common.{◌≡◌, ◌⊎◌, inl, inr, refl, ap, sym, subst, ◌∙◌, ℕ, suc, ◌+◌, ◌<◌, ◌≤◌, Bool, true, false, ◌==◌, List, [], ◌∷◌, find, Option, Some, None, is_some, option_map, option_and_then, unwrap_or, codes, arith}
 use Rattle.std.specs.Prelude.{if◌then◌else◌}
 use Rattle.std.specs.List.{AllByRecursion, list_any}
 use Rattle.std.specs.Option.{option_map_or}
 use Rattle.std.specs.Str.{bytes_eq}
 use Rattle.std.proofs.lemmas.Bool.{cases_lt, eqb-true}
 use Rattle.std.proofs.lemmas.Option.{same_Some}
-use Rattle.qo_values.specs.Kinds.{type_name}
 use Rattle.qo_values.specs.declared.births.TheConstants.{ANONYMOUS_BIRTH, MACHINE_BIRTH, PERIPHERAL_BIRTH, SYSTEM_CLOCK_BIRTH}
-use Rattle.qo_values.specs.declared.kinds.Act.{Act}
-use Rattle.qo_values.specs.declared.kinds.Act.TheVariants.{Realize, Enter, Hold, Exit}
+use Rattle.qo_values.specs.declared.kinds.Act.TheVariants.{Realize}
 use Rattle.qo_values.specs.declared.kinds.TypeId.{TypeId}
 use Rattle.qo_values.specs.declared.kinds.TypeId.TheVariants.{Clock, Device}
 use Rattle.qo_values.specs.declared.properties.Val.{Val}
 use Rattle.qo_values.specs.declared.properties.Val.TheVariants as val
 use Rattle.qo_values.specs.declared.ranges.Range.{Range}
-use Rattle.qo_model.specs.Board.{Board, Record, Slot, child, strong, weak, is_live, kind_of, record_of, slots_at}
+use Rattle.qo_model.specs.Board.{Board, Record, Slot, child, strong, is_live, kind_of, record_of, slots_at}
 use Rattle.qo_model.specs.Changes.{add, changed_at, fresh, set, with_added, with_changed, with_val}
-use Rattle.qo_model.specs.Clocks.{acted, source_of, weak_in}
-use Rattle.qo_model.specs.Depth.{among}
+use Rattle.qo_model.specs.Clocks.{source_of, weak_in}
 use Rattle.qo_model.specs.Devices.{bus_of, child_named, clock_of, is_realized, kid_name}
 use Rattle.qo_model.specs.Objects.{place_from}
 use Rattle.qo_model.specs.Opening.{fresh_slots}
-use Rattle.qo_model.specs.Paths.{canonical, is_of, only_of}
-use Rattle.qo_model.specs.Plug.{Spot, Wanted, acted_all, addressed_at, bus_births, clocked, counted, drafted, fitted, joined, link_named, name_for, parent_for, plug, plug_attempt, source_for, spot_of, stood, told_plug, valued, with_body_of, with_device, with_given, with_new, with_path, with_plugged, with_source}
+use Rattle.qo_model.specs.Paths.{is_of, only_of}
+use Rattle.qo_model.specs.Plug.{Spot, Wanted, acted_all, addressed_at, bus_births, clocked, counted, drafted, fitted, joined, link_named, name_for, parent_for, plug, plug_attempt, source_for, spot_of, stood, valued, with_body_of, with_device, with_given, with_new, with_plugged, with_source}
 use Rattle.qo_model.specs.Release.{edit, edited}
-use Rattle.qo_model.specs.Reset.{is_out, phased, plugged, post}
 use Rattle.qo_model.specs.Types.{is_a, slots_of, types}
 use Rattle.qo_model.specs.Unplug.{is_named, set_named}
 use Rattle.qo_model.proofs.StepLemmas.{found-edited}
@@ -33,11 +29,10 @@ use Rattle.qo_sound.proofs.PlugLemmas.{plugged-rest, shut-above}
 use Rattle.qo_sound.proofs.RecordLemmas.{all-map}
 use Rattle.qo_sound.proofs.ViewLemmas.{AtRest, rest-from_sound}
 use Rattle.qo_sound_devices.specs.SoundDevices.{SoundDevices}
-use Rattle.qo_sound_devices.specs.SoundPlaces.{child_entries, HasOwner, machines, bridges, listed, owns, owns_it, stands}
+use Rattle.qo_sound_devices.specs.SoundPlaces.{child_entries, HasOwner, machines, bridges, owns_it, stands}
 use Rattle.qo_sound_devices.proofs.DropLemmas.{edited-slots}
 use Rattle.qo_sound_devices.proofs.DraftedLemmas.{drafted-made}
 use Rattle.qo_sound_devices.proofs.JoinedLemmas.{deepened, done, Joined, old-stands, places-joined}
-use Rattle.qo_sound_devices.proofs.MadeLemmas.{Made}
 use Rattle.qo_sound_devices.proofs.PlacesLemmas.{child-live, high-absent, kind-alike, of-live, stands-live}
 use Rattle.qo_sound_devices.proofs.PlugLemmas.{Accepted, behind-plug}
 use Rattle.qo_sound_devices.proofs.PluggedLemmas.{accepted-joined}
@@ -48,11 +43,12 @@ use Rattle.qo_sound_clocks.proofs.LessLemmas.{sees, Slots}
 use Rattle.qo_sound_clocks.proofs.PlugLemmas.{Calm, edited-at, Growing, growing-first, growing-rows, growing-stood, rows-quiet}
 use Rattle.qo_sound_clocks.proofs.PluggedLemmas.{growing}
 use Rattle.qo_sound_clocks.proofs.ReadLemmas.{named-reads, Reads, tree-reads}
-use Rattle.qo_sound_phases.proofs.BelowLemmas.{Placed, placed}
-use Rattle.qo_sound_phases.proofs.ListLemmas.{clash, clash-back, decide}
-use Rattle.qo_sound_phases.proofs.ShapeLemmas.{SameShape, shape-acted, shape-edit, shape-none, shape-phased, shape-records, shape-then}
+use Rattle.qo_sound_phases.proofs.BelowLemmas.{Placed}
+use Rattle.qo_sound_phases.proofs.ListLemmas.{clash, decide}
+use Rattle.qo_sound_phases.proofs.PlugLemmas.{same-acts, told-so}
+use Rattle.qo_sound_phases.proofs.ShapeLemmas.{PhasedSo, phased-so, SameShape, shape-none, shape-records, shape-then}
 use Rattle.qo_sound_bounds.specs.SoundSources.{IsDeviceClock, SoundSources}
-use Rattle.qo_sound_bounds.proofs.ClockLemmas.{clock-listed, clock-live, clock-same, source-bridge, source-live, source-machines, system-live}
+use Rattle.qo_sound_bounds.proofs.ClockLemmas.{clock-live, clock-same, source-bridge, source-live, source-machines, system-live}
 use Rattle.qo_sound_bounds.proofs.DraftLemmas.{clock-fitted, clock-given, clock-in, clocks-changed, clock-val, ClockIn, drafted-clock, IsNewClock, young-apart}
 use Rattle.qo_sound_bounds.proofs.SightLemmas.{edit-seen, sees-added}
 use Rattle.qo_sound_bounds.proofs.SourceLemmas.{beside-sources}
@@ -61,48 +57,52 @@ abbrev named_in : List ℕ → List (List ℕ × Slot) → Option Slot
 named_in name slots = option_map (λ (s : List ℕ × Slot). s.1) (find (λ s. bytes_eq s.0 name) slots)
 
 -- what follows leaves slots and types
-acted-shape : (act : Act) (ns : List ℕ) (b : Board) → SameShape b (acted_all act ns b)
-acted-shape act [] b = shape-none b
-acted-shape act (n ∷ ns) b = shape-then b (acted act n 0 b) (acted_all act (n ∷ ns) b) (shape-acted act n 0 b) (acted-shape act ns (acted act n 0 b))
-
-plugged-shape : (b : Board) (d : ℕ) → SameShape b (plugged b d)
-unfolding plugged
-plugged-shape b d =
-    let one : Board = phased Enter (post b d) b in
-    let two : Board = phased Hold (post b d) one in
-    shape-then b one (plugged b d) (shape-phased Enter (post b d) b)
-    (shape-then one two (plugged b d) (shape-phased Hold (post b d) one) (shape-phased Exit (filter (is_out b) (post b d)) two))
-
 counted-shape : (id : Option (List ℕ)) (b : Board) → SameShape b (counted id b)
 counted-shape None b = shape-records b (counted None b) refl
 counted-shape (Some id) b = shape-none b
 
-told-shape : (n : ℕ) (b : Board) → SameShape b (told_plug n b)
-told-shape n b =
-    let c : Board = edit n (with_path (canonical b n)) b in
-    shape-then b c (told_plug n b) (shape-edit n (with_path (canonical b n)) (λ r. refl) (λ r. refl) (λ r. refl) b) (shape-records c (told_plug n b) refl)
-
 started-shape : (b : Board) (t : TypeId) (a : Wanted) (spot : Spot)
     → SameShape (clocked (source_for b spot.bus) (b.born + 1) (stood b (b.born + 1) a spot (drafted b t))) (with_plugged b t a spot)
 started-shape b t a spot =
-    shape-then q one (with_plugged b t a spot) (counted-shape a.id q)
-    (shape-then one two (with_plugged b t a spot) (acted-shape Realize (n ∷ bus_births n t) one)
-    (shape-then two three (with_plugged b t a spot) (plugged-shape two n) (told-shape n three)))
+    shape-then q made (with_plugged b t a spot) (counted-shape a.id q)
+    (shape-then made f (with_plugged b t a spot) acts.shape (told-so (b.born + 1) f).shape)
   where
-    n : ℕ
-    n = b.born + 1
-
     q : Board
-    q = clocked (source_for b spot.bus) n (stood b n a spot (drafted b t))
+    q = clocked (source_for b spot.bus) (b.born + 1) (stood b (b.born + 1) a spot (drafted b t))
 
-    one : Board
-    one = with_device b t a spot
+    made : Board
+    made = with_device b t a spot
 
-    two : Board
-    two = acted_all Realize (n ∷ bus_births n t) one
+    ns : List ℕ
+    ns = (b.born + 1) ∷ bus_births (b.born + 1) t
 
-    three : Board
-    three = plugged two n
+    f : Board
+    f = acted_all Realize ns made
+
+    acts : PhasedSo Realize ns made f
+    acts = subst (PhasedSo Realize ns made) (sym (same-acts Realize ns made)) (phased-so Realize ns made)
+
+-- the board behind a device that nothing refuses
+pub added-placed : (b : Board) (a : Wanted) → SoundDevices b → (t : TypeId) (at : ℕ) → Accepted b t at a
+    → Placed (with_plugged b t a (spot_of b t at a.props))
+added-placed b a d t at k =
+    record {
+      depth = deepened d.places.0 (b.born + 1) at c;
+      places = places-joined d.places.0 b (b.born + 1) at spot.slot a.id t c j rest.used.firm d.places.1;
+      firm = (plugged-rest b t a spot rest (shut-above b.born rest.used.firm.begun) k.place).used.firm;
+    }
+  where
+    spot : Spot
+    spot = spot_of b t at a.props
+
+    c : Board
+    c = with_plugged b t a (spot_of b t at a.props)
+
+    rest : AtRest b
+    rest = rest-from_sound b d.tree
+
+    j : Joined d.places.0 b (b.born + 1) at spot.slot a.id t (done b at spot.slot a.id) c
+    j = accepted-joined d.places.0 b a rest d.places.1 t at k
 
 -- the device where it stands
 module _ (b : Board) (a : Wanted) (spot : Spot) (c : Board) where
@@ -195,7 +195,8 @@ source-place : place_from (is_named (codes "source")) 0 (fresh_slots Clock) ≡ 
 unfolding types
 source-place = refl
 
-source-now : (d : Board) (m : ℕ) → option_and_then weak_in (named_in (codes "source") (changed_at (fitted d m) 4 (fresh_slots Clock))) ≡ only_of d (codes "clock") m
+source-now : (d : Board) (m : ℕ)
+    → option_and_then weak_in (named_in (codes "source") (changed_at (fitted d m) 4 (fresh_slots Clock))) ≡ only_of d (codes "clock") m
 unfolding types
 source-now d m = refl
 
@@ -262,18 +263,15 @@ module _ (b : Board) (a : Wanted) (d : SoundDevices b) (h : SoundSources b) (t :
   abbrev kb : Placed b
   kb = record { depth = d.places.0; places = d.places.1; firm = (rest-from_sound b d.tree).used.firm }
 
-  j : Joined kb.depth b (b.born + 1) at (spot_of b t at a.props).slot a.id t (done b at (spot_of b t at a.props).slot a.id) (with_plugged b t a (spot_of b t at a.props))
+  j : Joined kb.depth b (b.born + 1) at (spot_of b t at a.props).slot a.id t (done b at (spot_of b t at a.props).slot a.id)
+      (with_plugged b t a (spot_of b t at a.props))
   j = accepted-joined d.places.0 b a (rest-from_sound b d.tree) d.places.1 t at k
 
   kc : Placed (with_plugged b t a (spot_of b t at a.props))
-  kc =
-      record {
-        depth = deepened kb.depth (b.born + 1) at c;
-        places = places-joined kb.depth b (b.born + 1) at spot.slot a.id t c j kb.firm kb.places;
-        firm = (plugged-rest b t a spot (rest-from_sound b d.tree) (shut-above b.born kb.firm.begun) k.place).used.firm;
-      }
+  kc = added-placed b a d t at k
 
-  shape : SameShape (clocked (source_for b at) (b.born + 1) (stood b (b.born + 1) a (spot_of b t at a.props) (drafted b t))) (with_plugged b t a (spot_of b t at a.props))
+  shape : SameShape (clocked (source_for b at) (b.born + 1) (stood b (b.born + 1) a (spot_of b t at a.props) (drafted b t)))
+      (with_plugged b t a (spot_of b t at a.props))
   shape = started-shape b t a (spot_of b t at a.props)
 
   absent : (x : ℕ) → b.born < x → record_of b x ≡ None
@@ -356,8 +354,7 @@ module _ (b : Board) (a : Wanted) (d : SoundDevices b) (h : SoundSources b) (t :
           by None q = h.system
           by (Some m) q = h.clocks p m (kb.places.each p s refl) q
 
-  kind-fed : (o : Option ℕ) (x : ℕ)
-      → kind_of (with_source (source_for b at) o (stood b (b.born + 1) a (spot_of b t at a.props) (drafted b t))) x ≡ kind_of (stood b (b.born + 1) a (spot_of b t at a.props) (drafted b t)) x
+  kind-fed : (o : Option ℕ) (x : ℕ) → kind_of (with_source (source_for b at) o made) x ≡ kind_of made x
   kind-fed None x = refl
   kind-fed (Some m) x = kind-link m (codes "source") source made x
 

@@ -1,5 +1,5 @@
 -- A device that is detached with all that is below it: the clocks of devices that are unrealized lose their sources, and those of the others keep them.
-use Rattle.std.proofs.Common.{◌≡◌, refl, ap, sym, subst, ◌∙◌, ℕ, zero, suc, Bool, true, false, ◌==◌, List, [], ◌∷◌, find, length, Option, Some, None, option_map, option_and_then, codes, arith}
+use Rattle.std.proofs.Common.{◌≡◌, refl, ap, sym, subst, ◌∙◌, ℕ, zero, suc, true, false, ◌==◌, List, [], ◌∷◌, find, length, Option, Some, None, option_map, option_and_then, codes, arith}
 use Rattle.std.specs.Option.{option_map_or}
 use Rattle.std.specs.Str.{bytes_eq}
 use Rattle.std.proofs.lemmas.Bool.{eqb-true, eq-eqb}
@@ -8,37 +8,35 @@ use Rattle.qo_values.specs.declared.births.TheConstants.{MACHINE_BIRTH}
 use Rattle.qo_values.specs.declared.kinds.Act.TheVariants.{Unrealize}
 use Rattle.qo_values.specs.declared.properties.Val.{Val}
 use Rattle.qo_values.specs.declared.properties.Val.TheVariants as val
-use Rattle.qo_model.specs.Board.{Board, Record, Slot, plain, child, strong, weak, alias, is_live, record_of, slots_at}
+use Rattle.qo_model.specs.Board.{Board, Record, Slot, plain, child, strong, weak, alias, record_of, slots_at}
 use Rattle.qo_model.specs.Changes.{set, with_changed, with_val}
 use Rattle.qo_model.specs.Clocks.{acted, device_period, source_of, weak_in}
-use Rattle.qo_model.specs.Depth.{among}
-use Rattle.qo_model.specs.Devices.{buses_of, bus_of, child_named, clock_of, is_realized, is_true, plain_in, strong_in}
+use Rattle.qo_model.specs.Devices.{bus_of, child_named, clock_of, is_realized}
 use Rattle.qo_model.specs.Hotplug.{all_completed, completed, reset_whole}
 use Rattle.qo_model.specs.Objects.{place_from}
 use Rattle.qo_model.specs.Paths.{births}
 use Rattle.qo_model.specs.Plug.{source_for}
 use Rattle.qo_model.specs.Release.{edit, pin, put_in_order}
-use Rattle.qo_model.specs.Unplug.{apart_within, detach, disconnected, first_of, is_named, set_named, taken_by, unheld, unnoticed, unrealize, unrealized_bus, unrealized_device, unseen, unseen_named}
-use Rattle.qo_model.proofs.StepLemmas.{found-edited}
+use Rattle.qo_model.specs.Unplug.{apart_within, detach, disconnected, first_of, is_named, set_named, taken_by, unrealize, unrealized_bus, unrealized_device, unseen, unseen_named}
 use Rattle.qo_sound.proofs.KeptLemmas.{sound_kept_lem}
 use Rattle.qo_sound.proofs.SeverLemmas.{near-pin, pin-pins}
 use Rattle.qo_sound.proofs.UnplugLemmas.{held-unrealize, Sits}
 use Rattle.qo_sound.proofs.ViewLemmas.{AtRest, rest-from_sound}
 use Rattle.qo_sound_devices.specs.SoundDevices.{SoundDevices}
 use Rattle.qo_sound_devices.specs.SoundLists.{IsOn}
-use Rattle.qo_sound_devices.specs.SoundPlaces.{child_entries, child_entry, kid_entry, listed, stands}
-use Rattle.qo_sound_devices.proofs.AlikeLemmas.{other-record}
+use Rattle.qo_sound_devices.specs.SoundPlaces.{child_entries, listed, stands}
 use Rattle.qo_sound_devices.proofs.DevicesLawLemmas.{devices_kept_lem}
 use Rattle.qo_sound_devices.proofs.DropLemmas.{edited-slots}
 use Rattle.qo_sound_devices.proofs.LowLemmas.{unrealize-dimmed, unrealize-only}
 use Rattle.qo_sound_devices.proofs.ResetLemmas.{detached-below, first-on}
-use Rattle.qo_sound_devices.proofs.UnrealizeLemmas.{Dimmed, dimmed-none, dimmed-then, dims-bus, Fades, fades-device, first-changed, IsMild, mild-val, named-changed, none-found, reads, Under}
+use Rattle.qo_sound_devices.proofs.SourceLemmas.{edit-other}
+use Rattle.qo_sound_devices.proofs.UnrealizeLemmas.{Dimmed, dimmed-none, dimmed-then, dims-bus, Fades, fades-device, first-changed, mild-unseen, mild-val, named-changed, none-found, reads}
 use Rattle.qo_sound_clocks.proofs.FewerLemmas.{Fewer, fewer-apart, fewer-none, fewer-taken_by, fewer-unpin}
 use Rattle.qo_sound_clocks.proofs.ReadLemmas.{named-reads, Reads, tree-reads}
 use Rattle.qo_sound_clocks.proofs.StayLemmas.{acted-slots}
 use Rattle.qo_sound_phases.proofs.BelowLemmas.{one-parent, Placed, placed}
 use Rattle.qo_sound_phases.proofs.DetachLemmas.{frame, kp, lit-stands, unstood}
-use Rattle.qo_sound_phases.proofs.ListLemmas.{clash, clash-back, decide}
+use Rattle.qo_sound_phases.proofs.ListLemmas.{clash, decide}
 use Rattle.qo_sound_phases.proofs.UnrealizeLemmas.{unrealize-walk}
 use Rattle.qo_sound_bounds.specs.SoundSources.{IsDeviceClock, SoundSources}
 use Rattle.qo_sound_bounds.proofs.ClockLemmas.{clock-listed, frame-sources}
@@ -72,36 +70,6 @@ child-val v (strong t target) = refl
 child-val v (weak t target) = refl
 child-val v (alias m property) = refl
 
-entry-unseen : (s : List ℕ × Slot) → child_entry (s.0, unseen s.1) ≡ child_entry s
-entry-unseen (name, plain w) = refl
-entry-unseen (name, child m) = refl
-entry-unseen (name, strong t target) = refl
-entry-unseen (name, weak t target) = refl
-entry-unseen (name, alias m property) = refl
-
-kid-unseen : (s : List ℕ × Slot) → kid_entry (s.0, unseen s.1) ≡ kid_entry s
-kid-unseen (name, plain w) = refl
-kid-unseen (name, child m) = refl
-kid-unseen (name, strong t target) = refl
-kid-unseen (name, weak t target) = refl
-kid-unseen (name, alias m property) = refl
-
-strong-unseen : (s : Slot) → strong_in (unseen s) ≡ strong_in s
-strong-unseen (plain w) = refl
-strong-unseen (child m) = refl
-strong-unseen (strong t target) = refl
-strong-unseen (weak t target) = refl
-strong-unseen (alias m property) = refl
-
-mild-unseen : IsMild unseen
-mild-unseen = record { children = entry-unseen; kids = kid-unseen; strongs = strong-unseen }
-
-edit-other : (n : ℕ) (change : Record → Record) → ((r : Record) → (change r).birth ≡ r.birth) → (c : Board) (k : ℕ) → (k == n) ≡ false
-    → slots_at (edit n change c) k ≡ slots_at c k
-edit-other n change birth c k apart =
-    ap (λ (o : Option Record). option_map_or (λ (r : Record). r.slots) o [])
-    (found-edited n change birth k c.records ∙ other-record n k change c refl apart (record_of c k) refl)
-
 unseen-own : (n : ℕ) (c : Board) → source_of (unseen_named n (codes "source") c) n ≡ None
 unseen-own n c = go (place_from (is_named (codes "source")) 0 (slots_at c n)) refl
   where
@@ -126,7 +94,8 @@ unseen-other n k c apart = go (place_from (is_named (codes "source")) 0 (slots_a
     go None e = rw (unseen_named, e) refl
     go (Some i) e =
         rw (unseen_named, e)
-        (ap (λ (x : List (List ℕ × Slot)). option_and_then weak_in (named_in (codes "source") x)) (edit-other n (with_changed unseen i) (λ r. refl) c k apart))
+        (ap (λ (o : Option Record). option_and_then weak_in (named_in (codes "source") (option_map_or (λ (r : Record). r.slots) o [])))
+        (edit-other k n (with_changed unseen i) (λ r. refl) apart c))
 
 disconnected-own : (n : ℕ) (c : Board) → source_of (disconnected (Some n) c) n ≡ None
 disconnected-own n c = set-source n (codes "period") (val.Uint 0) (unseen_named n (codes "source") c) n ∙ unseen-own n c

@@ -6,3 +6,4 @@ pub mod LeaveLemmas
 pub mod DraftLemmas
 pub mod FeedLemmas
 pub mod SourcesLawLemmas
+pub mod HoldsLemmas

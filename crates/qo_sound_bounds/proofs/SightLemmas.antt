@@ -6,7 +6,6 @@ use Rattle.std.specs.Str.{bytes_eq}
 use Rattle.std.proofs.lemmas.Bool.{and_parts, eqb-true, eq-eqb}
 use Rattle.std.proofs.lemmas.Option.{same_Some}
 use Rattle.std.proofs.lemmas.Slice.Eq.{bytes_eq-Decides}
-use Rattle.std.proofs.Math.Bool.{or-true}
 use Rattle.qo_values.specs.Properties.{admits}
 use Rattle.qo_values.specs.Registers.{fresh_registers}
 use Rattle.qo_values.specs.declared.births.TheConstants.{ANONYMOUS_BIRTH, OBJECTS_BIRTH, PERIPHERAL_BIRTH}
@@ -16,7 +15,6 @@ use Rattle.qo_values.specs.declared.properties.Val.{Val}
 use Rattle.qo_values.specs.declared.properties.Val.TheVariants as val
 use Rattle.qo_model.specs.Board.{Board, Record, Slot, plain, child, strong, weak, alias, is_live, kind_of, record_of, slots_at, slot_at, held}
 use Rattle.qo_model.specs.Changes.{changed_at, cut, point, pointed, set, with_added, with_changed, with_cut, with_val}
-use Rattle.qo_model.specs.Clocks.{weak_in}
 use Rattle.qo_model.specs.Depth.{among}
 use Rattle.qo_model.specs.Devices.{bus_of, buses_of, kids_of}
 use Rattle.qo_model.specs.FinalNotesRuns.{Change, added, behind_write, changed, deleted, severed, wrote}
@@ -38,21 +36,13 @@ use Rattle.qo_sound.proofs.UnplugLemmas.{Found, found-at}
 use Rattle.qo_sound_clocks.proofs.CommandLemmas.{dropped-at, kept-slot, MaySet, position-slot, set-other, SlotFound}
 use Rattle.qo_sound_clocks.proofs.FewerLemmas.{slots_in}
 use Rattle.qo_sound_clocks.proofs.FoundLemmas.{found-append}
-use Rattle.qo_sound_clocks.proofs.LessLemmas.{is_target, OtherName, sees, sees_it, Slots}
+use Rattle.qo_sound_clocks.proofs.LessLemmas.{or-less, or-right, OtherName, sees, sees_it, Slots}
 use Rattle.qo_sound_phases.proofs.ListLemmas.{clash, clash-back, decide}
 
 -- slots that see no less
 
 abbrev pub SeesOn : Slots → Slots → Type 0
 SeesOn xs ys = (s : ℕ) → sees s xs ≡ true → sees s ys ≡ true
-
-or-right : (t u : Bool) → u ≡ true → (t || u) ≡ true
-or-right true u e = refl
-or-right false u e = e
-
-or-less : (t u v w : Bool) → (t ≡ true → v ≡ true) → (u ≡ true → w ≡ true) → (t || u) ≡ true → (v || w) ≡ true
-or-less true u v w first rest e = rw (first refl) refl
-or-less false u v w first rest e = or-right v w (rest e)
 
 or-skip : (t u : Bool) → t ≡ false → (t || u) ≡ true → u ≡ true
 or-skip true u none e = clash none

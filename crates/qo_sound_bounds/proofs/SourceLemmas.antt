@@ -1,12 +1,11 @@
 -- What keeps the sources of clocks: changes that leave what stands, and commands on objects.
-use Rattle.std.proofs.Common.{◌≡◌, refl, ap, ap₂, sym, subst, ◌∙◌, ℕ, zero, suc, Bool, true, false, ◌||◌, ◌==◌, List, [], ◌∷◌, ◌++◌, filter, filter_map, find, length, Option, Some, None, is_some, option_map, option_and_then, codes, Ok}
+use Rattle.std.proofs.Common.{◌≡◌, refl, ap, sym, subst, ◌∙◌, ℕ, true, false, List, [], ◌∷◌, ◌++◌, filter, filter_map, find, Option, Some, None, is_some, option_map, option_and_then, codes, Ok}
 use Rattle.std.specs.Option.{option_map_or}
 use Rattle.std.specs.Str.{bytes_eq}
 use Rattle.qo_values.specs.Registers.{Registers}
 use Rattle.qo_values.specs.declared.births.TheConstants.{MACHINE_BIRTH}
 use Rattle.qo_values.specs.declared.kinds.Act.{Act}
 use Rattle.qo_values.specs.declared.kinds.Act.TheVariants.{Enter, Hold, Exit}
-use Rattle.qo_values.specs.declared.kinds.TypeId.TheVariants.{Clock}
 use Rattle.qo_values.specs.declared.properties.Val.{Val}
 use Rattle.qo_values.specs.declared.properties.Val.TheVariants as val
 use Rattle.qo_model.specs.Board.{Board, Record, Slot, plain, child, strong, weak, alias, is_live, slots_at}
@@ -14,7 +13,7 @@ use Rattle.qo_model.specs.Changes.{set, with_val}
 use Rattle.qo_model.specs.ClockChanges.{clock_scaled, clock_set}
 use Rattle.qo_model.specs.Clocks.{acted, source_of, weak_in}
 use Rattle.qo_model.specs.Depth.{among}
-use Rattle.qo_model.specs.Devices.{bus_of, is_realized, is_true, plain_in, strong_in}
+use Rattle.qo_model.specs.Devices.{is_realized, is_true, plain_in, strong_in}
 use Rattle.qo_model.specs.FinalNotesRuns.{Change, changed}
 use Rattle.qo_model.specs.Hotplug.{asked, asked_of, device_at}
 use Rattle.qo_model.specs.Objects.{place_from}
@@ -43,7 +42,7 @@ use Rattle.qo_sound_phases.proofs.FrameLemmas.{Frame}
 use Rattle.qo_sound_phases.proofs.ListLemmas.{decide}
 use Rattle.qo_sound_phases.proofs.ReachedLemmas.{same-stands}
 use Rattle.qo_sound_phases.proofs.ShapeLemmas.{SameShape, shape-acted, shape-edit}
-use Rattle.qo_sound_bounds.specs.SoundSources.{IsDeviceClock, SoundSources}
+use Rattle.qo_sound_bounds.specs.SoundSources.{SoundSources}
 use Rattle.qo_sound_bounds.proofs.ClockLemmas.{frame-sources}
 use Rattle.qo_sound_bounds.proofs.SightLemmas.{changed-seen}
 

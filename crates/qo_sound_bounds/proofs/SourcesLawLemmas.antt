@@ -1,8 +1,8 @@
 -- The law: what keeps the sources of clocks sound.
-use Rattle.std.proofs.Common.{◌≡◌, refl, ap, sym, ◌∙◌, rules, ℕ, Bool, true, false, List, [], find, Option, Some, None, is_none, option_map, option_and_then, codes}
+use Rattle.std.proofs.Common.{◌≡◌, refl, ap, sym, ◌∙◌, rules, ℕ, Bool, true, false, List, find, Option, Some, None, is_none, option_map, option_and_then, codes}
 use Rattle.std.specs.List.{AllByRecursion}
 use Rattle.std.specs.Str.{bytes_eq}
-use Rattle.qo_model.specs.Board.{Board, Record, Slot, record_of}
+use Rattle.qo_model.specs.Board.{Record, Slot, record_of}
 use Rattle.qo_model.specs.Clocks.{source_of, weak_in}
 use Rattle.qo_model.specs.Devices.{is_realized}
 use Rattle.qo_model.specs.Hotplug.{refused}
@@ -10,7 +10,6 @@ use Rattle.qo_model.specs.Objects.{with_attempt}
 use Rattle.qo_model.specs.Opening.{opening_board}
 use Rattle.qo_model.specs.Plug.{cut_attempt, plug_attempt}
 use Rattle.qo_model.specs.Types.{types}
-use Rattle.qo_sound_devices.specs.SoundDevices.{SoundDevices}
 use Rattle.qo_sound_devices.specs.SoundPlaces.{stands}
 use Rattle.qo_sound_devices.proofs.DevicesLawLemmas.{devices_kept_lem}
 use Rattle.qo_sound_clocks.proofs.FewerLemmas.{slots_in}

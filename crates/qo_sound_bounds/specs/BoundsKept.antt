@@ -21,7 +21,7 @@ use Rattle.qo_sound_bounds.specs.SoundBounds.{SoundBounds}
 pub record BoundsKeptLaw : Type 0 where
   -- the opening board is within them
   pub opening : SoundBounds opening_board
-  -- what changes none of the objects, and sets a time that is no later than the greatest: as a removal that is asked for or refused, a notice that is read, or time that goes on
+  -- what changes none of the objects, and sets a time that is no later than the greatest: as a notice that is read, or time that goes on
   pub beside : (b c : Board) → c.records ≡ b.records → c.now ≤ TIME_MAX → SoundBounds b → SoundBounds c
   -- an attempt that was given up, to make an object and to add a device, and one that was cut
   pub attempt : (b : Board) (t : TypeId) → SoundBounds b → SoundBounds (with_attempt b t)

@@ -1,4 +1,4 @@
--- When what clocks go by is sound: the clock of a device goes by that of the bridge whose bus the device is on, or by the system's (docs/devel/clocks.rst, "Connecting two clocks together"; the wiring is the profile's).
+-- When what clocks go by is sound (docs/devel/clocks.rst, "Connecting two clocks together"; which are connected is the profile's).
 use Rattle.std.specs.Prelude.{◌≡◌, ℕ, true, Some}
 use Rattle.qo_values.specs.declared.births.TheConstants.{SYSTEM_CLOCK_BIRTH}
 use Rattle.qo_values.specs.declared.kinds.TypeId.TheVariants.{Clock}
@@ -15,8 +15,9 @@ pub record IsDeviceClock (b : Board) (c : ℕ) : Type 0 where
 
 -- what clocks go by is sound
 pub record SoundSources (b : Board) : Type 0 where
-  -- the clock of a realized device goes by the one for the bus that the device is on; and no other clock goes by one
+  -- the clock of a realized device goes by that of the bridge whose bus the device is on, or by the system's
   pub fed : (d bus c : ℕ) → is_realized b d ≡ true → bus_of b d ≡ Some bus → clock_of b d ≡ Some c → source_of b c ≡ Some (source_for b bus)
+  -- and no other clock goes by one
   pub only : (c s : ℕ) → source_of b c ≡ Some s → IsDeviceClock b c
   -- the clock of a realized device is a clock, and so is the system's
   pub clocks : (d c : ℕ) → is_realized b d ≡ true → clock_of b d ≡ Some c → kind_of b c ≡ Some Clock

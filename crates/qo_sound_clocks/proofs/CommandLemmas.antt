@@ -323,7 +323,7 @@ object_add-fewer b driver id props = go (row_named driver) refl
     go None p = rw (object_add, p) (fewer-none b)
     go (Some row) p = rw (object_add, p) (by row (barred b row id) refl)
 
-pub changed-fewer : (b : Board) (change : Change) → Fewer b (changed b change)
+changed-fewer : (b : Board) (change : Change) → Fewer b (changed b change)
 changed-fewer b (added driver id props) = object_add-fewer b driver id props
 changed-fewer b (deleted id) = object_del-fewer b id
 changed-fewer b (wrote n name v) = write-fewer b n name v

@@ -82,7 +82,7 @@ calm-less source xs ys less h = go less.scale
         }
     go (inr blank) = calm-blank source ys blank
 
-pub blank-fresh : (t : TypeId) → Blank (fresh_slots t)
+blank-fresh : (t : TypeId) → Blank (fresh_slots t)
 unfolding types
 blank-fresh Object = record { own = refl; mul = refl; div = refl; source = λ s. refl }
 blank-fresh Container = record { own = refl; mul = refl; div = refl; source = λ s. refl }
@@ -297,7 +297,7 @@ module _ (b : Board) (source : ℕ) where
     pub new : (m : ℕ) → b.born < m → Calm source (slots_at c m)
 
   -- slots are as before
-  pub growing-like : (c d : Board) → ((m : ℕ) → slots_at d m ≡ slots_at c m) → c.born ≡ d.born → Growing c → Growing d
+  growing-like : (c d : Board) → ((m : ℕ) → slots_at d m ≡ slots_at c m) → c.born ≡ d.born → Growing c → Growing d
   growing-like c d same births h =
       record {
         born = let low : b.born < c.born = h.born in omega (arith, low, births);
