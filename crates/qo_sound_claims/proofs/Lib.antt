@@ -1,0 +1,4 @@
+pub mod BesideLemmas
+pub mod LawLemmas
+pub mod OpeningLemmas
+pub mod SlotLemmas

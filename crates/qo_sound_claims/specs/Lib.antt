@@ -1,0 +1,3 @@
+pub mod ClaimsKept
+pub mod SoundClaims
+pub mod SoundRings
