@@ -1,4 +1,5 @@
 pub mod BesideLemmas
+pub mod DetachLemmas
 pub mod FewerLemmas
 pub mod KeptLemmas
 pub mod LawLemmas
