@@ -59,7 +59,7 @@ kept-strong (suc i) (x ∷ xs) own t target e = kept-strong i xs own t target e
 slots_in : Option Record → Slots
 slots_in o = option_map_or (λ (r : Record). r.slots) o []
 
-dropped-at : (c : Board) (n i : ℕ) (x : List ℕ × Slot) → slice_get (slots_at c n) i ≡ Some x → (r : Record) → record_of (drop_slot c n i) n ≡ Some r
+pub dropped-at : (c : Board) (n i : ℕ) (x : List ℕ × Slot) → slice_get (slots_at c n) i ≡ Some x → (r : Record) → record_of (drop_slot c n i) n ≡ Some r
     → without_hold i (slots_at c n) ≡ r.slots
 unfolding slots_in
 dropped-at c n i x at r e = go (record_of c n) refl

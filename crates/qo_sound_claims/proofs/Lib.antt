@@ -1,4 +1,5 @@
 pub mod BesideLemmas
+pub mod CommandLemmas
 pub mod DetachLemmas
 pub mod FewerLemmas
 pub mod KeptLemmas
