@@ -6,4 +6,6 @@ pub mod KeptLemmas
 pub mod LawLemmas
 pub mod OpeningLemmas
 pub mod ReadLemmas
+pub mod RingLemmas
 pub mod SlotLemmas
+pub mod StepsLemmas
