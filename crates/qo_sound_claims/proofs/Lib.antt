@@ -2,6 +2,7 @@ pub mod BesideLemmas
 pub mod CommandLemmas
 pub mod DetachLemmas
 pub mod FewerLemmas
+pub mod GrowingLemmas
 pub mod KeptLemmas
 pub mod LawLemmas
 pub mod OpeningLemmas

@@ -367,6 +367,20 @@ less-pointed is_dimm is_bus m i xs x e other no_bus =
       strongs = λ k d q. absurd (let clash : true ≡ false = sym d ∙ no_bus in cc);
     }
 
+-- a link of another name is filled
+pub less-filled : (is_dimm : Bool) (g : Slot → Slot) → ((s : Slot) → plain_in (g s) ≡ plain_in s) → (i : ℕ) (xs : Slots) (x : List ℕ × Slot)
+    → slice_get xs i ≡ Some x → is_memdev x.0 ≡ false → ClaimsLess is_dimm false xs (changed_at g i xs)
+less-filled is_dimm g same i xs x e other =
+    record {
+      chardev = plain-changed g same (codes "chardev") i xs;
+      addr = plain-changed g same (codes "addr") i xs;
+      size = plain-changed g same (codes "size") i xs;
+      lit = λ q. sym (ap (λ (o : Option Val). option_map_or is_true o false) (plain-changed g same (codes "realized") i xs)) ∙ q;
+      back = λ k q. sym (points-apart g is_memdev k i xs x e other) ∙ q;
+      on = λ k d l q. points-apart g is_memdev k i xs x e other ∙ q;
+      strongs = λ k d q. absurd (let clash : false ≡ true = d in cc);
+    }
+
 -- a slot more behind the others
 
 pub plain-added : (name own : List ℕ) (t : Slot) → plain_in t ≡ None → (xs : Slots) → plain_of name (xs ++ (own, t) ∷ []) ≡ plain_of name xs
