@@ -6,6 +6,7 @@ pub mod GrowingLemmas
 pub mod KeptLemmas
 pub mod LawLemmas
 pub mod OpeningLemmas
+pub mod OwnLemmas
 pub mod ReadLemmas
 pub mod RingLemmas
 pub mod SlotLemmas
