@@ -2,6 +2,7 @@
 use Rattle.std.proofs.Common.{◌≡◌, refl}
 use Rattle.qo_sound_claims.specs.ClaimsKept.{ClaimsKeptLaw}
 use Rattle.qo_sound_claims.proofs.OpeningLemmas.{opening-claims, opening-rings}
+use Rattle.qo_sound_claims.proofs.PlugLemmas.{plugged-backends}
 use Rattle.qo_sound_claims.proofs.RingLemmas.{ring-added, ring-filled, ring-removed}
 use Rattle.qo_sound_claims.proofs.StepsLemmas.{acted-backends, asked-backends, backends-beside, changed-backends, detach-backends, held-backends, pulse-backends, released-backends, reset-backends, scaled-backends, set-backends, wrote-backends}
 
@@ -26,6 +27,7 @@ claims_kept_lem =
       set = set-backends;
       scaled = scaled-backends;
       change = changed-backends;
+      plugged = plugged-backends;
       detached = detach-backends;
       reset = reset-backends;
     }

@@ -7,6 +7,7 @@ pub mod KeptLemmas
 pub mod LawLemmas
 pub mod OpeningLemmas
 pub mod OwnLemmas
+pub mod PlugLemmas
 pub mod ReadLemmas
 pub mod RingLemmas
 pub mod SlotLemmas

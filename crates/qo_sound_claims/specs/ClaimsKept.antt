@@ -13,7 +13,7 @@ use Rattle.qo_model.specs.FinalNotesRuns.{Change, changed}
 use Rattle.qo_model.specs.Hotplug.{asked, refused, reset_whole}
 use Rattle.qo_model.specs.Objects.{with_attempt}
 use Rattle.qo_model.specs.Opening.{opening_board}
-use Rattle.qo_model.specs.Plug.{claims_ring, cut_attempt, has_ring, plug_attempt}
+use Rattle.qo_model.specs.Plug.{Wanted, claims_ring, cut_attempt, has_ring, plug, plug_attempt}
 use Rattle.qo_model.specs.Reset.{held, pulse, released}
 use Rattle.qo_model.specs.Unplug.{detach}
 use Rattle.qo_sound_clocks.specs.RegistersKept.{registers_set}
@@ -54,8 +54,9 @@ pub record ClaimsKeptLaw : Type 0 where
   -- a write of a clock's period, and of its mul and div, that is not refused
   pub set : (b d : Board) (c period : ℕ) → clock_set b c period ≡ Ok d → SoundDevices b → SoundBackends b → SoundBackends d
   pub scaled : (b d : Board) (c mul div : ℕ) → clock_scaled b c mul div ≡ Ok d → SoundDevices b → SoundBackends b → SoundBackends d
-  -- each change by command on objects
+  -- each change by command on objects, and adding a device, taken or refused at any stage
   pub change : (b : Board) (change : Change) → SoundDevices b → SoundBackends b → SoundBackends (changed b change)
+  pub plugged : (b : Board) (a : Wanted) → SoundDevices b → SoundBackends b → SoundBackends (plug b a).board
   -- a device that stands in a container and is detached with all that is below it, and the reset of the whole board
   pub detached : (b : Board) (d : ℕ) → SoundDevices b → stands b d ≡ true → SoundBackends b → SoundBackends (detach b d)
   pub reset : (b : Board) → SoundDevices b → SoundBackends b → SoundBackends (reset_whole b)
