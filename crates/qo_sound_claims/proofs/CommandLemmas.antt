@@ -1,9 +1,8 @@
 -- The commands on objects: what they add is not realized, what they write is not claimed, and what they let go no realized device holds.
-use Rattle.std.proofs.Common.{◌≡◌, ◌⊎◌, inl, inr, refl, ap, sym, subst, ◌∙◌, rules, ℕ, zero, suc, ◌+◌, Bool, true, false, not, ◌==◌, List, [], ◌∷◌, map, length, position, slice_get, Option, Some, None, option_map, option_and_then, codes, Result, Ok, Err, get_or, ◌<◌, arith}
+use Rattle.std.proofs.Common.{◌≡◌, inl, inr, refl, ap, sym, subst, ◌∙◌, rules, ℕ, zero, suc, ◌+◌, Bool, true, false, not, ◌==◌, List, [], ◌∷◌, map, length, position, slice_get, Option, Some, None, option_map, option_and_then, codes, Result, Ok, Err, get_or, ◌<◌, arith}
 use Rattle.std.specs.List.{AllByRecursion}
 use Rattle.std.specs.Option.{option_map_or, option_or}
 use Rattle.std.specs.Str.{bytes_eq}
-use Rattle.std.proofs.lemmas.Bool.{eq-eqb}
 use Rattle.std.proofs.lemmas.Option.{same_Some}
 use Rattle.std.proofs.lemmas.Slice.Eq.{bytes_eq-Decides}
 use Rattle.std.proofs.lemmas.List.Quantifiers.{position-Some}
@@ -17,14 +16,14 @@ use Rattle.qo_values.specs.declared.kinds.TypeId.TheVariants.{Object, Container,
 use Rattle.qo_values.specs.declared.properties.Val.{Val}
 use Rattle.qo_values.specs.declared.properties.Val.TheVariants as val
 use Rattle.qo_model.specs.Board.{Board, Record, Slot, plain, child, strong, weak, alias, is_live, kind_of, record_of, slot_at, slots_at, held}
-use Rattle.qo_model.specs.Changes.{changed_at, point, pointed, set, with_added, with_changed, with_val}
-use Rattle.qo_model.specs.Devices.{is_realized, strong_in}
+use Rattle.qo_model.specs.Changes.{point, pointed, set, with_added, with_changed, with_val}
+use Rattle.qo_model.specs.Devices.{is_realized}
 use Rattle.qo_model.specs.FinalNotesRuns.{Change, added, deleted, wrote, severed, behind_write, changed}
 use Rattle.qo_model.specs.Objects.{Given, added_as, added_by, barred, is_object_named, object_add, object_del, place_from, refusal_of, sever, severed_from, slot_given, with_object}
 use Rattle.qo_model.specs.Opening.{fresh_slots}
 use Rattle.qo_model.specs.Paths.{attached, is_of}
 use Rattle.qo_model.specs.Properties.{link_target, link_written, linked, may_set, pointed_at, relinked, row_of_property, write, written, written_by}
-use Rattle.qo_model.specs.Release.{after, drop_slot, edit, edited, emptied, finalise, let_go, pin, with_dropped, without_hold}
+use Rattle.qo_model.specs.Release.{drop_slot, edited, emptied, let_go, pin, without_hold}
 use Rattle.qo_model.specs.Types.{TypeRow, is_a, row_named, types}
 use Rattle.qo_model.specs.declared.properties.Property.{Property}
 use Rattle.qo_model.specs.declared.properties.RowKind.{RowKind}
@@ -37,11 +36,11 @@ use Rattle.qo_sound_devices.specs.SoundDevices.{SoundDevices}
 use Rattle.qo_sound_devices.proofs.PlugLemmas.{stands-device}
 use Rattle.qo_sound_devices.proofs.SayLemmas.{devices_say_lem}
 use Rattle.qo_sound_clocks.proofs.FoundLemmas.{found-append}
-use Rattle.qo_sound_clocks.proofs.LessLemmas.{plain_of, Slots}
+use Rattle.qo_sound_clocks.proofs.LessLemmas.{Slots}
 use Rattle.qo_sound_claims.proofs.DetachLemmas.{dropped-at}
 use Rattle.qo_sound_claims.proofs.FewerLemmas.{at-record, Fewer, fewer-after, fewer-drop, fewer-let_go, fewer-none, fewer-pin, fewer-slots, fewer-unpin, Harmless, LessRecord, NearAt, record-none, record-slots, spares-harmless, Spares}
 use Rattle.qo_sound_claims.proofs.ReadLemmas.{realized-at}
-use Rattle.qo_sound_claims.proofs.SlotLemmas.{ClaimsLess, is_memdev, less-added, less-none, less-pointed, less-set, lit_in, OtherName}
+use Rattle.qo_sound_claims.proofs.SlotLemmas.{is_memdev, less-added, less-pointed, less-set, lit_in, OtherName}
 
 -- no property that is claimed is written by `qom-set`
 

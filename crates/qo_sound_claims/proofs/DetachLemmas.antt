@@ -1,36 +1,33 @@
 -- A device that is detached, with all that is below it: what stays claims no more than before.
-use Rattle.std.proofs.Common.{◌≡◌, ◌⊎◌, inl, inr, refl, ap, sym, subst, ◌∙◌, ℕ, zero, suc, Bool, true, false, not, ◌&&◌, ◌||◌, ◌==◌, eqb, List, [], ◌∷◌, filter_map, length, remove, slice_get, Option, Some, None, option_map, codes}
-use Rattle.std.specs.List.{list_any}
+use Rattle.std.proofs.Common.{◌≡◌, inl, inr, refl, ap, sym, subst, ◌∙◌, ℕ, zero, suc, Bool, true, false, ◌&&◌, ◌==◌, eqb, List, [], ◌∷◌, filter_map, length, slice_get, Option, Some, None, option_map, codes}
 use Rattle.std.specs.Option.{option_map_or}
-use Rattle.std.specs.Str.{bytes_eq}
 use Rattle.std.proofs.lemmas.Bool.{and_parts, eqb-true, eq-eqb}
 use Rattle.std.proofs.lemmas.Option.{same_Some}
 use Rattle.std.proofs.lemmas.Slice.Eq.{bytes_eq-Decides}
 use Rattle.qo_values.specs.declared.births.TheConstants.{ANONYMOUS_BIRTH, PERIPHERAL_BIRTH}
 use Rattle.qo_values.specs.declared.kinds.TypeId.{TypeId}
 use Rattle.qo_values.specs.declared.kinds.TypeId.TheVariants.{Object, Container, Machine, Device, SlotDevice, SlotUart, SlotTimer, SlotBridge, MemDimm, Bus, SlotBus, MemBus, Clock, MemoryBackend, MemoryBackendRam, Tag}
-use Rattle.qo_model.specs.Board.{Board, Record, Slot, plain, child, strong, weak, alias, kind_of, record_of, slots_at, slot_at, held}
+use Rattle.qo_model.specs.Board.{Board, Record, Slot, plain, child, strong, weak, alias, kind_of, record_of, slots_at, slot_at}
 use Rattle.qo_model.specs.Changes.{cut, with_cut}
 use Rattle.qo_model.specs.Depth.{among}
-use Rattle.qo_model.specs.Devices.{bus_in, bus_of, buses_of, is_realized, kids_of, strong_in}
+use Rattle.qo_model.specs.Devices.{bus_of, buses_of, kids_of, strong_in}
 use Rattle.qo_model.specs.Objects.{place_from}
 use Rattle.qo_model.specs.Paths.{births, is_child, is_of}
-use Rattle.qo_model.specs.Plug.{backend_of}
-use Rattle.qo_model.specs.Release.{after, drop_slot, edit, edited, finalise, pin, unpin, with_dropped, without_hold}
+use Rattle.qo_model.specs.Release.{drop_slot, edit, edited, pin, with_dropped, without_hold}
 use Rattle.qo_model.specs.Types.{is_a, types}
 use Rattle.qo_model.specs.Unplug.{apart_within, detach, drained, first_of, is_bus_slot, is_child_slot, is_named, left_bus, left_parent, let_go_where, lost_bus, lost_buses, names_kid, take_slot, take_where, taken_by, unrealize}
 use Rattle.qo_model.proofs.StepLemmas.{drop-record}
 use Rattle.qo_sound.specs.Kept.{SoundTree}
 use Rattle.qo_sound.proofs.RecordLemmas.{found-birth}
 use Rattle.qo_sound.proofs.UnplugLemmas.{Found, found-at}
-use Rattle.qo_sound_devices.specs.SoundPlaces.{kid_entries, kid_entry, listed, PlacesBut, stands}
+use Rattle.qo_sound_devices.specs.SoundPlaces.{kid_entry, listed, PlacesBut, stands}
 use Rattle.qo_sound_devices.proofs.LowLemmas.{is-bus_of, kid-of}
 use Rattle.qo_sound_devices.proofs.PlugLemmas.{stands-device}
-use Rattle.qo_sound_clocks.proofs.LessLemmas.{is_target, Slots}
+use Rattle.qo_sound_clocks.proofs.LessLemmas.{Slots}
 use Rattle.qo_sound_claims.specs.SoundClaims.{HasRange, is_dimm_on, SoundClaims}
 use Rattle.qo_sound_claims.proofs.FewerLemmas.{at-record, Fewer, fewer-after, fewer-drop, fewer-pin, fewer-slots, fewer-unpin, fewer-unrealize, fewer-where, fewer-none, Harmless, LessRecord, NearAt, Spares}
 use Rattle.qo_sound_claims.proofs.ReadLemmas.{backend-at, kind-at, realized-at}
-use Rattle.qo_sound_claims.proofs.SlotLemmas.{is_any, is_memdev, less-taken, lit_in, or-right, points, points_it, spared-dropped}
+use Rattle.qo_sound_claims.proofs.SlotLemmas.{is_any, is_memdev, less-taken, lit_in, points, spared-dropped}
 
 -- slots that hold no backend
 

@@ -1,11 +1,10 @@
 -- Boards whose objects claim no more than those of a board: small steps of objects that go, links that are emptied and values that are set.
-use Rattle.std.proofs.Common.{◌≡◌, ◌⊎◌, inl, inr, refl, ap, sym, subst, ◌∙◌, ℕ, zero, suc, Bool, true, false, ◌&&◌, ◌==◌, eqb, List, [], ◌∷◌, slice_get, Option, Some, None, option_map, codes, nat_eq, length}
+use Rattle.std.proofs.Common.{◌≡◌, ◌⊎◌, inl, refl, ap, sym, subst, ◌∙◌, ℕ, zero, suc, Bool, true, false, ◌&&◌, ◌==◌, eqb, List, [], ◌∷◌, slice_get, Option, Some, None, option_map, codes, nat_eq, length}
 use Rattle.std.specs.Bool.{⊤}
 use Rattle.std.specs.List.{list_any}
 use Rattle.std.specs.Option.{option_map_or}
 use Rattle.std.specs.Str.{bytes_eq}
-use Rattle.std.proofs.lemmas.Bool.{eqb-true, eq-eqb}
-use Rattle.std.proofs.lemmas.Option.{same_Some}
+use Rattle.std.proofs.lemmas.Bool.{eqb-true}
 use Rattle.std.proofs.lemmas.Slice.Eq.{bytes_eq-Decides}
 use Rattle.qo_values.specs.Bodies.{body_act}
 use Rattle.qo_values.specs.Registers.{Registers, bare, bridge, dimm, timer, uart}
@@ -13,8 +12,7 @@ use Rattle.qo_values.specs.declared.kinds.Act.{Act}
 use Rattle.qo_values.specs.declared.kinds.Act.TheVariants.{Init, Realize, Unrealize, Enter, Hold, Exit, Pre, Update}
 use Rattle.qo_values.specs.declared.properties.Val.{Val}
 use Rattle.qo_values.specs.declared.properties.Val.TheVariants as val
-use Rattle.qo_values.specs.declared.ranges.Range.{Range}
-use Rattle.qo_model.specs.Board.{Board, Record, Slot, plain, child, strong, weak, alias, record_of, is_live, slots_at, slot_at, held}
+use Rattle.qo_model.specs.Board.{Board, Record, Slot, record_of, slots_at, slot_at, held}
 use Rattle.qo_model.specs.Changes.{changed_at, set, with_changed, with_val}
 use Rattle.qo_model.specs.Clocks.{acted, device_period, with_act_on}
 use Rattle.qo_model.specs.Depth.{among, by_depth}
@@ -34,7 +32,7 @@ use Rattle.qo_sound.proofs.UnplugLemmas.{Found, found-at}
 use Rattle.qo_sound.proofs.WorkLemmas.{births_of}
 use Rattle.qo_sound_devices.proofs.AlikeLemmas.{apart-first, other-record}
 use Rattle.qo_sound_clocks.proofs.LessLemmas.{Slots}
-use Rattle.qo_sound_claims.proofs.SlotLemmas.{ClaimsLess, is_memdev, less-changed, less-dropped, less-forgotten, less-none, less-set, less-then, less-unseen, lit_in, OtherName, points, points-none, spared-dropped}
+use Rattle.qo_sound_claims.proofs.SlotLemmas.{ClaimsLess, is_memdev, less-dropped, less-forgotten, less-none, less-set, less-then, less-unseen, lit_in, OtherName, points, points-none, spared-dropped}
 
 -- an object claims no more than before; where it is said strictly, no strong link comes to a bus
 pub record LessRecord (strict : Bool) (r s : Record) : Type 0 where

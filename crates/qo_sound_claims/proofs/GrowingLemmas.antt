@@ -1,7 +1,6 @@
 -- A device that is added leaves the claims of all others, and the further objects that it brings claim nothing.
-use Rattle.std.proofs.Common.{◌≡◌, ◌⊎◌, inl, inr, refl, ap, sym, subst, ◌∙◌, ℕ, suc, ◌+◌, ◌<◌, ◌≤◌, Bool, true, false, ◌==◌, List, [], ◌∷◌, ◌++◌, filter, slice_get, Option, Some, None, option_map, codes, arith}
+use Rattle.std.proofs.Common.{◌≡◌, ◌⊎◌, inl, inr, refl, ap, sym, subst, ◌∙◌, ℕ, ◌+◌, ◌<◌, Bool, true, false, ◌==◌, List, [], ◌∷◌, filter, Option, Some, None, option_map, codes, arith}
 use Rattle.std.specs.Option.{option_or}
-use Rattle.std.specs.Str.{bytes_eq}
 use Rattle.std.proofs.lemmas.Bool.{eqb-true, eq-eqb}
 use Rattle.std.proofs.lemmas.Slice.Eq.{bytes_eq-Decides}
 use Rattle.qo_values.specs.declared.kinds.Act.{Act}
@@ -12,10 +11,10 @@ use Rattle.qo_values.specs.declared.properties.Val.{Val}
 use Rattle.qo_values.specs.declared.properties.Val.TheVariants as val
 use Rattle.qo_values.specs.declared.ranges.Range.{Range}
 use Rattle.qo_model.specs.Board.{Board, Record, Slot, plain, child, strong, weak, alias, record_of, slots_at}
-use Rattle.qo_model.specs.Changes.{add, changed_at, fresh, set, with_added, with_changed, with_val}
+use Rattle.qo_model.specs.Changes.{add, fresh, set, with_added, with_changed, with_val}
 use Rattle.qo_model.specs.Clocks.{acted, with_act_on}
 use Rattle.qo_model.specs.Devices.{clock_of, kid_name, plain_in, strong_in}
-use Rattle.qo_model.specs.Objects.{Given, place_from}
+use Rattle.qo_model.specs.Objects.{place_from}
 use Rattle.qo_model.specs.Opening.{first_value, fresh_record, fresh_slots}
 use Rattle.qo_model.specs.Paths.{canonical}
 use Rattle.qo_model.specs.Plug.{Spot, Wanted, acted_all, addressed_at, aliased, bus_births, clocked, counted, drafted, fitted, joined, link_named, name_for, owned, parent_for, row_made, rows_made, source_for, stood, valued, with_body_of, with_device, with_given, with_new, with_path, with_plugged, with_source}
@@ -31,8 +30,7 @@ use Rattle.qo_model.proofs.StepLemmas.{found-edited, found_at}
 use Rattle.qo_sound.proofs.RecordLemmas.{found-birth}
 use Rattle.qo_sound.proofs.UnplugLemmas.{Found, found-at}
 use Rattle.qo_sound_clocks.proofs.FoundLemmas.{found-append}
-use Rattle.qo_sound_clocks.proofs.LessLemmas.{Slots}
-use Rattle.qo_sound_claims.proofs.FewerLemmas.{act-range, at-record, LessRecord, near-none, near-step, NearAt, record-none, record-slots}
+use Rattle.qo_sound_claims.proofs.FewerLemmas.{act-range, at-record, LessRecord, near-none, near-step, NearAt, record-slots}
 use Rattle.qo_sound_claims.proofs.SlotLemmas.{ClaimsLess, is_memdev, less-added, less-filled, less-none, lit_in}
 
 -- an object as new is not realized

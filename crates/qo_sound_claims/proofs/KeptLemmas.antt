@@ -1,25 +1,23 @@
 -- Where objects claim no more than before, the claims stay sound.
-use Rattle.std.proofs.Common.{◌≡◌, ◌≢◌, refl, ap, ap₂, sym, subst, ◌∙◌, ℕ, Bool, true, false, ◌&&◌, ◌%◌, List, [], ◌∷◌, Option, Some, None, is_some, option_map, option_and_then, unwrap_or, codes}
+use Rattle.std.proofs.Common.{◌≡◌, ◌≢◌, refl, ap, sym, ◌∙◌, ℕ, Bool, true, false, ◌&&◌, List, [], ◌∷◌, Option, Some, None, is_some, option_map, option_and_then, unwrap_or, codes}
 use Rattle.std.specs.List.{list_any}
 use Rattle.std.specs.Str.{bytes_eq}
 use Rattle.std.proofs.lemmas.Bool.{and_parts}
 use Rattle.std.proofs.lemmas.Option.{same_Some}
-use Rattle.qo_values.specs.Placing.{overlap}
 use Rattle.qo_values.specs.Registers.{Registers, bare, bridge, dimm, timer, uart}
 use Rattle.qo_values.specs.declared.kinds.TypeId.{TypeId}
 use Rattle.qo_values.specs.declared.properties.Val.{Val}
 use Rattle.qo_values.specs.declared.ranges.Range.{Range}
-use Rattle.qo_model.specs.Board.{Board, Record, Ring, is_live, kind_of, record_of}
+use Rattle.qo_model.specs.Board.{Board, Record, Ring, kind_of, record_of}
 use Rattle.qo_model.specs.Devices.{is_realized, number_at, number_in, text_at, text_in}
 use Rattle.qo_model.specs.Paths.{is_of}
-use Rattle.qo_model.specs.Plug.{backend_of, has_ring, range_in, size_of}
+use Rattle.qo_model.specs.Plug.{backend_of, range_in, size_of}
 use Rattle.qo_model.specs.Types.{is_a}
 use Rattle.qo_sound.specs.Kept.{SoundTree}
-use Rattle.qo_sound_clocks.proofs.LessLemmas.{plain_of}
 use Rattle.qo_sound_claims.specs.SoundClaims.{HasRange, is_dimm_on, is_uart_on, NamesRing, SoundClaims, StandsOn}
 use Rattle.qo_sound_claims.proofs.FewerLemmas.{Fewer, LessRecord, NearAt}
 use Rattle.qo_sound_claims.proofs.ReadLemmas.{at-backend, backend-at, kind-at, plain-at, realized-at, target-there}
-use Rattle.qo_sound_claims.proofs.SlotLemmas.{is_memdev, lit_in, points}
+use Rattle.qo_sound_claims.proofs.SlotLemmas.{is_memdev, lit_in}
 
 -- registers by their range
 
@@ -127,8 +125,7 @@ module _ (b c : Board) (before : SoundTree b) (after : SoundTree c) where
       go o q None k = absurd (let clash : false ≡ true = rw k at there in cc)
       go None q (Some s) k = absurd (let clash : false ≡ true = rw q at e in cc)
       go (Some r) q (Some s) k =
-          let less : LessRecord false r s = rw (q, k) at old in
-          (
+          let less : LessRecord false r s = rw (q, k) at old in (
             kind-at c m s k (codes "memory-backend") ∙ ap (λ (t : TypeId). is_a t (codes "memory-backend")) less.kind ∙ sym (kind-at b m r q (codes "memory-backend")) ∙ e,
             ap (λ (o : Option Val). unwrap_or (option_and_then number_in o) 0)
                 (plain-at c after m s k (codes "size") ∙ less.slots.size ∙ sym (plain-at b before m r q (codes "size"))),

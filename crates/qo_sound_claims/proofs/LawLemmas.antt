@@ -1,5 +1,5 @@
 -- The law: what keeps the rings of a board sound, and what its devices claim.
-use Rattle.std.proofs.Common.{◌≡◌, refl}
+use Rattle.std.proofs.Common.{refl}
 use Rattle.qo_sound_claims.specs.ClaimsKept.{ClaimsKeptLaw}
 use Rattle.qo_sound_claims.proofs.OpeningLemmas.{opening-claims, opening-rings}
 use Rattle.qo_sound_claims.proofs.PlugLemmas.{plugged-backends}

@@ -3,7 +3,7 @@ use Rattle.std.proofs.Common.{◌≡◌, refl, sym, ◌∙◌, rules, ℕ, Bool,
 use Rattle.std.specs.List.{AllByRecursion, IsDistinct}
 use Rattle.std.specs.Option.{option_map_or}
 use Rattle.std.specs.Str.{bytes_eq}
-use Rattle.qo_model.specs.Board.{Board, Record, Slot, record_of, slots_at}
+use Rattle.qo_model.specs.Board.{Record, Slot, record_of}
 use Rattle.qo_model.specs.Devices.{is_realized, is_true, plain_in}
 use Rattle.qo_model.specs.Opening.{opening_board}
 use Rattle.qo_model.specs.Paths.{is_of}

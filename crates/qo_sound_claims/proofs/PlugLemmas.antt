@@ -1,5 +1,5 @@
 -- Adding a device, taken or refused at any stage, keeps the backends sound: what bars it late is what the claims need.
-use Rattle.std.proofs.Common.{◌≡◌, ◌≢◌, ◌⊎◌, inl, inr, refl, ap, sym, subst, ◌∙◌, ℕ, zero, suc, ◌+◌, ◌<◌, ◌≤◌, ◌%◌, Bool, true, false, not, ◌&&◌, ◌||◌, ◌==◌, eqb, List, [], ◌∷◌, ◌++◌, filter, find, map, Option, Some, None, is_some, option_map, option_and_then, codes, Result, Ok, Err, arith}
+use Rattle.std.proofs.Common.{◌≡◌, ◌≢◌, ◌⊎◌, inl, inr, refl, ap, sym, subst, ◌∙◌, ℕ, zero, suc, ◌+◌, ◌<◌, ◌≤◌, ◌%◌, Bool, true, false, not, ◌&&◌, ◌==◌, List, [], ◌∷◌, ◌++◌, filter, find, map, Option, Some, None, is_some, option_map, option_and_then, codes, Result, Ok, Err, arith}
 use Rattle.std.specs.Prelude.{if◌then◌else◌, nat_le, nat_lt, unwrap_or}
 use Rattle.std.specs.List.{flat_map, list_any}
 use Rattle.std.specs.Option.{option_map_or, option_or}
@@ -17,11 +17,11 @@ use Rattle.qo_values.specs.declared.limits.TheConstants.{DIMM_ALIGN}
 use Rattle.qo_values.specs.declared.properties.Val.{Val}
 use Rattle.qo_values.specs.declared.properties.Val.TheVariants as val
 use Rattle.qo_values.specs.declared.ranges.Range.{Range}
-use Rattle.qo_model.specs.Board.{Board, Record, Ring, Slot, plain, child, strong, weak, alias, is_live, kind_of, record_of, slots_at}
+use Rattle.qo_model.specs.Board.{Board, Record, Ring, Slot, plain, strong, kind_of, record_of}
 use Rattle.qo_model.specs.Devices.{is_realized, number_at, number_in, plain_in, strong_in, text_at, text_in}
 use Rattle.qo_model.specs.Objects.{Given, given_to, refusal_by, refusal_of, slot_given, target_given}
 use Rattle.qo_model.specs.Paths.{is_of}
-use Rattle.qo_model.specs.Plug.{Spot, Wanted, at_stage, backend_of, barred_late, claims_ring, code_in, dimms, first_of, given_for, has_backend, has_ring, is_dimm, kind_barred, notice_barred, number_for, ok_in, place_barred, plug, plug_attempt, range_barred, range_for, range_in, range_of, ranges_of, realize_barred, ring_barred, size_of, spot_of, target_for, text_for, with_plugged}
+use Rattle.qo_model.specs.Plug.{Spot, Wanted, at_stage, backend_of, barred_late, claims_ring, code_in, dimms, first_of, has_backend, has_ring, is_dimm, kind_barred, notice_barred, number_for, ok_in, place_barred, plug, plug_attempt, range_barred, range_for, range_in, range_of, ranges_of, realize_barred, ring_barred, size_of, spot_of, target_for, text_for, with_plugged}
 use Rattle.qo_model.specs.Properties.{link_target, row_of_property}
 use Rattle.qo_model.specs.Types.{is_a, slots_of, types}
 use Rattle.qo_model.proofs.StepLemmas.{found_at}
@@ -39,14 +39,13 @@ use Rattle.qo_sound_devices.proofs.AcceptedLemmas.{Passes, passes}
 use Rattle.qo_sound_devices.proofs.PlugLemmas.{Accepted, behind-plug}
 use Rattle.qo_sound_devices.proofs.PluggedLemmas.{accepted-joined}
 use Rattle.qo_sound_claims.specs.SoundBackends.{SoundBackends}
-use Rattle.qo_sound_claims.specs.SoundClaims.{HasRange, is_dimm_on, is_uart_on, NamesRing, SoundClaims, StandsOn}
+use Rattle.qo_sound_claims.specs.SoundClaims.{HasRange, is_dimm_on, is_uart_on, NamesRing, StandsOn}
 use Rattle.qo_sound_claims.specs.SoundRings.{AreGoodRings}
-use Rattle.qo_sound_claims.proofs.FewerLemmas.{NearAt}
 use Rattle.qo_sound_claims.proofs.GrowingLemmas.{Growing, growing-all}
 use Rattle.qo_sound_claims.proofs.KeptLemmas.{backend-before, dimm-before, dimm-of, memory-same, Old, one_uart-old, ranges-old, rings-old, stands-before, uart-before}
-use Rattle.qo_sound_claims.proofs.OwnLemmas.{Apart, first_row, own-addr, own-is, own-range, ranges_at}
+use Rattle.qo_sound_claims.proofs.OwnLemmas.{Apart, first_row, own-addr, own-is, own-range}
 use Rattle.qo_sound_claims.proofs.ReadLemmas.{at-backend, kind-at, target-there}
-use Rattle.qo_sound_claims.proofs.RingLemmas.{claims-it, none-found}
+use Rattle.qo_sound_claims.proofs.RingLemmas.{claims-it}
 use Rattle.qo_sound_claims.proofs.SlotLemmas.{is_memdev}
 use Rattle.qo_sound_claims.proofs.StepsLemmas.{backends-beside}
 

@@ -1,21 +1,20 @@
 -- What is read of the claims of a board whose tree is sound, by the slots of each object.
-use Rattle.std.proofs.Common.{◌≡◌, refl, ap, sym, ◌∙◌, ℕ, Bool, true, false, ◌&&◌, ◌||◌, List, [], ◌∷◌, find, Option, Some, None, is_some, option_map, option_and_then, codes}
+use Rattle.std.proofs.Common.{◌≡◌, refl, ap, sym, ◌∙◌, ℕ, Bool, true, false, ◌&&◌, List, [], ◌∷◌, find, Option, Some, None, is_some, option_map, option_and_then, codes}
 use Rattle.std.specs.List.{AllByRecursion, IsDistinct}
 use Rattle.std.specs.Option.{option_map_or, option_or}
 use Rattle.std.specs.Str.{bytes_eq}
 use Rattle.std.proofs.lemmas.Bool.{eqb-true, eq-eqb}
 use Rattle.std.proofs.lemmas.Option.{same_Some}
 use Rattle.std.proofs.lemmas.Slice.Eq.{bytes_eq-Decides}
-use Rattle.qo_values.specs.Kinds.{type_name}
 use Rattle.qo_values.specs.declared.kinds.TypeId.{TypeId}
 use Rattle.qo_values.specs.declared.properties.Val.{Val}
-use Rattle.qo_model.specs.Board.{Board, Record, Slot, plain, child, strong, weak, alias, is_live, kind_of, record_of, slots_at}
-use Rattle.qo_model.specs.Devices.{is_realized, is_true, plain_at, plain_in, strong_at, strong_in}
+use Rattle.qo_model.specs.Board.{Board, Record, Slot, plain, child, strong, weak, alias, kind_of, record_of}
+use Rattle.qo_model.specs.Devices.{is_realized, is_true, plain_at, plain_in, strong_in}
 use Rattle.qo_model.specs.Paths.{is_of}
 use Rattle.qo_model.specs.Plug.{backend_of}
 use Rattle.qo_model.specs.Types.{is_a}
 use Rattle.qo_sound.specs.Kept.{SoundTree}
-use Rattle.qo_sound.proofs.FirmLemmas.{AllLinked, FitsKind, HasNames, Linked}
+use Rattle.qo_sound.proofs.FirmLemmas.{FitsKind, HasNames, Linked}
 use Rattle.qo_sound.proofs.SlotLemmas.{names_in}
 use Rattle.qo_sound.proofs.ViewLemmas.{rest-from_sound}
 use Rattle.qo_sound_clocks.proofs.FoundLemmas.{all-found}

@@ -1,5 +1,5 @@
 -- Rings that are added, removed and filled.
-use Rattle.std.proofs.Common.{◌≡◌, ◌≢◌, refl, ap, ap₂, sym, subst, ◌∙◌, ℕ, ◌≤◌, Bool, true, false, not, ◌&&◌, ◌||◌, ◌==◌, List, [], ◌∷◌, ◌++◌, filter, length, map, Option, Some, None, option_and_then, codes}
+use Rattle.std.proofs.Common.{◌≡◌, ◌≢◌, refl, ap, sym, subst, ◌∙◌, ℕ, ◌≤◌, Bool, true, false, not, ◌&&◌, ◌||◌, ◌==◌, List, [], ◌∷◌, ◌++◌, filter, length, map, Option, Some, None, codes}
 use Rattle.std.specs.List.{AllByRecursion, IsDistinct, list_any}
 use Rattle.std.specs.Option.{option_map_or}
 use Rattle.std.specs.Str.{bytes_eq}
@@ -7,8 +7,7 @@ use Rattle.std.proofs.lemmas.Bool.{and_parts}
 use Rattle.std.proofs.lemmas.Option.{same_Some}
 use Rattle.std.proofs.lemmas.Slice.Eq.{bytes_eq-Decides}
 use Rattle.qo_values.specs.Rings.{is_ring_size}
-use Rattle.qo_values.specs.declared.kinds.TypeId.{TypeId}
-use Rattle.qo_model.specs.Board.{Board, Record, Ring, kind_of, record_of}
+use Rattle.qo_model.specs.Board.{Board, Record, Ring, record_of}
 use Rattle.qo_model.specs.Devices.{is_realized, text_at}
 use Rattle.qo_model.specs.Paths.{is_of}
 use Rattle.qo_model.specs.Plug.{claims_ring, has_ring}
@@ -18,7 +17,7 @@ use Rattle.qo_sound.proofs.RecordLemmas.{all-append, all-filter, found-birth}
 use Rattle.qo_sound_claims.specs.ClaimsKept.{ring_frame}
 use Rattle.qo_sound_claims.specs.SoundBackends.{SoundBackends}
 use Rattle.qo_sound_claims.specs.SoundClaims.{HasRange, is_uart_on, NamesRing, SoundClaims}
-use Rattle.qo_sound_claims.specs.SoundRings.{AreGoodRings, IsGoodRing, ring_ids, SoundRings}
+use Rattle.qo_sound_claims.specs.SoundRings.{IsGoodRing, ring_ids}
 use Rattle.qo_sound_claims.proofs.ReadLemmas.{kind-at}
 
 -- claims with other rings, where those that are named are still there

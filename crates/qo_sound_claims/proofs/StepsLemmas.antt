@@ -1,5 +1,5 @@
 -- Acts, holds, clocks that are written, registers that a guest writes, devices that go, and the reset of the whole board keep the backends sound.
-use Rattle.std.proofs.Common.{◌≡◌, inl, refl, ap, sym, subst, ◌∙◌, ℕ, zero, suc, Bool, true, false, ◌==◌, eqb, List, [], ◌∷◌, ◌++◌, filter, length, codes, Option, Some, None, is_some, option_map, Result, Ok, Err}
+use Rattle.std.proofs.Common.{◌≡◌, inl, refl, ap, sym, subst, ◌∙◌, ℕ, zero, suc, Bool, true, false, eqb, List, [], ◌∷◌, filter, length, codes, Option, Some, None, is_some, option_map, Ok, Err}
 use Rattle.std.specs.List.{AllByRecursion}
 use Rattle.std.proofs.lemmas.Option.{same_Some}
 use Rattle.qo_values.specs.Bodies.{Effect, body_write, bridge_write, effect_of, nothing}
@@ -28,7 +28,6 @@ use Rattle.qo_model.specs.Reset.{held, is_out, phased, post, pulse, released}
 use Rattle.qo_model.specs.Types.{is_a}
 use Rattle.qo_model.specs.Unplug.{detach, first_of, is_named, set_named}
 use Rattle.qo_model.proofs.StaysLemmas.{stays_lem}
-use Rattle.qo_sound.specs.Kept.{SoundTree}
 use Rattle.qo_sound.proofs.DevicesStayLemmas.{devices_stay_lem}
 use Rattle.qo_sound_devices.specs.SoundDevices.{SoundDevices}
 use Rattle.qo_sound_devices.specs.SoundLists.{IsOn}
