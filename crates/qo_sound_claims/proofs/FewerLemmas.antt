@@ -187,7 +187,8 @@ Harmless s = (strong_in s.1 ≡ None) ⊎ (is_memdev s.0 ≡ false)
 abbrev slots_in : Option Record → Slots
 slots_in o = option_map_or (λ (r : Record). r.slots) o []
 
-pub at-record : (c : Board) (n i : ℕ) (s : List ℕ × Slot) (r : Record) → slice_get (slots_at c n) i ≡ Some s → record_of c n ≡ Some r → slice_get r.slots i ≡ Some s
+pub at-record : (c : Board) (n i : ℕ) (s : List ℕ × Slot) (r : Record) → slice_get (slots_at c n) i ≡ Some s → record_of c n ≡ Some r
+    → slice_get r.slots i ≡ Some s
 at-record c n i s r at e = sym (ap (λ (o : Option Record). slice_get (slots_in o) i) e) ∙ at
 
 pub spares-harmless : (c : Board) (n i : ℕ) (s : List ℕ × Slot) → slice_get (slots_at c n) i ≡ Some s → Harmless s → Spares c n i

@@ -126,7 +126,10 @@ module _ (b c : Board) (before : SoundTree b) (after : SoundTree c) where
       go None q (Some s) k = absurd (let clash : false ≡ true = rw q at e in cc)
       go (Some r) q (Some s) k =
           let less : LessRecord false r s = rw (q, k) at old in (
-            kind-at c m s k (codes "memory-backend") ∙ ap (λ (t : TypeId). is_a t (codes "memory-backend")) less.kind ∙ sym (kind-at b m r q (codes "memory-backend")) ∙ e,
+            kind-at c m s k (codes "memory-backend")
+                ∙ ap (λ (t : TypeId). is_a t (codes "memory-backend")) less.kind
+                ∙ sym (kind-at b m r q (codes "memory-backend"))
+                ∙ e,
             ap (λ (o : Option Val). unwrap_or (option_and_then number_in o) 0)
                 (plain-at c after m s k (codes "size") ∙ less.slots.size ∙ sym (plain-at b before m r q (codes "size"))),
           )
@@ -195,5 +198,6 @@ module _ (b c : Board) (before : SoundTree b) (after : SoundTree c) where
           one_dimm = λ d e m on also q r.
               h.one_dimm d e m (dimm-before d (old d) on) (dimm-before e (old e) also) (backend-before d m (old d) on q) (backend-before e m (old e) also r);
           apart = λ d e g k on also differ q r.
-              h.apart d e g k (dimm-before d (old d) on) (dimm-before e (old e) also) differ (stands-before d g (old d) on q) (stands-before e k (old e) also r);
+              h.apart d e g k (dimm-before d (old d) on) (dimm-before e (old e) also) differ (stands-before d g (old d) on q)
+              (stands-before e k (old e) also r);
         }

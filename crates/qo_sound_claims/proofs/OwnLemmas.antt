@@ -59,7 +59,8 @@ slot-last : (name own : List ℕ) (s : Slot) → bytes_eq own name ≡ true → 
 slot-last name own s is [] e = rw is refl
 slot-last name own s is (x ∷ slots) e = go (bytes_eq x.0 name) refl (slot-last name own s is slots)
   where
-    go : (t : Bool) → bytes_eq x.0 name ≡ t → (named_in name slots ≡ None → SlotIs name s (slots ++ (own, s) ∷ [])) → SlotIs name s ((x ∷ slots) ++ (own, s) ∷ [])
+    go : (t : Bool) → bytes_eq x.0 name ≡ t → (named_in name slots ≡ None → SlotIs name s (slots ++ (own, s) ∷ []))
+        → SlotIs name s ((x ∷ slots) ++ (own, s) ∷ [])
     go true p rest = absurd (let clash : Some x.1 ≡ None = rw p at e in cc)
     go false p rest = rw p (rest (rw p at e))
 
@@ -256,13 +257,15 @@ ranges_at c n = option_map (λ (r : Record). range_in r.registers) (record_of c 
 
 range-edit : (n m : ℕ) (change : Record → Record) → ((r : Record) → (change r).birth ≡ r.birth)
     → ((r : Record) → range_in (change r).registers ≡ range_in r.registers) → (c : Board) → ranges_at (edit m change c) n ≡ ranges_at c n
-range-edit n m change same_birth same c = ap (option_map (λ (r : Record). range_in r.registers)) (found-edited m change same_birth n c.records) ∙ go (record_of c n)
+range-edit n m change same_birth same c =
+    ap (option_map (λ (r : Record). range_in r.registers)) (found-edited m change same_birth n c.records) ∙ go (record_of c n)
   where
     at_record : (r : Record) (t : Bool) → (r.birth == m) ≡ t → range_in (edited m change r).registers ≡ range_in r.registers
     at_record r true p = rw (edited, p) (same r)
     at_record r false p = rw (edited, p) refl
 
-    go : (o : Option Record) → option_map (λ (r : Record). range_in r.registers) (option_map (edited m change) o) ≡ option_map (λ (r : Record). range_in r.registers) o
+    go : (o : Option Record)
+        → option_map (λ (r : Record). range_in r.registers) (option_map (edited m change) o) ≡ option_map (λ (r : Record). range_in r.registers) o
     go None = refl
     go (Some r) = ap Some (at_record r (r.birth == m) refl)
 

@@ -98,7 +98,8 @@ given-fits b t name (q ∷ props) e p k =
     go (refusal_by b (row_of_property t q.0) q.1) refl (bytes_eq q.0 name) refl (given-fits b t name props)
   where
     go : (o : Option Code) → refusal_by b (row_of_property t q.0) q.1 ≡ o → (u : Bool) → bytes_eq q.0 name ≡ u
-        → (refusal_of b t props ≡ None → (r : Given) → find (λ (s : Given). bytes_eq s.0 name) props ≡ Some r → refusal_by b (row_of_property t name) r.1 ≡ None)
+        → (refusal_of b t props ≡ None → (r : Given) → find (λ (s : Given). bytes_eq s.0 name) props ≡ Some r
+        → refusal_by b (row_of_property t name) r.1 ≡ None)
         → refusal_by b (row_of_property t name) p.1 ≡ None
     go (Some code) r u l rest = absurd (let clash : Some code ≡ None = rw (refusal_of, r) at e in cc)
     go None r true l rest =
@@ -127,7 +128,8 @@ text-given : (b : Board) (props : List Given) → refusal_of b SlotUart props �
 text-given b props e = go (find (λ (q : Given). bytes_eq q.0 (codes "chardev")) props) refl
   where
     go : (o : Option Given) → find (λ (q : Given). bytes_eq q.0 (codes "chardev")) props ≡ o
-        → elim o as (λ _. Slot) [ None ↦ plain (val.Text []) | Some p ↦ given_to b (plain (val.Text [])) p.1 ] ≡ plain (val.Text (unwrap_or (option_and_then text_in (option_map (λ (p : Given). p.1) o)) []))
+        → elim o as (λ _. Slot) [ None ↦ plain (val.Text []) | Some p ↦ given_to b (plain (val.Text [])) p.1 ]
+        ≡ plain (val.Text (unwrap_or (option_and_then text_in (option_map (λ (p : Given). p.1) o)) []))
     go None q = refl
     go (Some p) q =
         let k : IsText p.1 = uart-text b p.1 (given-fits b SlotUart (codes "chardev") props e p q) in
@@ -153,7 +155,11 @@ dimm-addr : (b : Board) (v : Val) → refusal_by b (row_of_property MemDimm (cod
 unfolding types
 dimm-addr b (val.Uint at) e =
     let passes : (nat_le 0 at && nat_le at 18446744073709551615 && (at % DIMM_ALIGN == 0)) ≡ true = admitted _ e in
-    record { at = at; is = refl; aligned = eqb-true (at % DIMM_ALIGN) 0 (and-last (nat_le 0 at) (nat_le at 18446744073709551615) (at % DIMM_ALIGN == 0) passes) }
+    record {
+      at = at;
+      is = refl;
+      aligned = eqb-true (at % DIMM_ALIGN) 0 (and-last (nat_le 0 at) (nat_le at 18446744073709551615) (at % DIMM_ALIGN == 0) passes);
+    }
 dimm-addr b (val.Text text) e = absurd (let clash : Some E19 ≡ None = e in cc)
 dimm-addr b (val.Bool v) e = absurd (let clash : Some E19 ≡ None = e in cc)
 dimm-addr b (val.Int v) e = absurd (let clash : Some E19 ≡ None = e in cc)
@@ -266,7 +272,8 @@ dimm-passes b props fits e = go (target_for b MemoryBackend props (codes "memdev
         by_range m q parts.0 parts.1
 
 -- its backend is one
-target-memory : (b : Board) (props : List Given) (m : ℕ) → target_for b MemoryBackend props (codes "memdev") ≡ Some m → is_of b (codes "memory-backend") m ≡ true
+target-memory : (b : Board) (props : List Given) (m : ℕ) → target_for b MemoryBackend props (codes "memdev") ≡ Some m
+    → is_of b (codes "memory-backend") m ≡ true
 target-memory b props m e =
     go (link_target b MemoryBackend (text_for props (codes "memdev"))) refl (target-fits b MemoryBackend (text_for props (codes "memdev")))
   where
@@ -296,7 +303,8 @@ memdev-given b props m e = go (find (λ (q : Given). bytes_eq q.0 (codes "memdev
     of val.Nothing k = absurd (let clash : None ≡ Some m = k in cc)
 
     go : (o : Option Given)
-        → elim (link_target b MemoryBackend (unwrap_or (option_and_then text_in (option_map (λ (p : Given). p.1) o)) [])) as (λ _. Option ℕ) [ Ok target ↦ target | Err code ↦ None ] ≡ Some m
+        → elim (link_target b MemoryBackend (unwrap_or (option_and_then text_in (option_map (λ (p : Given). p.1) o)) [])) as (λ _. Option ℕ)
+        [ Ok target ↦ target | Err code ↦ None ] ≡ Some m
         → elim o as (λ _. Slot) [ None ↦ strong MemoryBackend None | Some p ↦ given_to b (strong MemoryBackend None) p.1 ] ≡ strong MemoryBackend (Some m)
     go None k = absurd (let clash : None ≡ Some m = k in cc)
     go (Some p) k = of p.1 k
@@ -341,7 +349,8 @@ none-dimm b p none d on = go (record_of b d) refl
         later false q l = rw (l, q) at e
 
         choose : (t : Bool) → counts_in b x ≡ t → (u : Bool) → (x.birth == d) ≡ u
-            → (list_any p (map (λ (y : Record). y.birth) (filter (counts_in b) rs)) ≡ false → (y : Record) → found_at d rs ≡ Some y → counts_in b y ≡ true → p y.birth ≡ false)
+            → (list_any p (map (λ (y : Record). y.birth) (filter (counts_in b) rs)) ≡ false → (y : Record) → found_at d rs ≡ Some y
+            → counts_in b y ≡ true → p y.birth ≡ false)
             → p r.birth ≡ false
         choose true l true m rest =
             let is : x ≡ r = same_Some x r (rw m at k) in

@@ -168,5 +168,6 @@ pub target-there : (b : Board) → SoundTree b → (n : ℕ) (r : Record) → re
     → is_some (kind_of b k) ≡ true
 target-there b tree n r there p k e =
     points-live (kind_of b) p k r.slots
-    (all-found (λ (x : Record). AllByRecursion (λ (s : List ℕ × Slot). Linked (kind_of b) s.1) x.slots) n b.records (rest-from_sound b tree).used.firm.linked r there)
+    (all-found (λ (x : Record). AllByRecursion (λ (s : List ℕ × Slot). Linked (kind_of b) s.1) x.slots) n b.records
+    (rest-from_sound b tree).used.firm.linked r there)
     e

@@ -117,7 +117,8 @@ stays id own apart [] e = e
 stays id own apart (x ∷ rings) e = go (bytes_eq x.id id) refl (bytes_eq x.id own) refl (stays id own apart rings)
   where
     go : (t : Bool) → bytes_eq x.id id ≡ t → (u : Bool) → bytes_eq x.id own ≡ u
-        → (list_any (λ (r : Ring). bytes_eq r.id own) rings ≡ true → list_any (λ (r : Ring). bytes_eq r.id own) (filter (λ (r : Ring). not (bytes_eq r.id id)) rings) ≡ true)
+        → (list_any (λ (r : Ring). bytes_eq r.id own) rings ≡ true
+        → list_any (λ (r : Ring). bytes_eq r.id own) (filter (λ (r : Ring). not (bytes_eq r.id id)) rings) ≡ true)
         → list_any (λ (r : Ring). bytes_eq r.id own) (filter (λ (r : Ring). not (bytes_eq r.id id)) (x ∷ rings)) ≡ true
     go true p true q rest = absurd (apart (sym ((bytes_eq-Decides x.id own).0 q) ∙ (bytes_eq-Decides x.id id).0 p))
     go true p false q rest = rw p (rest (rw q at e))
@@ -184,7 +185,8 @@ frame-ids : (rings : List Ring) → map (λ (f : List ℕ × ℕ). f.0) (map rin
 frame-ids [] = refl
 frame-ids (r ∷ rings) = ap (λ (ids : List (List ℕ)). r.id ∷ ids) (frame-ids rings)
 
-any-frames : (id : List ℕ) (rings : List Ring) → list_any (λ (f : List ℕ × ℕ). bytes_eq f.0 id) (map ring_frame rings) ≡ list_any (λ (r : Ring). bytes_eq r.id id) rings
+any-frames : (id : List ℕ) (rings : List Ring)
+    → list_any (λ (f : List ℕ × ℕ). bytes_eq f.0 id) (map ring_frame rings) ≡ list_any (λ (r : Ring). bytes_eq r.id id) rings
 any-frames id [] = refl
 any-frames id (r ∷ rings) = ap (λ (t : Bool). bytes_eq r.id id || t) (any-frames id rings)
 

@@ -1,4 +1,5 @@
--- What claims read of the slots of an object, whatever stands between: values of plain slots, and targets of strong links under names that pass. Slots that claim no more than others do.
+-- What claims read of the slots of an object, whatever stands between: values of plain slots, and targets of strong links under names that pass.
+-- Slots that claim no more than others do.
 use Rattle.std.proofs.Common.{◌≡◌, ◌⊎◌, inl, inr, refl, ap, sym, ◌∙◌, ℕ, zero, suc, Bool, true, false, cond, ◌&&◌, ◌||◌, List, [], ◌∷◌, ◌++◌, remove, slice_get, Option, Some, None, codes}
 use Rattle.std.specs.List.{list_any}
 use Rattle.std.specs.Option.{option_map_or, option_or}

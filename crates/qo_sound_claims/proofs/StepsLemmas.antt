@@ -175,8 +175,8 @@ scaled-backends b d c mul div e devices h =
 
 -- registers that a guest writes
 
-mapped-range : {A : Type 0} (f : A → Registers × Effect) (gs : List Range) → ((x : A) → range_in (f x).0 ≡ gs) → (o : Option A) (s : Registers) (effect : Effect)
-    → option_map f o ≡ Some (s, effect) → range_in s ≡ gs
+mapped-range : {A : Type 0} (f : A → Registers × Effect) (gs : List Range) → ((x : A) → range_in (f x).0 ≡ gs) → (o : Option A) (s : Registers)
+    (effect : Effect) → option_map f o ≡ Some (s, effect) → range_in s ≡ gs
 mapped-range f gs same None s effect e = cc
 mapped-range f gs same (Some x) s effect e = ap range_in (sym (ap (λ (p : Registers × Effect). p.0) (same_Some (f x) (s, effect) e))) ∙ same x
 

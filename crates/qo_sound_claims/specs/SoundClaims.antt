@@ -1,4 +1,5 @@
--- When what the realized devices of a board claim is sound: the rings of UARTs (include/hw/qdev-properties.h, `DEFINE_PROP_CHR`), the backends and the ranges of DIMMs (include/hw/mem/memory-device.h, `MemoryDeviceClass`).
+-- When what the realized devices of a board claim is sound: the rings of UARTs (include/hw/qdev-properties.h, `DEFINE_PROP_CHR`), and the
+-- backends and the ranges of DIMMs (include/hw/mem/memory-device.h, `MemoryDeviceClass`).
 use Rattle.std.specs.Prelude.{◌≡◌, ◌≢◌, ℕ, ◌%◌, ◌&&◌, Bool, true, false, List, [], codes, Some, option_map}
 use Rattle.qo_values.specs.Placing.{is_in_window, overlap}
 use Rattle.qo_values.specs.Registers.{dimm}
