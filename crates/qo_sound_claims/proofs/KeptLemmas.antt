@@ -183,7 +183,7 @@ module _ (b c : Board) (before : SoundTree b) (after : SoundTree c) where
           memdev = memdev;
           memory = memory.0;
           addr = addr-same (codes "mem-dimm") x k ∙ was.addr;
-          long = was.long ∙ sym memory.1;
+          size = was.size ∙ sym memory.1;
           aligned = was.aligned;
           window = was.window;
           stands = stands-on (codes "mem-dimm") x k was.range was.stands;

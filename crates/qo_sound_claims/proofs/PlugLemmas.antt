@@ -602,7 +602,7 @@ module _ (b : Board) (a : Wanted) (devices : SoundDevices b) (h : SoundBackends 
           memdev = own-backend;
           memory = memory.0;
           addr = own-at;
-          long = fits.fits.size_is ∙ sym memory.1;
+          size = fits.fits.size_is ∙ sym memory.1;
           aligned = fits.fits.aligned;
           window = fits.fits.window;
           stands = own-stands;

@@ -1,5 +1,4 @@
--- When what the realized devices of a board claim is sound: the rings of UARTs (include/hw/qdev-properties.h, `DEFINE_PROP_CHR`), and the
--- backends and the ranges of DIMMs (include/hw/mem/memory-device.h, `MemoryDeviceClass`).
+-- When the claims of realized devices are sound: rings (include/hw/qdev-properties.h), memory backends and ranges (include/hw/mem/memory-device.h).
 use Rattle.std.specs.Prelude.{◌≡◌, ◌≢◌, ℕ, ◌%◌, ◌&&◌, Bool, true, false, List, [], codes, Some, option_map}
 use Rattle.qo_values.specs.Placing.{is_in_window, overlap}
 use Rattle.qo_values.specs.Registers.{dimm}
@@ -34,7 +33,7 @@ pub record HasRange (b : Board) (d : ℕ) : Type 0 where
   pub memdev : backend_of b d ≡ Some backend
   pub memory : is_of b (codes "memory-backend") backend ≡ true
   pub addr : number_at b d (codes "addr") ≡ Some range.at
-  pub long : range.size ≡ size_of b backend
+  pub size : range.size ≡ size_of b backend
   pub aligned : range.at % DIMM_ALIGN ≡ 0
   pub window : is_in_window range ≡ true
   pub stands : StandsOn b d range
