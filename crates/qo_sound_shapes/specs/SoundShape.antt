@@ -12,6 +12,7 @@ use Rattle.qo_values.specs.declared.properties.Val.{Val}
 use Rattle.qo_values.specs.declared.properties.Val.TheVariants as val
 use Rattle.qo_model.specs.Board.{Board, Record, Slot, plain, child, strong, weak, alias, kind_of, record_of, slots_at}
 use Rattle.qo_model.specs.Devices.{clock_name, kid_name}
+use Rattle.qo_model.specs.Objects.{has_slot}
 use Rattle.qo_model.specs.Opening.{opening_board}
 use Rattle.qo_model.specs.RowNames.{property_name}
 use Rattle.qo_model.specs.SoundGraph.{without_value}
@@ -19,6 +20,7 @@ use Rattle.qo_model.specs.Types.{slots_of}
 use Rattle.qo_model.specs.declared.properties.Property.{Property}
 use Rattle.qo_model.specs.declared.properties.RowKind.{RowKind}
 use Rattle.qo_model.specs.declared.properties.RowKind.TheVariants as row
+use Rattle.qo_sound_devices.specs.SoundPlaces.{stands}
 
 -- what a plain property of a type may hold: nothing, or a value that the type admits
 abbrev pub MayHold : PropType → Val → Type 0
@@ -88,10 +90,16 @@ pub record IsShaped (r : Record) : Type 0 where
 abbrev pub unvalued : List (List ℕ × Slot) → List (List ℕ × Slot)
 unvalued slots = map (λ (s : List ℕ × Slot). (s.0, without_value s.1)) slots
 
+-- an object has a slot for each property of a type
+abbrev pub HasEach : Board → ℕ → TypeId → Type 0
+HasEach b n t = AllByRecursion (λ (p : Property). has_slot b n (property_name p.name) ≡ true) (slots_of t)
+
 -- the objects of a board are shaped as their types say
 pub record SoundShape (b : Board) : Type 0 where
   -- each object that is there is
   pub shaped : (n : ℕ) (r : Record) → record_of b n ≡ Some r → IsShaped r
+  -- a device that stands in a container lacks none of its slots
+  pub whole : (d : ℕ) (t : TypeId) → stands b d ≡ true → kind_of b d ≡ Some t → HasEach b d t
   -- the objects that every machine begins with are there, with their types
   pub opening : AllByRecursion (λ (o : Record). kind_of b o.birth ≡ Some o.kind) opening_board.records
   -- the root and the machine have the slots, but for plain values, that they begin with: so their children, under the same names
