@@ -394,12 +394,12 @@ module _ (kinds : ℕ → Option TypeId) (new : ℕ) where
         more None name r own k = at ANONYMOUS_BIRTH name refl container-four r own k
         more (Some id) name r own k = at PERIPHERAL_BIRTH name refl container-three r own k
 
-    placed-kid : (slot : ℕ) (c : Board) → H c → H (add bus (kid_name slot) (strong Device (Some n)) c)
-    placed-kid slot c h = placed-add bus (kid_name slot) (strong Device (Some n)) more c h
+    placed-kid : (slot : ℕ) → slot < BUS_SLOTS → (c : Board) → H c → H (add bus (kid_name slot) (strong Device (Some n)) c)
+    placed-kid slot below c h = placed-add bus (kid_name slot) (strong Device (Some n)) more c h
       where
         kid : (k : TypeId) → (k ≡ SlotBus) ⊎ (k ≡ MemBus) → (is_a k (codes "bus") ≡ true) × IsFurther k (kid_name slot, strong Device (Some n))
-        kid k (inl e) = subst (λ (x : TypeId). (is_a x (codes "bus") ≡ true) × IsFurther x (kid_name slot, strong Device (Some n))) (sym e) (slot-bus, (refl, (slot, refl)))
-        kid k (inr e) = subst (λ (x : TypeId). (is_a x (codes "bus") ≡ true) × IsFurther x (kid_name slot, strong Device (Some n))) (sym e) (memory-bus, (refl, (slot, refl)))
+        kid k (inl e) = subst (λ (x : TypeId). (is_a x (codes "bus") ≡ true) × IsFurther x (kid_name slot, strong Device (Some n))) (sym e) (slot-bus, (refl, (slot, (below, refl))))
+        kid k (inr e) = subst (λ (x : TypeId). (is_a x (codes "bus") ≡ true) × IsFurther x (kid_name slot, strong Device (Some n))) (sym e) (memory-bus, (refl, (slot, (below, refl))))
 
         more : (r : Record) → r.birth ≡ bus → Placed kinds new r → (is_first r.birth ≡ false) × IsFurther r.kind (kid_name slot, strong Device (Some n))
         more r own k =
@@ -453,7 +453,7 @@ module _ (kinds : ℕ → Option TypeId) (new : ℕ) where
         (placed-set n (codes "realized") (val.Bool true) (λ k. takes-realized k true) c5
         (placed-link n (codes "parent_bus") spot.bus c4
         (placed-set n (codes "slot") (val.Uint spot.slot) (λ k. takes-slot k spot.slot low) c3
-        (placed-given c2 (placed-kid spot.slot c1 (placed-container c h)))))))
+        (placed-given c2 (placed-kid spot.slot low c1 (placed-container c h)))))))
 
   placed-source : (source : ℕ) (o : Option ℕ) (c : Board) → H c → H (with_source source o c)
   placed-source source None c h = h

@@ -1,5 +1,5 @@
 -- When the objects of a board are shaped as their types say (docs/devel/qom.rst, "The QEMU Object Model"; include/qom/object.h: properties, child and link).
-use Rattle.std.specs.Prelude.{◌≡◌, ◌⊎◌, ℕ, Bool, true, false, not, ◌&&◌, List, [], ◌∷◌, map, Some, ⊤}
+use Rattle.std.specs.Prelude.{◌≡◌, ◌⊎◌, ℕ, ◌<◌, Bool, true, false, not, ◌&&◌, List, [], ◌∷◌, map, Some, ⊤}
 use Rattle.std.specs.List.{AllByRecursion}
 use Rattle.std.specs.Str.{bytes_eq}
 use Rattle.qo_values.specs.Properties.{admits}
@@ -7,6 +7,7 @@ use Rattle.qo_values.specs.Registers.{Registers, bare, bridge, dimm, fresh_regis
 use Rattle.qo_values.specs.declared.births.TheConstants.{MACHINE_BIRTH, ROOT_BIRTH}
 use Rattle.qo_values.specs.declared.kinds.TypeId.{TypeId}
 use Rattle.qo_values.specs.declared.kinds.TypeId.TheVariants.{Container, Device, Machine, MemBus, SlotBus}
+use Rattle.qo_values.specs.declared.limits.TheConstants.{BUS_SLOTS}
 use Rattle.qo_values.specs.declared.properties.PropType.{PropType}
 use Rattle.qo_values.specs.declared.properties.Val.{Val}
 use Rattle.qo_values.specs.declared.properties.Val.TheVariants as val
@@ -50,7 +51,7 @@ may_miss p = is_child_row p.kind && not (bytes_eq (property_name p.name) clock_n
 
 -- a further slot: of a bus a link `child[N]` that holds a device, of a container and of the machine a child, of any other object none
 abbrev pub IsKidLink : List ℕ → Slot → Type 0
-IsKidLink name (strong to target) = (to ≡ Device) × ((k : ℕ) × (name ≡ kid_name k))
+IsKidLink name (strong to target) = (to ≡ Device) × ((k : ℕ) × ((k < BUS_SLOTS) × (name ≡ kid_name k)))
 IsKidLink name s = ⊥
 
 abbrev pub IsChildSlot : Slot → Type 0
