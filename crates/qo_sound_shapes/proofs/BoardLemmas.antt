@@ -18,6 +18,7 @@ use Rattle.qo_sound.proofs.RecordLemmas.{all-imply, found-birth}
 use Rattle.qo_sound_clocks.proofs.FoundLemmas.{found-append}
 use Rattle.qo_sound_shapes.specs.SoundShape.{IsShaped, SoundShape, unvalued}
 use Rattle.qo_sound_shapes.proofs.GoodLemmas.{Good, good-forgotten, is_first}
+use Rattle.qo_sound_shapes.proofs.WholeLemmas.{Whole}
 
 abbrev pub AllOf : (Record → Type 0) → Board → Type 0
 AllOf Q b = (x : ℕ) (r : Record) → record_of b x ≡ Some r → Q r
@@ -202,11 +203,12 @@ good-all b h x r e =
 abbrev pub OpeningLive : Board → Type 0
 OpeningLive b = AllByRecursion (λ (o : Record). is_live b o.birth ≡ true) opening_board.records
 
-pub shape-all : (b : Board) → OpeningLive b → AllOf Good b → SoundShape b
+pub shape-all : (b : Board) → OpeningLive b → Whole b → AllOf Good b → SoundShape b
 unfolding opening_board types
-shape-all b live h =
+shape-all b live whole h =
     record {
       shaped = λ n r e. (h n r e).shaped;
+      whole = whole;
       opening = (
         kind 1 _ refl live.0,
         (kind 2 _ refl live.1.0,

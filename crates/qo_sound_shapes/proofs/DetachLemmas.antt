@@ -51,7 +51,7 @@ use Rattle.qo_sound_shapes.proofs.QuietLemmas.{good-act, good-set, pulse-shape, 
 use Rattle.qo_sound_shapes.proofs.RowLemmas.{has-all, has-removed, IsRowOf, own-rows, Slots}
 
 -- an object whose links are to objects of their types, where `kinds` says the types before
-pub record Keeps (kinds : ℕ → Option TypeId) (r : Record) : Type 0 where
+pub record Kinded (kinds : ℕ → Option TypeId) (r : Record) : Type 0 where
   pub good : Good r
   pub linked : AllByRecursion (λ (s : List ℕ × Slot). Linked kinds s.1) r.slots
   pub kind : kinds r.birth ≡ Some r.kind
@@ -100,7 +100,7 @@ takes-stopped Tag = tt
 
 -- devices and buses
 
-device-calm : (t : TypeId) → is_a t (codes "device") ≡ true → (s : List ℕ × Slot) → IsFurther t s → ⊥
+pub device-calm : (t : TypeId) → is_a t (codes "device") ≡ true → (s : List ℕ × Slot) → IsFurther t s → ⊥
 unfolding types
 device-calm Object e s h = absurd (let clash : false ≡ true = e in cc)
 device-calm Container e s h = absurd (let clash : false ≡ true = e in cc)
@@ -260,7 +260,7 @@ module _ (kinds : ℕ → Option TypeId) where
   unseen-linked (weak t target) h = tt
   unseen-linked (alias m property) h = h
 
-  keeps-forgotten : (n : ℕ) (r : Record) → Keeps kinds r → Keeps kinds (forgotten n r)
+  keeps-forgotten : (n : ℕ) (r : Record) → Kinded kinds r → Kinded kinds (forgotten n r)
   keeps-forgotten n r h =
       record {
         good = good-forgotten n r h.good;
@@ -270,22 +270,22 @@ module _ (kinds : ℕ → Option TypeId) where
         kind = h.kind;
       }
 
-  keeps-changed : (g : Slot → Slot) → ((s : Slot) → Linked kinds s → Linked kinds (g s)) → (i : ℕ) (r : Record) → Good (with_changed g i r) → Keeps kinds r
-      → Keeps kinds (with_changed g i r)
+  keeps-changed : (g : Slot → Slot) → ((s : Slot) → Linked kinds s → Linked kinds (g s)) → (i : ℕ) (r : Record) → Good (with_changed g i r) → Kinded kinds r
+      → Kinded kinds (with_changed g i r)
   keeps-changed g links i r good h =
       record { good = good; linked = all-changed (Linked kinds) g i r.slots (λ s at k. links s.1 k) h.linked; kind = h.kind }
 
-  keeps-dropped : (i : ℕ) (r : Record) → Good (with_dropped i r) → Keeps kinds r → Keeps kinds (with_dropped i r)
+  keeps-dropped : (i : ℕ) (r : Record) → Good (with_dropped i r) → Kinded kinds r → Kinded kinds (with_dropped i r)
   keeps-dropped i r good h = record { good = good; linked = all-dropped (Linked kinds) left-linked i r.slots h.linked; kind = h.kind }
 
   -- an object of a kind
-  of-kind : (name : List ℕ) (n : ℕ) → IsKind kinds name n → (r : Record) → r.birth ≡ n → Keeps kinds r → is_a r.kind name ≡ true
+  of-kind : (name : List ℕ) (n : ℕ) → IsKind kinds name n → (r : Record) → r.birth ≡ n → Kinded kinds r → is_a r.kind name ≡ true
   of-kind name n is r own h =
       let its : kinds n ≡ Some r.kind = ap kinds (sym own) ∙ h.kind in
       sym (ap (λ (o : Option TypeId). option_map_or (λ (k : TypeId). is_a k name) o false) its) ∙ is
 
   abbrev H : Board → Type 0
-  H c = AllOf (Keeps kinds) c
+  H c = AllOf (Kinded kinds) c
 
   -- unrealizing
 
@@ -298,7 +298,7 @@ module _ (kinds : ℕ → Option TypeId) where
       go (Some i) e =
           let f : Found (is_named name) (slots_at c n) i = found-at (is_named name) i (slots_at c n) e in
           rw (set_named, e)
-          (all-edit (Keeps kinds) n (with_changed (with_val v) i) (λ r. refl) c
+          (all-edit (Kinded kinds) n (with_changed (with_val v) i) (λ r. refl) c
           (λ r q own k.
           keeps-changed (with_val v) (val-linked v) i r
           (good-set name v i r f.entry (slot-of c n i r f.entry q f.at) f.passes (takes r.kind) k.good) k) h)
@@ -310,7 +310,7 @@ module _ (kinds : ℕ → Option TypeId) where
       go None e = rw (unseen_named, e) h
       go (Some i) e =
           rw (unseen_named, e)
-          (all-edit (Keeps kinds) n (with_changed unseen i) (λ r. refl) c
+          (all-edit (Kinded kinds) n (with_changed unseen i) (λ r. refl) c
           (λ r q own k.
           keeps-changed unseen unseen-linked i r (good-changed unseen mild-unseen i r (λ p s row at is. rows-unseen p.kind s.1 is.fits) k.good) k) h)
 
@@ -321,7 +321,7 @@ module _ (kinds : ℕ → Option TypeId) where
   keeps-acted : (act : Act) (n period : ℕ) (c : Board) → H c → H (acted act n period c)
   unfolding acted
   keeps-acted act n period c h =
-      all-edit (Keeps kinds) n (with_act_on act c.now period) (λ r. refl) c
+      all-edit (Kinded kinds) n (with_act_on act c.now period) (λ r. refl) c
       (λ r q own k. record { good = good-act act c.now period r k.good; linked = k.linked; kind = k.kind }) h
 
   keeps-device : (d : ℕ) (c : Board) → H c → H (unrealized_device d c)
@@ -349,8 +349,8 @@ module _ (kinds : ℕ → Option TypeId) where
 
   -- taking out
 
-  keeps-let_go : (n i : ℕ) (c : Board) → ((r : Record) → record_of c n ≡ Some r → r.birth ≡ n → Keeps kinds r → Good (with_dropped i r)) → H c → H (let_go c n i)
-  keeps-let_go n i c drops h = all-let_go (Keeps kinds) keeps-forgotten n i c (λ r q own k. keeps-dropped i r (drops r q own k) k) h
+  keeps-let_go : (n i : ℕ) (c : Board) → ((r : Record) → record_of c n ≡ Some r → r.birth ≡ n → Kinded kinds r → Good (with_dropped i r)) → H c → H (let_go c n i)
+  keeps-let_go n i c drops h = all-let_go (Kinded kinds) keeps-forgotten n i c (λ r q own k. keeps-dropped i r (drops r q own k) k) h
 
   -- a slot of a device under another name than its clock's
   keeps-apart : (n i : ℕ) (c : Board) → IsKind kinds (codes "device") n → (entry : List ℕ × Slot) → slice_get (slots_at c n) i ≡ Some entry
@@ -433,7 +433,7 @@ module _ (kinds : ℕ → Option TypeId) where
   plain-strong (row.Alias owner of) t target e h = h
 
   keeps-cut : (i : ℕ) (r : Record) (own : List ℕ) (t : TypeId) → is_a r.kind (codes "bus") ≡ true → slice_get r.slots i ≡ Some (own, strong t None)
-      → Keeps kinds r → Keeps kinds (with_cut i r)
+      → Kinded kinds r → Kinded kinds (with_cut i r)
   keeps-cut i r own t bus at h =
       record {
         good =
@@ -452,14 +452,14 @@ module _ (kinds : ℕ → Option TypeId) where
   unfolding cut drop_slot
   keeps-taken n i own t target c bus at h =
       let there : slot_at c n i ≡ Some (strong t target) = ap (option_map (λ (s : List ℕ × Slot). s.1)) at in
-      rw (take_slot, there) (all-after (Keeps kinds) keeps-forgotten target _ both)
+      rw (take_slot, there) (all-after (Kinded kinds) keeps-forgotten target _ both)
     where
       d : Board
       d = edit n (with_dropped i) c
 
       first : H (edit n (with_dropped i) c)
       first =
-          all-edit (Keeps kinds) n (with_dropped i) (λ r. refl) c
+          all-edit (Kinded kinds) n (with_dropped i) (λ r. refl) c
           (λ r q its k.
           keeps-dropped i r
           (good-dropped i r (λ s there. ap (λ (x : List ℕ × Slot). child_of x.1) (same_Some s (own, strong t target) (sym there ∙ slot-of c n i r (own, strong t target) q at)))
@@ -482,7 +482,7 @@ module _ (kinds : ℕ → Option TypeId) where
 
       both : H (edit n (with_cut i) (edit n (with_dropped i) c))
       both =
-          all-edit (Keeps kinds) n (with_cut i) (λ r. refl) (edit n (with_dropped i) c)
+          all-edit (Kinded kinds) n (with_cut i) (λ r. refl) (edit n (with_dropped i) c)
           (λ r q its k. keeps-cut i r own t (of-kind (codes "bus") n bus r its k) (cuts r q) k) first
 
   keeps-take : (d n : ℕ) (c : Board) → IsKind kinds (codes "bus") n → H c → H (take_where (names_kid d) n c)
@@ -528,7 +528,7 @@ module _ (kinds : ℕ → Option TypeId) where
   abbrev LinksBus : List ℕ × Slot → Type 0
   LinksBus s = bytes_eq s.0 (codes "parent_bus") ≡ true → (t : TypeId) (target : Option ℕ) → s.1 ≡ strong t target → t ≡ Bus
 
-  links-bus : (r : Record) → is_a r.kind (codes "device") ≡ true → Keeps kinds r → AllByRecursion LinksBus r.slots
+  links-bus : (r : Record) → is_a r.kind (codes "device") ≡ true → Kinded kinds r → AllByRecursion LinksBus r.slots
   links-bus r device h =
       has-all (IsRowOf r.kind) LinksBus r.kind of (λ s k. absurd (device-calm r.kind device s k)) (slots_of r.kind) (own-rows r.kind) h.good.shaped.slots
     where
@@ -544,7 +544,7 @@ module _ (kinds : ℕ → Option TypeId) where
       go : (o : Option Record) → record_of c d ≡ o → IsKind kinds (codes "bus") m
       go None q = absurd (let clash : None ≡ Some m = rw q at e in cc)
       go (Some r) q =
-          let k : Keeps kinds r = h d r q in
+          let k : Kinded kinds r = h d r q in
           let found : option_and_then strong_in (option_map (λ (s : List ℕ × Slot). s.1) (find (λ s. bytes_eq s.0 (codes "parent_bus")) r.slots)) ≡ Some m =
           sym (ap (λ (o : Option Record). option_and_then strong_in (option_map (λ (s : List ℕ × Slot). s.1) (find (λ s. bytes_eq s.0 (codes "parent_bus")) (slots_in o)))) q)
           ∙ e in
@@ -575,7 +575,7 @@ module _ (kinds : ℕ → Option TypeId) where
   kid-device name (weak to at) h t target e = absurd h
   kid-device name (alias m property) h t target e = absurd h
 
-  links-device : (r : Record) → is_a r.kind (codes "bus") ≡ true → Keeps kinds r → AllByRecursion LinksDevice r.slots
+  links-device : (r : Record) → is_a r.kind (codes "bus") ≡ true → Kinded kinds r → AllByRecursion LinksDevice r.slots
   links-device r bus h =
       has-all (λ (p : Property). is_plain_row p.kind ≡ true) LinksDevice r.kind
       (λ p s plains is t target e. absurd (plain-strong p.kind t target plains (subst (IsAsRow p.kind) e is.fits)))
@@ -600,7 +600,7 @@ module _ (kinds : ℕ → Option TypeId) where
       go : (o : Option Record) → record_of c m ≡ o → AllByRecursion (IsKind kinds (codes "device")) (filter_map (λ (s : List ℕ × Slot). strong_in s.1) (slots_in o))
       go None q = tt
       go (Some r) q =
-          let k : Keeps kinds r = h m r q in
+          let k : Kinded kinds r = h m r q in
           kids-fit r.slots
           (all-both LinksDevice (λ (s : List ℕ × Slot). Linked kinds s.1) r.slots
           (links-device r (of-kind (codes "bus") m bus r (found-birth m c.records r q) k) k) k.linked)
@@ -665,47 +665,13 @@ module _ (kinds : ℕ → Option TypeId) where
   unfolding apart_within
   keeps-within zero d device c h = h
   keeps-within (suc depth) d device c h =
-      all-unpin (Keeps kinds) keeps-forgotten d (taken_by (apart_within depth) d (pin c d))
-      (keeps-taken_by (apart_within depth) (keeps-within depth) d device (pin c d) (all-pin (Keeps kinds) d c h))
+      all-unpin (Kinded kinds) keeps-forgotten d (taken_by (apart_within depth) d (pin c d))
+      (keeps-taken_by (apart_within depth) (keeps-within depth) d device (pin c d) (all-pin (Kinded kinds) d c h))
 
   pub keeps-detach : (c : Board) (d : ℕ) → IsKind kinds (codes "device") d → H c → H (detach c d)
   unfolding detach
   keeps-detach c d device h =
       let e : Board = unrealize (pin c d) d in
-      all-unpin (Keeps kinds) keeps-forgotten d (taken_by (apart_within (length (births c))) d e)
+      all-unpin (Kinded kinds) keeps-forgotten d (taken_by (apart_within (length (births c))) d e)
       (keeps-taken_by (apart_within (length (births c))) (keeps-within (length (births c))) d device e
-      (keeps-unrealize (pin c d) d (all-pin (Keeps kinds) d c h)))
-
--- on a board that is sound as far as devices go
-keeps-all : (b : Board) → SoundDevices b → SoundShape b → AllOf (Keeps (kind_of b)) b
-keeps-all b devices h x r e =
-    record {
-      good = good-all b h x r e;
-      linked =
-          all-found (λ (y : Record). AllByRecursion (λ (s : List ℕ × Slot). Linked (kind_of b) s.1) y.slots) x b.records
-          (rest-from_sound b devices.tree).used.firm.linked r e;
-      kind = ap (kind_of b) (found-birth x b.records r e) ∙ ap (option_map (λ (y : Record). y.kind)) e;
-    }
-
-pub detach-shape : (b : Board) (d : ℕ) → SoundDevices b → stands b d ≡ true → SoundShape b → SoundShape (detach b d)
-detach-shape b d devices e h =
-    shape-all (detach b d) (live-devices (detach b d) (detached-below b d devices e))
-    (all-imply_of (Keeps (kind_of b)) Good (λ r k. k.good) (detach b d)
-    (keeps-detach (kind_of b) b d (stands-device devices.places.0 None (λ x. false) b devices.places.1 d e) (keeps-all b devices h)))
-
--- the reset of the whole board
-
-completed-shape : (times : ℕ) (b : Board) → SoundDevices b → SoundShape b → SoundShape (all_completed times b)
-completed-shape zero b devices h = h
-completed-shape (suc times) b devices h = go (first_of b.pending) refl (completed-shape times)
-  where
-    go : (o : Option ℕ) → first_of b.pending ≡ o → ((c : Board) → SoundDevices c → SoundShape c → SoundShape (all_completed times c))
-        → SoundShape (all_completed (suc times) b)
-    go None e rest = rw (all_completed, e) h
-    go (Some d) e rest =
-        let there : stands b d ≡ true = (first-on (IsOn b) b.pending devices.lists.pending d e).0 in
-        rw (all_completed, e) (rest (completed b d) (detached-below b d devices there) (detach-shape b d devices there h))
-
-pub reset-shape : (b : Board) → SoundDevices b → SoundShape b → SoundShape (reset_whole b)
-unfolding reset_whole
-reset-shape b devices h = pulse-shape (all_completed (length b.pending) b) MACHINE_BIRTH (completed-shape (length b.pending) b devices h)
+      (keeps-unrealize (pin c d) d (all-pin (Kinded kinds) d c h)))

@@ -2,7 +2,7 @@
 use Rattle.std.proofs.Common.{◌≡◌, ◌⊎◌, inl, inr, refl, ap, sym, subst, ◌∙◌, rules, ℕ, zero, suc, ◌<◌, ◌≤◌, ◌+◌, ◌&&◌, Bool, true, false, cond, not, ◌==◌, eqb, List, [], ◌∷◌, ◌++◌, append-nil, map, find, codes, Option, Some, None, is_some, option_map, option_and_then, arith}
 use Rattle.std.specs.Bool.{⊤}
 use Rattle.std.specs.Prelude.{if◌then◌else◌}
-use Rattle.std.specs.List.{AllByRecursion}
+use Rattle.std.specs.List.{AllByRecursion, list_any}
 use Rattle.std.specs.Option.{option_map_or, option_or}
 use Rattle.std.specs.Str.{bytes_eq}
 use Rattle.std.proofs.lemmas.Bool.{and_parts, eq-eqb, eqb-true}
@@ -10,6 +10,7 @@ use Rattle.std.proofs.lemmas.List.{append_assoc}
 use Rattle.std.proofs.lemmas.List.Folds.{find-append}
 use Rattle.std.proofs.lemmas.Option.{same_Some}
 use Rattle.std.proofs.lemmas.Slice.Eq.{bytes_eq-Decides}
+use Rattle.std.proofs.Math.Bool.{or-true}
 use Rattle.qo_values.specs.Registers.{fresh_registers}
 use Rattle.qo_values.specs.declared.kinds.TypeId.{TypeId}
 use Rattle.qo_values.specs.declared.kinds.TypeId.TheVariants.{Object, Container, Machine, Device, SlotDevice, SlotUart, SlotTimer, SlotBridge, MemDimm, Bus, SlotBus, MemBus, Clock, MemoryBackend, MemoryBackendRam, Tag}
@@ -30,6 +31,7 @@ use Rattle.qo_sound_shapes.proofs.BoardLemmas.{all-becomes, all-imply_of, all-ne
 use Rattle.qo_sound_shapes.proofs.GoodLemmas.{Good}
 use Rattle.qo_sound_shapes.proofs.MadeLemmas.{first_fits, fresh-has, fresh-like, good-new, is_nothing, may-hold, of-row, OwnRows, RowsFirst, rows-first}
 use Rattle.qo_sound_shapes.proofs.RowLemmas.{Slots}
+use Rattle.qo_sound_shapes.proofs.WholeLemmas.{HasRows}
 
 -- whether rows can be made in order: the clock's comes once, as a child, and other names come behind it
 abbrev row_ready : Bool → RowKind → Bool
@@ -128,12 +130,25 @@ adds-clock name m named xs h =
     ∙ ap (λ (o : Option (List ℕ × Slot)). option_or o (find (λ (x : List ℕ × Slot). bytes_eq x.0 (codes "clk")) ((name, child m) ∷ []))) h
     ∙ its))
 
+-- slots that have the name of each of some rows
+abbrev Named : List Property → Slots → Type 0
+Named ps xs = AllByRecursion (λ (p : Property). list_any (λ (s : List ℕ × Slot). bytes_eq s.0 (property_name p.name)) xs ≡ true) ps
+
+named-more : (ps : List Property) (s : List ℕ × Slot) (xs : Slots) → Named ps xs → Named ps (s ∷ xs)
+named-more [] s xs h = tt
+named-more (p ∷ ps) s xs h = (rw (h.0) (or-true (bytes_eq s.0 (property_name p.name))), named-more ps s xs h.1)
+
+named-first : (p : Property) (ps : List Property) (s : Slot) (xs : Slots) → Named ps xs → Named (p ∷ ps) ((property_name p.name, s) ∷ xs)
+named-first p ps s xs h =
+    let own : bytes_eq (property_name p.name) (property_name p.name) ≡ true = (bytes_eq-Decides (property_name p.name) (property_name p.name)).1 refl in
+    (rw own refl, named-more ps (property_name p.name, s) xs h)
+
 module _ (t : TypeId) (n : ℕ) where
   -- the device, with these rows still to come
   record Drafted (has : Bool) (ps : List Property) (r : Record) : Type 0 where
     kind : r.kind ≡ t
     registers : r.registers ≡ fresh_registers t
-    slots : (more : Slots) → HasSlots t ps more → HasSlots t (slots_of t) (r.slots ++ more)
+    slots : (more : Slots) → HasSlots t ps more → Named ps more → HasSlots t (slots_of t) (r.slots ++ more) × Named (slots_of t) (r.slots ++ more)
     clock : ClockOf has r.slots
 
   record Draft (has : Bool) (ps : List Property) (r : Record) : Type 0 where
@@ -142,7 +157,7 @@ module _ (t : TypeId) (n : ℕ) where
 
   -- all its rows are made
   record Whole (r : Record) : Type 0 where
-    own : r.birth ≡ n → (r.kind ≡ t) × IsShaped r
+    own : r.birth ≡ n → (r.kind ≡ t) × (IsShaped r × Named (slots_of t) r.slots)
     other : (r.birth == n) ≡ false → Good r
 
   -- a slot more
@@ -160,9 +175,10 @@ module _ (t : TypeId) (n : ℕ) where
                 record {
                   kind = d.kind;
                   registers = d.registers;
-                  slots = λ more k.
-                      subst (HasSlots t (slots_of t)) (sym (append_assoc r.slots ((property_name p.name, s) ∷ []) more))
-                      (d.slots ((property_name p.name, s) ∷ more) (next is k));
+                  slots = λ more k there.
+                      subst (λ (xs : Slots). HasSlots t (slots_of t) xs × Named (slots_of t) xs)
+                      (sym (append_assoc r.slots ((property_name p.name, s) ∷ []) more))
+                      (d.slots ((property_name p.name, s) ∷ more) (next is k) (named-first p ps s more there));
                   clock = adds r.slots d.clock;
                 };
             other = λ apart. absurd (let clash : true ≡ false = sym (eq-eqb r.birth n own) ∙ apart in cc);
@@ -278,15 +294,16 @@ module _ (t : TypeId) (n : ℕ) where
       λ x r e. record {
         own = λ own.
             let d : Drafted has [] r = (h x r e).own own in
+            let whole : HasSlots t (slots_of t) r.slots × Named (slots_of t) r.slots =
+            subst (λ (xs : Slots). HasSlots t (slots_of t) xs × Named (slots_of t) xs) (append-nil r.slots) (d.slots [] (further tt) tt) in
             (d.kind,
-            record {
-              slots =
-                  subst (λ (k : TypeId). HasSlots k (slots_of k) r.slots) (sym d.kind)
-                  (subst (HasSlots t (slots_of t)) (append-nil r.slots) (d.slots [] (further tt)));
+            (record {
+              slots = subst (λ (k : TypeId). HasSlots k (slots_of k) r.slots) (sym d.kind) whole.0;
               registers =
                   subst (λ (k : TypeId). is_like r.registers (fresh_registers k) ≡ true) (sym d.kind)
                   (ap (λ (y : _). is_like y (fresh_registers t)) d.registers ∙ fresh-like t);
-            });
+            },
+            whole.1));
         other = (h x r e).other;
       }
   draft-rows has (p ∷ ps) may fits kin c low begun h = go (bytes_eq (property_name p.name) (codes "clk")) refl (draft-rows has ps) (draft-rows true ps)
@@ -312,34 +329,41 @@ module _ (t : TypeId) (n : ℕ) where
           rest one.1 fits.1 kin.1 (row_made n t (property_name p.name) p.kind c) (omega (arith, low, it.high)) (omega (arith, begun, it.high)) it.all
 
 -- the device that was made, and those that were there
-pub drafted-good : (b : Board) (t : TypeId) → 8 ≤ b.born → record_of b (b.born + 1) ≡ None → AllOf Good b → AllOf Good (drafted b t)
-drafted-good b t begun absent h =
-    all-imply_of (Whole t n) Good good (drafted b t)
-    (draft-rows t n false (slots_of t) (rows-ready t) (rows-first t) (rows-kin t) (with_new (fresh n t) b) (omega arith) (omega (arith, begun)) first)
-  where
-    n : ℕ
-    n = b.born + 1
+module _ (b : Board) (t : TypeId) (begun : 8 ≤ b.born) (absent : record_of b (b.born + 1) ≡ None) (h : AllOf Good b) where
+  first : AllOf (Draft t (b.born + 1) false (slots_of t)) (with_new (fresh (b.born + 1) t) b)
+  first =
+      all-new (Draft t (b.born + 1) false (slots_of t)) (fresh (b.born + 1) t) b (with_new (fresh (b.born + 1) t) b) refl
+      (record {
+        own = λ own. record { kind = refl; registers = refl; slots = λ more k there. (k, there); clock = refl };
+        other = λ apart. absurd (let clash : true ≡ false = sym (eq-eqb (b.born + 1) (b.born + 1) refl) ∙ apart in cc);
+      })
+      (λ x r e.
+      record {
+        own = λ own.
+            let there : record_of b (b.born + 1) ≡ Some r = ap (record_of b) (sym own ∙ found-birth x b.records r e) ∙ e in
+            absurd (let clash : None ≡ Some r = sym absent ∙ there in cc);
+        other = λ apart. h x r e;
+      })
 
-    good : (r : Record) → Whole t (b.born + 1) r → Good r
-    good r w = go (r.birth == (b.born + 1)) refl
-      where
-        go : (u : Bool) → (r.birth == (b.born + 1)) ≡ u → Good r
-        go true p =
-            let own : r.birth ≡ b.born + 1 = eqb-true r.birth (b.born + 1) p in
-            good-new r (omega (arith, begun, own)) (w.own own).1
-        go false p = w.other p
+  whole : AllOf (Whole t (b.born + 1)) (drafted b t)
+  whole =
+      draft-rows t (b.born + 1) false (slots_of t) (rows-ready t) (rows-first t) (rows-kin t) (with_new (fresh (b.born + 1) t) b) (omega arith)
+      (omega (arith, begun)) first
 
-    first : AllOf (Draft t (b.born + 1) false (slots_of t)) (with_new (fresh (b.born + 1) t) b)
-    first =
-        all-new (Draft t (b.born + 1) false (slots_of t)) (fresh (b.born + 1) t) b (with_new (fresh (b.born + 1) t) b) refl
-        (record {
-          own = λ own. record { kind = refl; registers = refl; slots = λ more k. k; clock = refl };
-          other = λ apart. absurd (let clash : true ≡ false = sym (eq-eqb (b.born + 1) (b.born + 1) refl) ∙ apart in cc);
-        })
-        (λ x r e.
-        record {
-          own = λ own.
-              let there : record_of b (b.born + 1) ≡ Some r = ap (record_of b) (sym own ∙ found-birth x b.records r e) ∙ e in
-              absurd (let clash : None ≡ Some r = sym absent ∙ there in cc);
-          other = λ apart. h x r e;
-        })
+  pub drafted-good : AllOf Good (drafted b t)
+  drafted-good x r e = go (r.birth == (b.born + 1)) refl
+    where
+      w : Whole t (b.born + 1) r
+      w = whole x r e
+
+      go : (u : Bool) → (r.birth == (b.born + 1)) ≡ u → Good r
+      go true p =
+          let own : r.birth ≡ b.born + 1 = eqb-true r.birth (b.born + 1) p in
+          good-new r (omega (arith, begun, own)) (w.own own).1.0
+      go false p = w.other p
+
+  -- the device lacks none of its slots
+  pub drafted-rows : (x : ℕ) (r : Record) → record_of (drafted b t) x ≡ Some r → r.birth ≡ b.born + 1 → HasRows r.kind r.slots
+  drafted-rows x r e own =
+      let its = (whole x r e).own own in
+      subst (λ (k : TypeId). HasRows k r.slots) (sym its.0) its.1.1

@@ -1,6 +1,7 @@
 pub mod BoardLemmas
 pub mod CommandLemmas
 pub mod DetachLemmas
+pub mod DetachedLemmas
 pub mod DraftLemmas
 pub mod GoodLemmas
 pub mod LawLemmas
@@ -8,3 +9,5 @@ pub mod MadeLemmas
 pub mod PlugLemmas
 pub mod QuietLemmas
 pub mod RowLemmas
+pub mod StayLemmas
+pub mod WholeLemmas

@@ -376,6 +376,7 @@ unfolding opening_board types
 opening-shape =
     record {
       shaped = λ n r e. all-found IsShaped n opening_records opening-shaped r e;
+      whole = λ d t s k. absurd (let clash : false ≡ true = s in cc);
       opening = (refl, (refl, (refl, (refl, (refl, (refl, (refl, (refl, tt))))))));
       fixed = (refl, (refl, tt));
     }

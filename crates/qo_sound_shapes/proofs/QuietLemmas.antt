@@ -44,7 +44,9 @@ use Rattle.qo_model.specs.declared.properties.Property.{Property}
 use Rattle.qo_model.specs.declared.properties.RowKind.{RowKind}
 use Rattle.qo_model.specs.declared.properties.RowKind.TheVariants as row
 use Rattle.qo_model.proofs.StepLemmas.{found-edited, found_at, is_some-map}
+use Rattle.qo_sound.proofs.FirmLemmas.{edited-kind}
 use Rattle.qo_sound.proofs.RecordLemmas.{all-imply}
+use Rattle.qo_sound.proofs.SlotLemmas.{names-changed, names_in}
 use Rattle.qo_sound.proofs.UnplugLemmas.{Found, found-at}
 use Rattle.qo_sound_clocks.specs.RegistersKept.{registers_set, with_registers}
 use Rattle.qo_sound_clocks.proofs.StepsLemmas.{kept-written}
@@ -52,6 +54,7 @@ use Rattle.qo_sound_shapes.specs.SoundShape.{is_like, IsAsRow, IsOfRow, SoundSha
 use Rattle.qo_sound_shapes.proofs.BoardLemmas.{all-edit, all-same, AllOf, good-all, OpeningLive, shape-all, shape-live}
 use Rattle.qo_sound_shapes.proofs.GoodLemmas.{Good, good-changed, mild-val}
 use Rattle.qo_sound_shapes.proofs.RowLemmas.{IsRowOf, Slots}
+use Rattle.qo_sound_shapes.proofs.WholeLemmas.{edit-read, entries-changed, entries_in, entry-val, whole-same}
 
 -- the machine's objects stay there
 
@@ -65,12 +68,18 @@ edit-live n change same b x = ap is_some (found-edited n change same x b.records
 -- what changes none of the objects
 pub same-shape : (b c : Board) → c.records ≡ b.records → SoundShape b → SoundShape c
 same-shape b c e h =
-    shape-all c (live-same b c (λ x. ap (λ (rs : List Record). is_some (found_at x rs)) e) (shape-live b h)) (all-same Good b c e (good-all b h))
+    shape-all c (live-same b c (λ x. ap (λ (rs : List Record). is_some (found_at x rs)) e) (shape-live b h))
+    (whole-same b c (λ x. ap (λ (rs : List Record). names_in (option_map_or (λ (r : Record). r.slots) (found_at x rs) [])) e)
+    (λ x. ap (λ (rs : List Record). entries_in (option_map_or (λ (r : Record). r.slots) (found_at x rs) [])) e)
+    (λ x. ap (λ (rs : List Record). option_map (λ (r : Record). r.kind) (found_at x rs)) e) h.whole) (all-same Good b c e (good-all b h))
 
-pub edit-shape : (n : ℕ) (change : Record → Record) → ((r : Record) → (change r).birth ≡ r.birth) → (b : Board)
+pub edit-shape : (n : ℕ) (change : Record → Record) → ((r : Record) → (change r).birth ≡ r.birth) → ((r : Record) → (change r).kind ≡ r.kind)
+    → ((r : Record) → names_in (change r).slots ≡ names_in r.slots) → ((r : Record) → entries_in (change r).slots ≡ entries_in r.slots) → (b : Board)
     → ((r : Record) → record_of b n ≡ Some r → Good r → Good (change r)) → SoundShape b → SoundShape (edit n change b)
-edit-shape n change same b keeps h =
+edit-shape n change same kind names entries b keeps h =
     shape-all (edit n change b) (live-same b (edit n change b) (edit-live n change same b) (shape-live b h))
+    (whole-same b (edit n change b) (edit-read names_in n change same names b) (edit-read entries_in n change same entries b) (edited-kind n change same kind b)
+    h.whole)
     (all-edit Good n change same b (λ r e own k. keeps r e k) (good-all b h))
 
 -- acts
@@ -129,7 +138,7 @@ pub acted-shape : (act : Act) (n period : ℕ) (b : Board) → SoundShape b → 
 unfolding acted
 acted-shape act n period b h =
     same-shape (edit n (with_act_on act b.now period) b) (acted act n period b) refl
-    (edit-shape n (with_act_on act b.now period) (λ r. refl) b (λ r e k. good-act act b.now period r k) h)
+    (edit-shape n (with_act_on act b.now period) (λ r. refl) (λ r. refl) (λ r. refl) (λ r. refl) b (λ r e k. good-act act b.now period r k) h)
 
 pub phased-shape : (act : Act) (ns : List ℕ) (b : Board) → SoundShape b → SoundShape (phased act ns b)
 phased-shape act [] b h = h
@@ -204,7 +213,7 @@ like-same bare bare f k = refl
 pub registers-shape : (b : Board) (n : ℕ) (registers : Registers) → ((r : Record) → record_of b n ≡ Some r → is_like registers r.registers ≡ true) → SoundShape b
     → SoundShape (registers_set b n registers)
 registers-shape b n registers like h =
-    edit-shape n (with_registers registers) (λ r. refl) b
+    edit-shape n (with_registers registers) (λ r. refl) (λ r. refl) (λ r. refl) (λ r. refl) b
     (λ r e k.
     record {
       shaped =
@@ -289,7 +298,8 @@ set-shape n name v takes b h = go (place_from (is_named name) 0 (slots_at b n)) 
     go (Some i) e =
         let f : Found (is_named name) (slots_at b n) i = found-at (is_named name) i (slots_at b n) e in
         rw (set_named, e)
-        (edit-shape n (with_changed (with_val v) i) (λ r. refl) b
+        (edit-shape n (with_changed (with_val v) i) (λ r. refl) (λ r. refl) (λ r. names-changed (with_val v) i r.slots)
+        (λ r. entries-changed (with_val v) (entry-val v) i r.slots) b
         (λ r q k. good-set name v i r f.entry (slot-of b n i r f.entry q f.at) f.passes (takes r.kind) k) h)
 
 -- numbers of clocks

@@ -1,5 +1,5 @@
 -- When the objects of a board are shaped as their types say (docs/devel/qom.rst, "The QEMU Object Model"; include/qom/object.h: properties, child and link).
-use Rattle.std.specs.Prelude.{◌≡◌, ◌⊎◌, ℕ, Bool, true, false, not, ◌&&◌, List, [], ◌∷◌, map, Some, ⊤}
+use Rattle.std.specs.Prelude.{◌≡◌, ◌⊎◌, ℕ, ◌<◌, Bool, true, false, not, ◌&&◌, List, [], ◌∷◌, map, Some, ⊤}
 use Rattle.std.specs.List.{AllByRecursion}
 use Rattle.std.specs.Str.{bytes_eq}
 use Rattle.qo_values.specs.Properties.{admits}
@@ -7,11 +7,13 @@ use Rattle.qo_values.specs.Registers.{Registers, bare, bridge, dimm, fresh_regis
 use Rattle.qo_values.specs.declared.births.TheConstants.{MACHINE_BIRTH, ROOT_BIRTH}
 use Rattle.qo_values.specs.declared.kinds.TypeId.{TypeId}
 use Rattle.qo_values.specs.declared.kinds.TypeId.TheVariants.{Container, Device, Machine, MemBus, SlotBus}
+use Rattle.qo_values.specs.declared.limits.TheConstants.{BUS_SLOTS}
 use Rattle.qo_values.specs.declared.properties.PropType.{PropType}
 use Rattle.qo_values.specs.declared.properties.Val.{Val}
 use Rattle.qo_values.specs.declared.properties.Val.TheVariants as val
 use Rattle.qo_model.specs.Board.{Board, Record, Slot, plain, child, strong, weak, alias, kind_of, record_of, slots_at}
 use Rattle.qo_model.specs.Devices.{clock_name, kid_name}
+use Rattle.qo_model.specs.Objects.{has_slot}
 use Rattle.qo_model.specs.Opening.{opening_board}
 use Rattle.qo_model.specs.RowNames.{property_name}
 use Rattle.qo_model.specs.SoundGraph.{without_value}
@@ -19,6 +21,7 @@ use Rattle.qo_model.specs.Types.{slots_of}
 use Rattle.qo_model.specs.declared.properties.Property.{Property}
 use Rattle.qo_model.specs.declared.properties.RowKind.{RowKind}
 use Rattle.qo_model.specs.declared.properties.RowKind.TheVariants as row
+use Rattle.qo_sound_devices.specs.SoundPlaces.{stands}
 
 -- what a plain property of a type may hold: nothing, or a value that the type admits
 abbrev pub MayHold : PropType → Val → Type 0
@@ -48,7 +51,7 @@ may_miss p = is_child_row p.kind && not (bytes_eq (property_name p.name) clock_n
 
 -- a further slot: of a bus a link `child[N]` that holds a device, of a container and of the machine a child, of any other object none
 abbrev pub IsKidLink : List ℕ → Slot → Type 0
-IsKidLink name (strong to target) = (to ≡ Device) × ((k : ℕ) × (name ≡ kid_name k))
+IsKidLink name (strong to target) = (to ≡ Device) × ((k : ℕ) × ((k < BUS_SLOTS) × (name ≡ kid_name k)))
 IsKidLink name s = ⊥
 
 abbrev pub IsChildSlot : Slot → Type 0
@@ -88,10 +91,16 @@ pub record IsShaped (r : Record) : Type 0 where
 abbrev pub unvalued : List (List ℕ × Slot) → List (List ℕ × Slot)
 unvalued slots = map (λ (s : List ℕ × Slot). (s.0, without_value s.1)) slots
 
+-- an object has a slot for each property of a type
+abbrev pub HasEach : Board → ℕ → TypeId → Type 0
+HasEach b n t = AllByRecursion (λ (p : Property). has_slot b n (property_name p.name) ≡ true) (slots_of t)
+
 -- the objects of a board are shaped as their types say
 pub record SoundShape (b : Board) : Type 0 where
   -- each object that is there is
   pub shaped : (n : ℕ) (r : Record) → record_of b n ≡ Some r → IsShaped r
+  -- a device that stands in a container lacks none of its slots
+  pub whole : (d : ℕ) (t : TypeId) → stands b d ≡ true → kind_of b d ≡ Some t → HasEach b d t
   -- the objects that every machine begins with are there, with their types
   pub opening : AllByRecursion (λ (o : Record). kind_of b o.birth ≡ Some o.kind) opening_board.records
   -- the root and the machine have the slots, but for plain values, that they begin with: so their children, under the same names
