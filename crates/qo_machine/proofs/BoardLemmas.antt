@@ -1,5 +1,5 @@
 -- Steps keep the whole of what a sound board is.
-use Rattle.std.proofs.Common.{refl, ap, sym, subst, ◌∙◌, ◌≡◌, ◌≤◌, ◌<◌, ◌^◌, ℕ, Bool, List, Option, None, Some, Result, Ok, Err, IfOk, true, false, is_some, arith}
+use Rattle.std.proofs.Common.{refl, ap, sym, subst, ◌∙◌, ◌≡◌, ◌≤◌, ◌<◌, ◌^◌, ℕ, Bool, List, [], ◌∷◌, Option, None, Some, Result, Ok, Err, IfOk, true, false, is_some, arith}
 use Rattle.std.specs.Option.{option_map_or}
 use Rattle.std.proofs.lemmas.Option.{same_Some}
 use Rattle.qo_causes.specs.declared.inputs.Input.{Input}
@@ -25,10 +25,12 @@ use Rattle.qo_realize.specs.Time.{at_time, with_running}
 use Rattle.qo_sound_bounds.specs.SoundBounds.{SoundBounds}
 use Rattle.qo_sound_bounds.proofs.BoundsLemmas.{bounds_kept_lem}
 use Rattle.qo_sound_bounds.proofs.SourcesLawLemmas.{sources_kept_lem}
+use Rattle.qo_sound_claims.specs.SoundBackends.{SoundBackends}
+use Rattle.qo_sound_claims.proofs.LawLemmas.{claims_kept_lem}
 use Rattle.qo_sound_clocks.specs.ClockRuns.{SoundRun}
 use Rattle.qo_sound_clocks.specs.RegistersKept.{registers_set}
 use Rattle.qo_sound_devices.specs.SoundLists.{IsOn}
-use Rattle.qo_sound_phases.proofs.ListLemmas.{among-all}
+use Rattle.qo_sound_devices.proofs.PlugLemmas.{among-all}
 use Rattle.qo_sound_shapes.specs.SoundShape.{is_like}
 use Rattle.qo_sound_shapes.proofs.LawLemmas.{shapes_kept_lem}
 use Rattle.qo_machine.specs.SoundBoard.{SoundBoard}
@@ -36,15 +38,28 @@ use Rattle.qo_machine.specs.Machine.{Answers, BreaksOff, IsIn, Message, Seen, St
 use Rattle.qo_machine.proofs.ClocksLemmas.{opening_run, pulsed_run, registers_run, ringed_run, run_by, run_free, run_kept}
 use Rattle.qo_machine.proofs.KeepLemmas.{KeepsBoard, KeepsCommands, broken_keeps, keeps_commands, step_keeps}
 use Rattle.qo_machine.proofs.MachineLemmas.{in_at}
+use Rattle.qo_machine.proofs.RingLemmas.{added_backends, gained_backends, read_backends, registers_backends, removed_backends}
 
--- what changes no object, and comes to no later time than there may be
-beside : (b c : Board) → c.records ≡ b.records → c.now ≤ TIME_MAX → SoundRun c → SoundBoard b → SoundBoard c
-beside b c records low run h =
+-- what changes no object and no ring, and comes to no later time than there may be
+beside : (b c : Board) → c.records ≡ b.records → c.rings ≡ b.rings → c.now ≤ TIME_MAX → SoundRun c → SoundBoard b → SoundBoard c
+beside b c records rings low run h =
     record {
       run = run;
       shape = shapes_kept_lem.beside b c records h.shape;
       sources = sources_kept_lem.beside b c records h.sources;
+      backends = claims_kept_lem.beside b c records rings h.backends;
       bounds = bounds_kept_lem.beside b c records low h.bounds;
+    }
+
+-- the rings alone, and these are sound with what devices claim
+ringed : (b : Board) (rings : List Ring) → SoundBackends (with_rings rings b) → SoundBoard b → SoundBoard (with_rings rings b)
+ringed b rings backends h =
+    record {
+      run = ringed_run b rings h.run;
+      shape = shapes_kept_lem.beside b (with_rings rings b) refl h.shape;
+      sources = sources_kept_lem.beside b (with_rings rings b) refl h.sources;
+      backends = backends;
+      bounds = bounds_kept_lem.beside b (with_rings rings b) refl h.bounds.time h.bounds;
     }
 
 -- a clock that is written
@@ -54,6 +69,7 @@ scaled_board b d c mul div narrow thin is run h =
       run = run;
       shape = shapes_kept_lem.scaled b d c mul div narrow thin is h.shape;
       sources = sources_kept_lem.scaled b d c mul div is h.run.devices h.sources;
+      backends = claims_kept_lem.scaled b d c mul div is h.run.devices h.backends;
       bounds = bounds_kept_lem.scaled b d c mul div is h.bounds;
     }
 
@@ -73,6 +89,7 @@ registers_board b d reg value registers e is h =
           (same_body b d registers
           (shapes_kept_lem.wrote (registers_at b d) registers e reg value (is_some (claimed_ring b d)) b.now (device_period b d) is)) h.shape;
       sources = sources_kept_lem.registers b d registers h.run.devices h.sources;
+      backends = registers_backends b d reg value registers e is h.run.devices h.backends;
       bounds = bounds_kept_lem.registers b d registers h.bounds;
     }
 
@@ -83,11 +100,12 @@ pulsed_board b m h =
       run = pulsed_run b m h.run;
       shape = shapes_kept_lem.pulsed b m h.shape;
       sources = sources_kept_lem.pulsed b m h.run.devices h.sources;
+      backends = claims_kept_lem.pulsed b m h.run.devices h.backends;
       bounds = bounds_kept_lem.pulsed b m h.bounds;
     }
 
 pushed_board : (b : Board) (n : ℕ) (id : List ℕ) → SoundBoard b → SoundBoard (pushed n b id)
-pushed_board b n id h = beside b (pushed n b id) refl h.bounds.time (ringed_run b (pushed n b id).rings h.run) h
+pushed_board b n id h = ringed b (pushed n b id).rings (gained_backends b id (n ∷ []) h.backends) h
 
 effect_board : (b : Board) (d : ℕ) (e : Effect) → SoundBoard b → SoundBoard (behind_effect d e b)
 effect_board b d effect.nothing h = h
@@ -120,6 +138,7 @@ board_kept =
             run = run_kept.change b change h.run;
             shape = shapes_kept_lem.change b change h.run.devices h.shape;
             sources = sources_kept_lem.change b change h.run.devices h.sources;
+            backends = claims_kept_lem.change b change h.run.devices h.backends;
             bounds = bounds_kept_lem.change b change h.bounds;
           };
       set = λ b d c period fits is h.
@@ -127,24 +146,27 @@ board_kept =
             run = run_kept.set b d c period fits is h.run;
             shape = shapes_kept_lem.set b d c period fits is h.shape;
             sources = sources_kept_lem.set b d c period is h.run.devices h.sources;
+            backends = claims_kept_lem.set b d c period is h.run.devices h.backends;
             bounds = bounds_kept_lem.set b d c period is h.bounds;
           };
       multiplied = λ b d c mul fits is h. scaled_board b d c mul (div_of b c) fits (h.run.numbers c).div is (run_kept.multiplied b d c mul fits is h.run) h;
       divided = λ b d c div fits is h. scaled_board b d c (mul_of b c) div (h.run.numbers c).mul fits is (run_kept.divided b d c div fits is h.run) h;
-      attempt = λ b t h. beside b (with_attempt b t) refl h.bounds.time (run_kept.attempt b t h.run) h;
+      attempt = λ b t h. beside b (with_attempt b t) refl refl h.bounds.time (run_kept.attempt b t h.run) h;
       plugged = λ b a h.
           record {
             run = run_kept.plugged b a h.run;
             shape = shapes_kept_lem.plugged b a h.run.devices h.shape;
             sources = sources_kept_lem.plugged b a h.run.devices h.sources;
+            backends = claims_kept_lem.plugged b a h.run.devices h.backends;
             bounds = bounds_kept_lem.plugged b a h.bounds;
           };
-      cut = λ b t i joined h. beside b (cut_attempt b t i joined) refl h.bounds.time (run_kept.cut b t i joined h.run) h;
+      cut = λ b t i joined h. beside b (cut_attempt b t i joined) refl refl h.bounds.time (run_kept.cut b t i joined h.run) h;
       asked = λ b id h.
           record {
             run = run_kept.asked b id h.run;
             shape = shapes_kept_lem.asked_for b id h.shape;
             sources = sources_kept_lem.asked_for b id h.sources;
+            backends = claims_kept_lem.asked_for b id h.backends;
             bounds = bounds_kept_lem.asked_for b id h.bounds;
           };
       completed = λ b at d is pending h.
@@ -153,25 +175,27 @@ board_kept =
             run = run_kept.completed b at d is pending h.run;
             shape = shapes_kept_lem.detached b d h.run.devices there h.shape;
             sources = sources_kept_lem.detached b d h.run.devices there h.sources;
+            backends = claims_kept_lem.detached b d h.run.devices there h.backends;
             bounds = bounds_kept_lem.detached b d h.bounds;
           };
-      refused = λ b d h. beside b (refused b d) refl h.bounds.time (run_kept.refused b d h.run) h;
-      polled = λ b h. beside b (polled b) refl h.bounds.time (run_kept.polled b h.run) h;
+      refused = λ b d h. beside b (refused b d) refl refl h.bounds.time (run_kept.refused b d h.run) h;
+      polled = λ b h. beside b (polled b) refl refl h.bounds.time (run_kept.polled b h.run) h;
       written = λ b at d reg value c there is h. written_board b d reg value c is h;
       rings =
           record {
-            added = λ b id kind size free h. beside b _ refl h.bounds.time (run_kept.rings.added b id kind size free h.run) h;
-            removed = λ b id free h. beside b _ refl h.bounds.time (run_kept.rings.removed b id free h.run) h;
-            read = λ b id most h. beside b _ refl h.bounds.time (run_kept.rings.read b id most h.run) h;
-            written = λ b id bytes h. beside b _ refl h.bounds.time (run_kept.rings.written b id bytes h.run) h;
+            added = λ b id kind size free h. ringed b _ (added_backends b id kind size free h.backends) h;
+            removed = λ b id free h. ringed b _ (removed_backends b id free h.backends) h;
+            read = λ b id most h. ringed b _ (read_backends b id most h.backends) h;
+            written = λ b id bytes h. ringed b _ (gained_backends b id bytes h.backends) h;
           };
-      timed = λ b now on low h. beside b (at_time now b) refl low (run_kept.timed b now on low h.run) h;
-      switched = λ b on h. beside b (with_running on b) refl h.bounds.time (run_kept.switched b on h.run) h;
+      timed = λ b now on low h. beside b (at_time now b) refl refl low (run_kept.timed b now on low h.run) h;
+      switched = λ b on h. beside b (with_running on b) refl refl h.bounds.time (run_kept.switched b on h.run) h;
       held_so = λ b n is home deep h.
           record {
             run = run_kept.held_so b n is home deep h.run;
             shape = shapes_kept_lem.held_so b n h.shape;
             sources = sources_kept_lem.held_so b n h.run.devices h.sources;
+            backends = claims_kept_lem.held_so b n h.run.devices h.backends;
             bounds = bounds_kept_lem.held_so b n h.bounds;
           };
       released_so = λ b n is held h.
@@ -179,6 +203,7 @@ board_kept =
             run = run_kept.released_so b n is held h.run;
             shape = shapes_kept_lem.released_so b n h.shape;
             sources = sources_kept_lem.released_so b n h.run.devices h.sources;
+            backends = claims_kept_lem.released_so b n h.run.devices h.backends;
             bounds = bounds_kept_lem.released_so b n h.bounds;
           };
       reset = λ b h.
@@ -186,21 +211,29 @@ board_kept =
             run = run_kept.reset b h.run;
             shape = shapes_kept_lem.reset b h.run.devices h.shape;
             sources = sources_kept_lem.reset b h.run.devices h.sources;
+            backends = claims_kept_lem.reset b h.run.devices h.backends;
             bounds = bounds_kept_lem.reset b h.bounds;
           };
     }
 
 pub board_commands : KeepsCommands SoundBoard
-board_commands = keeps_commands SoundBoard board_kept (λ b h. beside b (without_events b) refl h.bounds.time (run_free b h.run) h)
+board_commands = keeps_commands SoundBoard board_kept (λ b h. beside b (without_events b) refl refl h.bounds.time (run_free b h.run) h)
 
 -- so it is at first
 pub opening_sound_board : SoundBoard opening_board
-opening_sound_board = record { run = opening_run; shape = shapes_kept_lem.opening; sources = sources_kept_lem.opening; bounds = bounds_kept_lem.opening }
+opening_sound_board =
+    record {
+      run = opening_run;
+      shape = shapes_kept_lem.opening;
+      sources = sources_kept_lem.opening;
+      backends = claims_kept_lem.opening;
+      bounds = bounds_kept_lem.opening;
+    }
 
 -- where it is so on one board that a machine stands at, it is on each
 board_by : (s t : State) (m : Seen) → IsIn s m → IsIn t m → SoundBoard s.board → SoundBoard t.board
 board_by s t m p q h =
-    beside s.board t.board (q.stands.shows.records ∙ sym p.stands.shows.records)
+    beside s.board t.board (q.stands.shows.records ∙ sym p.stands.shows.records) (q.stands.rings ∙ sym p.stands.rings)
     (subst (λ (k : ℕ). k ≤ TIME_MAX) (p.stands.shows.now ∙ sym q.stands.shows.now) h.bounds.time) (run_by s t m p q h.run) h
 
 -- a machine at first

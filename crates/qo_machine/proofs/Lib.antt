@@ -4,6 +4,7 @@ pub mod ChunkLemmas
 pub mod ClocksLemmas
 pub mod DevicesLemmas
 pub mod GuestLemmas
+pub mod HoldLemmas
 pub mod KeepLemmas
 pub mod LaneLemmas
 pub mod LawLemmas
@@ -11,6 +12,7 @@ pub mod LeftLemmas
 pub mod MachineLemmas
 pub mod NoteLemmas
 pub mod PhaseLemmas
+pub mod RingLemmas
 pub mod RunLemmas
 pub mod SendingLemmas
 pub mod SoundLemmas

@@ -32,10 +32,8 @@ use Rattle.qo_sound_phases.specs.PhaseRuns.{SoundResets}
 use Rattle.qo_sound_phases.specs.PhasesKept.{may_reset}
 use Rattle.qo_sound_phases.proofs.LawLemmas.{phases_kept_lem, phases_say_lem}
 use Rattle.qo_machine.proofs.DevicesLemmas.{devices_free, devices_kept, ringed-devices}
-use Rattle.qo_machine.proofs.KeepLemmas.{any-rings, KeepsBoard, KeepsCommands, keeps_commands, run_keeps, step_keeps}
-use Rattle.qo_machine.specs.Laws.{PhasesInRuns}
+use Rattle.qo_machine.proofs.KeepLemmas.{any-rings, KeepsBoard, KeepsCommands, keeps_commands}
 use Rattle.qo_machine.specs.Machine.{opening}
-use Rattle.qo_machine.specs.Runs.{Turn, state_after}
 
 -- the device at an address stands in its place
 standing : (b : Board) (at : Addr) (d : ℕ) → addressed b at ≡ Some d → SoundResets b → stands b d ≡ true
@@ -94,7 +92,7 @@ may-so : (b : Board) (n : ℕ) → is_of b (codes "resettable") n ≡ true → a
 may-so b n is home = rw (home, is) refl
 
 -- changes and attempts keep them
-phases_kept : KeepsBoard SoundResets
+pub phases_kept : KeepsBoard SoundResets
 phases_kept =
     record {
       change = λ b change h.
@@ -151,22 +149,12 @@ phases_kept =
       reset = λ b h. record { devices = devices_kept.reset b h.devices; phases = phases_kept_lem.reset b h.devices h.phases };
     }
 
-phases_commands : KeepsCommands SoundResets
-phases_commands =
-    keeps_commands SoundResets phases_kept
-    (λ b h. record { devices = devices_free b h.devices; phases = phases_kept_lem.beside b (without_events b) refl refl refl refl h.phases })
+-- events are no matter to them
+pub phases_free : (b : Board) → SoundResets b → SoundResets (without_events b)
+phases_free b h = record { devices = devices_free b h.devices; phases = phases_kept_lem.beside b (without_events b) refl refl refl refl h.phases }
 
-opening_resets : SoundResets opening.board
+pub phases_commands : KeepsCommands SoundResets
+phases_commands = keeps_commands SoundResets phases_kept phases_free
+
+pub opening_resets : SoundResets opening.board
 opening_resets = record { devices = devices_kept_lem.opening; phases = phases_kept_lem.opening }
-
--- over every run
-pub phases_in_runs : PhasesInRuns
-phases_in_runs =
-    record {
-      kept = record { step = λ s i cs h. step_keeps SoundResets phases_commands s i cs h; run = run };
-      in_turn = λ turns n. phases_say_lem.in_turn (state_after opening turns).board (run turns).phases n;
-      in_reset = λ turns n may. phases_say_lem.in_reset (state_after opening turns).board (run turns).devices (run turns).phases n may;
-    }
-  where
-    run : (turns : List Turn) → SoundResets (state_after opening turns).board
-    run turns = run_keeps SoundResets phases_commands opening turns opening_resets

@@ -13,6 +13,7 @@ use Rattle.qo_model.specs.Holders.{HeldFrom}
 use Rattle.qo_model.specs.Paths.{attached}
 use Rattle.qo_sound.specs.Kept.{SoundTree}
 use Rattle.qo_sound_devices.specs.SoundDevices.{SoundDevices}
+use Rattle.qo_sound_bounds.specs.SoundHolds.{SoundHolds}
 use Rattle.qo_sound_clocks.specs.ClockRuns.{SoundRun}
 use Rattle.qo_sound_phases.specs.PhaseRuns.{SoundResets}
 use Rattle.qo_sound_phases.specs.Phases.{IsInTurn, phases_of, stage_of}
@@ -99,9 +100,14 @@ pub record SoundInRuns : Type 0 where
   -- and the whole of what a sound board is
   pub whole : KeptInRuns SoundBoard
 
--- over every run the phases of resets that are noted of each birth are in turn: the beginning of enter, hold, exit, repeated; and who is attached and may be held in reset is held by its notes where a hold is on it or above it, and nowhere else
+-- the phases are sound, and no object that a reset reaches has more holds on it and above it than may be
+abbrev pub SoundHeld : Board → Type 0
+SoundHeld b = SoundResets b × SoundHolds b
+
+-- over every run the phases of resets that are noted of each birth are in turn: the beginning of enter, hold, exit, repeated; and who is attached and may be held in reset is held by its notes where a hold is on it or above it, and nowhere else; and there are not too many holds
 pub record PhasesInRuns : Type 0 where
   pub kept : KeptInRuns SoundResets
+  pub few : KeptInRuns SoundHeld
   pub in_turn : (turns : List Turn) (n : ℕ) → IsInTurn (phases_of n (state_after opening turns).board.notes)
   pub in_reset : (turns : List Turn) (n : ℕ) → may_reset (state_after opening turns).board n ≡ true
       → stage_of n (state_after opening turns).board.notes ≡ Some (stage_now (state_after opening turns).board n)
