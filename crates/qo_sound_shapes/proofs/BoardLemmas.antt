@@ -1,5 +1,5 @@
 -- A fact of each object that is there: what edits, acts and releases keep. The shape of a board, from such a fact and back.
-use Rattle.std.proofs.Common.{◌≡◌, refl, ap, sym, subst, ◌∙◌, rules, ℕ, zero, suc, Bool, true, false, not, ◌||◌, ◌&&◌, ◌==◌, eqb, List, [], ◌∷◌, ◌++◌, map, slice_get, Option, Some, None, is_some, option_map}
+use Rattle.std.proofs.Common.{◌≡◌, refl, ap, sym, subst, ◌∙◌, ℕ, Bool, true, false, ◌==◌, eqb, List, [], ◌∷◌, ◌++◌, Option, Some, None, is_some, option_map}
 use Rattle.std.specs.List.{AllByRecursion, list_any}
 use Rattle.std.specs.Option.{option_map_or, option_or}
 use Rattle.std.specs.Prelude.{nat_eq}
@@ -9,15 +9,15 @@ use Rattle.qo_values.specs.declared.births.TheConstants.{MACHINE_BIRTH, ROOT_BIR
 use Rattle.qo_values.specs.declared.kinds.TypeId.{TypeId}
 use Rattle.qo_model.specs.Board.{Board, Record, Slot, held, is_live, kind_of, record_of, slot_at, slots_at}
 use Rattle.qo_model.specs.Opening.{opening_board}
-use Rattle.qo_model.specs.Release.{after, drop_slot, edit, edited, finalise, finish, forgotten, let_go, next_place, pin, put_in_order, unpin, with_dropped, without_pin}
+use Rattle.qo_model.specs.Release.{after, drop_slot, edit, edited, finalise, finish, forgotten, let_go, next_place, pin, unpin, with_dropped, without_pin}
 use Rattle.qo_model.specs.ReleaseKeeps.{KeepsRelease}
 use Rattle.qo_model.specs.Types.{types}
 use Rattle.qo_model.proofs.ReleaseKeepsLemmas.{after_keeps}
 use Rattle.qo_model.proofs.StepLemmas.{drop-record, finish-gone, finish-record, found-edited, found_at}
 use Rattle.qo_sound.proofs.RecordLemmas.{all-imply, found-birth}
 use Rattle.qo_sound_clocks.proofs.FoundLemmas.{found-append}
-use Rattle.qo_sound_shapes.specs.SoundShape.{IsShaped, SoundShape, unvalued}
-use Rattle.qo_sound_shapes.proofs.GoodLemmas.{Good, good-forgotten, is_first}
+use Rattle.qo_sound_shapes.specs.SoundShape.{SoundShape, unvalued}
+use Rattle.qo_sound_shapes.proofs.GoodLemmas.{Good, is_first}
 use Rattle.qo_sound_shapes.proofs.WholeLemmas.{Whole}
 
 abbrev pub AllOf : (Record → Type 0) → Board → Type 0
@@ -147,7 +147,8 @@ module _ (Q : Record → Type 0) (forgets : (n : ℕ) (r : Record) → Q r → Q
       go false e = rw (unpin, e) h
 
   -- a slot is let go
-  pub all-let_go : (n i : ℕ) (c : Board) → ((r : Record) → record_of c n ≡ Some r → r.birth ≡ n → Q r → Q (with_dropped i r)) → AllOf Q c → AllOf Q (let_go c n i)
+  pub all-let_go : (n i : ℕ) (c : Board) → ((r : Record) → record_of c n ≡ Some r → r.birth ≡ n → Q r → Q (with_dropped i r)) → AllOf Q c
+      → AllOf Q (let_go c n i)
   unfolding let_go drop_slot
   all-let_go n i c keeps h = go (slot_at c n i) refl
     where
@@ -188,7 +189,8 @@ good-all b h x r e =
       fixed = λ first.
           let own : r.birth ≡ x = found-birth x b.records r e in
           let is : unvalued (slots_at b x) ≡ unvalued (slots_at opening_board x) = at_first (sym (ap is_first own) ∙ first) in
-          ap (λ (o : Option Record). unvalued (option_map_or (λ (y : Record). y.slots) o [])) (sym e) ∙ is ∙ ap (λ (m : ℕ). unvalued (slots_at opening_board m)) (sym own);
+          ap (λ (o : Option Record). unvalued (option_map_or (λ (y : Record). y.slots) o [])) (sym e) ∙ is
+          ∙ ap (λ (m : ℕ). unvalued (slots_at opening_board m)) (sym own);
     }
   where
     at_first : is_first x ≡ true → unvalued (slots_at b x) ≡ unvalued (slots_at opening_board x)
@@ -211,11 +213,19 @@ shape-all b live whole h =
       whole = whole;
       opening = (
         kind 1 _ refl live.0,
-        (kind 2 _ refl live.1.0,
-        (kind 3 _ refl live.1.1.0,
-        (kind 4 _ refl live.1.1.1.0,
-        (kind 5 _ refl live.1.1.1.1.0,
-        (kind 6 _ refl live.1.1.1.1.1.0, (kind 7 _ refl live.1.1.1.1.1.1.0, (kind 8 _ refl live.1.1.1.1.1.1.1.0, tt))))))),
+        (
+          kind 2 _ refl live.1.0,
+          (
+            kind 3 _ refl live.1.1.0,
+            (
+              kind 4 _ refl live.1.1.1.0,
+              (
+                kind 5 _ refl live.1.1.1.1.0,
+                (kind 6 _ refl live.1.1.1.1.1.0, (kind 7 _ refl live.1.1.1.1.1.1.0, (kind 8 _ refl live.1.1.1.1.1.1.1.0, tt))),
+              ),
+            ),
+          ),
+        ),
       );
       fixed = (fixed 1 refl live.0, (fixed 2 refl live.1.0, tt));
     }
@@ -241,7 +251,9 @@ shape-all b live whole h =
 
 -- they are there where the shape is sound
 pub shape-live : (b : Board) → SoundShape b → OpeningLive b
-shape-live b h = all-imply (λ (o : Record). kind_of b o.birth ≡ Some o.kind) (λ (o : Record). is_live b o.birth ≡ true) (λ o e. live o.birth o.kind e) opening_board.records h.opening
+shape-live b h =
+    all-imply (λ (o : Record). kind_of b o.birth ≡ Some o.kind) (λ (o : Record). is_live b o.birth ≡ true)
+    (λ o e. live o.birth o.kind e) opening_board.records h.opening
   where
     live : (n : ℕ) (t : TypeId) → kind_of b n ≡ Some t → is_live b n ≡ true
     live n t e = go (record_of b n) refl

@@ -1,5 +1,5 @@
 -- The commands on objects keep the shape.
-use Rattle.std.proofs.Common.{◌≡◌, ◌⊎◌, inl, inr, refl, ap, sym, subst, ◌∙◌, rules, ℕ, zero, suc, ◌<◌, ◌≤◌, ◌+◌, Bool, true, false, not, ◌==◌, eqb, List, [], ◌∷◌, ◌++◌, length, map, position, slice_get, codes, Option, Some, None, is_some, option_map, option_and_then, Result, Ok, Err, arith}
+use Rattle.std.proofs.Common.{◌≡◌, refl, ap, sym, subst, ◌∙◌, rules, ℕ, zero, suc, ◌<◌, ◌≤◌, ◌+◌, Bool, true, false, not, eqb, List, [], ◌∷◌, length, map, position, slice_get, codes, Option, Some, None, is_some, option_map, option_and_then, Result, Ok, Err, arith}
 use Rattle.std.specs.Prelude.{get_or}
 use Rattle.std.specs.Bool.{⊤}
 use Rattle.std.specs.List.{AllByRecursion}
@@ -8,8 +8,6 @@ use Rattle.std.specs.Str.{bytes_eq}
 use Rattle.std.proofs.lemmas.Bool.{eqb-true}
 use Rattle.std.proofs.lemmas.List.Quantifiers.{position-Some}
 use Rattle.std.proofs.lemmas.Option.{same_Some}
-use Rattle.std.proofs.lemmas.Slice.Eq.{bytes_eq-Decides}
-use Rattle.qo_values.specs.Ids.{is_id}
 use Rattle.qo_values.specs.Properties.{admits}
 use Rattle.qo_values.specs.Registers.{fresh_registers}
 use Rattle.qo_values.specs.declared.births.TheConstants.{ANONYMOUS_BIRTH, MACHINE_BIRTH, MEMORY_BUS_BIRTH, OBJECTS_BIRTH, PERIPHERAL_BIRTH, ROOT_BIRTH, ROOT_BUS_BIRTH, SYSTEM_CLOCK_BIRTH}
@@ -27,8 +25,7 @@ use Rattle.qo_model.specs.Objects.{Given, added_as, added_by, barred, given_slot
 use Rattle.qo_model.specs.Opening.{opening_board}
 use Rattle.qo_model.specs.Paths.{attached, child_of}
 use Rattle.qo_model.specs.Properties.{link_target, link_written, linked, may_set, pointed_at, relinked, row_of_property, write, written, written_by}
-use Rattle.qo_model.specs.Release.{after, drop_slot, edit, finalise, forgotten, forgotten_in, let_go, pin, unpin, with_dropped, without_hold}
-use Rattle.qo_model.specs.RowNames.{property_name}
+use Rattle.qo_model.specs.Release.{drop_slot, edit, forgotten, forgotten_in, let_go, pin, with_dropped, without_hold}
 use Rattle.qo_model.specs.Types.{TypeRow, is_a, row_named, slots_of, types}
 use Rattle.qo_model.specs.declared.properties.Property.{Property}
 use Rattle.qo_model.specs.declared.properties.RowKind.{RowKind}
@@ -41,12 +38,12 @@ use Rattle.qo_sound_devices.specs.SoundDevices.{SoundDevices}
 use Rattle.qo_sound_devices.specs.SoundPlaces.{child_entries, child_entry, listed, PlacesBut, stands}
 use Rattle.qo_sound_devices.proofs.DevicesLawLemmas.{devices_kept_lem}
 use Rattle.qo_sound_devices.proofs.PlacesLemmas.{child-live, high-absent, stands-live}
-use Rattle.qo_sound_shapes.specs.SoundShape.{HasSlots, IsChildSlot, is_child_row, is_like, IsAsRow, IsFurther, IsOfRow, IsShaped, may_miss, SoundShape}
+use Rattle.qo_sound_shapes.specs.SoundShape.{HasSlots, IsChildSlot, is_child_row, IsAsRow, IsFurther, IsShaped, SoundShape}
 use Rattle.qo_sound_shapes.proofs.BoardLemmas.{all-after, all-edit, all-let_go, all-new, all-pin, all-unpin, AllOf, good-all, OpeningLive, shape-all}
 use Rattle.qo_sound_shapes.proofs.GoodLemmas.{Good, good-added, good-changed, good-dropped, good-forgotten, good-slots, is_first, mild-pointed, rows-pointed}
 use Rattle.qo_sound_shapes.proofs.MadeLemmas.{created-own, fresh-has, fresh-like, given-has, good-new}
-use Rattle.qo_sound_shapes.proofs.QuietLemmas.{good-set, RowTakes, same-shape, slot-of, Takes}
-use Rattle.qo_sound_shapes.proofs.RowLemmas.{has-dropped, IsRowOf, Slots}
+use Rattle.qo_sound_shapes.proofs.QuietLemmas.{good-set, RowTakes, slot-of, Takes}
+use Rattle.qo_sound_shapes.proofs.RowLemmas.{has-dropped, Slots}
 use Rattle.qo_sound_shapes.proofs.WholeLemmas.{entries-changed, entries-each, entries-let_go, entries_in, entry-val, Kept, kept-of, kept-slots, names-let_go, whole-kept}
 
 -- on a board that is sound as far as devices go the machine's objects are there
@@ -54,12 +51,22 @@ pub live-devices : (b : Board) → SoundDevices b → OpeningLive b
 unfolding opening_board types
 live-devices b h = (
   root (kind_of b ROOT_BIRTH) refl,
-  (there ROOT_BIRTH MACHINE_BIRTH p.machine,
-  (there MACHINE_BIRTH PERIPHERAL_BIRTH p.parts.0,
-  (there MACHINE_BIRTH ANONYMOUS_BIRTH p.parts.1.0,
-  (there MACHINE_BIRTH SYSTEM_CLOCK_BIRTH p.parts.1.1.1.1.0,
-  (there MACHINE_BIRTH ROOT_BUS_BIRTH p.parts.1.1.0,
-  (there MACHINE_BIRTH MEMORY_BUS_BIRTH p.parts.1.1.1.0, (there ROOT_BIRTH OBJECTS_BIRTH p.objects, tt))))))),
+  (
+    there ROOT_BIRTH MACHINE_BIRTH p.machine,
+    (
+      there MACHINE_BIRTH PERIPHERAL_BIRTH p.parts.0,
+      (
+        there MACHINE_BIRTH ANONYMOUS_BIRTH p.parts.1.0,
+        (
+          there MACHINE_BIRTH SYSTEM_CLOCK_BIRTH p.parts.1.1.1.1.0,
+          (
+            there MACHINE_BIRTH ROOT_BUS_BIRTH p.parts.1.1.0,
+            (there MACHINE_BIRTH MEMORY_BUS_BIRTH p.parts.1.1.1.0, (there ROOT_BIRTH OBJECTS_BIRTH p.objects, tt)),
+          ),
+        ),
+      ),
+    ),
+  ),
 )
   where
     p : PlacesBut h.places.0 None (λ d. false) b
@@ -128,7 +135,8 @@ late-shelf n late = go (eqb n PERIPHERAL_BIRTH) refl (eqb n ANONYMOUS_BIRTH) ref
     go false p false q = rw (p, q) refl
 
 module _ (o : Board) where
-  full-slots : (r : Record) (slots : Slots) → Good (record r { slots = slots }) → names_in slots ≡ names_in r.slots → entries_in slots ≡ entries_in r.slots → Full o r
+  full-slots : (r : Record) (slots : Slots) → Good (record r { slots = slots }) → names_in slots ≡ names_in r.slots
+      → entries_in slots ≡ entries_in r.slots → Full o r
       → Full o (record r { slots = slots })
   full-slots r slots good names entries h = record { good = good; kept = kept-slots o r slots names entries h.kept }
 
@@ -247,7 +255,8 @@ module _ (base : Board) (aside : stands base OBJECTS_BIRTH ≡ false) where
 
   -- `object-add`
 
-  object-all : (b : Board) (t : TypeId) (id : List ℕ) (props : List Given) → stands base (b.born + 1) ≡ false → 8 ≤ b.born → is_a t (codes "user-creatable") ≡ true → refusal_of b t props ≡ None
+  object-all : (b : Board) (t : TypeId) (id : List ℕ) (props : List Given) → stands base (b.born + 1) ≡ false → 8 ≤ b.born
+      → is_a t (codes "user-creatable") ≡ true → refusal_of b t props ≡ None
       → AllOf (Full base) b → AllOf (Full base) (with_object b t id props)
   object-all b t id props apart begun creatable none h =
       all-new (Full base) new (edit OBJECTS_BIRTH (with_added id (child (b.born + 1))) b) (with_object b t id props) refl
@@ -262,14 +271,17 @@ module _ (base : Board) (aside : stands base OBJECTS_BIRTH ≡ false) where
             kept =
                 record {
                   each = λ s. absurd (let clash : true ≡ false = sym s ∙ ap (stands base) own ∙ apart in cc);
-                  shelf = λ on. absurd (let clash : true ≡ false = sym on ∙ ap (among (PERIPHERAL_BIRTH ∷ ANONYMOUS_BIRTH ∷ [])) own ∙ late-shelf (b.born + 1) (omega (arith, begun)) in cc);
+                  shelf =
+                      λ on. absurd (let clash : true ≡ false = sym on ∙ ap (among (PERIPHERAL_BIRTH ∷ ANONYMOUS_BIRTH ∷ [])) own
+                      ∙ late-shelf (b.born + 1) (omega (arith, begun)) in cc);
                 };
           }
 
       new : Record
       new = record { birth = b.born + 1; kind = t; slots = given_slots b t props; registers = fresh_registers t; device_id = None; kept_path = None }
 
-  added-all : (b : Board) (driver id : List ℕ) (props : List Given) → stands base (b.born + 1) ≡ false → 8 ≤ b.born → AllOf (Full base) b → AllOf (Full base) (object_add b driver id props).board
+  added-all : (b : Board) (driver id : List ℕ) (props : List Given) → stands base (b.born + 1) ≡ false → 8 ≤ b.born → AllOf (Full base) b
+      → AllOf (Full base) (object_add b driver id props).board
   added-all b driver id props apart begun h = go (row_named driver) refl
     where
       flipped : (u : Bool) → not u ≡ false → u ≡ true
@@ -316,7 +328,8 @@ module _ (base : Board) (aside : stands base OBJECTS_BIRTH ≡ false) where
             all-edit (Full base) n (with_changed (pointed m) i) (λ r. refl) (drop_slot b n i)
             (λ r q own k. full-pointed base m i r k) dropped
 
-    linked-all : (s : Slot) → slot_at b n i ≡ Some s → child_of s ≡ None → (target : Result (Option ℕ) Code) → AllOf (Full base) (behind_write b (linked b n i target))
+    linked-all : (s : Slot) → slot_at b n i ≡ Some s → child_of s ≡ None → (target : Result (Option ℕ) Code)
+        → AllOf (Full base) (behind_write b (linked b n i target))
     linked-all s e none (Ok target) = relinked-all s e none target
     linked-all s e none (Err code) = h
 
@@ -373,7 +386,8 @@ module _ (base : Board) (aside : stands base OBJECTS_BIRTH ≡ false) where
   write-all : (b : Board) (n : ℕ) (name : List ℕ) (v : Val) → AllOf (Full base) b → AllOf (Full base) (behind_write b (write b n name v))
   write-all b n name v h = go (position (λ (s : List ℕ × Slot). bytes_eq s.0 name) (slots_at b n)) refl
     where
-      go : (place : Option ℕ) → position (λ (s : List ℕ × Slot). bytes_eq s.0 name) (slots_at b n) ≡ place → AllOf (Full base) (behind_write b (write b n name v))
+      go : (place : Option ℕ) → position (λ (s : List ℕ × Slot). bytes_eq s.0 name) (slots_at b n) ≡ place
+          → AllOf (Full base) (behind_write b (write b n name v))
       go None p = rw (write, p) h
       go (Some i) p =
           let d : List ℕ × Slot = ([], plain val.Nothing) in
@@ -383,7 +397,6 @@ module _ (base : Board) (aside : stands base OBJECTS_BIRTH ≡ false) where
           rw (write, p)
           (by-row b h n i name (get_or (slots_at b n) i d) (slice-of (slots_at b n) i d k.0) k.1
           (option_and_then (λ t. row_of_property t name) (kind_of b n)) refl v)
-
 
 -- each of them
 

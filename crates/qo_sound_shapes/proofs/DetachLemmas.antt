@@ -1,7 +1,6 @@
 -- A device that is detached, with all that is below it, leaves the others shaped as their types say.
-use Rattle.std.proofs.Common.{◌≡◌, ◌⊎◌, inl, inr, refl, ap, sym, subst, ◌∙◌, rules, ℕ, zero, suc, Bool, true, false, not, ◌&&◌, ◌==◌, eqb, List, [], ◌∷◌, ◌++◌, filter_map, find, length, remove, slice_get, codes, Option, Some, None, is_some, option_map, option_and_then}
-use Rattle.std.specs.Bool.{⊤}
-use Rattle.std.specs.List.{AllByRecursion, cons_option}
+use Rattle.std.proofs.Common.{◌≡◌, ◌⊎◌, inl, inr, refl, ap, sym, subst, ◌∙◌, rules, ℕ, zero, suc, Bool, true, false, not, ◌==◌, eqb, List, [], ◌∷◌, filter_map, find, length, remove, slice_get, codes, Option, Some, None, option_map, option_and_then}
+use Rattle.std.specs.List.{AllByRecursion}
 use Rattle.std.specs.Option.{option_map_or}
 use Rattle.std.specs.Str.{bytes_eq}
 use Rattle.std.proofs.lemmas.Bool.{and_parts, eq-eqb, eqb-true}
@@ -14,17 +13,16 @@ use Rattle.qo_values.specs.declared.kinds.TypeId.{TypeId}
 use Rattle.qo_values.specs.declared.kinds.TypeId.TheVariants.{Object, Container, Machine, Device, SlotDevice, SlotUart, SlotTimer, SlotBridge, MemDimm, Bus, SlotBus, MemBus, Clock, MemoryBackend, MemoryBackendRam, Tag}
 use Rattle.qo_values.specs.declared.properties.Val.{Val}
 use Rattle.qo_values.specs.declared.properties.Val.TheVariants as val
-use Rattle.qo_model.specs.Board.{Board, Record, Slot, plain, child, strong, weak, alias, held, is_live, kind_of, record_of, slot_at, slots_at}
-use Rattle.qo_model.specs.Changes.{changed_at, cut, set, with_changed, with_cut, with_val}
+use Rattle.qo_model.specs.Board.{Board, Record, Slot, plain, child, strong, weak, alias, kind_of, record_of, slot_at, slots_at}
+use Rattle.qo_model.specs.Changes.{cut, set, with_changed, with_cut, with_val}
 use Rattle.qo_model.specs.Clocks.{acted, device_period, with_act_on}
 use Rattle.qo_model.specs.Depth.{by_depth}
 use Rattle.qo_model.specs.Devices.{bus_in, bus_of, buses_of, clock_name, clock_of, kids_of, strong_in}
-use Rattle.qo_model.specs.Hotplug.{all_completed, completed, reset_whole}
 use Rattle.qo_model.specs.Objects.{place_from}
 use Rattle.qo_model.specs.Opening.{opening_board}
 use Rattle.qo_model.specs.Paths.{births, child_of, is_child, is_of}
 use Rattle.qo_model.specs.Properties.{row_of_property}
-use Rattle.qo_model.specs.Release.{after, drop_slot, edit, edited, emptied, finalise, forgotten, forgotten_in, let_go, pin, unpin, with_dropped, without_hold}
+use Rattle.qo_model.specs.Release.{drop_slot, edit, edited, emptied, forgotten, forgotten_in, let_go, pin, with_dropped, without_hold}
 use Rattle.qo_model.specs.RowNames.{property_name}
 use Rattle.qo_model.specs.Types.{is_a, slots_of, types}
 use Rattle.qo_model.specs.Unplug.{apart_within, detach, disconnected, drained, each, first_of, is_bus_slot, is_child_slot, is_named, left_bus, left_parent, let_go_where, lost_bus, lost_buses, names_kid, set_named, take_slot, take_where, taken_by, unrealize, unrealize_turn, unrealized_bus, unrealized_device, unseen, unseen_named}
@@ -36,18 +34,12 @@ use Rattle.qo_sound.proofs.FirmLemmas.{FitsKind, Linked}
 use Rattle.qo_sound.proofs.RecordLemmas.{all-both, all-map, found-birth}
 use Rattle.qo_sound.proofs.SlotLemmas.{all-changed, all-dropped}
 use Rattle.qo_sound.proofs.UnplugLemmas.{Found, found-at}
-use Rattle.qo_sound.proofs.ViewLemmas.{rest-from_sound}
-use Rattle.qo_sound_clocks.proofs.FoundLemmas.{all-found}
-use Rattle.qo_sound_devices.specs.SoundDevices.{SoundDevices}
-use Rattle.qo_sound_devices.specs.SoundLists.{IsOn}
-use Rattle.qo_sound_devices.specs.SoundPlaces.{stands}
-use Rattle.qo_sound_devices.proofs.PlugLemmas.{stands-device}
-use Rattle.qo_sound_devices.proofs.ResetLemmas.{detached-below, first-on}
-use Rattle.qo_sound_shapes.specs.SoundShape.{HasSlots, is_child_row, IsAsRow, IsFurther, IsKidLink, IsOfRow, may_miss, SoundShape}
-use Rattle.qo_sound_shapes.proofs.BoardLemmas.{all-after, all-edit, all-imply_of, all-let_go, all-pin, all-unpin, AllOf, good-all, shape-all}
-use Rattle.qo_sound_shapes.proofs.CommandLemmas.{child-row, container-kind, good-emptied, live-devices}
+use Rattle.qo_sound_devices.proofs.ResetLemmas.{first-on}
+use Rattle.qo_sound_shapes.specs.SoundShape.{is_child_row, IsAsRow, IsFurther, IsKidLink, IsOfRow, may_miss}
+use Rattle.qo_sound_shapes.proofs.BoardLemmas.{all-after, all-edit, all-let_go, all-pin, all-unpin, AllOf}
+use Rattle.qo_sound_shapes.proofs.CommandLemmas.{child-row, container-kind, good-emptied}
 use Rattle.qo_sound_shapes.proofs.GoodLemmas.{Good, good-changed, good-dropped, good-forgotten, good-let_go, good-slots, is_first, mild-unseen, rows-unseen}
-use Rattle.qo_sound_shapes.proofs.QuietLemmas.{good-act, good-set, pulse-shape, slot-of, Takes}
+use Rattle.qo_sound_shapes.proofs.QuietLemmas.{good-act, good-set, slot-of, Takes}
 use Rattle.qo_sound_shapes.proofs.RowLemmas.{has-all, has-removed, IsRowOf, own-rows, Slots}
 
 -- an object whose links are to objects of their types, where `kinds` says the types before
@@ -349,7 +341,8 @@ module _ (kinds : ℕ → Option TypeId) where
 
   -- taking out
 
-  keeps-let_go : (n i : ℕ) (c : Board) → ((r : Record) → record_of c n ≡ Some r → r.birth ≡ n → Kinded kinds r → Good (with_dropped i r)) → H c → H (let_go c n i)
+  keeps-let_go : (n i : ℕ) (c : Board) → ((r : Record) → record_of c n ≡ Some r → r.birth ≡ n → Kinded kinds r → Good (with_dropped i r)) → H c
+      → H (let_go c n i)
   keeps-let_go n i c drops h = all-let_go (Kinded kinds) keeps-forgotten n i c (λ r q own k. keeps-dropped i r (drops r q own k) k) h
 
   -- a slot of a device under another name than its clock's
@@ -462,7 +455,8 @@ module _ (kinds : ℕ → Option TypeId) where
           all-edit (Kinded kinds) n (with_dropped i) (λ r. refl) c
           (λ r q its k.
           keeps-dropped i r
-          (good-dropped i r (λ s there. ap (λ (x : List ℕ × Slot). child_of x.1) (same_Some s (own, strong t target) (sym there ∙ slot-of c n i r (own, strong t target) q at)))
+          (good-dropped i r (λ s there. ap (λ (x : List ℕ × Slot). child_of x.1)
+          (same_Some s (own, strong t target) (sym there ∙ slot-of c n i r (own, strong t target) q at)))
           k.good) k) h
 
       cuts : (r : Record) → record_of (edit n (with_dropped i) c) n ≡ Some r → slice_get r.slots i ≡ Some (own, strong t None)
@@ -546,7 +540,8 @@ module _ (kinds : ℕ → Option TypeId) where
       go (Some r) q =
           let k : Kinded kinds r = h d r q in
           let found : option_and_then strong_in (option_map (λ (s : List ℕ × Slot). s.1) (find (λ s. bytes_eq s.0 (codes "parent_bus")) r.slots)) ≡ Some m =
-          sym (ap (λ (o : Option Record). option_and_then strong_in (option_map (λ (s : List ℕ × Slot). s.1) (find (λ s. bytes_eq s.0 (codes "parent_bus")) (slots_in o)))) q)
+          sym (ap (λ (o : Option Record). option_and_then strong_in
+          (option_map (λ (s : List ℕ × Slot). s.1) (find (λ s. bytes_eq s.0 (codes "parent_bus")) (slots_in o)))) q)
           ∙ e in
           let (own, rest) =
           strong-found (λ (s : List ℕ × Slot). LinksBus s × Linked kinds s.1) (codes "parent_bus") r.slots
@@ -597,7 +592,8 @@ module _ (kinds : ℕ → Option TypeId) where
   kids-devices : (c : Board) (m : ℕ) → H c → IsKind kinds (codes "bus") m → AllByRecursion (IsKind kinds (codes "device")) (kids_of c m)
   kids-devices c m h bus = go (record_of c m) refl
     where
-      go : (o : Option Record) → record_of c m ≡ o → AllByRecursion (IsKind kinds (codes "device")) (filter_map (λ (s : List ℕ × Slot). strong_in s.1) (slots_in o))
+      go : (o : Option Record) → record_of c m ≡ o
+          → AllByRecursion (IsKind kinds (codes "device")) (filter_map (λ (s : List ℕ × Slot). strong_in s.1) (slots_in o))
       go None q = tt
       go (Some r) q =
           let k : Kinded kinds r = h m r q in

@@ -1,35 +1,32 @@
 -- A new device is made, row by row, and is shaped as its type says.
-use Rattle.std.proofs.Common.{◌≡◌, ◌⊎◌, inl, inr, refl, ap, sym, subst, ◌∙◌, rules, ℕ, zero, suc, ◌<◌, ◌≤◌, ◌+◌, ◌&&◌, Bool, true, false, cond, not, ◌==◌, eqb, List, [], ◌∷◌, ◌++◌, append-nil, map, find, codes, Option, Some, None, is_some, option_map, option_and_then, arith}
+use Rattle.std.proofs.Common.{◌≡◌, refl, ap, sym, subst, ◌∙◌, rules, ℕ, ◌<◌, ◌≤◌, ◌+◌, ◌&&◌, Bool, true, false, cond, not, ◌==◌, List, [], ◌∷◌, ◌++◌, append-nil, find, codes, Option, Some, None, option_map, option_and_then, arith}
 use Rattle.std.specs.Bool.{⊤}
-use Rattle.std.specs.Prelude.{if◌then◌else◌}
 use Rattle.std.specs.List.{AllByRecursion, list_any}
 use Rattle.std.specs.Option.{option_map_or, option_or}
 use Rattle.std.specs.Str.{bytes_eq}
 use Rattle.std.proofs.lemmas.Bool.{and_parts, eq-eqb, eqb-true}
 use Rattle.std.proofs.lemmas.List.{append_assoc}
 use Rattle.std.proofs.lemmas.List.Folds.{find-append}
-use Rattle.std.proofs.lemmas.Option.{same_Some}
 use Rattle.std.proofs.lemmas.Slice.Eq.{bytes_eq-Decides}
 use Rattle.std.proofs.Math.Bool.{or-true}
 use Rattle.qo_values.specs.Registers.{fresh_registers}
 use Rattle.qo_values.specs.declared.kinds.TypeId.{TypeId}
 use Rattle.qo_values.specs.declared.kinds.TypeId.TheVariants.{Object, Container, Machine, Device, SlotDevice, SlotUart, SlotTimer, SlotBridge, MemDimm, Bus, SlotBus, MemBus, Clock, MemoryBackend, MemoryBackendRam, Tag}
-use Rattle.qo_model.specs.Board.{Board, Record, Slot, plain, child, strong, weak, alias, record_of, slots_at}
+use Rattle.qo_model.specs.Board.{Board, Record, Slot, plain, child, strong, weak, alias, record_of}
 use Rattle.qo_model.specs.Changes.{add, fresh, with_added}
 use Rattle.qo_model.specs.Devices.{child_named}
 use Rattle.qo_model.specs.Opening.{first_value, fresh_record}
-use Rattle.qo_model.specs.Plug.{aliased, drafted, owned, row_made, rows_made, with_kid, with_new}
-use Rattle.qo_model.specs.Release.{edit}
+use Rattle.qo_model.specs.Plug.{aliased, drafted, owned, row_made, rows_made, with_new}
 use Rattle.qo_model.specs.RowNames.{property_name}
-use Rattle.qo_model.specs.Types.{is_a, slots_of, types}
+use Rattle.qo_model.specs.Types.{slots_of, types}
 use Rattle.qo_model.specs.declared.properties.Property.{Property}
 use Rattle.qo_model.specs.declared.properties.RowKind.{RowKind}
 use Rattle.qo_model.specs.declared.properties.RowKind.TheVariants as row
 use Rattle.qo_sound.proofs.RecordLemmas.{found-birth}
-use Rattle.qo_sound_shapes.specs.SoundShape.{further, HasSlots, is_child_row, is_like, IsAsRow, IsOfRow, IsShaped, next}
-use Rattle.qo_sound_shapes.proofs.BoardLemmas.{all-becomes, all-imply_of, all-new, AllOf}
+use Rattle.qo_sound_shapes.specs.SoundShape.{further, HasSlots, is_child_row, is_like, IsOfRow, IsShaped, next}
+use Rattle.qo_sound_shapes.proofs.BoardLemmas.{all-becomes, all-new, AllOf}
 use Rattle.qo_sound_shapes.proofs.GoodLemmas.{Good}
-use Rattle.qo_sound_shapes.proofs.MadeLemmas.{first_fits, fresh-has, fresh-like, good-new, is_nothing, may-hold, of-row, OwnRows, RowsFirst, rows-first}
+use Rattle.qo_sound_shapes.proofs.MadeLemmas.{first_fits, fresh-has, fresh-like, good-new, may-hold, of-row, OwnRows, RowsFirst, rows-first}
 use Rattle.qo_sound_shapes.proofs.RowLemmas.{Slots}
 use Rattle.qo_sound_shapes.proofs.WholeLemmas.{HasRows}
 
@@ -123,12 +120,13 @@ adds-other false name s apart xs h =
 
 adds-clock : (name : List ℕ) (m : ℕ) → bytes_eq name (codes "clk") ≡ true → Adds false true name (child m)
 adds-clock name m named xs h =
-    let its : find (λ (x : List ℕ × Slot). bytes_eq x.0 (codes "clk")) ((name, child m) ∷ []) ≡ Some (name, child m) = rw named refl in
-    (m,
-    ap (λ (o : Option (List ℕ × Slot)). option_and_then child_named (option_map (λ (x : List ℕ × Slot). x.1) o))
-    (found-last name (child m) xs
-    ∙ ap (λ (o : Option (List ℕ × Slot)). option_or o (find (λ (x : List ℕ × Slot). bytes_eq x.0 (codes "clk")) ((name, child m) ∷ []))) h
-    ∙ its))
+    let its : find (λ (x : List ℕ × Slot). bytes_eq x.0 (codes "clk")) ((name, child m) ∷ []) ≡ Some (name, child m) = rw named refl in (
+      m,
+      ap (λ (o : Option (List ℕ × Slot)). option_and_then child_named (option_map (λ (x : List ℕ × Slot). x.1) o))
+          (found-last name (child m) xs
+          ∙ ap (λ (o : Option (List ℕ × Slot)). option_or o (find (λ (x : List ℕ × Slot). bytes_eq x.0 (codes "clk")) ((name, child m) ∷ []))) h
+          ∙ its),
+    )
 
 -- slots that have the name of each of some rows
 abbrev Named : List Property → Slots → Type 0
@@ -218,10 +216,12 @@ module _ (t : TypeId) (n : ℕ) where
           its : property_name owner ≡ codes "clk"
           its = (bytes_eq-Decides (property_name owner) (codes "clk")).0 ok.1
 
-          at_record : (o : Option Record) → record_of c n ≡ o → Next has ps c (aliased n (property_name p.name) (property_name of) (owned c n (property_name owner)) c)
+          at_record : (o : Option Record) → record_of c n ≡ o
+              → Next has ps c (aliased n (property_name p.name) (property_name of) (owned c n (property_name owner)) c)
           at_record None q =
               let none : owned c n (property_name owner) ≡ None =
-              ap (λ (o : Option Record). option_and_then child_named (option_map (λ (s : List ℕ × Slot). s.1) (find (λ s. bytes_eq s.0 (property_name owner)) (option_map_or (λ (y : Record). y.slots) o [])))) q in
+              ap (λ (o : Option Record). option_and_then child_named
+              (option_map (λ (s : List ℕ × Slot). s.1) (find (λ s. bytes_eq s.0 (property_name owner)) (option_map_or (λ (y : Record). y.slots) o [])))) q in
               rw none
               (record {
                 all = λ x r k.
@@ -238,7 +238,8 @@ module _ (t : TypeId) (n : ℕ) where
               let clock : ClockOf true r.slots = subst (λ (u : Bool). ClockOf u r.slots) ok.0 d.clock in
               let found : owned c n (property_name owner) ≡ Some clock.0 =
               ap (owned c n) its
-              ∙ ap (λ (o : Option Record). option_and_then child_named (option_map (λ (s : List ℕ × Slot). s.1) (find (λ s. bytes_eq s.0 (codes "clk")) (option_map_or (λ (y : Record). y.slots) o [])))) q
+              ∙ ap (λ (o : Option Record). option_and_then child_named
+              (option_map (λ (s : List ℕ × Slot). s.1) (find (λ s. bytes_eq s.0 (codes "clk")) (option_map_or (λ (y : Record). y.slots) o [])))) q
               ∙ clock.1 in
               rw found
               (record {
@@ -258,7 +259,11 @@ module _ (t : TypeId) (n : ℕ) where
             high = omega arith;
           }
       go (row.Link k true) e =
-          record { all = draft-add has has p ps (strong k None) (of-row p (row.Link k true) (strong k None) e refl) (adds (strong k None)) c h; high = omega arith }
+          record {
+            all = draft-add has has p ps (strong k None) (of-row p (row.Link k true) (strong k None) e refl)
+                (adds (strong k None)) c h;
+            high = omega arith;
+          }
       go (row.Link k false) e =
           record { all = draft-add has has p ps (weak k None) (of-row p (row.Link k false) (weak k None) e refl) (adds (weak k None)) c h; high = omega arith }
       go (row.Child k) e =
@@ -295,22 +300,27 @@ module _ (t : TypeId) (n : ℕ) where
         own = λ own.
             let d : Drafted has [] r = (h x r e).own own in
             let whole : HasSlots t (slots_of t) r.slots × Named (slots_of t) r.slots =
-            subst (λ (xs : Slots). HasSlots t (slots_of t) xs × Named (slots_of t) xs) (append-nil r.slots) (d.slots [] (further tt) tt) in
-            (d.kind,
-            (record {
-              slots = subst (λ (k : TypeId). HasSlots k (slots_of k) r.slots) (sym d.kind) whole.0;
-              registers =
-                  subst (λ (k : TypeId). is_like r.registers (fresh_registers k) ≡ true) (sym d.kind)
-                  (ap (λ (y : _). is_like y (fresh_registers t)) d.registers ∙ fresh-like t);
-            },
-            whole.1));
+            subst (λ (xs : Slots). HasSlots t (slots_of t) xs × Named (slots_of t) xs) (append-nil r.slots) (d.slots [] (further tt) tt) in (
+              d.kind,
+              (
+                record {
+                  slots = subst (λ (k : TypeId). HasSlots k (slots_of k) r.slots) (sym d.kind) whole.0;
+                  registers =
+                      subst (λ (k : TypeId). is_like r.registers (fresh_registers k) ≡ true) (sym d.kind)
+                      (ap (λ (y : _). is_like y (fresh_registers t)) d.registers ∙ fresh-like t);
+                },
+                whole.1,
+              ),
+            );
         other = (h x r e).other;
       }
   draft-rows has (p ∷ ps) may fits kin c low begun h = go (bytes_eq (property_name p.name) (codes "clk")) refl (draft-rows has ps) (draft-rows true ps)
     where
       go : (u : Bool) → bytes_eq (property_name p.name) (codes "clk") ≡ u
-          → (ready has ps ≡ true → RowsFirst t ps → KinRows ps → (d : Board) → n ≤ d.born → 8 ≤ d.born → AllOf (Draft has ps) d → AllOf Whole (rows_made n t ps d))
-          → (ready true ps ≡ true → RowsFirst t ps → KinRows ps → (d : Board) → n ≤ d.born → 8 ≤ d.born → AllOf (Draft true ps) d → AllOf Whole (rows_made n t ps d))
+          → (ready has ps ≡ true → RowsFirst t ps → KinRows ps → (d : Board) → n ≤ d.born → 8 ≤ d.born → AllOf (Draft has ps) d
+          → AllOf Whole (rows_made n t ps d))
+          → (ready true ps ≡ true → RowsFirst t ps → KinRows ps → (d : Board) → n ≤ d.born → 8 ≤ d.born → AllOf (Draft true ps) d
+          → AllOf Whole (rows_made n t ps d))
           → AllOf Whole (rows_made n t (p ∷ ps) c)
       go true q rest clocked =
           let one = and_parts (is_child_row p.kind) (not has && ready true ps) (rw q at may) in

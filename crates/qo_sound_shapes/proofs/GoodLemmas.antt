@@ -1,20 +1,17 @@
 -- One object that is shaped as its type says, and as every machine begins: what changes of its slots keep.
-use Rattle.std.proofs.Common.{◌≡◌, ◌⊎◌, inl, inr, refl, ap, sym, subst, ◌∙◌, rules, ℕ, zero, suc, Bool, true, false, not, ◌&&◌, ◌==◌, List, [], ◌∷◌, ◌++◌, map, remove, slice_get, codes, Option, Some, None, option_map}
+use Rattle.std.proofs.Common.{◌≡◌, refl, ap, sym, subst, ◌∙◌, rules, ℕ, zero, suc, Bool, true, false, ◌==◌, List, [], ◌∷◌, ◌++◌, map, slice_get, Option, Some, None}
 use Rattle.std.specs.Bool.{⊤}
 use Rattle.std.specs.List.{AllByRecursion}
-use Rattle.std.specs.Str.{bytes_eq}
 use Rattle.std.proofs.lemmas.Bool.{eqb-true}
-use Rattle.std.proofs.lemmas.Option.{same_Some}
 use Rattle.qo_values.specs.declared.births.TheConstants.{MACHINE_BIRTH, ROOT_BIRTH}
 use Rattle.qo_values.specs.declared.kinds.TypeId.{TypeId}
 use Rattle.qo_values.specs.declared.kinds.TypeId.TheVariants.{Object, Container, Machine, Device, SlotDevice, SlotUart, SlotTimer, SlotBridge, MemDimm, Bus, SlotBus, MemBus, Clock, MemoryBackend, MemoryBackendRam, Tag}
 use Rattle.qo_values.specs.declared.properties.Val.{Val}
-use Rattle.qo_values.specs.declared.properties.Val.TheVariants as val
-use Rattle.qo_model.specs.Board.{Board, Record, Slot, plain, child, strong, weak, alias, kind_of, record_of, slots_at}
+use Rattle.qo_model.specs.Board.{Board, Record, Slot, plain, child, strong, weak, alias, kind_of, slots_at}
 use Rattle.qo_model.specs.Changes.{changed_at, pointed, with_added, with_changed, with_val}
 use Rattle.qo_model.specs.Depth.{among}
 use Rattle.qo_model.specs.Opening.{opening_board}
-use Rattle.qo_model.specs.Paths.{child_of, only_of}
+use Rattle.qo_model.specs.Paths.{child_of}
 use Rattle.qo_model.specs.Plug.{fitted}
 use Rattle.qo_model.specs.Release.{forgotten, forgotten_in, with_dropped, without_hold}
 use Rattle.qo_model.specs.SoundGraph.{without_value}
@@ -25,7 +22,7 @@ use Rattle.qo_model.specs.declared.properties.RowKind.{RowKind}
 use Rattle.qo_model.specs.declared.properties.RowKind.TheVariants as row
 use Rattle.qo_sound.proofs.RecordLemmas.{all-unmap}
 use Rattle.qo_sound_shapes.specs.SoundShape.{HasSlots, IsAsRow, IsChildSlot, IsFurther, IsKidLink, IsOfRow, IsShaped, may_miss, unvalued}
-use Rattle.qo_sound_shapes.proofs.RowLemmas.{has-added, has-changed, has-dropped, has-each, has-found, IsRowOf, own-rows, Slots}
+use Rattle.qo_sound_shapes.proofs.RowLemmas.{has-added, has-changed, has-dropped, has-each, IsRowOf, own-rows, Slots}
 
 -- the root and the machine
 abbrev pub is_first : ℕ → Bool

@@ -9,5 +9,6 @@ pub mod MadeLemmas
 pub mod PlugLemmas
 pub mod QuietLemmas
 pub mod RowLemmas
+pub mod SayLemmas
 pub mod StayLemmas
 pub mod WholeLemmas

@@ -1,7 +1,5 @@
 -- A new object: what it begins as, and with values that were given, is shaped as its type says. So is the opening board.
-use Rattle.std.proofs.Common.{◌≡◌, ◌⊎◌, inl, inr, refl, ap, sym, subst, ◌∙◌, rules, ℕ, zero, suc, ◌<◌, ◌≤◌, ◌+◌, ◌||◌, Bool, true, false, cond, not, ◌==◌, eqb, List, [], ◌∷◌, ◌++◌, map, find, filter_map, slice_get, codes, Option, Some, None, is_some, option_map, Result, Ok, Err, arith}
-use Rattle.std.specs.Bool.{⊤}
-use Rattle.std.specs.Prelude.{if◌then◌else◌}
+use Rattle.std.proofs.Common.{◌≡◌, inl, inr, refl, ap, sym, subst, ◌∙◌, rules, ℕ, ◌<◌, ◌≤◌, ◌||◌, Bool, true, false, eqb, List, [], ◌∷◌, map, find, filter_map, codes, Option, Some, None, option_map, arith}
 use Rattle.std.specs.List.{AllByRecursion, cons_option}
 use Rattle.std.specs.Str.{bytes_eq}
 use Rattle.std.proofs.lemmas.Bool.{eqb-true}
@@ -11,16 +9,15 @@ use Rattle.qo_values.specs.Properties.{admits}
 use Rattle.qo_values.specs.Registers.{fresh_registers}
 use Rattle.qo_values.specs.declared.births.TheConstants.{MACHINE_BIRTH, ROOT_BIRTH, SYSTEM_CLOCK_BIRTH}
 use Rattle.qo_values.specs.declared.codes.Code.{Code}
-use Rattle.qo_values.specs.declared.codes.Code.TheVariants.{E17, E18, E19}
+use Rattle.qo_values.specs.declared.codes.Code.TheVariants.{E18, E19}
 use Rattle.qo_values.specs.declared.kinds.TypeId.{TypeId}
 use Rattle.qo_values.specs.declared.kinds.TypeId.TheVariants.{Object, Container, Machine, Device, SlotDevice, SlotUart, SlotTimer, SlotBridge, MemDimm, Bus, SlotBus, MemBus, Clock, MemoryBackend, MemoryBackendRam, Tag}
 use Rattle.qo_values.specs.declared.properties.PropType.{PropType}
 use Rattle.qo_values.specs.declared.properties.Val.{Val}
 use Rattle.qo_values.specs.declared.properties.Val.TheVariants as val
 use Rattle.qo_values.specs.declared.limits.TheConstants.{SYSTEM_PERIOD}
-use Rattle.qo_model.specs.Board.{Board, Record, Slot, plain, child, strong, weak, alias, kind_of, record_of, slots_at}
-use Rattle.qo_model.specs.Depth.{among}
-use Rattle.qo_model.specs.Objects.{Given, given_slots, given_to, may_add, misfit, refusal_by, refusal_of, slot_given}
+use Rattle.qo_model.specs.Board.{Board, Record, Slot, plain, child, strong, weak, alias, record_of}
+use Rattle.qo_model.specs.Objects.{Given, given_to, may_add, misfit, refusal_by, refusal_of, slot_given}
 use Rattle.qo_model.specs.Opening.{first_slot, first_value, fresh_record, fresh_slots, opening_board, opening_records, with_child, with_value}
 use Rattle.qo_model.specs.Properties.{row_of_property}
 use Rattle.qo_model.specs.RowNames.{property_name}
@@ -31,7 +28,7 @@ use Rattle.qo_model.specs.declared.properties.RowKind.TheVariants as row
 use Rattle.qo_sound.proofs.DraftLemmas.{found-low}
 use Rattle.qo_sound.proofs.RecordLemmas.{births_at}
 use Rattle.qo_sound_clocks.proofs.FoundLemmas.{all-found}
-use Rattle.qo_sound_shapes.specs.SoundShape.{further, HasSlots, is_child_row, is_like, IsAsRow, IsChildSlot, IsFurther, IsKidLink, IsOfRow, IsShaped, MayHold, next, SoundShape, unvalued}
+use Rattle.qo_sound_shapes.specs.SoundShape.{further, HasSlots, is_like, IsAsRow, IsChildSlot, IsFurther, IsKidLink, IsOfRow, IsShaped, MayHold, next, SoundShape}
 use Rattle.qo_sound_shapes.proofs.GoodLemmas.{further-same, Good, is_first}
 use Rattle.qo_sound_shapes.proofs.RowLemmas.{has-added, has-each, IsRowOf, own-rows, Slots}
 
@@ -361,14 +358,22 @@ opening-shaped : AllByRecursion IsShaped opening_records
 unfolding types
 opening-shaped = (
   contained (codes "objects") 8 _ refl (contained (codes "machine") 2 _ refl (shaped-fresh Container container-rows 1)),
-  (machined (codes "mem.0") 7 _ refl
-      (machined (codes "root.0") 6 _ refl
-      (machined (codes "sysclk") 5 _ refl
-      (machined (codes "peripheral-anon") 4 _ refl (machined (codes "peripheral") 3 _ refl (shaped-fresh Machine machine-rows 2))))),
-  (shaped-fresh Container container-rows 3,
-  (shaped-fresh Container container-rows 4,
-  (record { slots = system-clock; registers = refl },
-  (shaped-fresh SlotBus (bus-rows SlotBus refl) 6, (shaped-fresh MemBus (bus-rows MemBus refl) 7, (shaped-fresh Container container-rows 8, tt))))))),
+  (
+    machined (codes "mem.0") 7 _ refl
+        (machined (codes "root.0") 6 _ refl
+        (machined (codes "sysclk") 5 _ refl
+        (machined (codes "peripheral-anon") 4 _ refl (machined (codes "peripheral") 3 _ refl (shaped-fresh Machine machine-rows 2))))),
+    (
+      shaped-fresh Container container-rows 3,
+      (
+        shaped-fresh Container container-rows 4,
+        (
+          record { slots = system-clock; registers = refl },
+          (shaped-fresh SlotBus (bus-rows SlotBus refl) 6, (shaped-fresh MemBus (bus-rows MemBus refl) 7, (shaped-fresh Container container-rows 8, tt))),
+        ),
+      ),
+    ),
+  ),
 )
 
 pub opening-shape : SoundShape opening_board

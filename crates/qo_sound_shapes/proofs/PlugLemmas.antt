@@ -1,22 +1,20 @@
 -- A device that is added stands in its place, and is shaped as its type says, as all others are.
-use Rattle.std.proofs.Common.{◌≡◌, ◌⊎◌, inl, inr, refl, ap, sym, subst, ◌∙◌, rules, ℕ, zero, suc, ◌<◌, ◌≤◌, ◌+◌, ◌-◌, ◌^◌, ◌%◌, ◌&&◌, ◌||◌, Bool, true, false, not, ◌==◌, eqb, List, [], ◌∷◌, ◌++◌, filter, map, find, slice_get, codes, Option, Some, None, is_some, option_map, option_and_then, Result, Ok, Err, arith}
-use Rattle.std.specs.Bool.{⊤}
-use Rattle.std.specs.Prelude.{if◌then◌else◌, nat_le}
-use Rattle.std.specs.List.{AllByRecursion, list_any}
+use Rattle.std.proofs.Common.{◌≡◌, ◌⊎◌, inl, inr, refl, ap, sym, subst, ◌∙◌, ℕ, zero, suc, ◌<◌, ◌≤◌, ◌+◌, ◌-◌, ◌^◌, ◌%◌, ◌&&◌, ◌||◌, Bool, true, false, not, ◌==◌, List, [], ◌∷◌, ◌++◌, filter, map, find, codes, Option, Some, None, is_some, option_map, option_and_then, arith}
+use Rattle.std.specs.Prelude.{nat_le}
+use Rattle.std.specs.List.{list_any}
 use Rattle.std.specs.Option.{option_map_or}
 use Rattle.std.specs.Str.{bytes_eq}
-use Rattle.std.proofs.lemmas.Bool.{and_parts, eq-eqb, eqb-true, or_cases}
+use Rattle.std.proofs.lemmas.Bool.{and_parts, eqb-true, or_cases}
 use Rattle.std.proofs.lemmas.List.Folds.{list_any-append}
 use Rattle.std.proofs.Math.Bool.{or-true}
 use Rattle.std.proofs.lemmas.Bool.Decides.{nat_tests}
 use Rattle.std.proofs.lemmas.Option.{same_Some}
 use Rattle.std.proofs.lemmas.Slice.Eq.{bytes_eq-Decides}
 use Rattle.qo_values.specs.Placing.{fits_at, is_in_window, least, overlaps_any, place_of, range_at, window_end, window_size, window_start}
-use Rattle.qo_values.specs.Properties.{admits, is_multiple}
-use Rattle.qo_values.specs.Registers.{Registers, dimm, fresh_registers}
+use Rattle.qo_values.specs.Properties.{admits}
+use Rattle.qo_values.specs.Registers.{fresh_registers}
 use Rattle.qo_values.specs.declared.births.TheConstants.{ANONYMOUS_BIRTH, PERIPHERAL_BIRTH}
-use Rattle.qo_values.specs.declared.codes.Code.{Code}
-use Rattle.qo_values.specs.declared.codes.Code.TheVariants.{E17, E19, E40, E41}
+use Rattle.qo_values.specs.declared.codes.Code.TheVariants.{E17, E19}
 use Rattle.qo_values.specs.declared.kinds.Act.{Act}
 use Rattle.qo_values.specs.declared.kinds.Act.TheVariants.{Realize, Enter, Hold, Exit}
 use Rattle.qo_values.specs.declared.kinds.TypeId.{TypeId}
@@ -25,15 +23,15 @@ use Rattle.qo_values.specs.declared.limits.TheConstants.{BUS_SLOTS, DIMM_ALIGN}
 use Rattle.qo_values.specs.declared.properties.Val.{Val}
 use Rattle.qo_values.specs.declared.properties.Val.TheVariants as val
 use Rattle.qo_values.specs.declared.ranges.Range.{Range}
-use Rattle.qo_model.specs.Board.{Board, Record, Slot, plain, child, strong, weak, alias, is_live, kind_of, record_of, slots_at}
+use Rattle.qo_model.specs.Board.{Board, Record, Slot, child, strong, is_live, kind_of, record_of, slots_at}
 use Rattle.qo_model.specs.Changes.{add, changed_at, set, with_added, with_changed, with_val}
 use Rattle.qo_model.specs.Clocks.{acted, with_act_on}
 use Rattle.qo_model.specs.Depth.{among}
 use Rattle.qo_model.specs.Devices.{anonymous_name, clock_of, kid_name, number_in}
 use Rattle.qo_model.specs.Objects.{Given, misfit, place_from, refusal_by, refusal_of, slot_given}
 use Rattle.qo_model.specs.Opening.{opening_board}
-use Rattle.qo_model.specs.Paths.{canonical, is_of}
-use Rattle.qo_model.specs.Plug.{Spot, Wanted, acted_all, addressed_at, bus_births, bus_type, clocked, counted, drafted, fitted, given_for, joined, link_named, name_for, number_for, ok_in, parent_for, plug, plug_attempt, range_for, range_of, ranges_of, registers_on, size_of, source_for, spot_of, stood, target_for, told_plug, valued, with_body_of, with_device, with_given, with_path, with_plugged, with_source}
+use Rattle.qo_model.specs.Paths.{canonical}
+use Rattle.qo_model.specs.Plug.{Spot, Wanted, acted_all, addressed_at, bus_births, bus_type, clocked, counted, drafted, fitted, joined, link_named, name_for, number_for, ok_in, parent_for, plug, range_for, range_of, ranges_of, registers_on, size_of, source_for, spot_of, stood, target_for, told_plug, valued, with_body_of, with_device, with_given, with_path, with_plugged, with_source}
 use Rattle.qo_model.specs.Properties.{row_of_property}
 use Rattle.qo_model.specs.Release.{edit}
 use Rattle.qo_model.specs.RowNames.{property_name}
@@ -61,7 +59,7 @@ use Rattle.qo_sound_devices.proofs.PlugLemmas.{Accepted, behind-plug, stands-dev
 use Rattle.qo_sound_devices.proofs.PluggedLemmas.{accepted-joined}
 use Rattle.qo_sound_devices.proofs.TakeLemmas.{aside-apart}
 use Rattle.qo_sound_shapes.specs.SoundShape.{HasEach, is_like, IsFurther, SoundShape}
-use Rattle.qo_sound_shapes.proofs.BoardLemmas.{all-edit, all-imply_of, AllOf, good-all, shape-all}
+use Rattle.qo_sound_shapes.proofs.BoardLemmas.{all-edit, AllOf, good-all, shape-all}
 use Rattle.qo_sound_shapes.proofs.CommandLemmas.{begun-devices, container-kind, live-devices}
 use Rattle.qo_sound_shapes.proofs.DetachLemmas.{bus-apart, container-four, container-three, takes-realized}
 use Rattle.qo_sound_shapes.proofs.DraftLemmas.{drafted-good, drafted-rows}
@@ -304,7 +302,8 @@ module _ (kinds : ℕ → Option TypeId) (new : ℕ) where
   abbrev H : Board → Type 0
   H c = AllOf (Placed kinds new) c
 
-  placed-edit : (n : ℕ) (change : Record → Record) → ((r : Record) → (change r).birth ≡ r.birth) → ((r : Record) → (change r).kind ≡ r.kind) → LeavesRows change → (c : Board)
+  placed-edit : (n : ℕ) (change : Record → Record) → ((r : Record) → (change r).birth ≡ r.birth) → ((r : Record) → (change r).kind ≡ r.kind)
+      → LeavesRows change → (c : Board)
       → ((r : Record) → record_of c n ≡ Some r → r.birth ≡ n → Placed kinds new r → Good (change r)) → H c → H (edit n change c)
   placed-edit n change birth same leaves c keeps h =
       all-edit (Placed kinds new) n change birth c
@@ -343,15 +342,18 @@ module _ (kinds : ℕ → Option TypeId) (new : ℕ) where
           good-changed (fitted c m) (mild-fitted c m) i r (λ p s row at is. rows-fitted c m p.kind s.1 is.fits) k.good) h)
 
   -- a further slot more
-  placed-add : (n : ℕ) (name : List ℕ) (s : Slot) → ((r : Record) → r.birth ≡ n → Placed kinds new r → (is_first r.birth ≡ false) × IsFurther r.kind (name, s)) → (c : Board)
+  placed-add : (n : ℕ) (name : List ℕ) (s : Slot) → ((r : Record) → r.birth ≡ n → Placed kinds new r
+      → (is_first r.birth ≡ false) × IsFurther r.kind (name, s)) → (c : Board)
       → H c → H (add n name s c)
   unfolding add
   placed-add n name s more c h =
-      placed-edit n (with_added name s) (λ r. refl) (λ r. refl) (λ r k. rows-added r.kind r.slots (name, s) k) c (λ r e own k. good-added name s r (more r own k).0 (more r own k).1 k.good) h
+      placed-edit n (with_added name s) (λ r. refl) (λ r. refl) (λ r k. rows-added r.kind r.slots (name, s) k) c
+      (λ r e own k. good-added name s r (more r own k).0 (more r own k).1 k.good) h
 
   placed-acted : (act : Act) (n period : ℕ) (c : Board) → H c → H (acted act n period c)
   unfolding acted
-  placed-acted act n period c h = placed-edit n (with_act_on act c.now period) (λ r. refl) (λ r. refl) (λ r k. k) c (λ r e own k. good-act act c.now period r k.good) h
+  placed-acted act n period c h =
+      placed-edit n (with_act_on act c.now period) (λ r. refl) (λ r. refl) (λ r k. k) c (λ r e own k. good-act act c.now period r k.good) h
 
   placed-acted_all : (act : Act) (ns : List ℕ) (c : Board) → H c → H (acted_all act ns c)
   placed-acted_all act [] c h = h
@@ -390,7 +392,8 @@ module _ (kinds : ℕ → Option TypeId) (new : ℕ) where
           subst (λ (x : TypeId). IsFurther x (name, child n)) (sym (container-kind m container r own k.good)) tt,
         )
 
-        more : (id : Option (List ℕ)) (name : List ℕ) (r : Record) → r.birth ≡ parent_for id → Placed kinds new r → (is_first r.birth ≡ false) × IsFurther r.kind (name, child n)
+        more : (id : Option (List ℕ)) (name : List ℕ) (r : Record) → r.birth ≡ parent_for id → Placed kinds new r
+            → (is_first r.birth ≡ false) × IsFurther r.kind (name, child n)
         more None name r own k = at ANONYMOUS_BIRTH name refl container-four r own k
         more (Some id) name r own k = at PERIPHERAL_BIRTH name refl container-three r own k
 
@@ -398,8 +401,12 @@ module _ (kinds : ℕ → Option TypeId) (new : ℕ) where
     placed-kid slot below c h = placed-add bus (kid_name slot) (strong Device (Some n)) more c h
       where
         kid : (k : TypeId) → (k ≡ SlotBus) ⊎ (k ≡ MemBus) → (is_a k (codes "bus") ≡ true) × IsFurther k (kid_name slot, strong Device (Some n))
-        kid k (inl e) = subst (λ (x : TypeId). (is_a x (codes "bus") ≡ true) × IsFurther x (kid_name slot, strong Device (Some n))) (sym e) (slot-bus, (refl, (slot, (below, refl))))
-        kid k (inr e) = subst (λ (x : TypeId). (is_a x (codes "bus") ≡ true) × IsFurther x (kid_name slot, strong Device (Some n))) (sym e) (memory-bus, (refl, (slot, (below, refl))))
+        kid k (inl e) =
+            subst (λ (x : TypeId). (is_a x (codes "bus") ≡ true) × IsFurther x (kid_name slot, strong Device (Some n))) (sym e)
+            (slot-bus, (refl, (slot, (below, refl))))
+        kid k (inr e) =
+            subst (λ (x : TypeId). (is_a x (codes "bus") ≡ true) × IsFurther x (kid_name slot, strong Device (Some n))) (sym e)
+            (memory-bus, (refl, (slot, (below, refl))))
 
         more : (r : Record) → r.birth ≡ bus → Placed kinds new r → (is_first r.birth ≡ false) × IsFurther r.kind (kid_name slot, strong Device (Some n))
         more r own k =
@@ -412,7 +419,8 @@ module _ (kinds : ℕ → Option TypeId) (new : ℕ) where
 
     placed-given : (c : Board) → H c → H (edit n (with_given b a.props) c)
     placed-given c h =
-        placed-edit n (with_given b a.props) (λ r. refl) (λ r. refl) (λ r k. rows-same r.kind r.slots (map (slot_given b a.props) r.slots) (given-names r.slots) k) c
+        placed-edit n (with_given b a.props) (λ r. refl) (λ r. refl)
+        (λ r k. rows-same r.kind r.slots (map (slot_given b a.props) r.slots) (given-names r.slots) k) c
         (λ r e own k.
         good-slots r (map (slot_given b a.props) r.slots) k.good
         (given-has b r.kind a.props (subst (λ (x : TypeId). refusal_of b x a.props ≡ None) (sym (placed-kind n t its r own k)) taken) k.good.shaped.slots)
@@ -557,7 +565,8 @@ module _ (b : Board) (t : TypeId) (bus : ℕ) (a : Wanted) (devices : SoundDevic
       third (inl l) = inl (rw l refl)
       third (inr l) = inr (named-only a.id (b.born + 1) d l)
 
-      fourth : (listed d (child_entries b ANONYMOUS_BIRTH) ≡ true) ⊎ (listed d (numbered_entry b a.id (b.born + 1)) ≡ true) → (stands b d ≡ true) ⊎ (d ≡ b.born + 1)
+      fourth : (listed d (child_entries b ANONYMOUS_BIRTH) ≡ true) ⊎ (listed d (numbered_entry b a.id (b.born + 1)) ≡ true)
+          → (stands b d ≡ true) ⊎ (d ≡ b.born + 1)
       fourth (inl l) = inl (rw l (or-true (listed d (child_entries b PERIPHERAL_BIRTH))))
       fourth (inr l) = inr (numbered-only a.id (b.born + 1) d l)
 

@@ -1,11 +1,9 @@
 -- What changes no slots, and values that are set by name, keep the shape.
-use Rattle.std.proofs.Common.{◌≡◌, ◌⊎◌, inl, inr, refl, ap, sym, subst, ◌∙◌, rules, ℕ, zero, suc, ◌<◌, ◌≤◌, ◌+◌, ◌-◌, ◌^◌, ◌%◌, ◌||◌, ◌&&◌, Bool, true, false, ◌==◌, eqb, List, [], ◌∷◌, ◌++◌, filter, length, slice_get, codes, Option, Some, None, is_some, option_map, Ok, Err, arith}
+use Rattle.std.proofs.Common.{◌≡◌, inr, refl, ap, sym, subst, ◌∙◌, ℕ, ◌<◌, ◌≤◌, ◌-◌, ◌^◌, Bool, true, false, ◌==◌, eqb, List, [], ◌∷◌, ◌++◌, filter, slice_get, codes, Option, Some, None, is_some, option_map, Ok, Err, arith}
 use Rattle.std.specs.Prelude.{nat_le}
 use Rattle.std.specs.Bool.{⊤}
-use Rattle.std.specs.List.{AllByRecursion}
 use Rattle.std.specs.Option.{option_map_or}
 use Rattle.std.specs.Str.{bytes_eq}
-use Rattle.std.proofs.lemmas.Bool.{eqb-true}
 use Rattle.std.proofs.lemmas.Bool.Decides.{nat_tests}
 use Rattle.std.proofs.Math.Nat.{mod-one}
 use Rattle.std.proofs.lemmas.Option.{same_Some}
@@ -13,7 +11,7 @@ use Rattle.std.proofs.lemmas.Slice.Eq.{bytes_eq-Decides}
 use Rattle.qo_values.specs.Bodies.{Effect, body_act, body_write, bridge_write, effect_of, nothing}
 use Rattle.qo_values.specs.Dimm.{dimm_read}
 use Rattle.qo_values.specs.Properties.{admits, is_multiple}
-use Rattle.qo_values.specs.Registers.{BridgeRegisters, DimmRegisters, Registers, TimerRegisters, UartRegisters, bare, bridge, dimm, fresh_registers, timer, uart}
+use Rattle.qo_values.specs.Registers.{BridgeRegisters, Registers, TimerRegisters, UartRegisters, bare, bridge, dimm, fresh_registers, timer, uart}
 use Rattle.qo_values.specs.Timer.{timer_write}
 use Rattle.qo_values.specs.Uart.{uart_write}
 use Rattle.qo_values.specs.declared.codes.Code.TheVariants.{E45, E46}
@@ -24,7 +22,7 @@ use Rattle.qo_values.specs.declared.kinds.TypeId.TheVariants.{Object, Container,
 use Rattle.qo_values.specs.declared.properties.PropType.TheVariants as ty
 use Rattle.qo_values.specs.declared.properties.Val.{Val}
 use Rattle.qo_values.specs.declared.properties.Val.TheVariants as val
-use Rattle.qo_model.specs.Board.{Board, Record, Slot, plain, child, strong, weak, alias, is_live, kind_of, record_of, slots_at}
+use Rattle.qo_model.specs.Board.{Board, Record, Slot, plain, child, strong, weak, alias, is_live, record_of, slots_at}
 use Rattle.qo_model.specs.Changes.{set, with_changed, with_val}
 use Rattle.qo_model.specs.ClockChanges.{clock_scaled, clock_set}
 use Rattle.qo_model.specs.Clocks.{acted, source_of, with_act_on}
@@ -38,7 +36,7 @@ use Rattle.qo_model.specs.Properties.{row_of_property}
 use Rattle.qo_model.specs.Release.{edit, edited, without_first}
 use Rattle.qo_model.specs.Reset.{held, is_out, phased, post, pulse, released}
 use Rattle.qo_model.specs.RowNames.{property_name}
-use Rattle.qo_model.specs.Types.{slots_of, types}
+use Rattle.qo_model.specs.Types.{types}
 use Rattle.qo_model.specs.Unplug.{is_named, set_named}
 use Rattle.qo_model.specs.declared.properties.Property.{Property}
 use Rattle.qo_model.specs.declared.properties.RowKind.{RowKind}
@@ -51,9 +49,9 @@ use Rattle.qo_sound.proofs.UnplugLemmas.{Found, found-at}
 use Rattle.qo_sound_clocks.specs.RegistersKept.{registers_set, with_registers}
 use Rattle.qo_sound_clocks.proofs.StepsLemmas.{kept-written}
 use Rattle.qo_sound_shapes.specs.SoundShape.{is_like, IsAsRow, IsOfRow, SoundShape}
-use Rattle.qo_sound_shapes.proofs.BoardLemmas.{all-edit, all-same, AllOf, good-all, OpeningLive, shape-all, shape-live}
+use Rattle.qo_sound_shapes.proofs.BoardLemmas.{all-edit, all-same, good-all, OpeningLive, shape-all, shape-live}
 use Rattle.qo_sound_shapes.proofs.GoodLemmas.{Good, good-changed, mild-val}
-use Rattle.qo_sound_shapes.proofs.RowLemmas.{IsRowOf, Slots}
+use Rattle.qo_sound_shapes.proofs.RowLemmas.{IsRowOf}
 use Rattle.qo_sound_shapes.proofs.WholeLemmas.{edit-read, entries-changed, entries_in, entry-val, whole-same}
 
 -- the machine's objects stay there
@@ -210,7 +208,8 @@ like-same bare (dimm e) f k = absurd (let clash : false ≡ true = k in cc)
 like-same bare (bridge c) f k = absurd (let clash : false ≡ true = k in cc)
 like-same bare bare f k = refl
 
-pub registers-shape : (b : Board) (n : ℕ) (registers : Registers) → ((r : Record) → record_of b n ≡ Some r → is_like registers r.registers ≡ true) → SoundShape b
+pub registers-shape : (b : Board) (n : ℕ) (registers : Registers) → ((r : Record) → record_of b n ≡ Some r → is_like registers r.registers ≡ true)
+    → SoundShape b
     → SoundShape (registers_set b n registers)
 registers-shape b n registers like h =
     edit-shape n (with_registers registers) (λ r. refl) (λ r. refl) (λ r. refl) (λ r. refl) b
@@ -226,13 +225,15 @@ registers-shape b n registers like h =
     }) h
 
 -- a guest's write gives registers of the same kind
-mapped-like : {A : Type 0} (r : Registers) (f : A → Registers × Effect) → ((x : A) → is_like (f x).0 r ≡ true) → (o : Option A) (s : Registers) (effect : Effect)
+mapped-like : {A : Type 0} (r : Registers) (f : A → Registers × Effect) → ((x : A) → is_like (f x).0 r ≡ true)
+    → (o : Option A) (s : Registers) (effect : Effect)
     → option_map f o ≡ Some (s, effect) → is_like s r ≡ true
 mapped-like r f like None s effect e = cc
 mapped-like r f like (Some x) s effect e =
     subst (λ (y : Registers). is_like y r ≡ true) (ap (λ (p : Registers × Effect). p.0) (same_Some (f x) (s, effect) e)) (like x)
 
-bridge-like : (g : BridgeRegisters) (reg value : ℕ) (s : Registers) (effect : Effect) → bridge_write g reg value ≡ Some (s, effect) → is_like s (bridge g) ≡ true
+bridge-like : (g : BridgeRegisters) (reg value : ℕ) (s : Registers) (effect : Effect) → bridge_write g reg value ≡ Some (s, effect)
+    → is_like s (bridge g) ≡ true
 bridge-like g reg value s effect e = go (eqb reg 0) refl (eqb reg 1) refl
   where
     is : (x : BridgeRegisters) (f : Effect) → ◌≡◌ {A = Option (Registers × Effect)} (Some (bridge x, f)) (Some (s, effect)) → is_like s (bridge g) ≡ true

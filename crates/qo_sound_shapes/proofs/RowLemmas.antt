@@ -1,20 +1,19 @@
 -- Slots of rows: what a change of one slot or of each keeps.
-use Rattle.std.proofs.Common.{◌≡◌, ◌⊎◌, inl, inr, refl, ap, sym, subst, ◌∙◌, rules, ℕ, zero, suc, Bool, true, false, not, ◌&&◌, List, [], ◌∷◌, ◌++◌, map, remove, slice_get, codes, Option, Some, None}
+use Rattle.std.proofs.Common.{◌≡◌, ◌⊎◌, inl, inr, refl, subst, rules, ℕ, zero, suc, true, false, List, [], ◌∷◌, ◌++◌, map, remove, slice_get, Option, Some, None}
 use Rattle.std.specs.List.{AllByRecursion}
-use Rattle.std.specs.Str.{bytes_eq}
 use Rattle.std.proofs.lemmas.Option.{same_Some}
 use Rattle.qo_values.specs.declared.kinds.TypeId.{TypeId}
 use Rattle.qo_values.specs.declared.kinds.TypeId.TheVariants.{Object, Container, Machine, Device, SlotDevice, SlotUart, SlotTimer, SlotBridge, MemDimm, Bus, SlotBus, MemBus, Clock, MemoryBackend, MemoryBackendRam, Tag}
 use Rattle.qo_model.specs.Board.{Slot, plain, child, strong, weak, alias}
 use Rattle.qo_model.specs.Changes.{changed_at}
 use Rattle.qo_model.specs.Properties.{row_of_property}
-use Rattle.qo_model.specs.Release.{emptied, without_hold}
+use Rattle.qo_model.specs.Release.{without_hold}
 use Rattle.qo_model.specs.RowNames.{property_name}
 use Rattle.qo_model.specs.Types.{slots_of, types}
 use Rattle.qo_model.specs.declared.properties.Property.{Property}
 use Rattle.qo_model.specs.declared.properties.RowKind.{RowKind}
 use Rattle.qo_model.specs.declared.properties.RowKind.TheVariants as row
-use Rattle.qo_sound_shapes.specs.SoundShape.{HasSlots, further, IsAsRow, IsChildSlot, IsFurther, IsKidLink, IsOfRow, may_miss, missing, next}
+use Rattle.qo_sound_shapes.specs.SoundShape.{HasSlots, further, IsAsRow, IsFurther, IsOfRow, may_miss, missing, next}
 
 abbrev pub Slots : Type 0
 Slots = List (List ℕ × Slot)

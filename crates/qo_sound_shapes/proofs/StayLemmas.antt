@@ -1,22 +1,20 @@
 -- A device that stands in a container behind a detachment has the children that it had, and so lacks none of its slots.
-use Rattle.std.proofs.Common.{◌≡◌, ◌⊎◌, inl, inr, refl, ap, sym, subst, ◌∙◌, ℕ, ◌≤◌, ◌<◌, ◌&&◌, ◌||◌, leb, Bool, true, false, not, ◌==◌, eqb, List, [], ◌∷◌, filter_map, length, sum_by, Option, Some, None, is_some, option_map, arith, codes}
-use Rattle.std.specs.Bool.{⊤}
+use Rattle.std.proofs.Common.{◌≡◌, ◌⊎◌, inl, inr, refl, ap, sym, subst, ◌∙◌, ℕ, ◌≤◌, leb, Bool, true, false, not, eqb, List, [], ◌∷◌, length, sum_by, Option, Some, None, is_some, option_map, arith, codes}
 use Rattle.std.specs.List.{AllByRecursion, list_any}
 use Rattle.std.specs.Option.{option_map_or}
 use Rattle.std.specs.Str.{bytes_eq}
-use Rattle.std.proofs.lemmas.Bool.{and_parts, eq-eqb}
+use Rattle.std.proofs.lemmas.Bool.{and_parts}
 use Rattle.std.proofs.lemmas.Option.{same_Some}
 use Rattle.std.proofs.lemmas.Slice.Eq.{bytes_eq-Decides}
 use Rattle.std.proofs.Math.Bool.{or-true}
-use Rattle.qo_values.specs.declared.births.TheConstants.{ANONYMOUS_BIRTH, MACHINE_BIRTH, MEMORY_BUS_BIRTH, PERIPHERAL_BIRTH, ROOT_BIRTH, ROOT_BUS_BIRTH}
+use Rattle.qo_values.specs.declared.births.TheConstants.{ANONYMOUS_BIRTH, MACHINE_BIRTH, PERIPHERAL_BIRTH}
 use Rattle.qo_values.specs.declared.kinds.TypeId.{TypeId}
 use Rattle.qo_model.specs.Board.{Board, Record, Slot, plain, child, strong, weak, alias, is_live, kind_of, record_of, slots_at}
 use Rattle.qo_model.specs.Depth.{among}
-use Rattle.qo_model.specs.Devices.{bus_of, buses_of, clock_name, is_realized, kids_of}
-use Rattle.qo_model.specs.Objects.{has_slot}
+use Rattle.qo_model.specs.Devices.{bus_of, buses_of, clock_name, kids_of}
 use Rattle.qo_model.specs.Paths.{births, child_of, is_of}
 use Rattle.qo_model.specs.Properties.{row_of_property}
-use Rattle.qo_model.specs.Release.{after, finalise, pin, put_in_order}
+use Rattle.qo_model.specs.Release.{pin, put_in_order}
 use Rattle.qo_model.specs.RowNames.{property_name}
 use Rattle.qo_model.specs.Types.{is_a, slots_of}
 use Rattle.qo_model.specs.Unplug.{apart_within, detach, left_bus, lost_buses, unrealize}
@@ -28,20 +26,19 @@ use Rattle.qo_sound.proofs.FirmLemmas.{parents_in}
 use Rattle.qo_sound.proofs.SlotLemmas.{one_child}
 use Rattle.qo_sound.proofs.ViewLemmas.{AtRest, rest-from_sound}
 use Rattle.qo_sound_devices.specs.SoundDevices.{SoundDevices}
-use Rattle.qo_sound_devices.specs.SoundPlaces.{child_entries, child_entry, HasOwner, machines, bridges, IsHome, kid_entries, listed, owns, owns_it, stands}
+use Rattle.qo_sound_devices.specs.SoundPlaces.{child_entries, HasOwner, machines, bridges, IsHome, kid_entries, listed, owns, owns_it, stands}
 use Rattle.qo_sound_devices.proofs.AttachedLemmas.{owns-listed}
 use Rattle.qo_sound_devices.proofs.CommandLemmas.{goes-pins}
 use Rattle.qo_sound_devices.proofs.DevicesLawLemmas.{devices_kept_lem}
 use Rattle.qo_sound_devices.proofs.LowLemmas.{is-bus_of, IsBusOf, kid-of, kids-listed, stands-dimmed, under-stands, unrealize-dimmed}
 use Rattle.qo_sound_devices.proofs.MovedLemmas.{within-listed}
-use Rattle.qo_sound_devices.proofs.PlacesLemmas.{child-live, of-live, or-cases, kind-alike, stands-live}
-use Rattle.qo_sound_devices.proofs.PlugLemmas.{stands-device}
+use Rattle.qo_sound_devices.proofs.PlacesLemmas.{of-live, or-cases, kind-alike, stands-live}
 use Rattle.qo_sound_devices.proofs.StepsLemmas.{within-any}
 use Rattle.qo_sound_devices.proofs.TakeLemmas.{aside-apart}
 use Rattle.qo_sound_devices.proofs.UnrealizeLemmas.{Dimmed, Under, here, down}
 use Rattle.qo_sound_phases.proofs.ApartLemmas.{gone-apart, gone-before, gone-left_parent, Keeps, left-none, times, times-children, times-within, Walked, walked-none, walked-unpin}
 use Rattle.qo_sound_phases.proofs.BelowLemmas.{one-parent, Placed}
-use Rattle.qo_sound_phases.proofs.ListLemmas.{clash, decide}
+use Rattle.qo_sound_phases.proofs.ListLemmas.{clash}
 use Rattle.qo_sound_phases.proofs.ReachedLemmas.{machines-listed}
 use Rattle.qo_sound_phases.proofs.UnrealizeLemmas.{under-more}
 use Rattle.qo_sound_shapes.specs.SoundShape.{further, HasEach, HasSlots, is_child_row, IsAsRow, IsOfRow, may_miss, missing, next}
@@ -325,9 +322,10 @@ rows-there : (t : TypeId) (total : Slots) (ps : List Property) {slots : Slots} �
     → AllByRecursion (λ (p : Property). named (property_name p.name) total ≡ true) ps
 rows-there t total [] (further all) up may = tt
 rows-there t total (p ∷ ps) (next {s = s} {slots = slots} is rest) up may =
-    let own : bytes_eq s.0 (property_name p.name) ≡ true = (bytes_eq-Decides s.0 (property_name p.name)).1 is.name in
-    (up (property_name p.name) (rw own refl),
-    rows-there t total ps rest (λ name e. up name (rw e (or-true (bytes_eq s.0 name)))) may.1)
+    let own : bytes_eq s.0 (property_name p.name) ≡ true = (bytes_eq-Decides s.0 (property_name p.name)).1 is.name in (
+      up (property_name p.name) (rw own refl),
+      rows-there t total ps rest (λ name e. up name (rw e (or-true (bytes_eq s.0 name)))) may.1,
+    )
 rows-there t total (p ∷ ps) (missing m rest) up may = (may.0 m, rows-there t total ps rest up may.1)
 
 -- a device that stood in a container and has the children that it had
@@ -378,16 +376,17 @@ whole-stood b c good_b good_c devices h d t was k = go (record_of c d) refl (rec
         each-of [] rows has = tt
         each-of (p ∷ ps) rows has = (
           λ m.
-          let kin : is_child_row p.kind ≡ true = (and_parts (is_child_row p.kind) (not (bytes_eq (property_name p.name) clock_name)) m).0 in
-          entry-has (property_name p.name) r.slots
-          (ap (entered (property_name p.name)) entries
-          ∙ has-entry (property_name p.name) y.slots (kin-slots t device p rows.0 kin before) has.0),
+              let kin : is_child_row p.kind ≡ true = (and_parts (is_child_row p.kind) (not (bytes_eq (property_name p.name) clock_name)) m).0 in
+              entry-has (property_name p.name) r.slots
+              (ap (entered (property_name p.name)) entries
+              ∙ has-entry (property_name p.name) y.slots (kin-slots t device p rows.0 kin before) has.0),
           each-of ps rows.1 has.1,
         )
 
 -- where each device that stands in a container is one that did before, or lacks none of its slots
 pub whole-stays : (b c : Board) → AllOf Good b → AllOf Good c
-    → ((x : ℕ) → stands c x ≡ true → Stood b c x ⊎ ((t : TypeId) → kind_of c x ≡ Some t → HasEach c x t)) → ((x : ℕ) → stands b x ≡ true → is_of b (codes "device") x ≡ true) → Whole b → Whole c
+    → ((x : ℕ) → stands c x ≡ true → Stood b c x ⊎ ((t : TypeId) → kind_of c x ≡ Some t → HasEach c x t))
+    → ((x : ℕ) → stands b x ≡ true → is_of b (codes "device") x ≡ true) → Whole b → Whole c
 whole-stays b c good_b good_c stays devices h d t s k = by (stays d s)
   where
     by : Stood b c d ⊎ ((x : TypeId) → kind_of c d ≡ Some x → HasEach c d x) → HasEach c d t

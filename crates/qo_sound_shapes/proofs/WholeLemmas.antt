@@ -1,6 +1,5 @@
 -- Devices that stand in a container lack none of their slots: what keeps it so.
-use Rattle.std.proofs.Common.{◌≡◌, ◌⊎◌, inl, inr, refl, ap, sym, subst, ◌∙◌, ℕ, zero, suc, Bool, true, false, ◌||◌, ◌==◌, List, [], ◌∷◌, ◌++◌, map, filter_map, slice_get, codes, Option, Some, None, is_some, option_map}
-use Rattle.std.specs.Bool.{⊤}
+use Rattle.std.proofs.Common.{◌≡◌, refl, ap, sym, subst, ◌∙◌, ℕ, zero, suc, Bool, true, false, ◌||◌, ◌==◌, List, [], ◌∷◌, map, filter_map, slice_get, Option, Some, None, option_map}
 use Rattle.std.specs.List.{AllByRecursion, cons_option, list_any}
 use Rattle.std.specs.Option.{option_map_or}
 use Rattle.std.specs.Str.{bytes_eq}
@@ -10,7 +9,7 @@ use Rattle.std.proofs.Math.Bool.{or-true}
 use Rattle.qo_values.specs.declared.births.TheConstants.{ANONYMOUS_BIRTH, PERIPHERAL_BIRTH}
 use Rattle.qo_values.specs.declared.kinds.TypeId.{TypeId}
 use Rattle.qo_values.specs.declared.properties.Val.{Val}
-use Rattle.qo_model.specs.Board.{Board, Record, Slot, plain, child, strong, weak, alias, is_live, kind_of, record_of, slots_at}
+use Rattle.qo_model.specs.Board.{Board, Record, Slot, plain, child, strong, weak, alias, kind_of, record_of, slots_at}
 use Rattle.qo_model.specs.Changes.{changed_at, with_val}
 use Rattle.qo_model.specs.Depth.{among}
 use Rattle.qo_model.specs.Objects.{has_slot}
@@ -19,12 +18,12 @@ use Rattle.qo_model.specs.Release.{edit, edited, without_hold}
 use Rattle.qo_model.specs.RowNames.{property_name}
 use Rattle.qo_model.specs.Types.{slots_of}
 use Rattle.qo_model.specs.declared.properties.Property.{Property}
-use Rattle.qo_model.proofs.StepLemmas.{found-edited, found_at}
+use Rattle.qo_model.proofs.StepLemmas.{found-edited}
 use Rattle.qo_sound.proofs.RecordLemmas.{all-imply, found-birth}
 use Rattle.qo_sound.proofs.SlotLemmas.{names_in}
 use Rattle.qo_sound_devices.specs.SoundPlaces.{child_entries, child_entry, listed, stands}
 use Rattle.qo_sound_devices.proofs.PlacesLemmas.{or-cases}
-use Rattle.qo_sound_shapes.specs.SoundShape.{HasEach, SoundShape}
+use Rattle.qo_sound_shapes.specs.SoundShape.{HasEach}
 use Rattle.qo_sound_shapes.proofs.RowLemmas.{Slots}
 
 abbrev pub Whole : Board → Type 0
@@ -67,7 +66,8 @@ edit-read f n change same keeps c x =
     at_record r true p = rw (edited, p) (keeps r)
     at_record r false p = rw (edited, p) refl
 
-    go : (o : Option Record) → f (option_map_or (λ (r : Record). r.slots) (option_map (edited n change) o) []) ≡ f (option_map_or (λ (r : Record). r.slots) o [])
+    go : (o : Option Record)
+        → f (option_map_or (λ (r : Record). r.slots) (option_map (edited n change) o) []) ≡ f (option_map_or (λ (r : Record). r.slots) o [])
     go None = refl
     go (Some r) = at_record r (r.birth == n) refl
 
@@ -147,7 +147,8 @@ whole-kept o c h d t s k = at_device (record_of c d) refl
       where
         go : (q : Option Record) → record_of c n ≡ q → stands o d ≡ true
         go None e =
-            absurd (let clash : false ≡ true = sym (ap (λ (q : Option Record). listed d (entries_in (option_map_or (λ (r : Record). r.slots) q []))) e) ∙ l in cc)
+            absurd (let clash : false ≡ true = sym (ap (λ (q : Option Record). listed d
+            (entries_in (option_map_or (λ (r : Record). r.slots) q []))) e) ∙ l in cc)
         go (Some r) e =
             (h n r e).shelf (ap (among (PERIPHERAL_BIRTH ∷ ANONYMOUS_BIRTH ∷ [])) (found-birth n c.records r e) ∙ on) d
             (sym (ap (λ (q : Option Record). listed d (entries_in (option_map_or (λ (r : Record). r.slots) q []))) e) ∙ l)

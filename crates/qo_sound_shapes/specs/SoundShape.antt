@@ -68,7 +68,8 @@ IsFurther t s = ⊥
 -- slots of an object of a type are those of these rows, in order, and behind them further ones
 pub data HasSlots (t : TypeId) : List Property → List (List ℕ × Slot) → Type 0 where
   further : {slots : List (List ℕ × Slot)} → AllByRecursion (IsFurther t) slots → HasSlots t [] slots
-  next : {p : Property} {ps : List Property} {s : List ℕ × Slot} {slots : List (List ℕ × Slot)} → IsOfRow p s → HasSlots t ps slots → HasSlots t (p ∷ ps) (s ∷ slots)
+  next : {p : Property} {ps : List Property} {s : List ℕ × Slot} {slots : List (List ℕ × Slot)} → IsOfRow p s → HasSlots t ps slots
+      → HasSlots t (p ∷ ps) (s ∷ slots)
   missing : {p : Property} {ps : List Property} {slots : List (List ℕ × Slot)} → may_miss p ≡ true → HasSlots t ps slots → HasSlots t (p ∷ ps) slots
 
 -- two bodies are of one kind

@@ -4,6 +4,7 @@
 #![tactic(auto)]
 
 ghost use Rattle.qo_sound_shapes.specs.ShapesKept.{ShapesKeptLaw};
+ghost use Rattle.qo_sound_shapes.specs.ShapesSay.{ShapesSayLaw};
 
 /// The objects of a board are shaped as their types say on the opening board. They are so behind what
 /// changes no object, behind acts and holds, behind a write of a clock that is not refused, and behind
@@ -13,4 +14,12 @@ ghost use Rattle.qo_sound_shapes.specs.ShapesKept.{ShapesKeptLaw};
 #[tactic(auto, using(crate::proofs::LawLemmas::shapes_kept_lem))]
 pub fn law_shapes_kept()
     ensures { ShapesKeptLaw }
+{}
+
+/// On a board whose objects are shaped as their types say, what an object has under the name of a
+/// property of its type is as the property's row says; and a device that stands in a container has
+/// something there.
+#[tactic(auto, using(crate::proofs::SayLemmas::shapes_say_lem))]
+pub fn law_shapes_say()
+    ensures { ShapesSayLaw }
 {}
