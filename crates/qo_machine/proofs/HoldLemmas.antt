@@ -36,15 +36,17 @@ held_kept =
       plugged = λ b a h. (phases_kept.plugged b a h.0, holds_kept_lem.plugged b a h.0 h.1);
       cut = λ b t i joined h. (phases_kept.cut b t i joined h.0, holds_kept_lem.cut b t i joined h.1);
       asked = λ b id h. (phases_kept.asked b id h.0, holds_kept_lem.asked_for b id h.1);
-      completed = λ b at d is pending h.
-          (phases_kept.completed b at d is pending h.0,
-          holds_kept_lem.detached b d h.0.devices (among-all (IsOn b) b.pending h.0.devices.lists.pending d pending).0 h.1);
+      completed = λ b at d is pending h. (
+        phases_kept.completed b at d is pending h.0,
+        holds_kept_lem.detached b d h.0.devices (among-all (IsOn b) b.pending h.0.devices.lists.pending d pending).0 h.1,
+      );
       refused = λ b d h. (phases_kept.refused b d h.0, holds_kept_lem.refused_by b d h.1);
       polled = λ b h. (phases_kept.polled b h.0, beside_held b (polled b) refl refl h.1);
-      written = λ b at d reg value c there is h.
-          (phases_kept.written b at d reg value c there is h.0,
-          written-all SoundHolds b d reg value (λ registers e so. holds_kept_lem.registers b d registers h.1)
-          (λ x rings q. beside_held x (with_rings rings x) refl refl q) (λ x m on q. holds_kept_lem.pulsed x m q) c is);
+      written = λ b at d reg value c there is h. (
+        phases_kept.written b at d reg value c there is h.0,
+        written-all SoundHolds b d reg value (λ registers e so. holds_kept_lem.registers b d registers h.1)
+            (λ x rings q. beside_held x (with_rings rings x) refl refl q) (λ x m on q. holds_kept_lem.pulsed x m q) c is,
+      );
       rings =
           record {
             added = λ b id kind size free h. (phases_kept.rings.added b id kind size free h.0, beside_held b _ refl refl h.1);

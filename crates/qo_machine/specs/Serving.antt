@@ -31,7 +31,7 @@ CommandServed at n s request id outs m =
 abbrev pub ServesBy : {X : Type 0} → (Choice → State → X → Made) → State → List X → List Message → State → Type 0
 ServesBy {X = X} f s xs outs t =
     (choices : List Choice) × ((further : List X) (rest : List Choice)
-        → serve_by f (xs ++ further) s (choices ++ rest) ≡ behind outs (serve_by f further t rest))
+    → serve_by f (xs ++ further) s (choices ++ rest) ≡ behind outs (serve_by f further t rest))
 
 -- by some choices they send this, and a machine is then in the state that they lead to
 abbrev pub ServesToBy : {X : Type 0} → (Choice → State → X → Made) → State → List X → List Message → Seen → Type 0
