@@ -1,5 +1,5 @@
 -- Steps keep the whole of what a sound board is.
-use Rattle.std.proofs.Common.{refl, ap, sym, subst, ◌∙◌, ◌≡◌, ◌≤◌, ◌<◌, ◌^◌, ℕ, Bool, List, [], ◌∷◌, Option, None, Some, Result, Ok, Err, IfOk, true, false, is_some, arith}
+use Rattle.std.proofs.Common.{refl, ap, sym, subst, ◌∙◌, ◌≡◌, ◌≤◌, ◌<◌, ◌^◌, ℕ, List, [], ◌∷◌, Option, None, Some, Result, Ok, Err, IfOk, true, false, is_some}
 use Rattle.std.specs.Option.{option_map_or}
 use Rattle.std.proofs.lemmas.Option.{same_Some}
 use Rattle.qo_causes.specs.declared.inputs.Input.{Input}
@@ -22,7 +22,6 @@ use Rattle.qo_realize.specs.Chardevs.{with_rings}
 use Rattle.qo_realize.specs.Guest.{polled}
 use Rattle.qo_realize.specs.Registers.{behind_effect, guest_written, pushed, registers_at, registers_written}
 use Rattle.qo_realize.specs.Time.{at_time, with_running}
-use Rattle.qo_sound_bounds.specs.SoundBounds.{SoundBounds}
 use Rattle.qo_sound_bounds.proofs.BoundsLemmas.{bounds_kept_lem}
 use Rattle.qo_sound_bounds.proofs.SourcesLawLemmas.{sources_kept_lem}
 use Rattle.qo_sound_claims.specs.SoundBackends.{SoundBackends}

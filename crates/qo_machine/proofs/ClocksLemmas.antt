@@ -1,12 +1,12 @@
 -- Steps keep devices in their places with the lists that name them, clocks with their numbers, and no timer ahead of the time.
-use Rattle.std.proofs.Common.{refl, sym, subst, ◌∙◌, ◌≡◌, ◌≤◌, ◌<◌, ◌^◌, ℕ, Bool, List, Option, Some, Result, Ok, Err, IfOk, false, is_some, arith}
+use Rattle.std.proofs.Common.{refl, sym, subst, ◌∙◌, ◌≡◌, ◌≤◌, ◌<◌, ◌^◌, ℕ, List, Some, Result, Ok, Err, IfOk, false, is_some, arith}
 use Rattle.qo_causes.specs.declared.inputs.Input.{Input}
 use Rattle.qo_backends.specs.Rings.{claimed_ring}
 use Rattle.qo_commands.specs.Commands.{without_events}
 use Rattle.qo_model.specs.Board.{Board, Ring}
 use Rattle.qo_values.specs.Bodies.{Effect}
 use Rattle.qo_values.specs.Registers.{Registers}
-use Rattle.qo_model.specs.ClockChanges.{clock_scaled, clock_set}
+use Rattle.qo_model.specs.ClockChanges.{clock_scaled}
 use Rattle.qo_model.specs.Clocks.{device_period, div_of, mul_of}
 use Rattle.qo_model.specs.Reset.{pulse}
 use Rattle.qo_model.specs.Hotplug.{refused}

@@ -16,7 +16,7 @@ use Rattle.qo_sound_devices.proofs.PlugLemmas.{among-all}
 use Rattle.qo_machine.specs.Laws.{KeptInRuns, PhasesInRuns, SoundHeld}
 use Rattle.qo_machine.specs.Machine.{opening}
 use Rattle.qo_machine.specs.Runs.{Turn, state_after}
-use Rattle.qo_machine.proofs.KeepLemmas.{any-rings, KeepsBoard, KeepsCommands, keeps_commands, run_keeps, step_keeps}
+use Rattle.qo_machine.proofs.KeepLemmas.{KeepsBoard, KeepsCommands, keeps_commands, run_keeps, step_keeps}
 use Rattle.qo_machine.proofs.PhaseLemmas.{opening_resets, phases_commands, phases_free, phases_kept}
 
 -- what changes no object and no hold

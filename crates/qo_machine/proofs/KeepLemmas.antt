@@ -1,6 +1,5 @@
 -- What each command keeps of the board, and each attempt that is given up, a step and a run keep.
-use Rattle.std.proofs.Common.{◌^◌, ◌<◌, ◌≤◌, ap, arith, ◌≡◌, ℕ, ◌+◌, nat_lt, not, ◌==◌, Bool, true, false, if◌then◌else◌, List, [], ◌∷◌, map, refl, subst, sym, Option, None, Some, Result, Ok, Err, codes, unwrap_or, ◌++◌}
-use Rattle.std.specs.Option.{option_map_or}
+use Rattle.std.proofs.Common.{◌^◌, ◌<◌, ◌≤◌, ap, arith, ◌≡◌, ℕ, ◌+◌, nat_lt, not, Bool, true, false, if◌then◌else◌, List, [], ◌∷◌, map, refl, subst, sym, Option, None, Some, Result, Ok, Err, codes, unwrap_or, ◌++◌}
 use Rattle.qo_causes.specs.declared.inputs.Input.{Input}
 use Rattle.qo_causes.specs.declared.inputs.Moment.{Moment}
 use Rattle.qo_causes.specs.declared.inputs.What.{What}
@@ -22,7 +21,7 @@ use Rattle.qo_model.specs.Board.{Board, Ring}
 use Rattle.qo_model.specs.ClockChanges.{clock_scaled, clock_set}
 use Rattle.qo_model.specs.Clocks.{div_of, mul_of}
 use Rattle.qo_model.specs.FinalNotesRuns.{Change, added as object_added, behind_write, deleted, wrote, severed, changed}
-use Rattle.qo_model.specs.Objects.{Changed, barred_by, object_add, object_del, sever, with_attempt}
+use Rattle.qo_model.specs.Objects.{Changed, object_add, object_del, sever, with_attempt}
 use Rattle.qo_model.proofs.ClockPropertyLemmas.{write_at-cases}
 use Rattle.qo_model.specs.Depth.{among}
 use Rattle.qo_model.specs.Hotplug.{asked, completed, reset_whole}

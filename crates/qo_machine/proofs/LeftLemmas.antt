@@ -19,7 +19,7 @@ use Rattle.qo_lane.specs.Lines.{lines_of}
 use Rattle.qo_realize.specs.Stands.{Stands}
 use Rattle.qo_machine.proofs.MachineLemmas.{by_board, in_at, serve_on_by}
 use Rattle.qo_machine.specs.Machine.{BreaksOff, BreaksOffAt, Choice, IsIn, Made, Message, Seen, State, Stepped, by_item, defined, fed_at, item_step, items_at, made_by, mode_of, session_of, state_at, with_line, with_session}
-use Rattle.qo_machine.specs.Serving.{CommandLeft, CommandServed, LinesFront, ServesFront, ServesFrontBy, ServesTo, ServesToBy, moved}
+use Rattle.qo_machine.specs.Serving.{CommandLeft, CommandServed, LinesFront, ServesFront, ServesFrontBy, ServesToBy, moved}
 
 -- what follows where memory ran out
 pub err_more : {T E P Q : Type 0} (r : Result T E) → (P → Q) → OnErr r P → OnErr r Q

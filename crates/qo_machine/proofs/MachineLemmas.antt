@@ -1,5 +1,5 @@
 -- One step of the machine.
-use Rattle.std.proofs.Common.{◌≡◌, ◌<◌, ◌+◌, ℕ, zero, suc, Bool, true, false, List, [], ◌∷◌, ◌++◌, length, map, option_to_list, refl, sym, subst, ◌∙◌, ap, append_assoc, Option, Result, Ok, Err, ◌⊎◌, inl, inr, IfOk, OnErr, OnOk, nat_lt, ◌≤◌, replicate, arith, slice_set, slice_index_or, take}
+use Rattle.std.proofs.Common.{◌≡◌, ◌<◌, ◌+◌, ℕ, zero, suc, Bool, true, false, List, [], ◌∷◌, ◌++◌, length, map, option_to_list, refl, sym, subst, ◌∙◌, ap, append_assoc, Option, Result, Ok, Err, inl, inr, IfOk, OnErr, OnOk, nat_lt, ◌≤◌, replicate, arith, slice_set, slice_index_or, take}
 use Rattle.std.proofs.lemmas.Bool.{lt-ltb, ltb-true}
 use Rattle.std.proofs.lemmas.List.Elements.{filter-append}
 use Rattle.std.proofs.lemmas.Grind.{flat_map-append}

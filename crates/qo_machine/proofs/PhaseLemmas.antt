@@ -1,5 +1,5 @@
 -- Steps keep the phases of resets in turn, and what may be held in reset held where a hold is on it or above it.
-use Rattle.std.proofs.Common.{◌≡◌, refl, sym, subst, ◌∙◌, ap, ℕ, Bool, true, ◌&&◌, List, [], ◌∷◌, codes, Option, None, Some, option_map}
+use Rattle.std.proofs.Common.{◌≡◌, refl, subst, ℕ, true, List, [], ◌∷◌, codes, Option, None, Some}
 use Rattle.std.specs.Option.{option_map_or}
 use Rattle.std.proofs.lemmas.Option.{same_Some}
 use Rattle.qo_values.specs.Bodies.{Effect, byte, nothing}
@@ -13,11 +13,9 @@ use Rattle.qo_buses.specs.Addresses.{addressed}
 use Rattle.qo_commands.specs.Commands.{without_events}
 use Rattle.qo_model.specs.Board.{Board, Ring}
 use Rattle.qo_model.specs.Clocks.{div_of, mul_of}
-use Rattle.qo_model.specs.Depth.{among}
 use Rattle.qo_model.specs.Devices.{first_bus}
-use Rattle.qo_model.specs.Hotplug.{completed}
 use Rattle.qo_model.specs.Paths.{attached, is_of}
-use Rattle.qo_model.specs.Reset.{held, pulse}
+use Rattle.qo_model.specs.Reset.{pulse}
 use Rattle.qo_realize.specs.Chardevs.{with_rings}
 use Rattle.qo_realize.specs.Guest.{polled}
 use Rattle.qo_realize.specs.Registers.{behind_effect, guest_written, pushed, registers_written}

@@ -26,14 +26,17 @@ pub fn law_final_once()
 /// removals and of notices; and with these what clocks go by, their periods and numbers, and the moments
 /// of timers. So all these are sound over every run from the opening: what
 /// `qo_sound_devices::law_devices_say` says of devices, and `qo_sound_clocks::law_clocks_say` of clocks,
-/// is so of each board of it.
+/// is so of each board of it. With all these the whole of what a sound board is (`SoundBoard`): each object
+/// is shaped as its type says, each clock goes by the one for it, rings and what devices claim of rings,
+/// memory and addresses are sound, and the limits on objects and time are kept.
 pub fn law_sound()
     ensures { SoundInRuns }
 {}
 
 /// Over every run from the opening the phases of resets that are noted of each birth are the beginning of
 /// enter, hold, exit, repeated. A machine, a bus or a device that is attached is held by its notes where a
-/// hold is on it or above it, and nowhere else.
+/// hold is on it or above it, and nowhere else; and it has no more holds on it and above it than one more
+/// than may be before a hold.
 pub fn law_phases()
     ensures { PhasesInRuns }
 {}
