@@ -55,13 +55,16 @@ found-there b sound [] bus d e = absurd (let clash : None ≡ Some d = e in cc)
 found-there b sound (slot ∷ []) bus d e = kid-there b sound bus slot d e
 found-there b sound (slot ∷ next ∷ slots) bus d e = kid (λ m is. found-there b sound (next ∷ slots) m d is) (kid_at b bus slot) refl
   where
-    below : ((m : ℕ) → found_at b m (next ∷ slots) ≡ Some d → IsThere b d) → (k : ℕ) (o : Option ℕ) → first_bus b k ≡ o → option_and_then (λ m. found_at b m (next ∷ slots)) o ≡ Some d → IsThere b d
+    below : ((m : ℕ) → found_at b m (next ∷ slots) ≡ Some d → IsThere b d) → (k : ℕ) (o : Option ℕ) → first_bus b k ≡ o
+        → option_and_then (λ m. found_at b m (next ∷ slots)) o ≡ Some d → IsThere b d
     below again k None is at_bus = absurd (let clash : None ≡ Some d = at_bus in cc)
     below again k (Some m) is at_bus = again m at_bus
 
     kid : ((m : ℕ) → found_at b m (next ∷ slots) ≡ Some d → IsThere b d) → (o : Option ℕ) → kid_at b bus slot ≡ o → IsThere b d
-    kid again None is = absurd (let clash : None ≡ Some d = sym (ap (option_and_then (λ k. option_and_then (λ m. found_at b m (next ∷ slots)) (first_bus b k))) is) ∙ e in cc)
-    kid again (Some k) is = below again k (first_bus b k) refl (sym (ap (option_and_then (λ k. option_and_then (λ m. found_at b m (next ∷ slots)) (first_bus b k))) is) ∙ e)
+    kid again None is =
+        absurd (let clash : None ≡ Some d = sym (ap (option_and_then (λ k. option_and_then (λ m. found_at b m (next ∷ slots)) (first_bus b k))) is) ∙ e in cc)
+    kid again (Some k) is =
+        below again k (first_bus b k) refl (sym (ap (option_and_then (λ k. option_and_then (λ m. found_at b m (next ∷ slots)) (first_bus b k))) is) ∙ e)
 
 pub address-there : (b : Board) → SoundTree b → (at : Addr) (d : ℕ) → addressed b at ≡ Some d → IsThere b d
 address-there b sound (Slots slots) d e = found-there b sound slots 6 d e

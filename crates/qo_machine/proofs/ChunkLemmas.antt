@@ -70,13 +70,15 @@ is_open Negotiating = true
 is_open Commanding = true
 
 -- an open session has it
-framing_there : (ss : List sessions.State) (n : ℕ) (f : Framing) → is_open (slice_index_or ss n closed).mode ≡ true → (slice_index_or (framed ss n f) n closed).framing ≡ f
+framing_there : (ss : List sessions.State) (n : ℕ) (f : Framing) → is_open (slice_index_or ss n closed).mode ≡ true
+    → (slice_index_or (framed ss n f) n closed).framing ≡ f
 framing_there [] n f h = absurd (true≢false (sym h))
 framing_there (s ∷ ss) zero f h = refl
 framing_there (s ∷ ss) (suc n) f h = framing_there ss n f h
 
 -- a negotiation keeps it
-negotiated_list : (ss : List sessions.State) (n : ℕ) (f : Framing) → slice_set (framed ss n f) n (in_mode Commanding (slice_index_or (framed ss n f) n closed)) ≡ framed (slice_set ss n (in_mode Commanding (slice_index_or ss n closed))) n f
+negotiated_list : (ss : List sessions.State) (n : ℕ) (f : Framing)
+    → slice_set (framed ss n f) n (in_mode Commanding (slice_index_or (framed ss n f) n closed)) ≡ framed (slice_set ss n (in_mode Commanding (slice_index_or ss n closed))) n f
 negotiated_list [] n f = refl
 negotiated_list (s ∷ ss) zero f = refl
 negotiated_list (s ∷ ss) (suc n) f = ap (λ (rest : List sessions.State). s ∷ rest) (negotiated_list ss n f)
@@ -140,11 +142,13 @@ still_step n f r = step_by_put (reframed n f) r
 still_on : (n : ℕ) (f : Framing) (s : State) (e : Bool) → s.ended ≡ e → still n f s ≡ keep e s (reframed n f s)
 still_on n f s e is = still_on_by (reframed n f) s e is
 
-behind_same : (e : Bool) (n : ℕ) (f : Framing) (s : State) (b : Board) → s.ended ≡ false → behind_command e (with_board (reframed n f s) b) ≡ still n f (behind_command e (with_board s b))
+behind_same : (e : Bool) (n : ℕ) (f : Framing) (s : State) (b : Board) → s.ended ≡ false
+    → behind_command e (with_board (reframed n f s) b) ≡ still n f (behind_command e (with_board s b))
 behind_same true n f s b going = refl
 behind_same false n f s b going = sym (still_on n f (with_board s b) false going)
 
-made_still : (choice : Choice) (at : Moment) (n : ℕ) (f : Framing) (s : State) (what : SessionAct) → s.ended ≡ false → made_by choice at n (reframed n f s) what ≡ still_made n f (made_by choice at n s what)
+made_still : (choice : Choice) (at : Moment) (n : ℕ) (f : Framing) (s : State) (what : SessionAct) → s.ended ≡ false
+    → made_by choice at n (reframed n f s) what ≡ still_made n f (made_by choice at n s what)
 made_still (refused i joined) at n f s (Answer code id) going =
     ap (λ (t : State). answered t n (error_reply id code)) (sym (still_on n f s false going))
 made_still (refused i joined) at n f s (Negotiated id) going =
@@ -164,17 +168,21 @@ made_still defined at n f s (Do request id) going =
     (λ (t : State). record { outs = event_outs at s d.events ++ (to_session n, reply id d.result) ∷ []; state = t })
     (behind_same d.ends n f s d.board going)
 
-item_still : (choice : Choice) (at : Moment) (n : ℕ) (f : Framing) (s : State) (item : Item) → s.ended ≡ false → item_step choice at n (reframed n f s) item ≡ still_made n f (item_step choice at n s item)
+item_still : (choice : Choice) (at : Moment) (n : ℕ) (f : Framing) (s : State) (item : Item) → s.ended ≡ false
+    → item_step choice at n (reframed n f s) item ≡ still_made n f (item_step choice at n s item)
 unfolding item_step
 item_still choice at n f s item going =
     ap (λ (mode : Mode). made_by choice at n (reframed n f s) (act mode item)) (mode_kept s.sessions n n f) ∙ made_still choice at n f s (act (mode_of s n) item) going
 
 -- behind the end nothing is served, and the state is as it was
-stopped_still : {X : Type 0} (f : Choice → State → X → Made) (put : State → State) (xs : List X) (s : State) (cs : List Choice) → s.ended ≡ true → step_by_put put (serve_by f xs s cs) ≡ unchanged s cs
+stopped_still : {X : Type 0} (f : Choice → State → X → Made) (put : State → State) (xs : List X) (s : State) (cs : List Choice) → s.ended ≡ true
+    → step_by_put put (serve_by f xs s cs) ≡ unchanged s cs
 stopped_still f put xs s cs over =
     ap (step_by_put put) (stopped_by f xs s cs over) ∙ ap (λ (t : State). unchanged t cs) (still_on_by put s true over)
 
-from_still : {X : Type 0} (f : Choice → State → X → Made) (put : State → State) (xs : List X) (s : State) (cs : List Choice) → (s.ended ≡ false → serve_by f xs (put s) cs ≡ step_by_put put (serve_by f xs s cs)) → serve_by f xs (still_by put s) cs ≡ step_by_put put (serve_by f xs s cs)
+from_still : {X : Type 0} (f : Choice → State → X → Made) (put : State → State) (xs : List X) (s : State) (cs : List Choice)
+    → (s.ended ≡ false → serve_by f xs (put s) cs ≡ step_by_put put (serve_by f xs s cs))
+    → serve_by f xs (still_by put s) cs ≡ step_by_put put (serve_by f xs s cs)
 from_still f put xs s cs further = go s.ended refl
   where
     go : (e : Bool) → s.ended ≡ e → serve_by f xs (still_by put s) cs ≡ step_by_put put (serve_by f xs s cs)
@@ -183,7 +191,8 @@ from_still f put xs s cs further = go s.ended refl
         ∙ sym (stopped_still f put xs s cs over)
     go false going = ap (λ (t : State). serve_by f xs t cs) (still_on_by put s false going) ∙ further going
 
-serve_still_by : {X : Type 0} (f : Choice → State → X → Made) (put : State → State) → LeavesEnd put → Commutes f put → (xs : List X) (s : State) (cs : List Choice) → s.ended ≡ false → serve_by f xs (put s) cs ≡ step_by_put put (serve_by f xs s cs)
+serve_still_by : {X : Type 0} (f : Choice → State → X → Made) (put : State → State) → LeavesEnd put → Commutes f put
+    → (xs : List X) (s : State) (cs : List Choice) → s.ended ≡ false → serve_by f xs (put s) cs ≡ step_by_put put (serve_by f xs s cs)
 serve_still_by f put same commutes [] s cs going = ap (λ (t : State). unchanged t cs) (sym (still_on_by put s false going))
 serve_still_by f put same commutes (x ∷ xs) s cs going =
     let m = f (first cs) s x in
@@ -192,7 +201,8 @@ serve_still_by f put same commutes (x ∷ xs) s cs going =
     ∙ ap (behind m.outs) (from_still f put xs m.state (others cs) (serve_still_by f put same commutes xs m.state (others cs)))
     ∙ ap (step_by_put put) (sym (serve_on_by f s x xs cs going))
 
-serve_still : (items : List Item) (at : Moment) (n : ℕ) (f : Framing) (s : State) (cs : List Choice) → s.ended ≡ false → serve at n items (reframed n f s) cs ≡ still_step n f (serve at n items s cs)
+serve_still : (items : List Item) (at : Moment) (n : ℕ) (f : Framing) (s : State) (cs : List Choice) → s.ended ≡ false
+    → serve at n items (reframed n f s) cs ≡ still_step n f (serve at n items s cs)
 serve_still items at n f s cs going =
     serve_still_by (by_item at n) (reframed n f) (λ t. refl) (λ choice t item h. item_still choice at n f t item h) items s cs going
 
@@ -201,12 +211,15 @@ serve_still items at n f s cs going =
 abbrev then_serve : {X : Type 0} → (Choice → State → X → Made) → List X → Stepped → Stepped
 then_serve f xs r = behind r.outs (serve_by f xs r.state r.rest)
 
-serve_more : {X : Type 0} (f : Choice → State → X → Made) (xs ys : List X) (s : State) (cs : List Choice) → serve_by f (xs ++ ys) s cs ≡ then_serve f ys (serve_by f xs s cs)
+serve_more : {X : Type 0} (f : Choice → State → X → Made) (xs ys : List X) (s : State) (cs : List Choice)
+    → serve_by f (xs ++ ys) s cs ≡ then_serve f ys (serve_by f xs s cs)
 serve_more f [] ys s cs = refl
 serve_more f (x ∷ xs) ys s cs =
     go s.ended refl (serve_more f xs ys (f (first cs) s x).state (others cs))
   where
-    go : (e : Bool) → s.ended ≡ e → serve_by f (xs ++ ys) (f (first cs) s x).state (others cs) ≡ then_serve f ys (serve_by f xs (f (first cs) s x).state (others cs)) → serve_by f ((x ∷ xs) ++ ys) s cs ≡ then_serve f ys (serve_by f (x ∷ xs) s cs)
+    go : (e : Bool) → s.ended ≡ e
+        → serve_by f (xs ++ ys) (f (first cs) s x).state (others cs) ≡ then_serve f ys (serve_by f xs (f (first cs) s x).state (others cs))
+        → serve_by f ((x ∷ xs) ++ ys) s cs ≡ then_serve f ys (serve_by f (x ∷ xs) s cs)
     go true over further =
         stopped_by f ((x ∷ xs) ++ ys) s cs over
         ∙ sym (ap (then_serve f ys) (stopped_by f (x ∷ xs) s cs over) ∙ ap (behind []) (stopped_by f ys s cs over))
@@ -249,7 +262,8 @@ or_more : (e a b : Bool) → (a ≡ true → b ≡ true) → (e || a) ≡ true �
 or_more true a b f h = refl
 or_more false a b f h = f h
 
-negotiated_open : (ss : List sessions.State) (n : ℕ) → is_open (slice_index_or ss n closed).mode ≡ true → is_open (slice_index_or (slice_set ss n (in_mode Commanding (slice_index_or ss n closed))) n closed).mode ≡ true
+negotiated_open : (ss : List sessions.State) (n : ℕ) → is_open (slice_index_or ss n closed).mode ≡ true
+    → is_open (slice_index_or (slice_set ss n (in_mode Commanding (slice_index_or ss n closed))) n closed).mode ≡ true
 negotiated_open [] n h = h
 negotiated_open (s ∷ ss) zero h = refl
 negotiated_open (s ∷ ss) (suc n) h = negotiated_open ss n h
@@ -303,30 +317,36 @@ fed_all Closed x bytes h = absurd (true≢false (sym h))
 fed_all Negotiating x bytes h = refl
 fed_all Commanding x bytes h = refl
 
-step_beyond : (s : State) (at : Moment) (n : ℕ) (bytes : List ℕ) (cs : List Choice) → s.ended ≡ false → nat_lt n SESSIONS ≡ false → step s (input at (Bytes n bytes)) cs ≡ unchanged s cs
+step_beyond : (s : State) (at : Moment) (n : ℕ) (bytes : List ℕ) (cs : List Choice) → s.ended ≡ false → nat_lt n SESSIONS ≡ false
+    → step s (input at (Bytes n bytes)) cs ≡ unchanged s cs
 step_beyond s at n bytes cs going beyond =
     step_on s (input at (Bytes n bytes)) (Bytes n bytes) cs going refl ∙ ap (λ (t : Bool). if t then taken at s n bytes cs else unchanged s cs) beyond
 
-step_taken : (s : State) (at : Moment) (n : ℕ) (bytes : List ℕ) (cs : List Choice) → s.ended ≡ false → nat_lt n SESSIONS ≡ true → step s (input at (Bytes n bytes)) cs ≡ taken at s n bytes cs
+step_taken : (s : State) (at : Moment) (n : ℕ) (bytes : List ℕ) (cs : List Choice) → s.ended ≡ false → nat_lt n SESSIONS ≡ true
+    → step s (input at (Bytes n bytes)) cs ≡ taken at s n bytes cs
 step_taken s at n bytes cs going below =
     step_on s (input at (Bytes n bytes)) (Bytes n bytes) cs going refl ∙ ap (λ (t : Bool). if t then taken at s n bytes cs else unchanged s cs) below
 
-step_closed : (s : State) (at : Moment) (n : ℕ) (bytes : List ℕ) (cs : List Choice) → s.ended ≡ false → nat_lt n SESSIONS ≡ true → is_open (mode_of s n) ≡ false → step s (input at (Bytes n bytes)) cs ≡ unchanged s cs
+step_closed : (s : State) (at : Moment) (n : ℕ) (bytes : List ℕ) (cs : List Choice) → s.ended ≡ false → nat_lt n SESSIONS ≡ true → is_open (mode_of s n) ≡ false
+    → step s (input at (Bytes n bytes)) cs ≡ unchanged s cs
 step_closed s at n bytes cs going below shut =
     step_taken s at n bytes cs going below
     ∙ ap (λ (d : Fed). serve at n d.items (with_session s n d.session) cs) (fed_none (mode_of s n) (session_of s n) bytes shut)
     ∙ ap (λ (t : State). unchanged t cs) (with_same s n)
 
-step_open : (s : State) (at : Moment) (n : ℕ) (bytes : List ℕ) (cs : List Choice) → s.ended ≡ false → nat_lt n SESSIONS ≡ true → is_open (mode_of s n) ≡ true → step s (input at (Bytes n bytes)) cs ≡ serve at n (cut (session_of s n).framing bytes).items (reframed n (cut (session_of s n).framing bytes).state s) cs
+step_open : (s : State) (at : Moment) (n : ℕ) (bytes : List ℕ) (cs : List Choice) → s.ended ≡ false → nat_lt n SESSIONS ≡ true → is_open (mode_of s n) ≡ true
+    → step s (input at (Bytes n bytes)) cs ≡ serve at n (cut (session_of s n).framing bytes).items (reframed n (cut (session_of s n).framing bytes).state s) cs
 step_open s at n bytes cs going below takes =
     step_taken s at n bytes cs going below
     ∙ ap (λ (d : Fed). serve at n d.items (with_session s n d.session) cs) (fed_all (mode_of s n) (session_of s n) bytes takes)
 
 -- the items of the first of two pieces are served from the state before them, and of the second from there
-step_still : (s : State) (at : Moment) (n : ℕ) (f : Framing) (bytes : List ℕ) (cs : List Choice) → nat_lt n SESSIONS ≡ true → lives n s ≡ true → step (still n f s) (input at (Bytes n bytes)) cs ≡ still_step n (cut f bytes).state (serve at n (cut f bytes).items s cs)
+step_still : (s : State) (at : Moment) (n : ℕ) (f : Framing) (bytes : List ℕ) (cs : List Choice) → nat_lt n SESSIONS ≡ true → lives n s ≡ true
+    → step (still n f s) (input at (Bytes n bytes)) cs ≡ still_step n (cut f bytes).state (serve at n (cut f bytes).items s cs)
 step_still s at n f bytes cs below h = go s.ended refl h
   where
-    go : (e : Bool) → s.ended ≡ e → (e || is_open (mode_of s n)) ≡ true → step (still n f s) (input at (Bytes n bytes)) cs ≡ still_step n (cut f bytes).state (serve at n (cut f bytes).items s cs)
+    go : (e : Bool) → s.ended ≡ e → (e || is_open (mode_of s n)) ≡ true
+        → step (still n f s) (input at (Bytes n bytes)) cs ≡ still_step n (cut f bytes).state (serve at n (cut f bytes).items s cs)
     go true over takes =
         ap (λ (t : State). step t (input at (Bytes n bytes)) cs) (still_on n f s true over) ∙ step_ended s (input at (Bytes n bytes)) cs over
         ∙ sym (stopped_still (by_item at n) (reframed n (cut f bytes).state) (cut f bytes).items s cs over)
@@ -343,11 +363,13 @@ InTwo piece s at a b cs =
     step s (input at (piece (a ++ b))) cs ≡ then_step (input at (piece b)) (step s (input at (piece a)) cs)
 
 -- bytes come as their first piece and then the second, where each of these changes nothing
-nothing_two : (s : State) (i j k : Input) (cs : List Choice) → step s i cs ≡ unchanged s cs → step s j cs ≡ unchanged s cs → step s k cs ≡ unchanged s cs → step s i cs ≡ then_step k (step s j cs)
+nothing_two : (s : State) (i j k : Input) (cs : List Choice) → step s i cs ≡ unchanged s cs → step s j cs ≡ unchanged s cs → step s k cs ≡ unchanged s cs
+    → step s i cs ≡ then_step k (step s j cs)
 nothing_two s i j k cs p q r = p ∙ sym (ap (then_step k) q ∙ ap (behind []) r)
 
 -- and where the session is open
-open_two : (s : State) (at : Moment) (n : ℕ) (a b : List ℕ) (cs : List Choice) → s.ended ≡ false → nat_lt n SESSIONS ≡ true → is_open (mode_of s n) ≡ true → InTwo (Bytes n) s at a b cs
+open_two : (s : State) (at : Moment) (n : ℕ) (a b : List ℕ) (cs : List Choice) → s.ended ≡ false → nat_lt n SESSIONS ≡ true → is_open (mode_of s n) ≡ true
+    → InTwo (Bytes n) s at a b cs
 open_two s at n a b cs going below takes =
     let f = (session_of s n).framing in
     let c = cut f a in
@@ -414,7 +436,8 @@ bytes_uses n s at bytes cs =
 abbrev lined : List ℕ → State → State
 lined line s = with_line s line
 
-answered_still : (e : Bool) (line : List ℕ) (s : State) (b : Board) → s.ended ≡ false → behind_command e (with_board (lined line s) b) ≡ still_by (lined line) (behind_command e (with_board s b))
+answered_still : (e : Bool) (line : List ℕ) (s : State) (b : Board) → s.ended ≡ false
+    → behind_command e (with_board (lined line s) b) ≡ still_by (lined line) (behind_command e (with_board s b))
 answered_still true line s b going = refl
 answered_still false line s b going = sym (still_on_by (lined line) (with_board s b) false going)
 
@@ -429,18 +452,22 @@ line_still at line defined s x going =
     (λ (t : State). record { outs = event_outs at s (map event_of o.board.events ++ o.events) ++ (guest, answer_line o.answer) ∷ []; state = t })
     (answered_still o.ends line s (without_events o.board) going)
 
-lines_still : (at : Moment) (line : List ℕ) (xs : List (List ℕ)) (s : State) (cs : List Choice) → s.ended ≡ false → serve_lines at xs (lined line s) cs ≡ step_by_put (lined line) (serve_lines at xs s cs)
+lines_still : (at : Moment) (line : List ℕ) (xs : List (List ℕ)) (s : State) (cs : List Choice) → s.ended ≡ false
+    → serve_lines at xs (lined line s) cs ≡ step_by_put (lined line) (serve_lines at xs s cs)
 lines_still at line xs s cs going =
     serve_still_by (by_line at) (lined line) (λ t. refl) (λ choice t x h. line_still at line choice t x h) xs s cs going
 
-guest_on : (s : State) (at : Moment) (bytes : List ℕ) (cs : List Choice) → s.ended ≡ false → step s (input at (Guest bytes)) cs ≡ serve_lines at (lines_of s.guest_line bytes).lines (lined (lines_of s.guest_line bytes).rest s) cs
+guest_on : (s : State) (at : Moment) (bytes : List ℕ) (cs : List Choice) → s.ended ≡ false
+    → step s (input at (Guest bytes)) cs ≡ serve_lines at (lines_of s.guest_line bytes).lines (lined (lines_of s.guest_line bytes).rest s) cs
 guest_on s at bytes cs going = step_on s (input at (Guest bytes)) (Guest bytes) cs going refl
 
 -- the lines of the first of two pieces are served from the state before them, and of the second from there
-guest_still : (s : State) (at : Moment) (line bytes : List ℕ) (cs : List Choice) → step (still_by (lined line) s) (input at (Guest bytes)) cs ≡ step_by_put (lined (lines_of line bytes).rest) (serve_lines at (lines_of line bytes).lines s cs)
+guest_still : (s : State) (at : Moment) (line bytes : List ℕ) (cs : List Choice)
+    → step (still_by (lined line) s) (input at (Guest bytes)) cs ≡ step_by_put (lined (lines_of line bytes).rest) (serve_lines at (lines_of line bytes).lines s cs)
 guest_still s at line bytes cs = go s.ended refl
   where
-    go : (e : Bool) → s.ended ≡ e → step (still_by (lined line) s) (input at (Guest bytes)) cs ≡ step_by_put (lined (lines_of line bytes).rest) (serve_lines at (lines_of line bytes).lines s cs)
+    go : (e : Bool) → s.ended ≡ e
+        → step (still_by (lined line) s) (input at (Guest bytes)) cs ≡ step_by_put (lined (lines_of line bytes).rest) (serve_lines at (lines_of line bytes).lines s cs)
     go true over =
         ap (λ (t : State). step t (input at (Guest bytes)) cs) (still_on_by (lined line) s true over) ∙ step_ended s (input at (Guest bytes)) cs over
         ∙ sym (stopped_still (by_line at) (lined (lines_of line bytes).rest) (lines_of line bytes).lines s cs over)
@@ -485,18 +512,24 @@ abbrev AsTwo : (List ℕ → What) → State → Moment → List ℕ → List �
 AsTwo piece s at a b choices one two =
     step s (input at (piece (a ++ b))) choices ≡ behind (step s (input at (piece a)) one).outs (step (step s (input at (piece a)) one).state (input at (piece b)) two)
 
-outs_same : (piece : List ℕ → What) (s : State) (at : Moment) (a b : List ℕ) (choices one two : List Choice) (later : List Turn) → AsTwo piece s at a b choices one two → outs_of s (quiet at (piece (a ++ b)) choices ∷ later) ≡ outs_of s (quiet at (piece a) one ∷ quiet at (piece b) two ∷ later)
+outs_same : (piece : List ℕ → What) (s : State) (at : Moment) (a b : List ℕ) (choices one two : List Choice) (later : List Turn)
+    → AsTwo piece s at a b choices one two
+    → outs_of s (quiet at (piece (a ++ b)) choices ∷ later) ≡ outs_of s (quiet at (piece a) one ∷ quiet at (piece b) two ∷ later)
 unfolding closed_where
 outs_same piece s at a b choices one two later h =
     let r = step s (input at (piece a)) one in
     let q = step r.state (input at (piece b)) two in
     ap (λ (x : Stepped). x.outs ++ outs_of x.state later) h ∙ append_assoc r.outs q.outs (outs_of q.state later)
 
-state_same : (piece : List ℕ → What) (s : State) (at : Moment) (a b : List ℕ) (choices one two : List Choice) (later : List Turn) → AsTwo piece s at a b choices one two → state_after s (quiet at (piece (a ++ b)) choices ∷ later) ≡ state_after s (quiet at (piece a) one ∷ quiet at (piece b) two ∷ later)
+state_same : (piece : List ℕ → What) (s : State) (at : Moment) (a b : List ℕ) (choices one two : List Choice) (later : List Turn)
+    → AsTwo piece s at a b choices one two
+    → state_after s (quiet at (piece (a ++ b)) choices ∷ later) ≡ state_after s (quiet at (piece a) one ∷ quiet at (piece b) two ∷ later)
 unfolding closed_where
 state_same piece s at a b choices one two later h = ap (λ (x : Stepped). state_after x.state later) h
 
-run_same : (piece : List ℕ → What) (before later : List Turn) (at : Moment) (a b : List ℕ) (choices one two : List Choice) → AsTwo piece (state_after opening before) at a b choices one two → Matches (in_one piece before later at (a ++ b) choices) (in_two piece before later at a b one two)
+run_same : (piece : List ℕ → What) (before later : List Turn) (at : Moment) (a b : List ℕ) (choices one two : List Choice)
+    → AsTwo piece (state_after opening before) at a b choices one two
+    → Matches (in_one piece before later at (a ++ b) choices) (in_two piece before later at a b one two)
 run_same piece before later at a b choices one two h =
     let s = state_after opening before in
     let whole = quiet at (piece (a ++ b)) choices ∷ later in
@@ -506,7 +539,8 @@ run_same piece before later at a b choices one two h =
       state_more before whole opening ∙ state_same piece s at a b choices one two later h ∙ sym (state_more before parts opening),
     )
 
-cut_anywhere : (piece : List ℕ → What) → ((s : State) (at : Moment) (a b : List ℕ) (cs : List Choice) → InTwo piece s at a b cs) → ((s : State) (at : Moment) (bytes : List ℕ) (cs : List Choice) → Uses s (input at (piece bytes)) cs) → CutAnywhere piece
+cut_anywhere : (piece : List ℕ → What) → ((s : State) (at : Moment) (a b : List ℕ) (cs : List Choice) → InTwo piece s at a b cs)
+    → ((s : State) (at : Moment) (bytes : List ℕ) (cs : List Choice) → Uses s (input at (piece bytes)) cs) → CutAnywhere piece
 cut_anywhere piece two uses before later at a b = (
   λ cs.
       let s = state_after opening before in

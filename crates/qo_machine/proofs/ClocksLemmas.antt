@@ -1,12 +1,12 @@
 -- Steps keep devices in their places with the lists that name them, clocks with their numbers, and no timer ahead of the time.
-use Rattle.std.proofs.Common.{refl, sym, subst, ◌∙◌, ◌≡◌, ◌≤◌, ◌<◌, ◌^◌, ℕ, Bool, List, Option, Some, Result, Ok, Err, IfOk, false, is_some, arith}
+use Rattle.std.proofs.Common.{refl, sym, subst, ◌∙◌, ◌≡◌, ◌≤◌, ◌<◌, ◌^◌, ℕ, List, Some, Result, Ok, Err, IfOk, false, is_some, arith}
 use Rattle.qo_causes.specs.declared.inputs.Input.{Input}
 use Rattle.qo_backends.specs.Rings.{claimed_ring}
 use Rattle.qo_commands.specs.Commands.{without_events}
 use Rattle.qo_model.specs.Board.{Board, Ring}
 use Rattle.qo_values.specs.Bodies.{Effect}
 use Rattle.qo_values.specs.Registers.{Registers}
-use Rattle.qo_model.specs.ClockChanges.{clock_scaled, clock_set}
+use Rattle.qo_model.specs.ClockChanges.{clock_scaled}
 use Rattle.qo_model.specs.Clocks.{device_period, div_of, mul_of}
 use Rattle.qo_model.specs.Reset.{pulse}
 use Rattle.qo_model.specs.Hotplug.{refused}
@@ -29,7 +29,7 @@ use Rattle.qo_sound_clocks.proofs.NumbersLemmas.{numbers_kept_lem}
 use Rattle.qo_sound_clocks.proofs.RegisterLemmas.{registers_kept_lem}
 use Rattle.qo_sound_clocks.proofs.TimesLemmas.{times_kept_lem}
 use Rattle.qo_machine.proofs.DevicesLemmas.{devices_free, devices_kept, ringed-devices}
-use Rattle.qo_machine.proofs.KeepLemmas.{KeepsBoard, KeepsCommands, broken_keeps, keeps_commands, step_keeps}
+use Rattle.qo_machine.proofs.KeepLemmas.{any-rings, KeepsBoard, KeepsCommands, broken_keeps, keeps_commands, step_keeps}
 use Rattle.qo_machine.proofs.MachineLemmas.{in_at}
 use Rattle.qo_machine.specs.Machine.{Answers, BreaksOff, IsIn, Message, Seen, State, opening, state_at, step}
 use Rattle.qo_sound_devices.specs.SoundDevices.{SoundDevices}
@@ -45,7 +45,7 @@ beside_run b c records on devices h =
       times = times_kept_lem.beside b c records on h.times;
     }
 
-ringed_run : (b : Board) (rings : List Ring) → SoundRun b → SoundRun (with_rings rings b)
+pub ringed_run : (b : Board) (rings : List Ring) → SoundRun b → SoundRun (with_rings rings b)
 ringed_run b rings h = beside_run b (with_rings rings b) refl (omega arith) (ringed-devices b rings h.devices) h
 
 -- a clock that is written
@@ -59,7 +59,7 @@ scaled_run b d c mul div narrow thin is h =
     }
 
 -- a register that is written, and a pulse
-registers_run : (b : Board) (d reg value : ℕ) (registers : Registers) (e : Effect) → registers_written b d reg value ≡ Some (registers, e) → SoundRun b
+pub registers_run : (b : Board) (d reg value : ℕ) (registers : Registers) (e : Effect) → registers_written b d reg value ≡ Some (registers, e) → SoundRun b
     → SoundRun (registers_set b d registers)
 registers_run b d reg value registers e is h =
     record {
@@ -71,7 +71,7 @@ registers_run b d reg value registers e is h =
           (times_kept_lem.wrote (registers_at b d) registers e reg value (is_some (claimed_ring b d)) b.now (device_period b d) is (registers-timely b d h.times)) h.times;
     }
 
-pulsed_run : (b : Board) (m : ℕ) → SoundRun b → SoundRun (pulse b m)
+pub pulsed_run : (b : Board) (m : ℕ) → SoundRun b → SoundRun (pulse b m)
 pulsed_run b m h =
     record {
       devices = devices_kept_lem.pulsed b m h.devices;
@@ -81,7 +81,7 @@ pulsed_run b m h =
     }
 
 -- changes and attempts keep them
-run_kept : KeepsBoard SoundRun
+pub run_kept : KeepsBoard SoundRun
 run_kept =
     record {
       change = λ b change h.
@@ -128,12 +128,12 @@ run_kept =
       written = λ b at d reg value c there is h.
           written-all SoundRun b d reg value (λ registers e so. registers_run b d reg value registers e so h)
           (λ x rings q. ringed_run x rings q) (λ x m on q. pulsed_run x m q) c is;
-      ringed = λ b rings h. ringed_run b rings h;
-      timed = λ b now on h. beside_run b (at_time now b) refl on (devices_kept.timed b now on h.devices) h;
+      rings = any-rings SoundRun (λ b rings h. ringed_run b rings h);
+      timed = λ b now on low h. beside_run b (at_time now b) refl on (devices_kept.timed b now on low h.devices) h;
       switched = λ b on h. beside_run b (with_running on b) refl (omega arith) (devices_kept.switched b on h.devices) h;
-      held_so = λ b n is home h.
+      held_so = λ b n is home deep h.
           record {
-            devices = devices_kept.held_so b n is home h.devices;
+            devices = devices_kept.held_so b n is home deep h.devices;
             clocks = clocks_kept_lem.held_so b n h.clocks;
             numbers = numbers_kept_lem.held_so b n h.numbers;
             times = times_kept_lem.held_so b n h.times;
@@ -154,8 +154,12 @@ run_kept =
           };
     }
 
+-- events are no matter to them
+pub run_free : (b : Board) → SoundRun b → SoundRun (without_events b)
+run_free b h = beside_run b (without_events b) refl (omega arith) (devices_free b h.devices) h
+
 pub run_commands : KeepsCommands SoundRun
-run_commands = keeps_commands SoundRun run_kept (λ b h. beside_run b (without_events b) refl (omega arith) (devices_free b h.devices) h)
+run_commands = keeps_commands SoundRun run_kept run_free
 
 -- so it is at first
 pub opening_run : SoundRun opening_board
@@ -170,7 +174,7 @@ good_run b good = record { devices = good.devices; clocks = good.clocks; numbers
 not_before : (m n : ℕ) → m ≡ n → m ≤ n
 not_before m n e = subst (λ (k : ℕ). m ≤ k) e (omega arith)
 
-run_by : (s t : State) (m : Seen) → IsIn s m → IsIn t m → SoundRun s.board → SoundRun t.board
+pub run_by : (s t : State) (m : Seen) → IsIn s m → IsIn t m → SoundRun s.board → SoundRun t.board
 run_by s t m p q h =
     beside_run s.board t.board (q.stands.shows.records ∙ sym p.stands.shows.records)
     (not_before s.board.now t.board.now (p.stands.shows.now ∙ sym q.stands.shows.now))

@@ -11,7 +11,7 @@ use Rattle.qo_sound_devices.specs.SoundDevices.{SoundDevices}
 use Rattle.qo_sound_devices.proofs.DevicesLawLemmas.{devices_kept_lem}
 use Rattle.qo_sound_clocks.proofs.KeepLemmas.{writes_keep_lem}
 use Rattle.qo_sound_clocks.proofs.RegisterLemmas.{registers_kept_lem}
-use Rattle.qo_machine.proofs.KeepLemmas.{KeepsBoard, KeepsCommands, keeps_commands}
+use Rattle.qo_machine.proofs.KeepLemmas.{any-rings, KeepsBoard, KeepsCommands, keeps_commands}
 
 -- rings are no matter to them
 pub ringed-devices : (b : Board) (rings : List Ring) → SoundDevices b → SoundDevices (with_rings rings b)
@@ -35,10 +35,10 @@ devices_kept =
       written = λ b at d reg value c there is h.
           written-all SoundDevices b d reg value (λ registers e so. registers_kept_lem.devices b d registers h)
           (λ x rings q. ringed-devices x rings q) (λ x m on q. devices_kept_lem.pulsed x m q) c is;
-      ringed = λ b rings h. ringed-devices b rings h;
-      timed = λ b now on h. devices_kept_lem.beside b (at_time now b) refl refl refl refl refl refl h;
+      rings = any-rings SoundDevices (λ b rings h. ringed-devices b rings h);
+      timed = λ b now on low h. devices_kept_lem.beside b (at_time now b) refl refl refl refl refl refl h;
       switched = λ b on h. devices_kept_lem.beside b (with_running on b) refl refl refl refl refl refl h;
-      held_so = λ b n is home h. devices_kept_lem.held_so b n h;
+      held_so = λ b n is home deep h. devices_kept_lem.held_so b n h;
       released_so = λ b n is held h. devices_kept_lem.released_so b n h;
       reset = λ b h. devices_kept_lem.reset b h;
     }

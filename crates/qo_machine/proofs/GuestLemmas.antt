@@ -35,7 +35,8 @@ line_in m mid drained to line r came still empties stays move same b stands =
     (in_at x to (subst (Stands x) (sym same) (empties (heard b line).board p.stands)))
 
 -- what a line makes by what is done of it
-line_is : (at : Moment) (s : State) (line : List ℕ) (outs : List Message) → (event_outs at s (map event_of (heard s.board (without_return line)).board.events ++ (heard s.board (without_return line)).events) ++ (guest, answer_line (heard s.board (without_return line)).answer) ∷ []) ≡ outs
+line_is : (at : Moment) (s : State) (line : List ℕ) (outs : List Message)
+    → (event_outs at s (map event_of (heard s.board (without_return line)).board.events ++ (heard s.board (without_return line)).events) ++ (guest, answer_line (heard s.board (without_return line)).answer) ∷ []) ≡ outs
     → line_step defined at s line ≡ record { outs = outs; state = behind_line s (heard s.board (without_return line)) }
 unfolding line_step
 line_is at s line outs is =
@@ -78,12 +79,14 @@ line_left at m mid drained to line r going came still empties stays move same s 
     (line_in m mid drained to (without_return line) r came still empties stays move same b stands))) s here
 
 -- a line that is refused for want of memory
-refused_is : (at : Moment) (s : State) (line text : List ℕ) → text ≡ answer_line NoMemory → line_step (refused 0 false) at s line ≡ record { outs = (guest, text) ∷ []; state = s }
+refused_is : (at : Moment) (s : State) (line text : List ℕ) → text ≡ answer_line NoMemory
+    → line_step (refused 0 false) at s line ≡ record { outs = (guest, text) ∷ []; state = s }
 unfolding line_step
 refused_is at s line text is =
     ap (λ (t : List ℕ). record { outs = (guest, t) ∷ []; state = s }) (sym is)
 
-pub line_refused : (at : Moment) (m to : Seen) (line text : List ℕ) → m.ended ≡ false → text ≡ answer_line NoMemory → to.board ≡ m.board → ((b : Board) → state_at b to ≡ state_at b m)
+pub line_refused : (at : Moment) (m to : Seen) (line text : List ℕ) → m.ended ≡ false → text ≡ answer_line NoMemory → to.board ≡ m.board
+    → ((b : Board) → state_at b to ≡ state_at b m)
     → (s : State) → IsIn s m → LinesTo at s (line ∷ []) ((guest, text) ∷ []) to
 line_refused at m to line text going is same move s here =
     by_board (λ (x : State). LinesTo at x (line ∷ []) ((guest, text) ∷ []) to) m
@@ -112,7 +115,8 @@ lines_taken at s m bytes lines outs is p =
     let q : ServesBy (by_line at) start l.lines outs p.0 = subst (λ (xs : List (List ℕ)). ServesBy (by_line at) start xs outs p.0) is p.2 in
     (q.0, p.0, p.1, serve_all_by (by_line at) start p.0 l.lines outs q)
 
-pub served_lines : {E : Type 0} (r : Result (List Message) E) (at : Moment) (m mid to : Seen) (bytes : List ℕ) (lines : List (List ℕ)) → lines ≡ (lines_of m.guest_line bytes).lines
+pub served_lines : {E : Type 0} (r : Result (List Message) E) (at : Moment) (m mid to : Seen) (bytes : List ℕ) (lines : List (List ℕ))
+    → lines ≡ (lines_of m.guest_line bytes).lines
     → ((b : Board) → state_at b mid ≡ with_line (state_at b m) (lines_of m.guest_line bytes).rest) → mid.board ≡ m.board
     → IfOk r (λ outs. (s : State) → IsIn s mid → LinesTo at s lines outs to) → (s : State) → IsIn s m
     → IfOk r (λ outs. (choices : List Choice) × (t : State) × IsIn t to × (input_step s at (Guest bytes) choices ≡ record { outs = outs; state = t; rest = [] }))

@@ -1,6 +1,5 @@
 -- What each command keeps of the board, and each attempt that is given up, a step and a run keep.
-use Rattle.std.proofs.Common.{◌^◌, ◌<◌, ◌≤◌, ap, arith, ◌≡◌, ℕ, ◌+◌, nat_lt, not, ◌==◌, Bool, true, false, if◌then◌else◌, List, [], ◌∷◌, map, refl, subst, sym, Option, None, Some, Result, Ok, Err, codes, unwrap_or, ◌++◌}
-use Rattle.std.specs.Option.{option_map_or}
+use Rattle.std.proofs.Common.{◌^◌, ◌<◌, ◌≤◌, ap, arith, ◌≡◌, ℕ, ◌+◌, nat_lt, not, Bool, true, false, if◌then◌else◌, List, [], ◌∷◌, map, refl, subst, sym, Option, None, Some, Result, Ok, Err, codes, unwrap_or, ◌++◌}
 use Rattle.qo_causes.specs.declared.inputs.Input.{Input}
 use Rattle.qo_causes.specs.declared.inputs.Moment.{Moment}
 use Rattle.qo_causes.specs.declared.inputs.What.{What}
@@ -22,7 +21,7 @@ use Rattle.qo_model.specs.Board.{Board, Ring}
 use Rattle.qo_model.specs.ClockChanges.{clock_scaled, clock_set}
 use Rattle.qo_model.specs.Clocks.{div_of, mul_of}
 use Rattle.qo_model.specs.FinalNotesRuns.{Change, added as object_added, behind_write, deleted, wrote, severed, changed}
-use Rattle.qo_model.specs.Objects.{Changed, barred_by, object_add, object_del, sever, with_attempt}
+use Rattle.qo_model.specs.Objects.{Changed, object_add, object_del, sever, with_attempt}
 use Rattle.qo_model.proofs.ClockPropertyLemmas.{write_at-cases}
 use Rattle.qo_model.specs.Depth.{among}
 use Rattle.qo_model.specs.Hotplug.{asked, completed, reset_whole}
@@ -68,6 +67,23 @@ use Rattle.qo_machine.specs.Machine.{BreaksOff, BreaksOffAt, Choice, Made, Seen,
 use Rattle.qo_machine.proofs.LeftLemmas.{fed_board}
 use Rattle.qo_machine.specs.Runs.{Turn, after, state_after}
 
+-- what each change of the rings keeps: one is added, as nothing bars it; one that nothing bars from it goes; the oldest bytes of one are taken; and bytes come behind those of one
+pub record KeepsRings (P : Board → Type 0) : Type 0 where
+  pub added : (b : Board) (id kind : List ℕ) (size : ℕ) → chardev_barred b id kind size ≡ None → P b → P (with_rings (b.rings ++ new_ring id size ∷ []) b)
+  pub removed : (b : Board) (id : List ℕ) → removal_barred b id ≡ None → P b → P (with_rings (without_ring id b.rings) b)
+  pub read : (b : Board) (id : List ℕ) (most : ℕ) → P b → P (with_rings (ring_changed (λ m. ring_drop m most) id b.rings) b)
+  pub written : (b : Board) (id bytes : List ℕ) → P b → P (with_rings (ring_changed (λ m. ring_add m bytes) id b.rings) b)
+
+-- so does what has no part in them
+pub any-rings : (P : Board → Type 0) → ((b : Board) (rings : List Ring) → P b → P (with_rings rings b)) → KeepsRings P
+any-rings P ringed =
+    record {
+      added = λ b id kind size free p. ringed b (b.rings ++ new_ring id size ∷ []) p;
+      removed = λ b id free p. ringed b (without_ring id b.rings) p;
+      read = λ b id most p. ringed b (ring_changed (λ m. ring_drop m most) id b.rings) p;
+      written = λ b id bytes p. ringed b (ring_changed (λ m. ring_add m bytes) id b.rings) p;
+    }
+
 -- what each change of the board keeps, and each attempt
 pub record KeepsBoard (P : Board → Type 0) : Type 0 where
   pub change : (b : Board) (change : Change) → P b → P (changed b change)
@@ -87,12 +103,12 @@ pub record KeepsBoard (P : Board → Type 0) : Type 0 where
   -- the guest writes to a register of the device at an address
   pub written : (b : Board) (at : Addr) (d reg value : ℕ) (c : Board) → addressed b at ≡ Some d → guest_written b d reg value ≡ Some c → P b → P c
   -- it has other rings
-  pub ringed : (b : Board) (rings : List Ring) → P b → P (with_rings rings b)
+  pub rings : KeepsRings P
   -- it comes to a later moment, and runs or stands still
-  pub timed : (b : Board) (now : ℕ) → b.now ≤ now → P b → P (at_time now b)
+  pub timed : (b : Board) (now : ℕ) → b.now ≤ now → now ≤ TIME_MAX → P b → P (at_time now b)
   pub switched : (b : Board) (on : Bool) → P b → P (with_running on b)
-  -- an attached object that may be is held in reset, and one that is held is released; and the whole board is reset
-  pub held_so : (b : Board) (n : ℕ) → is_of b (codes "resettable") n ≡ true → attached b n ≡ true → P b → P (held b n)
+  -- an attached object that may be is held in reset, where it is not held too often, and one that is held is released; and the whole board is reset
+  pub held_so : (b : Board) (n : ℕ) → is_of b (codes "resettable") n ≡ true → attached b n ≡ true → is_deep b n ≡ false → P b → P (held b n)
   pub released_so : (b : Board) (n : ℕ) → is_of b (codes "resettable") n ≡ true → among b.holds n ≡ true → P b → P (released b n)
   pub reset : (b : Board) → P b → P (reset_whole b)
 
@@ -113,7 +129,8 @@ device_board : (P : Board → Type 0) (b : Board) (row : Option TypeRow) → P b
 device_board P b None p = p
 device_board P b (Some row) p = by (is_a row.id (codes "device"))
   where
-    by : (d : Bool) → P (if d then commands.returned b (array (items_of (map commands.property_data (commands.adding_properties row.id)))) else commands.refused_with b E22).board
+    by : (d : Bool)
+        → P (if d then commands.returned b (array (items_of (map commands.property_data (commands.adding_properties row.id)))) else commands.refused_with b E22).board
     by true = p
     by false = p
 
@@ -206,8 +223,8 @@ timed_board P c p = by c.refusal
     by None = p
     by (Some code) = p
 
-pub advanced-all : (P : Board → Type 0) (b : Board) (ns : ℕ) → P b → P (at_time (b.now + ns) b) → P (advanced b ns).board
-advanced-all P b ns p q = by b.running (nat_lt TIME_MAX (b.now + ns))
+pub advanced-all : (P : Board → Type 0) (b : Board) (ns : ℕ) → P b → (b.now + ns ≤ TIME_MAX → P (at_time (b.now + ns) b)) → P (advanced b ns).board
+advanced-all P b ns p q = by b.running (nat_lt TIME_MAX (b.now + ns)) refl
   where
     come : Bool → Bool → Changed
     come runs over =
@@ -215,14 +232,14 @@ advanced-all P b ns p q = by b.running (nat_lt TIME_MAX (b.now + ns))
         else if over then record { refusal = Some E53; board = b }
         else record { refusal = None; board = at_time (b.now + ns) b }
 
-    by : (runs over : Bool) → P (come runs over).board
-    by false over = p
-    by true true = p
-    by true false = q
+    by : (runs over : Bool) → nat_lt TIME_MAX (b.now + ns) ≡ over → P (come runs over).board
+    by false over e = p
+    by true true e = p
+    by true false e = q (grind (arith, e))
 
 -- holds
 held_of-keeps : (P : Board → Type 0) → KeepsBoard P → (b : Board) (n : ℕ) → is_of b (codes "resettable") n ≡ true → P b → P (held_of b n).board
-held_of-keeps P k b n is p = by (attached b n) refl (is_deep b n)
+held_of-keeps P k b n is p = by (attached b n) refl (is_deep b n) refl
   where
     come : Bool → Bool → Changed
     come home deep =
@@ -230,10 +247,10 @@ held_of-keeps P k b n is p = by (attached b n) refl (is_deep b n)
         else if deep then record { refusal = Some E48; board = b }
         else record { refusal = None; board = held b n }
 
-    by : (home : Bool) → attached b n ≡ home → (deep : Bool) → P (come home deep).board
-    by false e deep = p
-    by true e true = p
-    by true e false = k.held_so b n is e p
+    by : (home : Bool) → attached b n ≡ home → (deep : Bool) → is_deep b n ≡ deep → P (come home deep).board
+    by false e deep d = p
+    by true e true d = p
+    by true e false d = k.held_so b n is e d p
 
 released_of-keeps : (P : Board → Type 0) → KeepsBoard P → (b : Board) (n : ℕ) → is_of b (codes "resettable") n ≡ true → P b → P (released_of b n).board
 released_of-keeps P k b n is p = by (among b.holds n) refl
@@ -245,7 +262,8 @@ released_of-keeps P k b n is p = by (among b.holds n) refl
     by true e = k.released_so b n is e p
     by false e = p
 
-at_path-keeps : (P : Board → Type 0) (b : Board) (path : List ℕ) (change : ℕ → Changed) → P b → ((n : ℕ) → is_of b (codes "resettable") n ≡ true → P (change n).board)
+at_path-keeps : (P : Board → Type 0) (b : Board) (path : List ℕ) (change : ℕ → Changed) → P b
+    → ((n : ℕ) → is_of b (codes "resettable") n ≡ true → P (change n).board)
     → P (at_path b change (resettable_at b path)).board
 at_path-keeps P b path change p q = by (resolve b path (codes "resettable")) refl
   where
@@ -255,28 +273,30 @@ at_path-keeps P b path change p q = by (resolve b path (codes "resettable")) ref
     by several e = rw (resettable_at, e) p
 
 -- rings
-by_code-keeps : (P : Board → Type 0) (b c : Board) (bar : Option Code) → P b → P c → P (by_code b c bar).board
-by_code-keeps P b c None p q = q
+by_code-keeps : (P : Board → Type 0) (b c : Board) (bar : Option Code) → P b → (bar ≡ None → P c) → P (by_code b c bar).board
+by_code-keeps P b c None p q = q refl
 by_code-keeps P b c (Some code) p q = p
 
 abbrev taken_of : Board → List ℕ → ℕ → Form → Option Ring → Reading
 taken_of b id most form o = elim o [ None ↦ record { text = Err E36; board = b } | Some r ↦ taken_as b id most (told form (ring_oldest (bytes_in r) most)) ]
 
-taken-keeps : (P : Board → Type 0) → KeepsBoard P → (b : Board) (id : List ℕ) (most : ℕ) (form : Form) (o : Option Ring) → P b → P (taken_of b id most form o).board
+taken-keeps : (P : Board → Type 0) → KeepsBoard P → (b : Board) (id : List ℕ) (most : ℕ) (form : Form) (o : Option Ring) → P b
+    → P (taken_of b id most form o).board
 taken-keeps P k b id most form None p = p
 taken-keeps P k b id most form (Some r) p = by (told form (ring_oldest (bytes_in r) most))
   where
     by : (text : Option (List ℕ)) → P (taken_as b id most text).board
     by None = p
-    by (Some text) = k.ringed b (ring_changed (λ m. ring_drop m most) id b.rings) p
+    by (Some text) = k.rings.read b id most p
 
 abbrev gained_of : Board → List ℕ → Option (List ℕ) → Option Ring → Changed
 gained_of b id bytes o = elim o [ None ↦ record { refusal = Some E36; board = b } | Some r ↦ written_as b id bytes ]
 
-gained-keeps : (P : Board → Type 0) → KeepsBoard P → (b : Board) (id : List ℕ) (bytes : Option (List ℕ)) (o : Option Ring) → P b → P (gained_of b id bytes o).board
+gained-keeps : (P : Board → Type 0) → KeepsBoard P → (b : Board) (id : List ℕ) (bytes : Option (List ℕ)) (o : Option Ring) → P b
+    → P (gained_of b id bytes o).board
 gained-keeps P k b id bytes None p = p
 gained-keeps P k b id None (Some r) p = p
-gained-keeps P k b id (Some bytes) (Some r) p = k.ringed b (ring_changed (λ m. ring_add m bytes) id b.rings) p
+gained-keeps P k b id (Some bytes) (Some r) p = k.rings.written b id bytes p
 
 -- an object is deleted, or stays as it is in use
 removed-keeps : (P : Board → Type 0) → KeepsBoard P → (b : Board) (id : List ℕ) → P b → P (object_removed b id).board
@@ -311,10 +331,11 @@ performed_keeps P k b (DeviceDel id) p = changed_board P (asked b id) (k.asked b
 performed_keeps P k b (ChardevAdd id kind size) p =
     let more : List Ring = b.rings ++ new_ring id (unwrap_or size RING_SIZE_DEFAULT) ∷ [] in
     changed_board P (chardev_added b id kind size)
-    (by_code-keeps P b (with_rings more b) (chardev_barred b id kind (unwrap_or size RING_SIZE_DEFAULT)) p (k.ringed b more p))
+    (by_code-keeps P b (with_rings more b) (chardev_barred b id kind (unwrap_or size RING_SIZE_DEFAULT)) p
+    (λ free. k.rings.added b id kind (unwrap_or size RING_SIZE_DEFAULT) free p))
 performed_keeps P k b (ChardevRemove id) p =
     let fewer : List Ring = without_ring id b.rings in
-    changed_board P (chardev_removed b id) (by_code-keeps P b (with_rings fewer b) (removal_barred b id) p (k.ringed b fewer p))
+    changed_board P (chardev_removed b id) (by_code-keeps P b (with_rings fewer b) (removal_barred b id) p (λ free. k.rings.removed b id free p))
 performed_keeps P k b (RingbufRead device size format) p =
     let reading : Reading = ringbuf_read b device size format in
     answered_board P reading.board string reading.text (taken-keeps P k b device size (unwrap_or format Utf8) (ring_named device b.rings) p)
@@ -322,12 +343,13 @@ performed_keeps P k b (RingbufWrite device payload format) p =
     changed_board P (ringbuf_written b device payload format)
     (gained-keeps P k b device (given_bytes (unwrap_or format Utf8) payload) (ring_named device b.rings) p)
 performed_keeps P k b (XResetHold path) p = changed_board P (held_at b path) (at_path-keeps P b path (held_of b) p (λ n is. held_of-keeps P k b n is p))
-performed_keeps P k b (XResetRelease path) p = changed_board P (released_at b path) (at_path-keeps P b path (released_of b) p (λ n is. released_of-keeps P k b n is p))
+performed_keeps P k b (XResetRelease path) p =
+    changed_board P (released_at b path) (at_path-keeps P b path (released_of b) p (λ n is. released_of-keeps P k b n is p))
 performed_keeps P k b (XSever birth) p = changed_board P (sever b birth) (k.change b (severed birth) p)
 performed_keeps P k b (XQueryNotes start) p = p
 performed_keeps P k b XQueryDetached p = p
 performed_keeps P k b (XGuest line) p = heard_keeps P k b line p
-performed_keeps P k b (XStep ns) p = timed_board P (advanced b ns) (advanced-all P b ns p (k.timed b (b.now + ns) (omega arith) p))
+performed_keeps P k b (XStep ns) p = timed_board P (advanced b ns) (advanced-all P b ns p (λ low. k.timed b (b.now + ns) (omega arith) low p))
 
 -- so does each command, where the events that wait are no matter
 pub keeps_commands : (P : Board → Type 0) → KeepsBoard P → ((b : Board) → P b → P (without_events b)) → KeepsCommands P
@@ -335,7 +357,7 @@ keeps_commands P k free =
     record {
       command = λ b r p. free (performed b r).board (performed_keeps P k b r p);
       attempt = λ b r i joined p. attempted-all P b r i joined p (λ t. k.attempt b t p) (λ t. k.cut b t i joined p);
-      advance = λ b ns p. advanced-all P b ns p (k.timed b (b.now + ns) (omega arith) p);
+      advance = λ b ns p. advanced-all P b ns p (λ low. k.timed b (b.now + ns) (omega arith) low p);
     }
 
 -- Items, steps and runs.
@@ -344,15 +366,18 @@ ends_board : (P : Board → Type 0) (e : Bool) (s : State) → P s.board → P (
 ends_board P true s p = p
 ends_board P false s p = p
 
-made_board : (P : Board → Type 0) → KeepsCommands P → (choice : Choice) (at : Moment) (n : ℕ) (s : State) (what : SessionAct) → P s.board → P (made_by choice at n s what).state.board
+made_board : (P : Board → Type 0) → KeepsCommands P → (choice : Choice) (at : Moment) (n : ℕ) (s : State) (what : SessionAct) → P s.board
+    → P (made_by choice at n s what).state.board
 made_board P k (refused i joined) at n s (Answer code id) p = p
 made_board P k (refused i joined) at n s (Negotiated id) p = p
 made_board P k (refused i joined) at n s (Do request id) p = k.attempt s.board request i joined p
 made_board P k defined at n s (Answer code id) p = p
 made_board P k defined at n s (Negotiated id) p = p
-made_board P k defined at n s (Do request id) p = ends_board P (perform s.board request).ends (with_board s (perform s.board request).board) (k.command s.board request p)
+made_board P k defined at n s (Do request id) p =
+    ends_board P (perform s.board request).ends (with_board s (perform s.board request).board) (k.command s.board request p)
 
-item_board : (P : Board → Type 0) → KeepsCommands P → (choice : Choice) (at : Moment) (n : ℕ) (s : State) (item : Item) → P s.board → P (item_step choice at n s item).state.board
+item_board : (P : Board → Type 0) → KeepsCommands P → (choice : Choice) (at : Moment) (n : ℕ) (s : State) (item : Item) → P s.board
+    → P (item_step choice at n s item).state.board
 unfolding item_step
 item_board P k choice at n s item p = made_board P k choice at n s (act (mode_of s n) item) p
 
@@ -361,7 +386,8 @@ unless_board P true a b p q = p
 unless_board P false a b p q = q
 
 -- a line of the guest keeps what it does as a command
-line_board : (P : Board → Type 0) → KeepsCommands P → (choice : Choice) (at : Moment) (s : State) (line : List ℕ) → P s.board → P (line_step choice at s line).state.board
+line_board : (P : Board → Type 0) → KeepsCommands P → (choice : Choice) (at : Moment) (s : State) (line : List ℕ) → P s.board
+    → P (line_step choice at s line).state.board
 unfolding line_step performed
 line_board P k (refused i joined) at s line p = p
 line_board P k defined at s line p =
@@ -369,19 +395,24 @@ line_board P k defined at s line p =
     ends_board P o.ends (with_board s (without_events o.board)) (k.command s.board (XGuest (without_return line)) p)
 
 -- what is served in turn keeps what each keeps
-serve_board_by : {X : Type 0} (P : Board → Type 0) (f : Choice → State → X → Made) → ((choice : Choice) (s : State) (x : X) → P s.board → P (f choice s x).state.board) → (xs : List X) (s : State) (cs : List Choice) → P s.board → P (serve_by f xs s cs).state.board
+serve_board_by : {X : Type 0} (P : Board → Type 0) (f : Choice → State → X → Made)
+    → ((choice : Choice) (s : State) (x : X) → P s.board → P (f choice s x).state.board) → (xs : List X) (s : State) (cs : List Choice) → P s.board
+    → P (serve_by f xs s cs).state.board
 serve_board_by P f keeps [] s cs p = p
 serve_board_by P f keeps (x ∷ xs) s cs p =
     unless_board P s.ended (unchanged s cs) (behind (f (first cs) s x).outs (serve_by f xs (f (first cs) s x).state (others cs))) p (serve_board_by P f keeps xs (f (first cs) s x).state (others cs) (keeps (first cs) s x p))
 
-serve_board : (P : Board → Type 0) → KeepsCommands P → (items : List Item) (at : Moment) (n : ℕ) (s : State) (cs : List Choice) → P s.board → P (serve at n items s cs).state.board
+serve_board : (P : Board → Type 0) → KeepsCommands P → (items : List Item) (at : Moment) (n : ℕ) (s : State) (cs : List Choice) → P s.board
+    → P (serve at n items s cs).state.board
 serve_board P k items at n s cs p = serve_board_by P (by_item at n) (λ choice t item q. item_board P k choice at n t item q) items s cs p
 
-lines_board : (P : Board → Type 0) → KeepsCommands P → (lines : List (List ℕ)) (at : Moment) (s : State) (cs : List Choice) → P s.board → P (serve_lines at lines s cs).state.board
+lines_board : (P : Board → Type 0) → KeepsCommands P → (lines : List (List ℕ)) (at : Moment) (s : State) (cs : List Choice) → P s.board
+    → P (serve_lines at lines s cs).state.board
 lines_board P k lines at s cs p = serve_board_by P (by_line at) (λ choice t line q. line_board P k choice at t line q) lines s cs p
 
 -- a step that was broken off: the machine's objects stand for a board that keeps it too
-pub broken_keeps : (P : Board → Type 0) → KeepsCommands P → (s : State) (i : Input) (m : Seen) → BreaksOff s i m → P s.board → (b : Board) × Stands b m.board × P b
+pub broken_keeps : (P : Board → Type 0) → KeepsCommands P → (s : State) (i : Input) (m : Seen) → BreaksOff s i m → P s.board
+    → (b : Board) × Stands b m.board × P b
 broken_keeps P k s i m broken p = by i.what broken
   where
     by : (w : What) → BreaksOffAt s i.at w m → (b : Board) × Stands b m.board × P b

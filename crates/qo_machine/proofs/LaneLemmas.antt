@@ -32,7 +32,8 @@ lanes_more : (a b : List Message) → AreToLanes a → AreToLanes b → AreToLan
 lanes_more [] b p q = q
 lanes_more (m ∷ a) b p q = (p.0, lanes_more a b p.1 q)
 
-one_told : (s : State) (e : Event) (at : Moment) (n : ℕ) (t : Bool) → n < SESSIONS → is_commanding (mode_of s n) ≡ t → AreToLanes (told_of e at (if t then n ∷ [] else []))
+one_told : (s : State) (e : Event) (at : Moment) (n : ℕ) (t : Bool) → n < SESSIONS → is_commanding (mode_of s n) ≡ t
+    → AreToLanes (told_of e at (if t then n ∷ [] else []))
 one_told s e at n true below is = (below, tt)
 one_told s e at n false below is = tt
 
@@ -44,12 +45,14 @@ all_told (suc k) s e at few =
 
 events_told : (es : List Event) (s : State) (at : Moment) → AreToLanes (event_outs at s es)
 events_told [] s at = tt
-events_told (e ∷ es) s at = lanes_more (told_of e at (those_commanding s (numbers_below SESSIONS))) (event_outs at s es) (all_told SESSIONS s e at (omega arith)) (events_told es s at)
+events_told (e ∷ es) s at =
+    lanes_more (told_of e at (those_commanding s (numbers_below SESSIONS))) (event_outs at s es) (all_told SESSIONS s e at (omega arith)) (events_told es s at)
 
 made_lanes : (choice : Choice) (at : Moment) (n : ℕ) (s : State) (what : SessionAct) → n < SESSIONS → AreToLanes (made_by choice at n s what).outs
 made_lanes defined at n s (Answer code id) below = (below, tt)
 made_lanes defined at n s (Negotiated id) below = (below, tt)
-made_lanes defined at n s (Do request id) below = lanes_more (event_outs at s (perform s.board request).events) _ (events_told (perform s.board request).events s at) (below, tt)
+made_lanes defined at n s (Do request id) below =
+    lanes_more (event_outs at s (perform s.board request).events) _ (events_told (perform s.board request).events s at) (below, tt)
 made_lanes (refused i joined) at n s (Answer code id) below = (below, tt)
 made_lanes (refused i joined) at n s (Negotiated id) below = (below, tt)
 made_lanes (refused i joined) at n s (Do request id) below = (below, tt)
@@ -62,7 +65,8 @@ unless_lanes : (e : Bool) (a b : Stepped) → AreToLanes a.outs → AreToLanes b
 unless_lanes true a b p q = p
 unless_lanes false a b p q = q
 
-serve_lanes_by : {X : Type 0} (f : Choice → State → X → Made) → ((choice : Choice) (s : State) (x : X) → AreToLanes (f choice s x).outs) → (xs : List X) (s : State) (cs : List Choice) → AreToLanes (serve_by f xs s cs).outs
+serve_lanes_by : {X : Type 0} (f : Choice → State → X → Made) → ((choice : Choice) (s : State) (x : X) → AreToLanes (f choice s x).outs)
+    → (xs : List X) (s : State) (cs : List Choice) → AreToLanes (serve_by f xs s cs).outs
 serve_lanes_by f each [] s cs = tt
 serve_lanes_by f each (x ∷ xs) s cs =
     unless_lanes s.ended (unchanged s cs) (behind (f (first cs) s x).outs (serve_by f xs (f (first cs) s x).state (others cs))) tt
@@ -89,7 +93,8 @@ input_lanes s at w cs = what_lanes w
     open_lanes n mode false h = tt
 
     bytes_lanes : (n : ℕ) (bytes : List ℕ) (t : Bool) → nat_lt n SESSIONS ≡ t → AreToLanes (if t then taken at s n bytes cs else unchanged s cs).outs
-    bytes_lanes n bytes true h = items_lanes (fed (session_of s n) bytes).items at n (with_session s n (fed (session_of s n) bytes).session) cs (ltb-true n SESSIONS h)
+    bytes_lanes n bytes true h =
+        items_lanes (fed (session_of s n) bytes).items at n (with_session s n (fed (session_of s n) bytes).session) cs (ltb-true n SESSIONS h)
     bytes_lanes n bytes false h = tt
 
     shut_lanes : (n : ℕ) (t : Bool) (a b : State) → AreToLanes (if t then unchanged a cs else unchanged b cs).outs
@@ -100,7 +105,9 @@ input_lanes s at w cs = what_lanes w
     what_lanes (Open n) = open_lanes n (mode_of s n) (nat_lt n SESSIONS) refl
     what_lanes (Bytes n bytes) = bytes_lanes n bytes (nat_lt n SESSIONS) refl
     what_lanes (Shut n) = shut_lanes n (nat_lt n SESSIONS) _ _
-    what_lanes (GuestLine bytes) = serve_lanes_by (by_line at) (λ choice t line. line_lanes choice at t line) (lines_of s.guest_line bytes).lines (with_line s (lines_of s.guest_line bytes).rest) cs
+    what_lanes (GuestLine bytes) =
+        serve_lanes_by (by_line at) (λ choice t line. line_lanes choice at t line) (lines_of s.guest_line bytes).lines
+        (with_line s (lines_of s.guest_line bytes).rest) cs
     what_lanes (Step ns) = tt
     what_lanes End = tt
 
@@ -111,7 +118,8 @@ no_lanes outs none = subst AreToLanes (sym none) tt
 pub one_lane : (lane : Lane) (text : List ℕ) → IsLane lane → AreToLanes ((lane, text) ∷ [])
 one_lane lane text is = (is, tt)
 
-pub told_lanes : (es : List Event) (s : State) (at : Moment) (lane : Lane) (text : List ℕ) (told front : List Message) → told ≡ event_outs at s es → front ≡ told ++ (lane, text) ∷ [] → IsLane lane → AreToLanes front
+pub told_lanes : (es : List Event) (s : State) (at : Moment) (lane : Lane) (text : List ℕ) (told front : List Message) → told ≡ event_outs at s es
+    → front ≡ told ++ (lane, text) ∷ [] → IsLane lane → AreToLanes front
 told_lanes es s at lane text told front tells is there =
     subst AreToLanes (sym is) (lanes_more told ((lane, text) ∷ []) (subst AreToLanes (sym tells) (events_told es s at)) (there, tt))
 

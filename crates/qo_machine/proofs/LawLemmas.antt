@@ -73,7 +73,8 @@ shut_alone s at n cs = on s.ended
     on true = alone_none n s
     on false = by_number (nat_lt n SESSIONS)
 
-made_alone : (choice : Choice) (at : Moment) (n : ℕ) (s : State) (what : SessionAct) → IsOwn what → Alone n s (made_by choice at n s what).outs (made_by choice at n s what).state
+made_alone : (choice : Choice) (at : Moment) (n : ℕ) (s : State) (what : SessionAct) → IsOwn what
+    → Alone n s (made_by choice at n s what).outs (made_by choice at n s what).state
 made_alone (refused i joined) at n s (Answer code id) own = alone_told n s _
 made_alone (refused i joined) at n s (Negotiated id) own = alone_both n s (in_mode Commanding (session_of s n)) _
 made_alone (refused i joined) at n s (Do request id) own = absurd own

@@ -19,7 +19,7 @@ use Rattle.qo_lane.specs.Lines.{lines_of}
 use Rattle.qo_realize.specs.Stands.{Stands}
 use Rattle.qo_machine.proofs.MachineLemmas.{by_board, in_at, serve_on_by}
 use Rattle.qo_machine.specs.Machine.{BreaksOff, BreaksOffAt, Choice, IsIn, Made, Message, Seen, State, Stepped, by_item, defined, fed_at, item_step, items_at, made_by, mode_of, session_of, state_at, with_line, with_session}
-use Rattle.qo_machine.specs.Serving.{CommandLeft, CommandServed, LinesFront, ServesFront, ServesFrontBy, ServesTo, ServesToBy, moved}
+use Rattle.qo_machine.specs.Serving.{CommandLeft, CommandServed, LinesFront, ServesFront, ServesFrontBy, ServesToBy, moved}
 
 -- what follows where memory ran out
 pub err_more : {T E P Q : Type 0} (r : Result T E) → (P → Q) → OnErr r P → OnErr r Q
@@ -29,7 +29,8 @@ err_more (Err e) f p = f p
 -- A command.
 
 -- one that was served, whose messages are lost
-pub left_served : (at : Moment) (n : ℕ) (s : State) (request : Request) (id : Option (List ℕ)) (outs : List Message) (m : Seen) → CommandServed at n s request id outs m → CommandLeft at n s request id m
+pub left_served : (at : Moment) (n : ℕ) (s : State) (request : Request) (id : Option (List ℕ)) (outs : List Message) (m : Seen)
+    → CommandServed at n s request id outs m → CommandLeft at n s request id m
 left_served at n s request id outs m p = inr (p.0, p.2)
 
 -- Items, and whatever else is served in turn.
@@ -39,26 +40,32 @@ pub front_none_by : {X : Type 0} (f : Choice → State → X → Made) (s : Stat
 front_none_by f s xs m here = ([], xs, [], refl, here)
 
 -- one was done by some choice
-pub front_one_by : {X : Type 0} (f : Choice → State → X → Made) (s : State) (x : X) (choice : Choice) (m : Seen) → s.ended ≡ false → IsIn (f choice s x).state m → ServesFrontBy f s (x ∷ []) m
+pub front_one_by : {X : Type 0} (f : Choice → State → X → Made) (s : State) (x : X) (choice : Choice) (m : Seen) → s.ended ≡ false → IsIn (f choice s x).state m
+    → ServesFrontBy f s (x ∷ []) m
 front_one_by f s x choice m going here =
     (x ∷ [], [], choice ∷ [], refl, subst (λ (y : State). IsIn y m) (sym (ap (λ (r : Stepped). r.state) (serve_on_by f s x [] (choice ∷ []) going))) here)
 
 -- by what an item comes to
-pub item_by : (at : Moment) (n : ℕ) (s : State) (item : Item) (choice : Choice) (what : SessionAct) (m : Seen) → what ≡ act (mode_of s n) item → IsIn (made_by choice at n s what).state m → IsIn (item_step choice at n s item).state m
+pub item_by : (at : Moment) (n : ℕ) (s : State) (item : Item) (choice : Choice) (what : SessionAct) (m : Seen) → what ≡ act (mode_of s n) item
+    → IsIn (made_by choice at n s what).state m → IsIn (item_step choice at n s item).state m
 unfolding item_step
 item_by at n s item choice what m is here = subst (λ (w : SessionAct). IsIn (made_by choice at n s w).state m) is here
 
 -- an item that was not judged
-pub front_unheeded : (at : Moment) (n : ℕ) (m to : Seen) (items : List Item) → ((b : Board) → state_at b to ≡ state_at b m) → to.board ≡ m.board → (s : State) → IsIn s m → ServesFront at n s items to
+pub front_unheeded : (at : Moment) (n : ℕ) (m to : Seen) (items : List Item) → ((b : Board) → state_at b to ≡ state_at b m) → to.board ≡ m.board → (s : State)
+    → IsIn s m → ServesFront at n s items to
 front_unheeded at n m to items move same s here =
     by_board (λ (x : State). ServesFront at n x items to) m
     (λ b stands. front_none_by (by_item at n) (state_at b m) items to (subst (λ (x : State). IsIn x to) (move b) (in_at b to (subst (Stands b) (sym same) stands)))) s here
 
 -- a refused item, and a negotiation, whose reply is lost
-pub front_answer : (at : Moment) (n : ℕ) (m to : Seen) (items : List Item) (code : Code) (id : Option (List ℕ)) → ((b : Board) → state_at b to ≡ moved (state_at b m) n (Answer code id)) → to.board ≡ m.board → (s : State) → IsIn s m → ServesFront at n s items to
+pub front_answer : (at : Moment) (n : ℕ) (m to : Seen) (items : List Item) (code : Code) (id : Option (List ℕ))
+    → ((b : Board) → state_at b to ≡ moved (state_at b m) n (Answer code id)) → to.board ≡ m.board → (s : State) → IsIn s m → ServesFront at n s items to
 front_answer at n m to items code id move same = front_unheeded at n m to items move same
 
-pub front_negotiation : (at : Moment) (n : ℕ) (m to : Seen) (item : Item) (id : Option (List ℕ)) → m.ended ≡ false → ((b : Board) → Negotiated id ≡ act (mode_of (state_at b m) n) item) → ((b : Board) → state_at b to ≡ moved (state_at b m) n (Negotiated id)) → to.board ≡ m.board → (s : State) → IsIn s m → ServesFront at n s (item ∷ []) to
+pub front_negotiation : (at : Moment) (n : ℕ) (m to : Seen) (item : Item) (id : Option (List ℕ)) → m.ended ≡ false
+    → ((b : Board) → Negotiated id ≡ act (mode_of (state_at b m) n) item) → ((b : Board) → state_at b to ≡ moved (state_at b m) n (Negotiated id))
+    → to.board ≡ m.board → (s : State) → IsIn s m → ServesFront at n s (item ∷ []) to
 front_negotiation at n m to item id going is move same s here =
     by_board (λ (x : State). ServesFront at n x (item ∷ []) to) m
     (λ b stands.
@@ -66,7 +73,9 @@ front_negotiation at n m to item id going is move same s here =
     (item_by at n (state_at b m) item defined (Negotiated id) to (is b) (subst (λ (x : State). IsIn x to) (move b) (in_at b to (subst (Stands b) (sym same) stands))))) s here
 
 -- a command, whose reply is lost
-pub front_command : (at : Moment) (n : ℕ) (m mid to : Seen) (item : Item) (request : Request) (id : Option (List ℕ)) → m.ended ≡ false → ((b : Board) → Do request id ≡ act (mode_of (state_at b m) n) item) → ((b : Board) → state_at b mid ≡ moved (state_at b m) n (Do request id)) → mid.board ≡ m.board → ((s : State) → IsIn s mid → CommandLeft at n s request id to) → (s : State) → IsIn s m → ServesFront at n s (item ∷ []) to
+pub front_command : (at : Moment) (n : ℕ) (m mid to : Seen) (item : Item) (request : Request) (id : Option (List ℕ)) → m.ended ≡ false
+    → ((b : Board) → Do request id ≡ act (mode_of (state_at b m) n) item) → ((b : Board) → state_at b mid ≡ moved (state_at b m) n (Do request id))
+    → mid.board ≡ m.board → ((s : State) → IsIn s mid → CommandLeft at n s request id to) → (s : State) → IsIn s m → ServesFront at n s (item ∷ []) to
 front_command at n m mid to item request id going is move same left s here =
     by_board (λ (x : State). ServesFront at n x (item ∷ []) to) m
     (λ b stands.
@@ -78,7 +87,8 @@ front_command at n m mid to item request id going is move same left s here =
         front_one_by (by_item at n) (state_at b m) item p.0 to going (item_by at n (state_at b m) item p.0 (Do request id) to (is b) p.1)
 
 -- some were served, and of the others a front
-pub front_on_by : {X : Type 0} (f : Choice → State → X → Made) (s : State) (mid to : Seen) (xs ys : List X) (outs : List Message) → ServesToBy f s xs outs mid → ((t : State) → IsIn t mid → ServesFrontBy f t ys to) → ServesFrontBy f s (xs ++ ys) to
+pub front_on_by : {X : Type 0} (f : Choice → State → X → Made) (s : State) (mid to : Seen) (xs ys : List X) (outs : List Message) → ServesToBy f s xs outs mid
+    → ((t : State) → IsIn t mid → ServesFrontBy f t ys to) → ServesFrontBy f s (xs ++ ys) to
 front_on_by {X = X} f s mid to xs ys outs p q =
     let r = q p.0 p.1 in (
       xs ++ r.0,
@@ -89,7 +99,8 @@ front_on_by {X = X} f s mid to xs ys outs p q =
     )
 
 -- a front of a front
-pub front_of_all_by : {X : Type 0} (f : Choice → State → X → Made) (s : State) (m : Seen) (xs : List X) (i : ℕ) → ServesFrontBy f s (take i xs) m → ServesFrontBy f s xs m
+pub front_of_all_by : {X : Type 0} (f : Choice → State → X → Made) (s : State) (m : Seen) (xs : List X) (i : ℕ) → ServesFrontBy f s (take i xs) m
+    → ServesFrontBy f s xs m
 front_of_all_by {X = X} f s m xs i p = (
   p.0,
   p.1 ++ drop i xs,
@@ -122,7 +133,10 @@ breaks_before s i m to same here = by (subst (Stands s.board) (sym same) here.st
     by stands End = stands
 
 -- a front of the items was served
-pub breaks_in : (at : Moment) (n : ℕ) (m mid to : Seen) (bytes : List ℕ) (items : List Item) → n < SESSIONS → ((b : Board) → items ≡ (fed (session_of (state_at b m) n) bytes).items) → ((b : Board) → state_at b mid ≡ with_session (state_at b m) n (fed (session_of (state_at b m) n) bytes).session) → mid.board ≡ m.board → ((s : State) → IsIn s mid → ServesFront at n s items to) → (s : State) → IsIn s m → BreaksOff s (record { at = at; what = Bytes n bytes }) to
+pub breaks_in : (at : Moment) (n : ℕ) (m mid to : Seen) (bytes : List ℕ) (items : List Item) → n < SESSIONS
+    → ((b : Board) → items ≡ (fed (session_of (state_at b m) n) bytes).items)
+    → ((b : Board) → state_at b mid ≡ with_session (state_at b m) n (fed (session_of (state_at b m) n) bytes).session) → mid.board ≡ m.board
+    → ((s : State) → IsIn s mid → ServesFront at n s items to) → (s : State) → IsIn s m → BreaksOff s (record { at = at; what = Bytes n bytes }) to
 breaks_in at n m mid to bytes items below cuts move same served s here =
     by_board (λ (x : State). BreaksOff x (record { at = at; what = Bytes n bytes }) to) m
     (λ b stands.
@@ -136,7 +150,9 @@ breaks_in at n m mid to bytes items below cuts move same served s here =
     )) s here
 
 -- a front of the lines was
-pub breaks_in_lines : (at : Moment) (m mid to : Seen) (bytes : List ℕ) (lines : List (List ℕ)) → lines ≡ (lines_of m.guest_line bytes).lines → ((b : Board) → state_at b mid ≡ with_line (state_at b m) (lines_of m.guest_line bytes).rest) → mid.board ≡ m.board → ((s : State) → IsIn s mid → LinesFront at s lines to) → (s : State) → IsIn s m → BreaksOff s (record { at = at; what = Guest bytes }) to
+pub breaks_in_lines : (at : Moment) (m mid to : Seen) (bytes : List ℕ) (lines : List (List ℕ)) → lines ≡ (lines_of m.guest_line bytes).lines
+    → ((b : Board) → state_at b mid ≡ with_line (state_at b m) (lines_of m.guest_line bytes).rest) → mid.board ≡ m.board
+    → ((s : State) → IsIn s mid → LinesFront at s lines to) → (s : State) → IsIn s m → BreaksOff s (record { at = at; what = Guest bytes }) to
 breaks_in_lines at m mid to bytes lines cuts move same served s here =
     by_board (λ (x : State). BreaksOff x (record { at = at; what = Guest bytes }) to) m
     (λ b stands.

@@ -1,8 +1,10 @@
 pub mod AddressLemmas
+pub mod BoardLemmas
 pub mod ChunkLemmas
 pub mod ClocksLemmas
 pub mod DevicesLemmas
 pub mod GuestLemmas
+pub mod HoldLemmas
 pub mod KeepLemmas
 pub mod LaneLemmas
 pub mod LawLemmas
@@ -10,6 +12,7 @@ pub mod LeftLemmas
 pub mod MachineLemmas
 pub mod NoteLemmas
 pub mod PhaseLemmas
+pub mod RingLemmas
 pub mod RunLemmas
 pub mod SendingLemmas
 pub mod SoundLemmas

@@ -1,5 +1,5 @@
 -- One step of the machine.
-use Rattle.std.proofs.Common.{◌≡◌, ◌<◌, ◌+◌, ℕ, zero, suc, Bool, true, false, List, [], ◌∷◌, ◌++◌, length, map, option_to_list, refl, sym, subst, ◌∙◌, ap, append_assoc, Option, Result, Ok, Err, ◌⊎◌, inl, inr, IfOk, OnErr, OnOk, nat_lt, ◌≤◌, replicate, arith, slice_set, slice_index_or, take}
+use Rattle.std.proofs.Common.{◌≡◌, ◌<◌, ◌+◌, ℕ, zero, suc, Bool, true, false, List, [], ◌∷◌, ◌++◌, length, map, option_to_list, refl, sym, subst, ◌∙◌, ap, append_assoc, Option, Result, Ok, Err, inl, inr, IfOk, OnErr, OnOk, nat_lt, ◌≤◌, replicate, arith, slice_set, slice_index_or, take}
 use Rattle.std.proofs.lemmas.Bool.{lt-ltb, ltb-true}
 use Rattle.std.proofs.lemmas.List.Elements.{filter-append}
 use Rattle.std.proofs.lemmas.Grind.{flat_map-append}
@@ -56,12 +56,14 @@ pub by_board : (P : State → Type 0) (m : Seen) → ((b : Board) → Stands b m
 by_board P m h s at = subst P (sym at.rest) (h s.board at.stands)
 
 -- what a step is, by its answer
-pub answers_by : (s t : State) (i : Input) (outs : List Message) (m : Seen) (cs rest : List Choice) → step s i cs ≡ record { outs = outs; state = t; rest = rest } → IsIn t m → Answers s i outs m
+pub answers_by : (s t : State) (i : Input) (outs : List Message) (m : Seen) (cs rest : List Choice)
+    → step s i cs ≡ record { outs = outs; state = t; rest = rest } → IsIn t m → Answers s i outs m
 answers_by s t i outs m cs rest is at =
     (cs, ap (λ (r : Stepped). r.outs) is, subst (λ (x : State). IsIn x m) (sym (ap (λ (r : Stepped). r.state) is)) at)
 
 -- an input that is served behind no end
-pub answers_on : (s t : State) (i : Input) (w : What) (outs : List Message) (m : Seen) (cs rest : List Choice) → s.ended ≡ false → i.what ≡ w → input_step s i.at w cs ≡ record { outs = outs; state = t; rest = rest } → IsIn t m → Answers s i outs m
+pub answers_on : (s t : State) (i : Input) (w : What) (outs : List Message) (m : Seen) (cs rest : List Choice) → s.ended ≡ false → i.what ≡ w
+    → input_step s i.at w cs ≡ record { outs = outs; state = t; rest = rest } → IsIn t m → Answers s i outs m
 answers_on s t i w outs m cs rest going what is at = answers_by s t i outs m cs rest (step_on s i w cs going what ∙ is) at
 
 -- nothing was sent
@@ -90,14 +92,17 @@ with_same s n =
 
 -- Events.
 
-pub told_more : (s : State) (e : Event) (at : Moment) (ns ms : List ℕ) → told_of e at (those_commanding s (ns ++ ms)) ≡ told_of e at (those_commanding s ns) ++ told_of e at (those_commanding s ms)
+pub told_more : (s : State) (e : Event) (at : Moment) (ns ms : List ℕ)
+    → told_of e at (those_commanding s (ns ++ ms)) ≡ told_of e at (those_commanding s ns) ++ told_of e at (those_commanding s ms)
 told_more s e at ns ms = rw (filter-append _ ns ms) (map-append _ (those_commanding s ns) (those_commanding s ms))
 
 -- one more of a list
 pub take_one : {X : Type 0} (xs : List X) (i : ℕ) (x : X) → i < length xs → x ≡ slice_index_or xs i x → take (i + 1) xs ≡ take i xs ++ x ∷ []
 take_one xs i x below is = take_more xs i x below ∙ ap (λ y. take i xs ++ y ∷ []) (sym is)
 
-pub events_more : (at : Moment) (s : State) (es : List DeviceEvent) (i : ℕ) (e : DeviceEvent) (start old now : List Message) → i < length es → e ≡ slice_index_or es i e → old ≡ start ++ event_outs at s (map event_of (take i es)) → now ≡ old ++ told_of (event_of e) at (commanding s) → now ≡ start ++ event_outs at s (map event_of (take (i + 1) es))
+pub events_more : (at : Moment) (s : State) (es : List DeviceEvent) (i : ℕ) (e : DeviceEvent) (start old now : List Message) → i < length es
+    → e ≡ slice_index_or es i e → old ≡ start ++ event_outs at s (map event_of (take i es)) → now ≡ old ++ told_of (event_of e) at (commanding s)
+    → now ≡ start ++ event_outs at s (map event_of (take (i + 1) es))
 events_more at s es i e start old now below is was more =
     let one : event_outs at s (event_of e ∷ []) ≡ told_of (event_of e) at (commanding s) = append-nil (told_of (event_of e) at (commanding s)) in
     let both : event_outs at s (map event_of (take i es)) ++ event_outs at s (event_of e ∷ []) ≡ event_outs at s (map event_of (take i es) ++ event_of e ∷ []) =
@@ -122,7 +127,8 @@ pub serves_none : (at : Moment) (n : ℕ) (s : State) → Serves at n s [] [] s
 serves_none at n s = serves_none_by (by_item at n) s
 
 -- some, and then more
-pub serves_more_by : {X : Type 0} (f : Choice → State → X → Made) (s t u : State) (xs ys : List X) (a b : List Message) → ServesBy f s xs a t → ServesBy f t ys b u → ServesBy f s (xs ++ ys) (a ++ b) u
+pub serves_more_by : {X : Type 0} (f : Choice → State → X → Made) (s t u : State) (xs ys : List X) (a b : List Message) → ServesBy f s xs a t
+    → ServesBy f t ys b u → ServesBy f s (xs ++ ys) (a ++ b) u
 serves_more_by f s t u xs ys a b p q = (
   p.0 ++ q.0,
   λ further rest.
@@ -130,21 +136,25 @@ serves_more_by f s t u xs ys a b p q = (
 )
 
 -- one
-pub serve_on_by : {X : Type 0} (f : Choice → State → X → Made) (s : State) (x : X) (xs : List X) (cs : List Choice) → s.ended ≡ false → serve_by f (x ∷ xs) s cs ≡ behind (f (first cs) s x).outs (serve_by f xs (f (first cs) s x).state (others cs))
+pub serve_on_by : {X : Type 0} (f : Choice → State → X → Made) (s : State) (x : X) (xs : List X) (cs : List Choice) → s.ended ≡ false
+    → serve_by f (x ∷ xs) s cs ≡ behind (f (first cs) s x).outs (serve_by f xs (f (first cs) s x).state (others cs))
 serve_on_by f s x xs cs going =
     ap (λ (e : Bool). serve_unless e (unchanged s cs) (behind (f (first cs) s x).outs (serve_by f xs (f (first cs) s x).state (others cs)))) going
 
-pub serves_one_by : {X : Type 0} (f : Choice → State → X → Made) (s t : State) (x : X) (choice : Choice) (outs : List Message) → s.ended ≡ false → f choice s x ≡ record { outs = outs; state = t } → ServesBy f s (x ∷ []) outs t
+pub serves_one_by : {X : Type 0} (f : Choice → State → X → Made) (s t : State) (x : X) (choice : Choice) (outs : List Message) → s.ended ≡ false
+    → f choice s x ≡ record { outs = outs; state = t } → ServesBy f s (x ∷ []) outs t
 serves_one_by f s t x choice outs going is = (
   choice ∷ [],
   λ further rest. serve_on_by f s x further (choice ∷ rest) going ∙ ap (λ (m : Made). behind m.outs (serve_by f further m.state rest)) is,
 )
 
-serves_one : (at : Moment) (n : ℕ) (s t : State) (item : Item) (choice : Choice) (outs : List Message) → s.ended ≡ false → item_step choice at n s item ≡ record { outs = outs; state = t } → Serves at n s (item ∷ []) outs t
+serves_one : (at : Moment) (n : ℕ) (s t : State) (item : Item) (choice : Choice) (outs : List Message) → s.ended ≡ false
+    → item_step choice at n s item ≡ record { outs = outs; state = t } → Serves at n s (item ∷ []) outs t
 serves_one at n s t item choice outs going is = serves_one_by (by_item at n) s t item choice outs going is
 
 -- behind the end none is
-pub stopped_by : {X : Type 0} (f : Choice → State → X → Made) (xs : List X) (s : State) (rest : List Choice) → s.ended ≡ true → serve_by f xs s rest ≡ unchanged s rest
+pub stopped_by : {X : Type 0} (f : Choice → State → X → Made) (xs : List X) (s : State) (rest : List Choice) → s.ended ≡ true
+    → serve_by f xs s rest ≡ unchanged s rest
 stopped_by f [] s rest over = refl
 stopped_by f (x ∷ xs) s rest over = rw over refl
 
@@ -152,7 +162,8 @@ pub serves_ended_by : {X : Type 0} (f : Choice → State → X → Made) (s : St
 serves_ended_by f s x over =
     ([], λ further rest. stopped_by f (x ∷ further) s rest over ∙ ap (behind []) (sym (stopped_by f further s rest over)))
 
-item_made : (at : Moment) (n : ℕ) (s t : State) (item : Item) (choice : Choice) (what : SessionAct) (outs : List Message) → what ≡ act (mode_of s n) item → made_by choice at n s what ≡ record { outs = outs; state = t } → item_step choice at n s item ≡ record { outs = outs; state = t }
+item_made : (at : Moment) (n : ℕ) (s t : State) (item : Item) (choice : Choice) (what : SessionAct) (outs : List Message) → what ≡ act (mode_of s n) item
+    → made_by choice at n s what ≡ record { outs = outs; state = t } → item_step choice at n s item ≡ record { outs = outs; state = t }
 unfolding item_step
 item_made at n s t item choice what outs is made = ap (made_by choice at n s) (sym is) ∙ made
 
@@ -160,19 +171,24 @@ made_of : List Message → State → Made
 made_of outs t = record { outs = outs; state = t }
 
 -- a refused item
-pub item_answered : (at : Moment) (n : ℕ) (s t : State) (item : Item) (code : Code) (id : Option (List ℕ)) (text : List ℕ) → s.ended ≡ false → Answer code id ≡ act (mode_of s n) item → t ≡ moved s n (Answer code id) → text ≡ error_reply id code → Serves at n s (item ∷ []) ((to_session n, text) ∷ []) t
+pub item_answered : (at : Moment) (n : ℕ) (s t : State) (item : Item) (code : Code) (id : Option (List ℕ)) (text : List ℕ) → s.ended ≡ false
+    → Answer code id ≡ act (mode_of s n) item → t ≡ moved s n (Answer code id) → text ≡ error_reply id code
+    → Serves at n s (item ∷ []) ((to_session n, text) ∷ []) t
 item_answered at n s t item code id text going is to written =
     serves_one at n s t item defined ((to_session n, text) ∷ []) going
     (item_made at n s t item defined (Answer code id) ((to_session n, text) ∷ []) is (rw (to, written) refl))
 
 -- a negotiation
-pub item_negotiated : (at : Moment) (n : ℕ) (s t : State) (item : Item) (id : Option (List ℕ)) (text : List ℕ) → s.ended ≡ false → Negotiated id ≡ act (mode_of s n) item → t ≡ moved s n (Negotiated id) → text ≡ return_reply id empty → Serves at n s (item ∷ []) ((to_session n, text) ∷ []) t
+pub item_negotiated : (at : Moment) (n : ℕ) (s t : State) (item : Item) (id : Option (List ℕ)) (text : List ℕ) → s.ended ≡ false
+    → Negotiated id ≡ act (mode_of s n) item → t ≡ moved s n (Negotiated id) → text ≡ return_reply id empty
+    → Serves at n s (item ∷ []) ((to_session n, text) ∷ []) t
 item_negotiated at n s t item id text going is to written =
     serves_one at n s t item defined ((to_session n, text) ∷ []) going
     (item_made at n s t item defined (Negotiated id) ((to_session n, text) ∷ []) is (rw (to, written) refl))
 
 -- a command
-pub item_done : (at : Moment) (n : ℕ) (s : State) (m : Seen) (item : Item) (request : Request) (id : Option (List ℕ)) (outs : List Message) → s.ended ≡ false → Do request id ≡ act (mode_of s n) item → CommandServed at n s request id outs m → ServesTo at n s (item ∷ []) outs m
+pub item_done : (at : Moment) (n : ℕ) (s : State) (m : Seen) (item : Item) (request : Request) (id : Option (List ℕ)) (outs : List Message) → s.ended ≡ false
+    → Do request id ≡ act (mode_of s n) item → CommandServed at n s request id outs m → ServesTo at n s (item ∷ []) outs m
 item_done at n s m item request id outs going is p =
     let t = (made_by p.0 at n s (Do request id)).state in (
       t,
@@ -181,11 +197,14 @@ item_done at n s m item request id outs going is p =
     )
 
 -- a command was done as it is defined
-pub command_done : (at : Moment) (n : ℕ) (s : State) (request : Request) (id : Option (List ℕ)) (outs : List Message) (m : Seen) → event_outs at s (perform s.board request).events ++ (to_session n, reply id (perform s.board request).result) ∷ [] ≡ outs → IsIn (behind_command (perform s.board request).ends (with_board s (perform s.board request).board)) m → CommandServed at n s request id outs m
+pub command_done : (at : Moment) (n : ℕ) (s : State) (request : Request) (id : Option (List ℕ)) (outs : List Message) (m : Seen)
+    → event_outs at s (perform s.board request).events ++ (to_session n, reply id (perform s.board request).result) ∷ [] ≡ outs
+    → IsIn (behind_command (perform s.board request).ends (with_board s (perform s.board request).board)) m → CommandServed at n s request id outs m
 command_done at n s request id outs m sent to = (defined, sent, to)
 
 -- a command was refused for want of memory
-pub command_refused : (at : Moment) (n : ℕ) (s : State) (request : Request) (id : Option (List ℕ)) (text : List ℕ) (m : Seen) → text ≡ error_reply id E99 → IsIn s m → CommandServed at n s request id ((to_session n, text) ∷ []) m
+pub command_refused : (at : Moment) (n : ℕ) (s : State) (request : Request) (id : Option (List ℕ)) (text : List ℕ) (m : Seen) → text ≡ error_reply id E99
+    → IsIn s m → CommandServed at n s request id ((to_session n, text) ∷ []) m
 command_refused at n s request id text m written to =
     (refused 0 false, rw written refl, subst (λ (b : Board). IsIn (with_board s b) m) (sym (attempted-none s.board request)) to)
 
@@ -195,13 +214,16 @@ pub command_given_up : (at : Moment) (n : ℕ) (s : State) (request : Request) (
 command_given_up at n s request id text m i joined written to = (refused i joined, rw written refl, to)
 
 -- all of them
-pub serve_all_by : {X : Type 0} (f : Choice → State → X → Made) (s t : State) (xs : List X) (outs : List Message) → (p : ServesBy f s xs outs t) → serve_by f xs s p.0 ≡ record { outs = outs; state = t; rest = [] }
+pub serve_all_by : {X : Type 0} (f : Choice → State → X → Made) (s t : State) (xs : List X) (outs : List Message) → (p : ServesBy f s xs outs t)
+    → serve_by f xs s p.0 ≡ record { outs = outs; state = t; rest = [] }
 serve_all_by {X = X} f s t xs outs p =
     ap (λ (ys : List X). serve_by f ys s p.0) (sym (append-nil xs)) ∙ ap (serve_by f (xs ++ []) s) (sym (append-nil p.0)) ∙ p.1 [] []
     ∙ ap (λ (o : List Message). record { outs = o; state = t; rest = [] }) (append-nil outs)
 
 -- bytes of a session
-pub bytes_taken : (at : Moment) (n : ℕ) (s : State) (m : Seen) (bytes : List ℕ) (items : List Item) (outs : List Message) → n < SESSIONS → items ≡ (fed (session_of s n) bytes).items → ServesTo at n (with_session s n (fed (session_of s n) bytes).session) items outs m → (choices : List Choice) × (t : State) × IsIn t m × (input_step s at (Bytes n bytes) choices ≡ record { outs = outs; state = t; rest = [] })
+pub bytes_taken : (at : Moment) (n : ℕ) (s : State) (m : Seen) (bytes : List ℕ) (items : List Item) (outs : List Message) → n < SESSIONS
+    → items ≡ (fed (session_of s n) bytes).items → ServesTo at n (with_session s n (fed (session_of s n) bytes).session) items outs m
+    → (choices : List Choice) × (t : State) × IsIn t m × (input_step s at (Bytes n bytes) choices ≡ record { outs = outs; state = t; rest = [] })
 bytes_taken at n s m bytes items outs below is p =
     let f = fed (session_of s n) bytes in
     let start = with_session s n f.session in
@@ -211,7 +233,8 @@ bytes_taken at n s m bytes items outs below is p =
 -- A machine that moved beside its board.
 
 -- from a state that it was in it is in the one that is moved so
-pub in_moved : (f : State → State) (m to : Seen) → ((b : Board) → state_at b to ≡ f (state_at b m)) → to.board ≡ m.board → (s : State) → IsIn s m → IsIn (f s) to
+pub in_moved : (f : State → State) (m to : Seen) → ((b : Board) → state_at b to ≡ f (state_at b m)) → to.board ≡ m.board → (s : State) → IsIn s m
+    → IsIn (f s) to
 in_moved f m to move same s at =
     by_board (λ (x : State). IsIn (f x) to) m (λ b stands. subst (λ (x : State). IsIn x to) (move b) (in_at b to (subst (Stands b) (sym same) stands))) s at
 
@@ -220,7 +243,9 @@ pub in_still : (m to : Seen) → to ≡ m → (s : State) → IsIn s m → IsIn 
 in_still m to same s at = subst (IsIn s) (sym same) at
 
 -- an input that touches no board, as the machine answers it
-pub answers_moved : (i : Input) (w : What) (outs : List Message) (m to : Seen) → m.ended ≡ false → i.what ≡ w → ((b : Board) → input_step (state_at b m) i.at w [] ≡ record { outs = outs; state = state_at b to; rest = [] }) → to.board ≡ m.board → (s : State) → IsIn s m → Answers s i outs to
+pub answers_moved : (i : Input) (w : What) (outs : List Message) (m to : Seen) → m.ended ≡ false → i.what ≡ w
+    → ((b : Board) → input_step (state_at b m) i.at w [] ≡ record { outs = outs; state = state_at b to; rest = [] }) → to.board ≡ m.board → (s : State)
+    → IsIn s m → Answers s i outs to
 answers_moved i w outs m to going what is same s at =
     by_board (λ (x : State). Answers x i outs to) m
     (λ b stands. answers_on (state_at b m) (state_at b to) i w outs to [] [] going what (is b) (in_at b to (subst (Stands b) (sym same) stands))) s at
@@ -237,19 +262,23 @@ answers_timed i outs ns m to going what none keeps same s at =
     (in_at c to (keeps b stands))) s at
 
 -- bytes of a session, as the machine answers them
-pub answers_taken : (i : Input) (w : What) (outs : List Message) (m to : Seen) → m.ended ≡ false → i.what ≡ w → (s : State) → IsIn s m → (choices : List Choice) × (t : State) × IsIn t to × (input_step s i.at w choices ≡ record { outs = outs; state = t; rest = [] }) → Answers s i outs to
+pub answers_taken : (i : Input) (w : What) (outs : List Message) (m to : Seen) → m.ended ≡ false → i.what ≡ w → (s : State) → IsIn s m
+    → (choices : List Choice) × (t : State) × IsIn t to × (input_step s i.at w choices ≡ record { outs = outs; state = t; rest = [] }) → Answers s i outs to
 answers_taken i w outs m to going what s at p =
     answers_on s p.1 i w outs to p.0 [] (ap (λ (x : State). x.ended) at.rest ∙ going) what p.3 p.2
 
 -- A machine serves.
 
 -- what was served so far, and one more
-pub serves_on_by : {X : Type 0} (f : Choice → State → X → Made) (s : State) (mid to : Seen) (xs ys : List X) (a b : List Message) → ServesToBy f s xs a mid → ((t : State) → IsIn t mid → ServesToBy f t ys b to) → ServesToBy f s (xs ++ ys) (a ++ b) to
+pub serves_on_by : {X : Type 0} (f : Choice → State → X → Made) (s : State) (mid to : Seen) (xs ys : List X) (a b : List Message) → ServesToBy f s xs a mid
+    → ((t : State) → IsIn t mid → ServesToBy f t ys b to) → ServesToBy f s (xs ++ ys) (a ++ b) to
 serves_on_by f s mid to xs ys a b p q =
     let next = q p.0 p.1 in (next.0, next.1, serves_more_by f s p.0 next.0 xs ys a b p.2 next.2)
 
 -- a refused item, and a negotiation, as the machine serves them
-pub serves_answer : (at : Moment) (n : ℕ) (m to : Seen) (item : Item) (code : Code) (id : Option (List ℕ)) (text : List ℕ) → m.ended ≡ false → ((b : Board) → Answer code id ≡ act (mode_of (state_at b m) n) item) → ((b : Board) → state_at b to ≡ moved (state_at b m) n (Answer code id)) → to.board ≡ m.board → text ≡ error_reply id code → (s : State) → IsIn s m → ServesTo at n s (item ∷ []) ((to_session n, text) ∷ []) to
+pub serves_answer : (at : Moment) (n : ℕ) (m to : Seen) (item : Item) (code : Code) (id : Option (List ℕ)) (text : List ℕ) → m.ended ≡ false
+    → ((b : Board) → Answer code id ≡ act (mode_of (state_at b m) n) item) → ((b : Board) → state_at b to ≡ moved (state_at b m) n (Answer code id))
+    → to.board ≡ m.board → text ≡ error_reply id code → (s : State) → IsIn s m → ServesTo at n s (item ∷ []) ((to_session n, text) ∷ []) to
 serves_answer at n m to item code id text going is move same written s here =
     by_board (λ (x : State). ServesTo at n x (item ∷ []) ((to_session n, text) ∷ []) to) m
     (λ b stands. (
@@ -258,7 +287,9 @@ serves_answer at n m to item code id text going is move same written s here =
       item_answered at n (state_at b m) (state_at b to) item code id text going (is b) (move b) written,
     )) s here
 
-pub serves_negotiation : (at : Moment) (n : ℕ) (m to : Seen) (item : Item) (id : Option (List ℕ)) (text : List ℕ) → m.ended ≡ false → ((b : Board) → Negotiated id ≡ act (mode_of (state_at b m) n) item) → ((b : Board) → state_at b to ≡ moved (state_at b m) n (Negotiated id)) → to.board ≡ m.board → text ≡ return_reply id empty → (s : State) → IsIn s m → ServesTo at n s (item ∷ []) ((to_session n, text) ∷ []) to
+pub serves_negotiation : (at : Moment) (n : ℕ) (m to : Seen) (item : Item) (id : Option (List ℕ)) (text : List ℕ) → m.ended ≡ false
+    → ((b : Board) → Negotiated id ≡ act (mode_of (state_at b m) n) item) → ((b : Board) → state_at b to ≡ moved (state_at b m) n (Negotiated id))
+    → to.board ≡ m.board → text ≡ return_reply id empty → (s : State) → IsIn s m → ServesTo at n s (item ∷ []) ((to_session n, text) ∷ []) to
 serves_negotiation at n m to item id text going is move same written s here =
     by_board (λ (x : State). ServesTo at n x (item ∷ []) ((to_session n, text) ∷ []) to) m
     (λ b stands. (
@@ -268,7 +299,9 @@ serves_negotiation at n m to item id text going is move same written s here =
     )) s here
 
 -- a command, as the machine serves it
-pub serves_command : (at : Moment) (n : ℕ) (m mid to : Seen) (item : Item) (request : Request) (id : Option (List ℕ)) (outs : List Message) → m.ended ≡ false → ((b : Board) → Do request id ≡ act (mode_of (state_at b m) n) item) → ((b : Board) → state_at b mid ≡ moved (state_at b m) n (Do request id)) → mid.board ≡ m.board → ((s : State) → IsIn s mid → CommandServed at n s request id outs to) → (s : State) → IsIn s m → ServesTo at n s (item ∷ []) outs to
+pub serves_command : (at : Moment) (n : ℕ) (m mid to : Seen) (item : Item) (request : Request) (id : Option (List ℕ)) (outs : List Message) → m.ended ≡ false
+    → ((b : Board) → Do request id ≡ act (mode_of (state_at b m) n) item) → ((b : Board) → state_at b mid ≡ moved (state_at b m) n (Do request id))
+    → mid.board ≡ m.board → ((s : State) → IsIn s mid → CommandServed at n s request id outs to) → (s : State) → IsIn s m → ServesTo at n s (item ∷ []) outs to
 serves_command at n m mid to item request id outs going is move same served s here =
     by_board (λ (x : State). ServesTo at n x (item ∷ []) outs to) m
     (λ b stands.
@@ -276,7 +309,8 @@ serves_command at n m mid to item request id outs going is move same served s he
     (served (state_at b m) (subst (λ (x : State). IsIn x mid) (move b) (in_at b mid (subst (Stands b) (sym same) stands))))) s here
 
 -- one behind the end
-pub serves_over_by : {X : Type 0} (f : Choice → State → X → Made) (m to : Seen) (x : X) → m.ended ≡ true → to ≡ m → (s : State) → IsIn s m → ServesToBy f s (x ∷ []) [] to
+pub serves_over_by : {X : Type 0} (f : Choice → State → X → Made) (m to : Seen) (x : X) → m.ended ≡ true → to ≡ m → (s : State) → IsIn s m
+    → ServesToBy f s (x ∷ []) [] to
 serves_over_by f m to x over same s here =
     (s, in_still m to same s here, serves_ended_by f s x (ap (λ (y : State). y.ended) here.rest ∙ over))
 
@@ -327,7 +361,9 @@ left_done at n m mid drained to request id r came still empties stays move same 
     (λ b stands. inr (defined, done_in n m mid drained to request id r came still empties stays move same b stands)) s here
 
 -- one that was refused for want of memory
-pub served_want : (at : Moment) (n : ℕ) (m to : Seen) (request : Request) (id : Option (List ℕ)) (text : List ℕ) → text ≡ error_reply id E99 → ((b : Board) → Stands b m.board → Left b request to.board) → ((b : Board) → state_at b to ≡ state_at b m) → (s : State) → IsIn s m → CommandServed at n s request id ((to_session n, text) ∷ []) to
+pub served_want : (at : Moment) (n : ℕ) (m to : Seen) (request : Request) (id : Option (List ℕ)) (text : List ℕ) → text ≡ error_reply id E99
+    → ((b : Board) → Stands b m.board → Left b request to.board) → ((b : Board) → state_at b to ≡ state_at b m) → (s : State) → IsIn s m
+    → CommandServed at n s request id ((to_session n, text) ∷ []) to
 served_want at n m to request id text written kept move s here =
     by_board (λ (x : State). CommandServed at n x request id ((to_session n, text) ∷ []) to) m
     (λ b stands. by b (kept b stands)) s here
@@ -341,17 +377,25 @@ served_want at n m to request id text written kept move s here =
 -- The answers of the machine's own calls.
 
 -- an input that touches no board
-pub served_beside : {E : Type 0} (r : Result (List Message) E) (i : Input) (w : What) (m to : Seen) → m.ended ≡ false → i.what ≡ w → ((b : Board) (at : Moment) → IfOk r (λ outs. input_step (state_at b m) at w [] ≡ record { outs = outs; state = state_at b to; rest = [] })) → to.board ≡ m.board → (s : State) → IsIn s m → IfOk r (λ outs. Answers s i outs to)
+pub served_beside : {E : Type 0} (r : Result (List Message) E) (i : Input) (w : What) (m to : Seen) → m.ended ≡ false → i.what ≡ w
+    → ((b : Board) (at : Moment) → IfOk r (λ outs. input_step (state_at b m) at w [] ≡ record { outs = outs; state = state_at b to; rest = [] }))
+    → to.board ≡ m.board → (s : State) → IsIn s m → IfOk r (λ outs. Answers s i outs to)
 served_beside r i w m to going what is same s here =
     by_board (λ (x : State). IfOk r (λ outs. Answers x i outs to)) m
     (λ b stands. if_ok r (λ outs h. answers_on (state_at b m) (state_at b to) i w outs to [] [] going what h (in_at b to (subst (Stands b) (sym same) stands))) (is b i.at)) s here
 
 -- bytes of a session
-pub served_bytes : {E : Type 0} (r : Result (List Message) E) (i : Input) (w : What) (m to : Seen) → m.ended ≡ false → i.what ≡ w → ((s : State) → IsIn s m → IfOk r (λ outs. (choices : List Choice) × (t : State) × IsIn t to × (input_step s i.at w choices ≡ record { outs = outs; state = t; rest = [] }))) → (s : State) → IsIn s m → IfOk r (λ outs. Answers s i outs to)
+pub served_bytes : {E : Type 0} (r : Result (List Message) E) (i : Input) (w : What) (m to : Seen) → m.ended ≡ false → i.what ≡ w
+    → ((s : State) → IsIn s m → IfOk r (λ outs. (choices : List Choice) × (t : State) × IsIn t to × (input_step s i.at w choices ≡ record { outs = outs; state = t; rest = [] })))
+    → (s : State) → IsIn s m → IfOk r (λ outs. Answers s i outs to)
 served_bytes r i w m to going what is s here = if_ok r (λ outs p. answers_taken i w outs m to going what s here p) (is s here)
 
 -- the items that bytes complete
-pub served_items : {E : Type 0} (r : Result (List Message) E) (at : Moment) (n : ℕ) (m mid to : Seen) (bytes : List ℕ) (items : List Item) → n < SESSIONS → ((b : Board) → items ≡ (fed (session_of (state_at b m) n) bytes).items) → ((b : Board) → state_at b mid ≡ with_session (state_at b m) n (fed (session_of (state_at b m) n) bytes).session) → mid.board ≡ m.board → IfOk r (λ outs. (s : State) → IsIn s mid → ServesTo at n s items outs to) → (s : State) → IsIn s m → IfOk r (λ outs. (choices : List Choice) × (t : State) × IsIn t to × (input_step s at (Bytes n bytes) choices ≡ record { outs = outs; state = t; rest = [] }))
+pub served_items : {E : Type 0} (r : Result (List Message) E) (at : Moment) (n : ℕ) (m mid to : Seen) (bytes : List ℕ) (items : List Item) → n < SESSIONS
+    → ((b : Board) → items ≡ (fed (session_of (state_at b m) n) bytes).items)
+    → ((b : Board) → state_at b mid ≡ with_session (state_at b m) n (fed (session_of (state_at b m) n) bytes).session) → mid.board ≡ m.board
+    → IfOk r (λ outs. (s : State) → IsIn s mid → ServesTo at n s items outs to) → (s : State) → IsIn s m
+    → IfOk r (λ outs. (choices : List Choice) × (t : State) × IsIn t to × (input_step s at (Bytes n bytes) choices ≡ record { outs = outs; state = t; rest = [] }))
 served_items r at n m mid to bytes items below cuts move same served s here =
     by_board
     (λ (x : State). IfOk r (λ outs. (choices : List Choice) × (t : State) × IsIn t to × (input_step x at (Bytes n bytes) choices ≡ record { outs = outs; state = t; rest = [] }))) m
@@ -363,7 +407,8 @@ served_items r at n m mid to bytes items below cuts move same served s here =
     (subst (λ (x : State). IsIn x mid) (move b) (in_at b mid (subst (Stands b) (sym same) stands))))) served) s here
 
 -- bytes of a number that is no session's
-pub beyond : (at : Moment) (n : ℕ) (bytes : List ℕ) (s : State) (outs : List Message) → SESSIONS ≤ n → outs ≡ [] → input_step s at (Bytes n bytes) [] ≡ record { outs = outs; state = s; rest = [] }
+pub beyond : (at : Moment) (n : ℕ) (bytes : List ℕ) (s : State) (outs : List Message) → SESSIONS ≤ n → outs ≡ []
+    → input_step s at (Bytes n bytes) [] ≡ record { outs = outs; state = s; rest = [] }
 beyond at n bytes s outs high none = by (nat_lt n SESSIONS) refl
   where
     by : (t : Bool) → nat_lt n SESSIONS ≡ t → input_step s at (Bytes n bytes) [] ≡ record { outs = outs; state = s; rest = [] }

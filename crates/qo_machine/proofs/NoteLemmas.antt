@@ -22,7 +22,7 @@ use Rattle.qo_sound_devices.proofs.ResetLemmas.{first-on}
 use Rattle.qo_sound_clocks.proofs.KeepLemmas.{writes_keep_lem}
 use Rattle.qo_sound_clocks.proofs.RegisterLemmas.{registers_kept_lem}
 use Rattle.qo_machine.proofs.AddressLemmas.{address-there, bus-live}
-use Rattle.qo_machine.proofs.KeepLemmas.{KeepsBoard, KeepsCommands, keeps_commands, run_keeps}
+use Rattle.qo_machine.proofs.KeepLemmas.{any-rings, KeepsBoard, KeepsCommands, keeps_commands, run_keeps}
 use Rattle.qo_machine.proofs.DevicesLemmas.{devices_free, devices_kept, ringed-devices}
 use Rattle.qo_machine.specs.Laws.{FinalOnceInRuns}
 use Rattle.qo_machine.specs.Machine.{opening}
@@ -70,7 +70,8 @@ notes_kept =
       plugged = λ b a o. (devices_kept.plugged b a o.0, notes_kept_lem.plugged b a o.0.tree o.1);
       cut = λ b t i joined o. (devices_kept.cut b t i joined o.0, notes_kept_lem.cut b t i joined o.1);
       asked = λ b id o. (devices_kept.asked b id o.0, notes_kept_lem.asked_for b id o.1);
-      completed = λ b at d is pending o. (devices_kept.completed b at d is pending o.0, notes_kept_lem.detached b d o.0.tree (address-there b o.0.tree at d is) o.1);
+      completed =
+          λ b at d is pending o. (devices_kept.completed b at d is pending o.0, notes_kept_lem.detached b d o.0.tree (address-there b o.0.tree at d is) o.1);
       refused = λ b d o. (devices_kept.refused b d o.0, notes_kept_lem.refused_by b d o.1);
       polled = λ b o. (devices_kept.polled b o.0, notes_kept_lem.beside b (polled b) refl refl refl o.1);
       written = λ b at d reg value c there is o.
@@ -78,11 +79,13 @@ notes_kept =
           (λ registers e so. (registers_kept_lem.devices b d registers o.0, registers_kept_lem.notes b d registers o.1))
           (λ x rings q. (ringed-devices x rings q.0, notes_kept_lem.beside x (with_rings rings x) refl refl refl q.1))
           (λ x m on q. (devices_kept_lem.pulsed x m q.0, notes_kept_lem.pulsed x m q.0.tree (bus-live x d m on) q.1)) c is;
-      ringed = λ b rings o. (ringed-devices b rings o.0, notes_kept_lem.beside b (with_rings rings b) refl refl refl o.1);
-      timed = λ b now on o. (devices_kept.timed b now on o.0, notes_kept_lem.beside b (at_time now b) refl refl refl o.1);
+      rings = any-rings Ordered (λ b rings o. (ringed-devices b rings o.0, notes_kept_lem.beside b (with_rings rings b) refl refl refl o.1));
+      timed = λ b now on low o. (devices_kept.timed b now on low o.0, notes_kept_lem.beside b (at_time now b) refl refl refl o.1);
       switched = λ b on o. (devices_kept.switched b on o.0, notes_kept_lem.beside b (with_running on b) refl refl refl o.1);
-      held_so = λ b n is home o. (devices_kept.held_so b n is home o.0, notes_kept_lem.held_so b n o.0.tree (of-live b (codes "resettable") n is) o.1);
-      released_so = λ b n is held o. (devices_kept.released_so b n is held o.0, notes_kept_lem.released_so b n o.0.tree (of-live b (codes "resettable") n is) o.1);
+      held_so =
+          λ b n is home deep o. (devices_kept.held_so b n is home deep o.0, notes_kept_lem.held_so b n o.0.tree (of-live b (codes "resettable") n is) o.1);
+      released_so =
+          λ b n is held o. (devices_kept.released_so b n is held o.0, notes_kept_lem.released_so b n o.0.tree (of-live b (codes "resettable") n is) o.1);
       reset = λ b o. (devices_kept.reset b o.0, reset-notes b o);
     }
 

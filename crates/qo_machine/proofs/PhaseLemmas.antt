@@ -1,5 +1,5 @@
 -- Steps keep the phases of resets in turn, and what may be held in reset held where a hold is on it or above it.
-use Rattle.std.proofs.Common.{◌≡◌, refl, sym, subst, ◌∙◌, ap, ℕ, Bool, true, ◌&&◌, List, [], ◌∷◌, codes, Option, None, Some, option_map}
+use Rattle.std.proofs.Common.{◌≡◌, refl, subst, ℕ, true, List, [], ◌∷◌, codes, Option, None, Some}
 use Rattle.std.specs.Option.{option_map_or}
 use Rattle.std.proofs.lemmas.Option.{same_Some}
 use Rattle.qo_values.specs.Bodies.{Effect, byte, nothing}
@@ -13,11 +13,9 @@ use Rattle.qo_buses.specs.Addresses.{addressed}
 use Rattle.qo_commands.specs.Commands.{without_events}
 use Rattle.qo_model.specs.Board.{Board, Ring}
 use Rattle.qo_model.specs.Clocks.{div_of, mul_of}
-use Rattle.qo_model.specs.Depth.{among}
 use Rattle.qo_model.specs.Devices.{first_bus}
-use Rattle.qo_model.specs.Hotplug.{completed}
 use Rattle.qo_model.specs.Paths.{attached, is_of}
-use Rattle.qo_model.specs.Reset.{held, pulse}
+use Rattle.qo_model.specs.Reset.{pulse}
 use Rattle.qo_realize.specs.Chardevs.{with_rings}
 use Rattle.qo_realize.specs.Guest.{polled}
 use Rattle.qo_realize.specs.Registers.{behind_effect, guest_written, pushed, registers_written}
@@ -32,10 +30,8 @@ use Rattle.qo_sound_phases.specs.PhaseRuns.{SoundResets}
 use Rattle.qo_sound_phases.specs.PhasesKept.{may_reset}
 use Rattle.qo_sound_phases.proofs.LawLemmas.{phases_kept_lem, phases_say_lem}
 use Rattle.qo_machine.proofs.DevicesLemmas.{devices_free, devices_kept, ringed-devices}
-use Rattle.qo_machine.proofs.KeepLemmas.{KeepsBoard, KeepsCommands, keeps_commands, run_keeps, step_keeps}
-use Rattle.qo_machine.specs.Laws.{PhasesInRuns}
+use Rattle.qo_machine.proofs.KeepLemmas.{any-rings, KeepsBoard, KeepsCommands, keeps_commands}
 use Rattle.qo_machine.specs.Machine.{opening}
-use Rattle.qo_machine.specs.Runs.{Turn, state_after}
 
 -- the device at an address stands in its place
 standing : (b : Board) (at : Addr) (d : ℕ) → addressed b at ≡ Some d → SoundResets b → stands b d ≡ true
@@ -94,7 +90,7 @@ may-so : (b : Board) (n : ℕ) → is_of b (codes "resettable") n ≡ true → a
 may-so b n is home = rw (home, is) refl
 
 -- changes and attempts keep them
-phases_kept : KeepsBoard SoundResets
+pub phases_kept : KeepsBoard SoundResets
 phases_kept =
     record {
       change = λ b change h.
@@ -127,10 +123,10 @@ phases_kept =
       polled = λ b h.
           record { devices = devices_kept.polled b h.devices; phases = phases_kept_lem.beside b (polled b) refl refl refl refl h.phases };
       written = λ b at d reg value c there is h. written-so b d (standing b at d there h) h reg value c is;
-      ringed = λ b rings h. ringed-so b rings h;
-      timed = λ b now on h.
+      rings = any-rings SoundResets (λ b rings h. ringed-so b rings h);
+      timed = λ b now on low h.
           record {
-            devices = devices_kept.timed b now on h.devices;
+            devices = devices_kept.timed b now on low h.devices;
             phases = phases_kept_lem.beside b (at_time now b) refl refl refl refl h.phases;
           };
       switched = λ b on h.
@@ -138,9 +134,9 @@ phases_kept =
             devices = devices_kept.switched b on h.devices;
             phases = phases_kept_lem.beside b (with_running on b) refl refl refl refl h.phases;
           };
-      held_so = λ b n is home h.
+      held_so = λ b n is home deep h.
           record {
-            devices = devices_kept.held_so b n is home h.devices;
+            devices = devices_kept.held_so b n is home deep h.devices;
             phases = phases_kept_lem.held_so b n (may-so b n is home) h.devices h.phases;
           };
       released_so = λ b n is on h.
@@ -151,22 +147,12 @@ phases_kept =
       reset = λ b h. record { devices = devices_kept.reset b h.devices; phases = phases_kept_lem.reset b h.devices h.phases };
     }
 
-phases_commands : KeepsCommands SoundResets
-phases_commands =
-    keeps_commands SoundResets phases_kept
-    (λ b h. record { devices = devices_free b h.devices; phases = phases_kept_lem.beside b (without_events b) refl refl refl refl h.phases })
+-- events are no matter to them
+pub phases_free : (b : Board) → SoundResets b → SoundResets (without_events b)
+phases_free b h = record { devices = devices_free b h.devices; phases = phases_kept_lem.beside b (without_events b) refl refl refl refl h.phases }
 
-opening_resets : SoundResets opening.board
+pub phases_commands : KeepsCommands SoundResets
+phases_commands = keeps_commands SoundResets phases_kept phases_free
+
+pub opening_resets : SoundResets opening.board
 opening_resets = record { devices = devices_kept_lem.opening; phases = phases_kept_lem.opening }
-
--- over every run
-pub phases_in_runs : PhasesInRuns
-phases_in_runs =
-    record {
-      kept = record { step = λ s i cs h. step_keeps SoundResets phases_commands s i cs h; run = run };
-      in_turn = λ turns n. phases_say_lem.in_turn (state_after opening turns).board (run turns).phases n;
-      in_reset = λ turns n may. phases_say_lem.in_reset (state_after opening turns).board (run turns).devices (run turns).phases n may;
-    }
-  where
-    run : (turns : List Turn) → SoundResets (state_after opening turns).board
-    run turns = run_keeps SoundResets phases_commands opening turns opening_resets

@@ -22,7 +22,8 @@ use Rattle.qo_machine.specs.declared.running.Ending.TheVariants.{Done, Bad, Memo
 use Rattle.qo_sessions.specs.Sessions.{State as Session, closed}
 
 -- one flag more
-pub closed_more : (i : ℕ) (lost : List Bool) (sessions : List Session) → i < length lost → i < length sessions → closed_where (take (i + 1) lost) sessions ≡ (if slice_index_or lost i false then slice_set (closed_where (take i lost) sessions) i closed else closed_where (take i lost) sessions)
+pub closed_more : (i : ℕ) (lost : List Bool) (sessions : List Session) → i < length lost → i < length sessions
+    → closed_where (take (i + 1) lost) sessions ≡ (if slice_index_or lost i false then slice_set (closed_where (take i lost) sessions) i closed else closed_where (take i lost) sessions)
 unfolding closed_where
 closed_more i lost sessions below within = rw add-one (go i lost sessions below within)
   where
@@ -34,7 +35,8 @@ closed_more i lost sessions below within = rw add-one (go i lost sessions below 
     tail true mode set kept = refl
     tail false mode set kept = refl
 
-    go : (k : ℕ) (ls : List Bool) (ss : List Session) → k < length ls → k < length ss → closed_where (take (suc k) ls) ss ≡ (if slice_index_or ls k false then slice_set (closed_where (take k ls) ss) k closed else closed_where (take k ls) ss)
+    go : (k : ℕ) (ls : List Bool) (ss : List Session) → k < length ls → k < length ss
+        → closed_where (take (suc k) ls) ss ≡ (if slice_index_or ls k false then slice_set (closed_where (take k ls) ss) k closed else closed_where (take k ls) ss)
     go k [] ss b w = absurd (omega arith)
     go k (f ∷ ls) [] b w = absurd (omega arith)
     go zero (f ∷ ls) (s ∷ ss) b w = head f s ss
@@ -83,7 +85,8 @@ inputs_more (t ∷ ts) us = first (given_by t.input) (turn_inputs ts) (turn_inpu
     first None xs ys zs h = h
     first (Some x) xs ys zs h = ap (λ (l : List Input). x ∷ l) h
 
-took_twice : (a b c : Option (List Input)) (xs ys : List Input) → a ≡ option_map (λ (r : List Input). xs ++ r) b → b ≡ option_map (λ (r : List Input). ys ++ r) c → a ≡ option_map (λ (r : List Input). (xs ++ ys) ++ r) c
+took_twice : (a b c : Option (List Input)) (xs ys : List Input) → a ≡ option_map (λ (r : List Input). xs ++ r) b
+    → b ≡ option_map (λ (r : List Input). ys ++ r) c → a ≡ option_map (λ (r : List Input). (xs ++ ys) ++ r) c
 took_twice a b None xs ys p q = p ∙ ap (option_map (λ (r : List Input). xs ++ r)) q
 took_twice a b (Some zs) xs ys p q =
     p ∙ ap (option_map (λ (r : List Input). xs ++ r)) q ∙ ap (λ (l : List Input). Some l) (sym (append_assoc xs ys zs))
@@ -127,11 +130,13 @@ closed_one before now i x is shut = is ∙ ap (slice_set before i) shut
 pub still_sixteen : (before now : List Session) (i : ℕ) (x : Session) → now ≡ slice_set before i x → length before ≡ SESSIONS → length now ≡ SESSIONS
 still_sixteen before now i x is size = ap length is ∙ length-set before i x ∙ size
 
-pub closed_then : (i : ℕ) (lost : List Bool) (sessions before now : List Session) → i < length lost → i < length sessions → slice_index_or lost i false ≡ true → before ≡ closed_where (take i lost) sessions → now ≡ slice_set before i closed → now ≡ closed_where (take (i + 1) lost) sessions
+pub closed_then : (i : ℕ) (lost : List Bool) (sessions before now : List Session) → i < length lost → i < length sessions → slice_index_or lost i false ≡ true
+    → before ≡ closed_where (take i lost) sessions → now ≡ slice_set before i closed → now ≡ closed_where (take (i + 1) lost) sessions
 closed_then i lost sessions before now below within flag was is =
     is ∙ ap (λ (ms : List Session). slice_set ms i closed) was ∙ sym (rw flag at (closed_more i lost sessions below within))
 
-pub closed_else : (i : ℕ) (lost : List Bool) (sessions before now : List Session) → i < length lost → i < length sessions → slice_index_or lost i false ≡ false → before ≡ closed_where (take i lost) sessions → now ≡ before → now ≡ closed_where (take (i + 1) lost) sessions
+pub closed_else : (i : ℕ) (lost : List Bool) (sessions before now : List Session) → i < length lost → i < length sessions → slice_index_or lost i false ≡ false
+    → before ≡ closed_where (take i lost) sessions → now ≡ before → now ≡ closed_where (take (i + 1) lost) sessions
 closed_else i lost sessions before now below within flag was is =
     is ∙ was ∙ sym (rw flag at (closed_more i lost sessions below within))
 
@@ -156,7 +161,8 @@ pub nothing_appended : (x : Option (List ℕ)) → x ≡ append_known x []
 nothing_appended None = refl
 nothing_appended (Some xs) = ap (λ (l : List ℕ). Some l) (sym (append-nil xs))
 
-took_one : (old new : Option (List Input)) (bad : Option (Option ℕ)) (i : Option Input) → Gives old new bad i → old ≡ option_map (λ (r : List Input). cons_option i [] ++ r) new
+took_one : (old new : Option (List Input)) (bad : Option (Option ℕ)) (i : Option Input) → Gives old new bad i
+    → old ≡ option_map (λ (r : List Input). cons_option i [] ++ r) new
 took_one old new bad None h = sym h.0 ∙ none_taken new
 took_one old new bad (Some i) h = h
 
@@ -164,7 +170,9 @@ took_one old new bad (Some i) h = h
 abbrev pub taken_turn : Input → Turn
 taken_turn i = record { input = i; choices = []; lost = []; cut = λ l. 0 }
 
-pub cut_taken : (s : State) (oi ni : Option (List Input)) (os ns : Option (List ℕ)) (og ng : Lane → Option (List ℕ)) (ol nl : ℕ → ℕ) (bad : Option (Option ℕ)) (i : Input) → Gives oi ni bad (given_by i) → ns ≡ os → ((l : Lane) → ng l ≡ og l) → ((n : ℕ) → nl n ≡ ol n) → Cut s (told oi os og ol) (told ni ns ng nl) (Some (taken_turn i))
+pub cut_taken : (s : State) (oi ni : Option (List Input)) (os ns : Option (List ℕ)) (og ng : Lane → Option (List ℕ)) (ol nl : ℕ → ℕ) (bad : Option (Option ℕ)) (i : Input)
+    → Gives oi ni bad (given_by i) → ns ≡ os → ((l : Lane) → ng l ≡ og l) → ((n : ℕ) → nl n ≡ ol n)
+    → Cut s (told oi os og ol) (told ni ns ng nl) (Some (taken_turn i))
 cut_taken s oi ni os ns og ng ol nl bad i given sent got losses =
     record {
       took = took_one oi ni bad (given_by i) given;
@@ -174,7 +182,10 @@ cut_taken s oi ni os ns og ng ol nl bad i given sent got losses =
     }
 
 -- an input was taken, and its messages were cut short
-pub cut_sent : (s : State) (i : Input) (cs : List Choice) (slice outs : List Message) (oi mi ni : Option (List Input)) (os ms ns : Option (List ℕ)) (og mg ng : Lane → Option (List ℕ)) (ol ml nl : ℕ → ℕ) (bad : Option (Option ℕ)) → (step s i cs).outs ≡ outs → slice ≡ outs → Gives oi mi bad (given_by i) → ms ≡ os → ((l : Lane) → mg l ≡ og l) → ((n : ℕ) → ml n ≡ ol n) → SentFront (told mi ms mg ml) (told ni ns ng nl) slice → Cut s (told oi os og ol) (told ni ns ng nl) (Some (record { input = i; choices = cs; lost = []; cut = λ l. 0 }))
+pub cut_sent : (s : State) (i : Input) (cs : List Choice) (slice outs : List Message) (oi mi ni : Option (List Input)) (os ms ns : Option (List ℕ)) (og mg ng : Lane → Option (List ℕ)) (ol ml nl : ℕ → ℕ) (bad : Option (Option ℕ))
+    → (step s i cs).outs ≡ outs → slice ≡ outs → Gives oi mi bad (given_by i) → ms ≡ os → ((l : Lane) → mg l ≡ og l) → ((n : ℕ) → ml n ≡ ol n)
+    → SentFront (told mi ms mg ml) (told ni ns ng nl) slice
+    → Cut s (told oi os og ol) (told ni ns ng nl) (Some (record { input = i; choices = cs; lost = []; cut = λ l. 0 }))
 cut_sent s i cs slice outs oi mi ni os ms ns og mg ng ol ml nl bad is same given sent got losses h =
     record {
       took = took_one oi ni bad (given_by i) (rw h.inputs given);
@@ -186,14 +197,18 @@ cut_sent s i cs slice outs oi mi ni os ms ns og mg ng ol ml nl bad is same given
     outs_is : (step s i cs).outs ≡ slice
     outs_is = is ∙ sym same
 
-at_end : (oi mi ni : Option (List Input)) (bad : Option (Option ℕ)) (i : Input) → ni ≡ mi → Gives oi mi bad (given_by i) → is_end i.what ≡ true → AtEnd ni bad None
+at_end : (oi mi ni : Option (List Input)) (bad : Option (Option ℕ)) (i : Input) → ni ≡ mi → Gives oi mi bad (given_by i) → is_end i.what ≡ true
+    → AtEnd ni bad None
 at_end oi mi ni bad i same given over = subst (λ (x : Option (List Input)). AtEnd x bad None) (sym (same ∙ ended.0)) ended.1
   where
     ended : (mi ≡ oi) × AtEnd oi bad None
     ended = rw over at given
 
 -- an input was taken, and what it makes was sent
-pub one_turn : (s : State) (to : Seen) (i : Input) (cs : List Choice) (slice outs : List Message) (lost : List Bool) (oi mi ni : Option (List Input)) (os ms ns : Option (List ℕ)) (og mg ng : Lane → Option (List ℕ)) (ol ml nl : ℕ → ℕ) (bad : Option (Option ℕ)) → (step s i cs).outs ≡ outs → slice ≡ outs → Gives oi mi bad (given_by i) → ms ≡ os → ((l : Lane) → mg l ≡ og l) → ((n : ℕ) → ml n ≡ ol n) → Sent (told mi ms mg ml) (told ni ns ng nl) slice lost → IsIn (close_lost lost (step s i cs).state) to → TurnMeets s to (told oi os og ol) (told ni ns ng nl) bad (Ok tt)
+pub one_turn : (s : State) (to : Seen) (i : Input) (cs : List Choice) (slice outs : List Message) (lost : List Bool) (oi mi ni : Option (List Input)) (os ms ns : Option (List ℕ)) (og mg ng : Lane → Option (List ℕ)) (ol ml nl : ℕ → ℕ) (bad : Option (Option ℕ))
+    → (step s i cs).outs ≡ outs → slice ≡ outs → Gives oi mi bad (given_by i) → ms ≡ os → ((l : Lane) → mg l ≡ og l) → ((n : ℕ) → ml n ≡ ol n)
+    → Sent (told mi ms mg ml) (told ni ns ng nl) slice lost → IsIn (close_lost lost (step s i cs).state) to
+    → TurnMeets s to (told oi os og ol) (told ni ns ng nl) bad (Ok tt)
 one_turn s to i cs slice outs lost oi mi ni os ms ns og mg ng ol ml nl bad is same given sent got losses h shut = (
   record { input = i; choices = cs; lost = lost; cut = h.lanes.0 },
   record {
@@ -235,7 +250,8 @@ cut_none limit i t g n = (
   omega arith,
 )
 
-pub gone_none : (m : Seen) (i : Option (List Input)) (t : Option (List ℕ)) (g : Lane → Option (List ℕ)) (n : ℕ → ℕ) → IsIn opening m → (turns : List Turn) × GoneOn (told i t g n) (told i t g n) m 0 turns
+pub gone_none : (m : Seen) (i : Option (List Input)) (t : Option (List ℕ)) (g : Lane → Option (List ℕ)) (n : ℕ → ℕ) → IsIn opening m
+    → (turns : List Turn) × GoneOn (told i t g n) (told i t g n) m 0 turns
 gone_none m i t g n at =
     ([], record { turns_are = turns_none opening i t g n; is_in = at; count_is = refl; going = sym (ended_in opening m at) })
 
@@ -247,15 +263,18 @@ TurnsFrom m to b c bad answer = (s : State) → IsIn s m → TurnMeets s to b c 
 abbrev further : (m to : Seen) (b c : Told) (bad : Option (Option ℕ)) (ts : List Turn) → IsIn (state_after opening ts) m → TurnsFrom m to b c bad (Ok tt) → Turn
 further m to b c bad ts at p = (p (state_after opening ts) at).0
 
-joined : (a b c : Told) (m to : Seen) (count : ℕ) (bad : Option (Option ℕ)) (ts : List Turn) → (h : GoneOn a b m count ts) → (p : TurnsFrom m to b c bad (Ok tt)) → Turns opening a c (ts ++ further m to b c bad ts h.is_in p ∷ [])
+joined : (a b c : Told) (m to : Seen) (count : ℕ) (bad : Option (Option ℕ)) (ts : List Turn) → (h : GoneOn a b m count ts)
+    → (p : TurnsFrom m to b c bad (Ok tt)) → Turns opening a c (ts ++ further m to b c bad ts h.is_in p ∷ [])
 joined a b c m to count bad ts h p =
     turns_more opening a b c ts (further m to b c bad ts h.is_in p ∷ []) h.turns_are (p (state_after opening ts) h.is_in).1
 
-joined_state : (a b c : Told) (m to : Seen) (count : ℕ) (bad : Option (Option ℕ)) (ts : List Turn) → (h : GoneOn a b m count ts) → (p : TurnsFrom m to b c bad (Ok tt)) → IsIn (state_after opening (ts ++ further m to b c bad ts h.is_in p ∷ [])) to
+joined_state : (a b c : Told) (m to : Seen) (count : ℕ) (bad : Option (Option ℕ)) (ts : List Turn) → (h : GoneOn a b m count ts)
+    → (p : TurnsFrom m to b c bad (Ok tt)) → IsIn (state_after opening (ts ++ further m to b c bad ts h.is_in p ∷ [])) to
 joined_state a b c m to count bad ts h p =
     subst (λ (x : State). IsIn x to) (sym (state_more ts (further m to b c bad ts h.is_in p ∷ []) opening)) (p (state_after opening ts) h.is_in).2
 
-pub going_on : (a b c : Told) (m to : Seen) (count : ℕ) (bad : Option (Option ℕ)) → (turns : List Turn) × GoneOn a b m count turns → TurnsFrom m to b c bad (Ok tt) → to.ended ≡ false → (turns : List Turn) × GoneOn a c to (count + 1) turns
+pub going_on : (a b c : Told) (m to : Seen) (count : ℕ) (bad : Option (Option ℕ)) → (turns : List Turn) × GoneOn a b m count turns
+    → TurnsFrom m to b c bad (Ok tt) → to.ended ≡ false → (turns : List Turn) × GoneOn a c to (count + 1) turns
 going_on a b c m to count bad h p going =
     let t = further m to b c bad h.0 h.1.is_in p in (
       h.0 ++ t ∷ [],
@@ -294,7 +313,8 @@ pub has_end_ends : (ts : List Turn) (s : State) → has_end ts ≡ true → (sta
 has_end_ends [] s over = absurd (true≢false (sym over))
 has_end_ends (t ∷ ts) s over = go (is_end t.input.what) refl over (has_end_ends ts (after s t))
   where
-    go : (e : Bool) → is_end t.input.what ≡ e → (e || has_end ts) ≡ true → (has_end ts ≡ true → (state_after (after s t) ts).ended ≡ true) → (state_after (after s t) ts).ended ≡ true
+    go : (e : Bool) → is_end t.input.what ≡ e → (e || has_end ts) ≡ true → (has_end ts ≡ true → (state_after (after s t) ts).ended ≡ true)
+        → (state_after (after s t) ts).ended ≡ true
     go true is any rest = stays_ended ts (after s t) (end_ends s t is)
     go false is any rest = rest any
 
@@ -307,7 +327,8 @@ has_end_last [] t s going over = go (is_end t.input.what) over
     go false h = h
 has_end_last (u ∷ ts) t s going over = go (is_end u.input.what) refl over (has_end_last ts t (after s u) going)
   where
-    go : (e : Bool) → is_end u.input.what ≡ e → (e || has_end (ts ++ t ∷ [])) ≡ true → (has_end (ts ++ t ∷ []) ≡ true → is_end t.input.what ≡ true) → is_end t.input.what ≡ true
+    go : (e : Bool) → is_end u.input.what ≡ e → (e || has_end (ts ++ t ∷ [])) ≡ true → (has_end (ts ++ t ∷ []) ≡ true → is_end t.input.what ≡ true)
+        → is_end t.input.what ≡ true
     go true is any rest = absurd (true≢false (sym (stays_ended ts (after s u) (end_ends s u is)) ∙ going))
     go false is any rest = rest any
 
@@ -324,7 +345,8 @@ last_within ts (Some t) count limit is few = omega (arith, is)
 still_going : (a b : Told) (m : Seen) (count : ℕ) (ts : List Turn) → GoneOn a b m count ts → (state_after opening ts).ended ≡ false
 still_going a b m count ts h = ended_in (state_after opening ts) m h.is_in ∙ h.going
 
-pub done : (a b c : Told) (m to : Seen) (count limit : ℕ) (bad other : Option (Option ℕ)) → bad ≡ other → count < limit → (turns : List Turn) × GoneOn a b m count turns → TurnsFrom m to b c bad (Ok tt) → to.ended ≡ true → RunMeets Done limit a c other
+pub done : (a b c : Told) (m to : Seen) (count limit : ℕ) (bad other : Option (Option ℕ)) → bad ≡ other → count < limit
+    → (turns : List Turn) × GoneOn a b m count turns → TurnsFrom m to b c bad (Ok tt) → to.ended ≡ true → RunMeets Done limit a c other
 done a b c m to count limit bad other is few h p over =
     let t = further m to b c bad h.0 h.1.is_in p in
     let ts = h.0 ++ t ∷ [] in
@@ -343,7 +365,8 @@ also a b c m count ts h p =
     subst (λ (us : List Turn). Turns opening a c us) (append-nil ts) (turns_more opening a b c ts [] h.turns_are p)
 
 -- a turn that stopped the run
-pub stopped_by : (a b c : Told) (m to : Seen) (count limit : ℕ) (bad : Option (Option ℕ)) (e : Ending) → count < limit → (turns : List Turn) × GoneOn a b m count turns → TurnsFrom m to b c bad (Err e) → RunMeets e limit a c bad
+pub stopped_by : (a b c : Told) (m to : Seen) (count limit : ℕ) (bad : Option (Option ℕ)) (e : Ending) → count < limit
+    → (turns : List Turn) × GoneOn a b m count turns → TurnsFrom m to b c bad (Err e) → RunMeets e limit a c bad
 stopped_by a b c m to count limit bad e few h p = by e (p (state_after opening h.0) h.1.is_in)
   where
     by : (e : Ending) → TurnMeets (state_after opening h.0) to b c bad (Err e) → RunMeets e limit a c bad

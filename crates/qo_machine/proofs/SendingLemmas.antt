@@ -22,13 +22,16 @@ use Rattle.qo_machine.proofs.RunLemmas.{nothing_appended}
 
 -- One lane, over its flags: was its session lost, and is it the lane of the message.
 
-skip_at : (flag same : Bool) (cut : ℕ) (old mid : Option (List ℕ)) (bytes more : List ℕ) → (same ≡ true → flag ≡ true) → cut ≤ length bytes → mid ≡ append_known old (cut_to flag cut bytes) → mid ≡ append_known old (cut_to flag cut (bytes ++ (if same then more else [])))
+skip_at : (flag same : Bool) (cut : ℕ) (old mid : Option (List ℕ)) (bytes more : List ℕ) → (same ≡ true → flag ≡ true) → cut ≤ length bytes
+    → mid ≡ append_known old (cut_to flag cut bytes) → mid ≡ append_known old (cut_to flag cut (bytes ++ (if same then more else [])))
 skip_at true true cut old mid bytes more lost within is = is ∙ ap (append_known old) (sym (take-append-le cut bytes more within))
 skip_at true false cut old mid bytes more lost within is = is ∙ ap (append_known old) (sym (take-append-le cut bytes [] within))
 skip_at false true cut old mid bytes more lost within is = absurd (true≢false (sym (lost refl)))
 skip_at false false cut old mid bytes more lost within is = is ∙ ap (append_known old) (sym (append-nil bytes))
 
-ok_at : (flag same : Bool) (cut : ℕ) (old mid new : Option (List ℕ)) (bytes more : List ℕ) → (same ≡ true → flag ≡ false) → cut ≤ length bytes → mid ≡ append_known old (cut_to flag cut bytes) → new ≡ append_known mid (if same then more else []) → new ≡ append_known old (cut_to flag cut (bytes ++ (if same then more else [])))
+ok_at : (flag same : Bool) (cut : ℕ) (old mid new : Option (List ℕ)) (bytes more : List ℕ) → (same ≡ true → flag ≡ false) → cut ≤ length bytes
+    → mid ≡ append_known old (cut_to flag cut bytes) → new ≡ append_known mid (if same then more else [])
+    → new ≡ append_known old (cut_to flag cut (bytes ++ (if same then more else [])))
 ok_at true true cut old mid new bytes more kept within is sent = absurd (true≢false (kept refl))
 ok_at true false cut old mid new bytes more kept within is sent =
     sent ∙ ap (λ (m : Option (List ℕ)). append_known m []) is ∙ append_known_twice old (take cut bytes) []
@@ -36,7 +39,9 @@ ok_at true false cut old mid new bytes more kept within is sent =
 ok_at false same cut old mid new bytes more kept within is sent =
     sent ∙ ap (λ (m : Option (List ℕ)). append_known m (if same then more else [])) is ∙ append_known_twice old bytes (if same then more else [])
 
-gone_at : (flag same : Bool) (cut n : ℕ) (old mid new : Option (List ℕ)) (bytes more : List ℕ) → (same ≡ true → flag ≡ false) → cut ≤ length bytes → mid ≡ append_known old (cut_to flag cut bytes) → new ≡ append_known mid (take n (if same then more else [])) → new ≡ append_known old (cut_to (if same then true else flag) (if same then length bytes + n else cut) (bytes ++ (if same then more else [])))
+gone_at : (flag same : Bool) (cut n : ℕ) (old mid new : Option (List ℕ)) (bytes more : List ℕ) → (same ≡ true → flag ≡ false) → cut ≤ length bytes
+    → mid ≡ append_known old (cut_to flag cut bytes) → new ≡ append_known mid (take n (if same then more else []))
+    → new ≡ append_known old (cut_to (if same then true else flag) (if same then length bytes + n else cut) (bytes ++ (if same then more else [])))
 gone_at true true cut n old mid new bytes more kept within is sent = absurd (true≢false (kept refl))
 gone_at false true cut n old mid new bytes more kept within is sent =
     sent ∙ ap (λ (m : Option (List ℕ)). append_known m (take n more)) is ∙ append_known_twice old bytes (take n more)
@@ -44,7 +49,9 @@ gone_at false true cut n old mid new bytes more kept within is sent =
 gone_at flag false cut n old mid new bytes more kept within is sent =
     ok_at flag false cut old mid new bytes more kept within is (sent ∙ ap (append_known mid) (take-nil n))
 
-failed_at : (flag same : Bool) (cut n : ℕ) (old mid new : Option (List ℕ)) (bytes more : List ℕ) → (same ≡ true → flag ≡ false) → cut ≤ length bytes → n ≤ length (if same then more else []) → mid ≡ append_known old (cut_to flag cut bytes) → new ≡ append_known mid (take n (if same then more else [])) → AppendsPrefix old new (bytes ++ (if same then more else []))
+failed_at : (flag same : Bool) (cut n : ℕ) (old mid new : Option (List ℕ)) (bytes more : List ℕ) → (same ≡ true → flag ≡ false) → cut ≤ length bytes
+    → n ≤ length (if same then more else []) → mid ≡ append_known old (cut_to flag cut bytes) → new ≡ append_known mid (take n (if same then more else []))
+    → AppendsPrefix old new (bytes ++ (if same then more else []))
 failed_at true true cut n old mid new bytes more kept within few is sent = absurd (true≢false (kept refl))
 failed_at true false cut n old mid new bytes more kept within few is sent =
     (cut, omega (arith, length-append bytes []), ok_at true false cut old mid new bytes more kept within is (sent ∙ ap (append_known mid) (take-nil n)))
@@ -84,7 +91,8 @@ gone_had_at true flag same before lost = refl
 gone_had_at false flag true before lost = refl
 gone_had_at false flag false before lost = absurd (true≢false (sym (before lost)))
 
-gone_had : (l : Lane) (outs : List Message) (m : Message) (flag : Bool) → (flag ≡ true → has_for l outs ≡ true) → (if same_lane l m.0 then true else flag) ≡ true → has_for l (outs ++ m ∷ []) ≡ true
+gone_had : (l : Lane) (outs : List Message) (m : Message) (flag : Bool) → (flag ≡ true → has_for l outs ≡ true)
+    → (if same_lane l m.0 then true else flag) ≡ true → has_for l (outs ++ m ∷ []) ≡ true
 gone_had l outs m flag before lost =
     list_any-append (λ (x : Message). same_lane l x.0) outs (m ∷ []) ∙ gone_had_at (has_for l outs) flag (same_lane l m.0) before lost
 
@@ -100,7 +108,8 @@ none_stays None a b h = refl
 none_stays (Some xs) a b h = cc
 
 -- a message for a lost session is left out
-pub sent_skip : (start : Told) (mi : Option (List Input)) (ms : Option (List ℕ)) (mg : Lane → Option (List ℕ)) (ml : ℕ → ℕ) (outs : List Message) (m : Message) (lost : List Bool) → is_lost lost m.0 ≡ true → Sent start (told mi ms mg ml) outs lost → Sent start (told mi ms mg ml) (outs ++ m ∷ []) lost
+pub sent_skip : (start : Told) (mi : Option (List Input)) (ms : Option (List ℕ)) (mg : Lane → Option (List ℕ)) (ml : ℕ → ℕ) (outs : List Message) (m : Message) (lost : List Bool)
+    → is_lost lost m.0 ≡ true → Sent start (told mi ms mg ml) outs lost → Sent start (told mi ms mg ml) (outs ++ m ∷ []) lost
 sent_skip start mi ms mg ml outs m lost flag h =
     record {
       inputs = h.inputs;
@@ -121,7 +130,9 @@ sent_skip start mi ms mg ml outs m lost flag h =
     }
 
 -- a message was sent
-pub sent_ok : (start : Told) (mi ni : Option (List Input)) (ms ns : Option (List ℕ)) (mg ng : Lane → Option (List ℕ)) (ml nl : ℕ → ℕ) (outs : List Message) (m : Message) (lost : List Bool) → is_lost lost m.0 ≡ false → ni ≡ mi → ns ≡ append_known ms (line m.0 m.1) → ((l : Lane) → ng l ≡ append_known (mg l) (part l m.0 m.1)) → ((n : ℕ) → nl n ≡ ml n) → Sent start (told mi ms mg ml) outs lost → Sent start (told ni ns ng nl) (outs ++ m ∷ []) lost
+pub sent_ok : (start : Told) (mi ni : Option (List Input)) (ms ns : Option (List ℕ)) (mg ng : Lane → Option (List ℕ)) (ml nl : ℕ → ℕ) (outs : List Message) (m : Message) (lost : List Bool)
+    → is_lost lost m.0 ≡ false → ni ≡ mi → ns ≡ append_known ms (line m.0 m.1) → ((l : Lane) → ng l ≡ append_known (mg l) (part l m.0 m.1))
+    → ((n : ℕ) → nl n ≡ ml n) → Sent start (told mi ms mg ml) outs lost → Sent start (told ni ns ng nl) (outs ++ m ∷ []) lost
 sent_ok start mi ni ms ns mg ng ml nl outs m lost flag inputs sent got losses h =
     record {
       inputs = inputs ∙ h.inputs;
@@ -142,7 +153,8 @@ sent_ok start mi ni ms ns mg ng ml nl outs m lost flag inputs sent got losses h 
     }
 
 -- a flag more
-set_flag : (lost : List Bool) (k : ℕ) (l : Lane) → k < length lost → is_lost (slice_set lost k true) l ≡ (if same_lane l (Session k) then true else is_lost lost l)
+set_flag : (lost : List Bool) (k : ℕ) (l : Lane) → k < length lost
+    → is_lost (slice_set lost k true) l ≡ (if same_lane l (Session k) then true else is_lost lost l)
 set_flag lost k Guest below = refl
 set_flag lost k (Session n) below = go (n == k) refl
   where
@@ -151,17 +163,22 @@ set_flag lost k (Session n) below = go (n == k) refl
     go false h = get_or-set_other lost k n true false (eqb-false n k h)
 
 -- a count of losses rose, or is as before
-loss_at : (flag gone : Bool) (start mid now : ℕ) → (gone ≡ true → flag ≡ false) → risen flag start ≤ mid → Loses gone mid now → risen (if gone then true else flag) start ≤ now
+loss_at : (flag gone : Bool) (start mid now : ℕ) → (gone ≡ true → flag ≡ false) → risen flag start ≤ mid → Loses gone mid now
+    → risen (if gone then true else flag) start ≤ now
 loss_at true true start mid now kept before rose = absurd (true≢false (kept refl))
 loss_at false true start mid now kept before rose = omega (arith, rose.0, rose.1)
 loss_at flag false start mid now kept before rose = omega (arith, before, rose)
 
-gone_within : (same : Bool) (cut n : ℕ) (bytes more : List ℕ) → cut ≤ length bytes → n ≤ length (if same then more else []) → (if same then length bytes + n else cut) ≤ length (bytes ++ (if same then more else []))
+gone_within : (same : Bool) (cut n : ℕ) (bytes more : List ℕ) → cut ≤ length bytes → n ≤ length (if same then more else [])
+    → (if same then length bytes + n else cut) ≤ length (bytes ++ (if same then more else []))
 gone_within true cut n bytes more within few = omega (arith, length-append bytes more)
 gone_within false cut n bytes more within few = omega (arith, length-append bytes [])
 
 -- its session is gone
-pub sent_gone : (start : Told) (mi ni : Option (List Input)) (ms ns : Option (List ℕ)) (mg ng : Lane → Option (List ℕ)) (ml nl : ℕ → ℕ) (outs : List Message) (m : Message) (k : ℕ) (lost : List Bool) → is_lost lost m.0 ≡ false → m.0 ≡ Session k → k < SESSIONS → ni ≡ mi → (ms ≡ None) × (ns ≡ None) → ((l : Lane) → AppendsPrefix (mg l) (ng l) (part l m.0 m.1)) → ((n : ℕ) → Loses (n == k) (ml n) (nl n)) → Sent start (told mi ms mg ml) outs lost → Sent start (told ni ns ng nl) (outs ++ m ∷ []) (slice_set lost k true)
+pub sent_gone : (start : Told) (mi ni : Option (List Input)) (ms ns : Option (List ℕ)) (mg ng : Lane → Option (List ℕ)) (ml nl : ℕ → ℕ) (outs : List Message) (m : Message) (k : ℕ) (lost : List Bool)
+    → is_lost lost m.0 ≡ false → m.0 ≡ Session k → k < SESSIONS → ni ≡ mi → (ms ≡ None) × (ns ≡ None)
+    → ((l : Lane) → AppendsPrefix (mg l) (ng l) (part l m.0 m.1)) → ((n : ℕ) → Loses (n == k) (ml n) (nl n)) → Sent start (told mi ms mg ml) outs lost
+    → Sent start (told ni ns ng nl) (outs ++ m ∷ []) (slice_set lost k true)
 sent_gone start mi ni ms ns mg ng ml nl outs m k lost flag lane below inputs sent got losses h =
     record {
       inputs = inputs ∙ h.inputs;
@@ -195,7 +212,9 @@ risen_up true start now h = omega arith
 risen_up false start now h = h
 
 -- a message failed
-pub front_failed : (start : Told) (mi ni : Option (List Input)) (ms ns : Option (List ℕ)) (mg ng : Lane → Option (List ℕ)) (ml nl : ℕ → ℕ) (outs : List Message) (m : Message) (lost : List Bool) → is_lost lost m.0 ≡ false → ni ≡ mi → AppendsPrefix ms ns (line m.0 m.1) → ((l : Lane) → AppendsPrefix (mg l) (ng l) (part l m.0 m.1)) → ((n : ℕ) → nl n ≡ ml n) → Sent start (told mi ms mg ml) outs lost → SentFront start (told ni ns ng nl) (outs ++ m ∷ [])
+pub front_failed : (start : Told) (mi ni : Option (List Input)) (ms ns : Option (List ℕ)) (mg ng : Lane → Option (List ℕ)) (ml nl : ℕ → ℕ) (outs : List Message) (m : Message) (lost : List Bool)
+    → is_lost lost m.0 ≡ false → ni ≡ mi → AppendsPrefix ms ns (line m.0 m.1) → ((l : Lane) → AppendsPrefix (mg l) (ng l) (part l m.0 m.1))
+    → ((n : ℕ) → nl n ≡ ml n) → Sent start (told mi ms mg ml) outs lost → SentFront start (told ni ns ng nl) (outs ++ m ∷ [])
 front_failed start mi ni ms ns mg ng ml nl outs m lost flag inputs sent got losses h =
     record {
       inputs = inputs ∙ h.inputs;
@@ -208,7 +227,11 @@ front_failed start mi ni ms ns mg ng ml nl outs m lost flag inputs sent got loss
 
 -- What `send` answers, by its error.
 
-pub err_gone : (start : Told) (mi ni : Option (List Input)) (ms ns : Option (List ℕ)) (mg ng : Lane → Option (List ℕ)) (ml nl : ℕ → ℕ) (outs : List Message) (lane : Lane) (bytes text : List ℕ) (r : SendError) (s k : ℕ) (lost : List Bool) → r ≡ Gone s → k ≡ s → bytes ≡ text → is_lost lost lane ≡ false → IsLane lane → ni ≡ mi → Sends ms ns (line lane bytes) (Err r) → ((l : Lane) → PutsAll {T = Unit {0}} {E = SendError} (mg l) (ng l) (Err r) (part l lane bytes)) → GoneOnly lane (Err r) → ((t : ℕ) → Loses (is_gone (Err r) t) (ml t) (nl t)) → Sent start (told mi ms mg ml) outs lost → Sent start (told ni ns ng nl) (outs ++ (lane, text) ∷ []) (slice_set lost k true)
+pub err_gone : (start : Told) (mi ni : Option (List Input)) (ms ns : Option (List ℕ)) (mg ng : Lane → Option (List ℕ)) (ml nl : ℕ → ℕ) (outs : List Message) (lane : Lane) (bytes text : List ℕ) (r : SendError) (s k : ℕ) (lost : List Bool)
+    → r ≡ Gone s → k ≡ s → bytes ≡ text → is_lost lost lane ≡ false → IsLane lane → ni ≡ mi → Sends ms ns (line lane bytes) (Err r)
+    → ((l : Lane) → PutsAll {T = Unit {0}} {E = SendError} (mg l) (ng l) (Err r) (part l lane bytes)) → GoneOnly lane (Err r)
+    → ((t : ℕ) → Loses (is_gone (Err r) t) (ml t) (nl t)) → Sent start (told mi ms mg ml) outs lost
+    → Sent start (told ni ns ng nl) (outs ++ (lane, text) ∷ []) (slice_set lost k true)
 err_gone start mi ni ms ns mg ng ml nl outs lane bytes text (Gone j) s k lost is from same flag wide inputs sent got gone losses h =
     let j_is : j ≡ k = cc in
     let below : IsLane (Session j) = subst IsLane gone wide in
@@ -217,7 +240,10 @@ err_gone start mi ni ms ns mg ng ml nl outs lane bytes text (Gone j) s k lost is
     sent_gone start mi ni ms ns mg ng ml nl outs (lane, text) k lost flag to k_below inputs sent (λ l. rw same at (got l)) (λ n. rw j_is at (losses n)) h
 err_gone start mi ni ms ns mg ng ml nl outs lane bytes text Failed s k lost is from same flag wide inputs sent got gone losses h = cc
 
-pub err_failed : (start : Told) (mi ni : Option (List Input)) (ms ns : Option (List ℕ)) (mg ng : Lane → Option (List ℕ)) (ml nl : ℕ → ℕ) (outs : List Message) (lane : Lane) (bytes text : List ℕ) (r : SendError) (lost : List Bool) → r ≡ Failed → bytes ≡ text → is_lost lost lane ≡ false → ni ≡ mi → Sends ms ns (line lane bytes) (Err r) → ((l : Lane) → PutsAll {T = Unit {0}} {E = SendError} (mg l) (ng l) (Err r) (part l lane bytes)) → ((t : ℕ) → Loses (is_gone (Err r) t) (ml t) (nl t)) → Sent start (told mi ms mg ml) outs lost → SentFront start (told ni ns ng nl) (outs ++ (lane, text) ∷ [])
+pub err_failed : (start : Told) (mi ni : Option (List Input)) (ms ns : Option (List ℕ)) (mg ng : Lane → Option (List ℕ)) (ml nl : ℕ → ℕ) (outs : List Message) (lane : Lane) (bytes text : List ℕ) (r : SendError) (lost : List Bool)
+    → r ≡ Failed → bytes ≡ text → is_lost lost lane ≡ false → ni ≡ mi → Sends ms ns (line lane bytes) (Err r)
+    → ((l : Lane) → PutsAll {T = Unit {0}} {E = SendError} (mg l) (ng l) (Err r) (part l lane bytes)) → ((t : ℕ) → Loses (is_gone (Err r) t) (ml t) (nl t))
+    → Sent start (told mi ms mg ml) outs lost → SentFront start (told ni ns ng nl) (outs ++ (lane, text) ∷ [])
 err_failed start mi ni ms ns mg ng ml nl outs lane bytes text (Gone j) lost is same flag inputs sent got losses h = cc
 err_failed start mi ni ms ns mg ng ml nl outs lane bytes text Failed lost is same flag inputs sent got losses h =
     front_failed start mi ni ms ns mg ng ml nl outs (lane, text) lost flag inputs (rw same at sent) (λ l. rw same at (got l)) losses h
@@ -237,7 +263,8 @@ lane_not_lost (Session n) = none_lost n
 lane_not_lost Guest = refl
 
 -- nothing was sent yet
-pub sent_none : (i : Option (List Input)) (s : Option (List ℕ)) (g : Lane → Option (List ℕ)) (n : ℕ → ℕ) → Sent (told i s g n) (told i s g n) [] (replicate SESSIONS false)
+pub sent_none : (i : Option (List Input)) (s : Option (List ℕ)) (g : Lane → Option (List ℕ)) (n : ℕ → ℕ)
+    → Sent (told i s g n) (told i s g n) [] (replicate SESSIONS false)
 sent_none i s g n =
     record {
       inputs = refl;
@@ -274,6 +301,7 @@ lane_of_item outs i m h below is = subst (λ (x : Message). IsLane x.0) (sym is)
 pub one_further : (outs : List Message) (i : ℕ) (m : Message) → i < length outs → m ≡ slice_index_or outs i m → take (i + 1) outs ≡ take i outs ++ m ∷ []
 one_further outs i m below is = rw add-one (take-suc outs i m below ∙ ap (λ (x : Message). take i outs ++ x ∷ []) (sym is))
 
-pub front_at : (start new : Told) (outs : List Message) (i : ℕ) (m : Message) → i < length outs → m ≡ slice_index_or outs i m → SentFront start new (take i outs ++ m ∷ []) → SentFront start new outs
+pub front_at : (start new : Told) (outs : List Message) (i : ℕ) (m : Message) → i < length outs → m ≡ slice_index_or outs i m
+    → SentFront start new (take i outs ++ m ∷ []) → SentFront start new outs
 front_at start new outs i m below is h =
     subst (SentFront start new) (take-append-drop (i + 1) outs) (front_all start new (take (i + 1) outs) (drop (i + 1) outs) (subst (SentFront start new) (sym (one_further outs i m below is)) h))

@@ -1,6 +1,7 @@
 -- Steps keep the tree of the board sound.
 use Rattle.std.proofs.Common.{◌≡◌, ℕ, Bool, List, [], refl}
 use Rattle.qo_causes.specs.declared.inputs.Input.{Input}
+use Rattle.qo_model.proofs.CycleLemmas.{cycle_lem}
 use Rattle.qo_model.proofs.OpeningLemmas.{opening_sound}
 use Rattle.qo_model.proofs.TreeLemmas.{frame_lem}
 use Rattle.qo_model.specs.Board.{Board, Ring}
@@ -20,13 +21,16 @@ use Rattle.qo_sound_devices.proofs.DevicesLawLemmas.{devices_kept_lem}
 use Rattle.qo_sound_clocks.specs.ClockRuns.{SoundRun}
 use Rattle.qo_sound_clocks.proofs.RegisterLemmas.{registers_kept_lem}
 use Rattle.qo_machine.proofs.AddressLemmas.{asked-tree, polled-tree, refused-tree}
+use Rattle.qo_machine.proofs.BoardLemmas.{board_commands, opening_sound_board}
 use Rattle.qo_machine.proofs.ClocksLemmas.{opening_run, run_commands}
 use Rattle.qo_machine.proofs.DevicesLemmas.{devices_commands}
 use Rattle.qo_sound_clocks.proofs.KeepLemmas.{writes_keep_lem}
-use Rattle.qo_machine.proofs.KeepLemmas.{KeepsBoard, KeepsCommands, advanced-all, broken_keeps, keeps_commands, run_keeps, step_keeps}
+use Rattle.qo_machine.proofs.KeepLemmas.{any-rings, KeepsBoard, KeepsCommands, advanced-all, broken_keeps, keeps_commands, run_keeps, step_keeps}
 use Rattle.qo_machine.proofs.MachineLemmas.{in_at}
 use Rattle.qo_machine.proofs.SoundLemmas.{sound_by}
-use Rattle.qo_machine.specs.Laws.{KeptInRuns, SoundInRuns}
+use Rattle.qo_machine.specs.SoundBoard.{SoundBoard}
+use Rattle.qo_machine.specs.Laws.{HeldInRuns, KeptInRuns, SoundInRuns}
+use Rattle.qo_machine.specs.Runs.{state_after}
 use Rattle.qo_machine.specs.Machine.{Answers, BreaksOff, IsIn, Message, Seen, State, opening, state_at, step}
 
 -- the time and whether it goes on are no matter to the tree, nor are the rings
@@ -65,10 +69,10 @@ tree_kept =
       written = λ b at d reg value c there is h.
           written-all SoundTree b d reg value (λ registers e so. registers_kept_lem.tree b d registers h) (λ x rings q. ringed-tree x rings q)
           (λ x m on q. pulsed-tree x m q) c is;
-      ringed = λ b rings h. ringed-tree b rings h;
-      timed = λ b now on h. timed-tree b now h;
+      rings = any-rings SoundTree (λ b rings h. ringed-tree b rings h);
+      timed = λ b now on low h. timed-tree b now h;
       switched = λ b on h. switched-tree b on h;
-      held_so = λ b n is home h. sound_kept_lem.held_so b n h;
+      held_so = λ b n is home deep h. sound_kept_lem.held_so b n h;
       released_so = λ b n is held h. sound_kept_lem.released_so b n h;
       reset = λ b h. sound_kept_lem.reset b h;
     }
@@ -90,7 +94,7 @@ drained_commands =
     record {
       command = λ b r p. refl;
       attempt = λ b r i joined p. attempted-all IsDrained b r i joined p (λ t. p) (λ t. p);
-      advance = λ b ns p. advanced-all IsDrained b ns p p;
+      advance = λ b ns p. advanced-all IsDrained b ns p (λ low. p);
     }
 
 -- the groups of a sound board
@@ -106,10 +110,15 @@ sound_in_runs =
       tree = kept_in_runs SoundTree tree_commands (opening_sound.graph, opening_sound.aliases);
       devices = kept_in_runs SoundDevices devices_commands devices_kept_lem.opening;
       clocks = kept_in_runs SoundRun run_commands opening_run;
+      whole = kept_in_runs SoundBoard board_commands opening_sound_board;
     }
 
+pub held_in_runs : HeldInRuns
+held_in_runs turns n there apart = cycle_lem (state_after opening turns).board (sound_in_runs.tree.run turns).0 n there apart
+
 -- a step of a machine
-pub stepped_sound : (old new : Seen) (i : Input) (outs : List Message) → ((s : State) → IsIn s old → Answers s i outs new) → (s : State) → IsIn s old → IsSound s.board → (t : State) → IsIn t new → IsSound t.board
+pub stepped_sound : (old new : Seen) (i : Input) (outs : List Message) → ((s : State) → IsIn s old → Answers s i outs new) → (s : State) → IsIn s old
+    → IsSound s.board → (t : State) → IsIn t new → IsSound t.board
 stepped_sound old new i outs answered s at sound t there =
     let p = answered s at in
     sound_by (step s i p.0).state t new p.2 there

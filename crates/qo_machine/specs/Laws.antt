@@ -1,5 +1,5 @@
 -- What holds of the machine alone.
-use Rattle.std.specs.Prelude.{◌≡◌, ◌≢◌, ℕ, true, List, [], ◌∷◌, ◌++◌, Some, ⊤}
+use Rattle.std.specs.Prelude.{◌≡◌, ◌≢◌, ℕ, true, false, List, [], ◌∷◌, ◌++◌, Some, ⊤}
 use Rattle.std.specs.List.{AllByRecursion}
 use Rattle.qo_causes.specs.declared.hubs.Lane.TheVariants.{Session as to_session}
 use Rattle.qo_causes.specs.declared.inputs.Input.{Input}
@@ -7,10 +7,13 @@ use Rattle.qo_causes.specs.declared.inputs.Moment.{Moment}
 use Rattle.qo_causes.specs.declared.inputs.What.{What}
 use Rattle.qo_causes.specs.declared.inputs.What.TheVariants.{Open, Bytes, Shut, Guest}
 use Rattle.qo_framing.specs.declared.items.Item.{Item}
-use Rattle.qo_model.specs.Board.{Board}
+use Rattle.qo_model.specs.Board.{Board, is_live}
 use Rattle.qo_model.specs.FinalNotes.{FinalOnce, NotesInOrder}
+use Rattle.qo_model.specs.Holders.{HeldFrom}
+use Rattle.qo_model.specs.Paths.{attached}
 use Rattle.qo_sound.specs.Kept.{SoundTree}
 use Rattle.qo_sound_devices.specs.SoundDevices.{SoundDevices}
+use Rattle.qo_sound_bounds.specs.SoundHolds.{SoundHolds}
 use Rattle.qo_sound_clocks.specs.ClockRuns.{SoundRun}
 use Rattle.qo_sound_phases.specs.PhaseRuns.{SoundResets}
 use Rattle.qo_sound_phases.specs.Phases.{IsInTurn, phases_of, stage_of}
@@ -20,6 +23,7 @@ use Rattle.qo_sessions.specs.Acts.{act}
 use Rattle.qo_sessions.specs.declared.acts.SessionAct.{SessionAct}
 use Rattle.qo_sessions.specs.declared.acts.SessionAct.TheVariants.{Answer, Negotiated, Do}
 use Rattle.qo_machine.specs.Machine.{Choice, Message, State, item_step, mode_of, opening, session_of, step}
+use Rattle.qo_machine.specs.SoundBoard.{SoundBoard}
 use Rattle.qo_machine.specs.Runs.{Turn, outs_of, state_after}
 
 -- only one session changes, and only it is sent anything
@@ -93,10 +97,23 @@ pub record SoundInRuns : Type 0 where
   pub tree : KeptInRuns SoundTree
   pub devices : KeptInRuns SoundDevices
   pub clocks : KeptInRuns SoundRun
+  -- and the whole of what a sound board is
+  pub whole : KeptInRuns SoundBoard
 
--- over every run the phases of resets that are noted of each birth are in turn: the beginning of enter, hold, exit, repeated; and who is attached and may be held in reset is held by its notes where a hold is on it or above it, and nowhere else
+-- the phases are sound, and no object that a reset reaches has more holds on it and above it than may be
+abbrev pub SoundHeld : Board → Type 0
+SoundHeld b = SoundResets b × SoundHolds b
+
+-- over every run the phases of resets that are noted of each birth are in turn: the beginning of enter, hold, exit, repeated; and who is attached and may be held in reset is held by its notes where a hold is on it or above it, and nowhere else; and there are not too many holds
 pub record PhasesInRuns : Type 0 where
   pub kept : KeptInRuns SoundResets
+  pub few : KeptInRuns SoundHeld
   pub in_turn : (turns : List Turn) (n : ℕ) → IsInTurn (phases_of n (state_after opening turns).board.notes)
   pub in_reset : (turns : List Turn) (n : ℕ) → may_reset (state_after opening turns).board n ≡ true
       → stage_of n (state_after opening turns).board.notes ≡ Some (stage_now (state_after opening turns).board n)
+
+-- over every run, what is there and is not attached is held from a cycle of child slots and strong links, or from an attached object
+abbrev pub HeldInRuns : Type 0
+HeldInRuns =
+    (turns : List Turn) (n : ℕ) → is_live (state_after opening turns).board n ≡ true → attached (state_after opening turns).board n ≡ false
+    → HeldFrom (state_after opening turns).board n

@@ -3,3 +3,4 @@ pub mod Machine
 pub mod Runs
 pub mod Sending
 pub mod Serving
+pub mod SoundBoard

@@ -1,5 +1,5 @@
 -- The machine: its state, and what one input does.
-use Rattle.std.specs.Prelude.{◌≡◌, ℕ, zero, suc, nat_lt, ◌==◌, Bool, true, false, if◌then◌else◌, List, [], ◌∷◌, ◌++◌, map, filter, Option, Result, Ok, Err, replicate, slice_set, slice_index_or}
+use Rattle.std.specs.Prelude.{◌≡◌, ℕ, zero, suc, nat_lt, Bool, true, false, if◌then◌else◌, List, [], ◌∷◌, ◌++◌, map, filter, Option, Result, Ok, Err, replicate, slice_set, slice_index_or}
 use Rattle.std.specs.List.{flat_map}
 use Rattle.serde_json.specs.Data.{Data}
 use Rattle.qo_values.specs.declared.codes.Code.{Code}
@@ -22,7 +22,6 @@ use Rattle.qo_model.specs.Opening.{opening_board}
 use Rattle.qo_replies.specs.Events.{event_line}
 use Rattle.qo_replies.specs.Replies.{error_reply, greeting, return_reply}
 use Rattle.qo_replies.specs.declared.events.Event.{Event}
-use Rattle.qo_requests.specs.declared.requests.Request.{Request}
 use Rattle.qo_sessions.specs.Acts.{act}
 use Rattle.qo_sessions.specs.Sessions.{begun, closed, fed, in_mode}
 use Rattle.qo_sessions.specs.Sessions as sessions

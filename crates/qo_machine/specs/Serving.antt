@@ -30,7 +30,8 @@ CommandServed at n s request id outs m =
 -- by some choices these things, each by its step, send this and lead there, and then further ones go on from there
 abbrev pub ServesBy : {X : Type 0} → (Choice → State → X → Made) → State → List X → List Message → State → Type 0
 ServesBy {X = X} f s xs outs t =
-    (choices : List Choice) × ((further : List X) (rest : List Choice) → serve_by f (xs ++ further) s (choices ++ rest) ≡ behind outs (serve_by f further t rest))
+    (choices : List Choice) × ((further : List X) (rest : List Choice)
+    → serve_by f (xs ++ further) s (choices ++ rest) ≡ behind outs (serve_by f further t rest))
 
 -- by some choices they send this, and a machine is then in the state that they lead to
 abbrev pub ServesToBy : {X : Type 0} → (Choice → State → X → Made) → State → List X → List Message → Seen → Type 0

@@ -1,7 +1,7 @@
 //! What holds of the machine alone: who is touched by what, that pieces of bytes may be cut anywhere, and
 //! what holds of objects over whole runs.
 
-ghost use Rattle.qo_machine.specs.Laws.{ChunksAreFree, FinalOnceInRuns, LanesAreApart, PhasesInRuns, SoundInRuns};
+ghost use Rattle.qo_machine.specs.Laws.{ChunksAreFree, FinalOnceInRuns, HeldInRuns, LanesAreApart, PhasesInRuns, SoundInRuns};
 
 /// Opening, shutting, and each item of a session that is no command leave the board, the guest line
 /// and all other sessions as they are, and send to that session alone.
@@ -26,14 +26,24 @@ pub fn law_final_once()
 /// removals and of notices; and with these what clocks go by, their periods and numbers, and the moments
 /// of timers. So all these are sound over every run from the opening: what
 /// `qo_sound_devices::law_devices_say` says of devices, and `qo_sound_clocks::law_clocks_say` of clocks,
-/// is so of each board of it.
+/// is so of each board of it. With all these the whole of what a sound board is (`SoundBoard`): each object
+/// is shaped as its type says, each clock goes by the one for it, rings and what devices claim of rings,
+/// memory and addresses are sound, and the limits on objects and time are kept.
 pub fn law_sound()
     ensures { SoundInRuns }
 {}
 
 /// Over every run from the opening the phases of resets that are noted of each birth are the beginning of
 /// enter, hold, exit, repeated. A machine, a bus or a device that is attached is held by its notes where a
-/// hold is on it or above it, and nowhere else.
+/// hold is on it or above it, and nowhere else; and it has no more holds on it and above it than one more
+/// than may be before a hold.
 pub fn law_phases()
     ensures { PhasesInRuns }
+{}
+
+/// Over every run an object that is there and not attached is held, through child slots and strong links,
+/// from an object on a cycle of such, or from an attached object: nothing else outlives its place in the
+/// tree.
+pub fn law_cycle()
+    ensures { HeldInRuns }
 {}

@@ -103,6 +103,7 @@ impl Machine {
     ghost use Rattle.qo_machine.specs.Machine.{Answers, BreaksOff, IsIn, State, behind_command, beside, finished, input_step, mode_of, opening, session_of, state_at, with_line, with_session};
     ghost use Rattle.qo_machine.specs.Runs.{close_lost};
     ghost use Rattle.qo_machine.specs.Sending.{AreToLanes};
+    ghost use Rattle.qo_machine.specs.SoundBoard.{SoundBoard};
     ghost use Rattle.qo_lane.specs.Hearing.{heard};
     ghost use Rattle.qo_lane.specs.Lines.{lines_of};
     ghost use Rattle.qo_machine.specs.Serving.{Came, CameTo, moved};
@@ -112,6 +113,7 @@ impl Machine {
         ensures state { IfOk result (λ m. IsIn opening m × (m.spent ≡ false)) }
         ensures sound { IfOk result (λ m. (s : State) → IsIn s m → IsSound s.board) }
         ensures kept { IfOk result (λ m. (s : State) → IsIn s m → SoundRun s.board) }
+        ensures whole { IfOk result (λ m. (s : State) → IsIn s m → SoundBoard s.board) }
     {
         Machine::start_counting::<Brand>(alloc, Blank::new(1))
     }
@@ -147,7 +149,8 @@ impl Machine {
     /// memory runs out otherwise, and from then on always: the run has then ended, and all sessions
     /// are closed. The board is then one that a front of the input's items leads to; it stays sound.
     /// Behind each step devices stand in their places, the lists that name devices name those that do,
-    /// clocks with their numbers are sound, and no timer is ahead of the virtual time.
+    /// clocks with their numbers are sound, and no timer is ahead of the virtual time. A machine that has
+    /// come from `start` by steps stands at a board that is sound as a whole.
     pub fn step(&mut self, alloc: Global, input: &Input) -> Result<Outs, AllocError>
         ensures answered { (s : State) → IsIn s self.old → IfOk result (λ outs. Answers s input.now outs self.new) }
         ensures lanes { IfOk result AreToLanes }
@@ -158,6 +161,7 @@ impl Machine {
         ensures breaks { (s : State) → IsIn s self.old → OnErr result (BreaksOff s input.now self.new) }
         ensures sound { (s : State) → IsIn s self.old → IsSound s.board → (t : State) → IsIn t self.new → IsSound t.board }
         ensures kept { (t : State) → IsIn t self.new → SoundRun t.board }
+        ensures whole { (s : State) → IsIn s self.old → SoundBoard s.board → (t : State) → IsIn t self.new → SoundBoard t.board }
     {
         self.board.shown();
         if self.spent {

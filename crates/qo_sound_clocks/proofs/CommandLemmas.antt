@@ -42,7 +42,7 @@ use Rattle.qo_sound_clocks.proofs.StayLemmas.{KeptByFewer}
 
 -- no property of a clock is written by `qom-set` yet
 
-abbrev MaySet : TypeId → List ℕ → Bool
+abbrev pub MaySet : TypeId → List ℕ → Bool
 MaySet t name = option_map_or (λ (p : Property). may_set p.mark) (row_of_property t name) false
 
 record NeverSet (t : TypeId) : Type 0 where
@@ -70,7 +70,7 @@ never-set MemoryBackend = record { period = refl; mul = refl; div = refl; source
 never-set MemoryBackendRam = record { period = refl; mul = refl; div = refl; source = refl }
 never-set Tag = record { period = refl; mul = refl; div = refl; source = refl }
 
-set-other : (t : TypeId) (name : List ℕ) → MaySet t name ≡ true → OtherName name
+pub set-other : (t : TypeId) (name : List ℕ) → MaySet t name ≡ true → OtherName name
 set-other t name e =
     record {
       period = apart (codes "period") n.period;
@@ -96,12 +96,12 @@ slice-of [] i d low = absurd (omega (arith, low))
 slice-of (x ∷ xs) zero d low = refl
 slice-of (x ∷ xs) (suc i) d low = slice-of xs i d (omega (arith, low))
 
-record SlotFound (name : List ℕ) (slots : Slots) (i : ℕ) : Type 0 where
-  entry : List ℕ × Slot
-  at : slice_get slots i ≡ Some entry
-  passes : bytes_eq entry.0 name ≡ true
+pub record SlotFound (name : List ℕ) (slots : Slots) (i : ℕ) : Type 0 where
+  pub entry : List ℕ × Slot
+  pub at : slice_get slots i ≡ Some entry
+  pub passes : bytes_eq entry.0 name ≡ true
 
-position-slot : (name : List ℕ) (slots : Slots) (i : ℕ) → position (λ (s : List ℕ × Slot). bytes_eq s.0 name) slots ≡ Some i → SlotFound name slots i
+pub position-slot : (name : List ℕ) (slots : Slots) (i : ℕ) → position (λ (s : List ℕ × Slot). bytes_eq s.0 name) slots ≡ Some i → SlotFound name slots i
 position-slot name slots i e =
     let d : List ℕ × Slot = ([], plain val.Nothing) in
     let h : (i < length slots) × (bytes_eq (get_or slots i d).0 name ≡ true) × ((k : ℕ) → k < i → bytes_eq (get_or slots k d).0 name ≡ false) =
@@ -116,7 +116,7 @@ set-fewer b n i v x at other =
 
 -- a link that is written keeps its name
 
-kept-slot : (i : ℕ) (xs : Slots) (own : List ℕ) (s left : Slot) → slice_get xs i ≡ Some (own, s) → emptied s ≡ Some left
+pub kept-slot : (i : ℕ) (xs : Slots) (own : List ℕ) (s left : Slot) → slice_get xs i ≡ Some (own, s) → emptied s ≡ Some left
     → slice_get (without_hold i xs) i ≡ Some (own, left)
 kept-slot i [] own s left e stays = cc
 kept-slot zero (x ∷ xs) own s left e stays =
@@ -124,7 +124,7 @@ kept-slot zero (x ∷ xs) own s left e stays =
     ∙ ap (λ (o : Option Slot). slice_get (elim o as (λ _. Slots) [ None ↦ xs | Some l ↦ (own, l) ∷ xs ]) 0) stays
 kept-slot (suc i) (x ∷ xs) own s left e stays = kept-slot i xs own s left e stays
 
-dropped-at : (c : Board) (n i : ℕ) (x : List ℕ × Slot) → slice_get (slots_at c n) i ≡ Some x → (r : Record) → record_of (drop_slot c n i) n ≡ Some r
+pub dropped-at : (c : Board) (n i : ℕ) (x : List ℕ × Slot) → slice_get (slots_at c n) i ≡ Some x → (r : Record) → record_of (drop_slot c n i) n ≡ Some r
     → without_hold i (slots_at c n) ≡ r.slots
 dropped-at c n i x at r e = go (record_of c n) refl
   where

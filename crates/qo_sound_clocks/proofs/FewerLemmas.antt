@@ -276,12 +276,12 @@ module _ (b : Board) where
         go None e rest = rw (lost_buses, e) h
         go (Some m) e rest = rw (lost_buses, e) (rest (lost_bus f d m c) (fewer-lost_bus d m c h))
 
-    fewer-taken_by : (d : ℕ) (c : Board) → Fewer b c → Fewer b (taken_by f d c)
+    pub fewer-taken_by : (d : ℕ) (c : Board) → Fewer b c → Fewer b (taken_by f d c)
     fewer-taken_by d c h =
         fewer-left_parent d (left_bus d (lost_buses f (length (slots_at c d)) d c))
         (fewer-left_bus d (lost_buses f (length (slots_at c d)) d c) (fewer-lost_buses (length (slots_at c d)) d c h))
 
-  fewer-apart : (depth d : ℕ) (c : Board) → Fewer b c → Fewer b (apart_within depth d c)
+  pub fewer-apart : (depth d : ℕ) (c : Board) → Fewer b c → Fewer b (apart_within depth d c)
   unfolding apart_within
   fewer-apart zero d c h = h
   fewer-apart (suc depth) d c h =

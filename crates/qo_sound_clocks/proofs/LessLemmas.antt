@@ -215,7 +215,7 @@ or-either : (t u : Bool) → (t || u) ≡ true → (t ≡ true) ⊎ (u ≡ true)
 or-either true u e = inl refl
 or-either false u e = inr e
 
-or-less : (t u v w : Bool) → (t ≡ true → v ≡ true) → (u ≡ true → w ≡ true) → (t || u) ≡ true → (v || w) ≡ true
+pub or-less : (t u v w : Bool) → (t ≡ true → v ≡ true) → (u ≡ true → w ≡ true) → (t || u) ≡ true → (v || w) ≡ true
 or-less true u v w first rest e = rw (first refl) refl
 or-less false u v w first rest e = or-right v w (rest e)
 

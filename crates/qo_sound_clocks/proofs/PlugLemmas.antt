@@ -103,7 +103,7 @@ blank-fresh Tag = record { own = refl; mul = refl; div = refl; source = λ s. re
 
 -- the rows of a device name nothing that is read of clocks
 
-abbrev RowQuiet : Property → Type 0
+abbrev pub RowQuiet : Property → Type 0
 RowQuiet p =
     elim p.kind as (λ _. Type 0) [
       | row.Plain type first ↦ is_read (property_name p.name) ≡ false
@@ -111,7 +111,7 @@ RowQuiet p =
       | _ ↦ ⊤
     ]
 
-rows-quiet : (t : TypeId) → is_a t (codes "device") ≡ true → AllByRecursion RowQuiet (slots_of t)
+pub rows-quiet : (t : TypeId) → is_a t (codes "device") ≡ true → AllByRecursion RowQuiet (slots_of t)
 unfolding types
 rows-quiet Object e = search rules
 rows-quiet Container e = search rules
@@ -247,7 +247,7 @@ calm-fitted c source i xs h =
 
 -- what the slots of an edited object are
 
-edited-at : (P : Slots → Type 0) (x : ℕ) (change : Record → Record) → ((r : Record) → (change r).birth ≡ r.birth) → (c : Board) (m : ℕ)
+pub edited-at : (P : Slots → Type 0) (x : ℕ) (change : Record → Record) → ((r : Record) → (change r).birth ≡ r.birth) → (c : Board) (m : ℕ)
     → ((m == x) ≡ false → P (slots_at c m)) → ((r : Record) → record_of c m ≡ Some r → (m == x) ≡ true → P (change r).slots) → P []
     → P (slots_at (edit x change c) m)
 edited-at P x change same_birth c m other own none = rw (found-edited x change same_birth m c.records) (go (record_of c m) refl)
@@ -390,7 +390,7 @@ module _ (b : Board) (source : ℕ) where
       r : Record
       r = fresh_record (c.born + 1) t
 
-  growing-first : ((m : ℕ) → b.born < m → record_of b m ≡ None) → (t : TypeId) → Growing (with_new (fresh n t) b)
+  pub growing-first : ((m : ℕ) → b.born < m → record_of b m ≡ None) → (t : TypeId) → Growing (with_new (fresh n t) b)
   growing-first absent t =
       record {
         born = omega arith;
@@ -436,7 +436,7 @@ module _ (b : Board) (source : ℕ) where
           growing-add_own name (child (c.born + 1)) (tt, omega (arith, low)) (with_new (fresh_record (c.born + 1) k) c) (growing-new k c h)
       go (row.Alias owner of) e = aliases (property_name of) (owned c n (property_name owner))
 
-  growing-rows : (t : TypeId) (ps : List Property) → AllByRecursion RowQuiet ps → (c : Board) → Growing c → Growing (rows_made n t ps c)
+  pub growing-rows : (t : TypeId) (ps : List Property) → AllByRecursion RowQuiet ps → (c : Board) → Growing c → Growing (rows_made n t ps c)
   growing-rows t [] quiet c h = h
   growing-rows t (p ∷ ps) quiet c h = growing-rows t ps quiet.1 (row_made n t (property_name p.name) p.kind c) (growing-row t p quiet.0 c h)
 
@@ -471,7 +471,7 @@ module _ (b : Board) (source : ℕ) where
   growing-addressed None c h = h
   growing-addressed (Some r) c h = growing-set (codes "addr") (val.Uint r.at) c h
 
-  growing-stood : (a : Wanted) (spot : Spot) (c : Board) → Growing c → Growing (stood b n a spot c)
+  pub growing-stood : (a : Wanted) (spot : Spot) (c : Board) → Growing c → Growing (stood b n a spot c)
   growing-stood a spot c h =
       let c1 : Board = add (parent_for a.id) (name_for b a.id) (child n) c in
       let c2 : Board = joined b n a spot c in

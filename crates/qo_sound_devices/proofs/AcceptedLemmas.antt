@@ -24,7 +24,7 @@ use Rattle.qo_sound_devices.proofs.MadeLemmas.{Goal}
 use Rattle.qo_sound_devices.proofs.PlugLemmas.{Accepted, depth-is, id-new}
 use Rattle.qo_sound_devices.proofs.WhereLemmas.{attached-owner, machine-no_device}
 
-stage-none : (stage : ℕ) (o : Option Code) → at_stage stage o ≡ None → o ≡ None
+pub stage-none : (stage : ℕ) (o : Option Code) → at_stage stage o ≡ None → o ≡ None
 stage-none stage None e = refl
 stage-none stage (Some code) e = absurd (let clash : Some (stage, code) ≡ None = e in cc)
 

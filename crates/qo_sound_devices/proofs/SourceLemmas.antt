@@ -157,15 +157,15 @@ dims-source n m c e = go (place_from (is_named (codes "source")) 0 (slots_at c n
 
 -- other objects stay where one is edited
 module _ (x : ℕ) where
-  edit-other : (n : ℕ) (change : Record → Record) → ((r : Record) → (change r).birth ≡ r.birth) → (x == n) ≡ false → (c : Board)
+  pub edit-other : (n : ℕ) (change : Record → Record) → ((r : Record) → (change r).birth ≡ r.birth) → (x == n) ≡ false → (c : Board)
       → record_of (edit n change c) x ≡ record_of c x
   edit-other n change same_birth apart c = found-edited n change same_birth x c.records ∙ other-record n x change c refl apart (record_of c x) refl
 
-  add-other : (n : ℕ) (name : List ℕ) (s : Slot) → (x == n) ≡ false → (c : Board) → record_of (add n name s c) x ≡ record_of c x
+  pub add-other : (n : ℕ) (name : List ℕ) (s : Slot) → (x == n) ≡ false → (c : Board) → record_of (add n name s c) x ≡ record_of c x
   unfolding add
   add-other n name s apart c = edit-other n (with_added name s) (λ r. refl) apart c
 
-  set-other : (n : ℕ) (name : List ℕ) (v : Val) → (x == n) ≡ false → (c : Board) → record_of (set_named n name v c) x ≡ record_of c x
+  pub set-other : (n : ℕ) (name : List ℕ) (v : Val) → (x == n) ≡ false → (c : Board) → record_of (set_named n name v c) x ≡ record_of c x
   unfolding set
   set-other n name v apart c = go (place_from (is_named name) 0 (slots_at c n)) refl
     where
@@ -173,18 +173,18 @@ module _ (x : ℕ) where
       go None e = rw (set_named, e) refl
       go (Some i) e = rw (set_named, e) (edit-other n (with_changed (with_val v) i) (λ r. refl) apart c)
 
-  link-other : (n : ℕ) (name : List ℕ) (m : ℕ) → (x == n) ≡ false → (c : Board) → record_of (link_named n name m c) x ≡ record_of c x
+  pub link-other : (n : ℕ) (name : List ℕ) (m : ℕ) → (x == n) ≡ false → (c : Board) → record_of (link_named n name m c) x ≡ record_of c x
   link-other n name m apart c = go (place_from (is_named name) 0 (slots_at c n)) refl
     where
       go : (o : Option ℕ) → place_from (is_named name) 0 (slots_at c n) ≡ o → record_of (link_named n name m c) x ≡ record_of c x
       go None e = rw (link_named, e) refl
       go (Some i) e = rw (link_named, e) (edit-other n (with_changed (fitted c m) i) (λ r. refl) apart c)
 
-  addressed-other : (n : ℕ) (range : Option Range) → (x == n) ≡ false → (c : Board) → record_of (addressed_at n range c) x ≡ record_of c x
+  pub addressed-other : (n : ℕ) (range : Option Range) → (x == n) ≡ false → (c : Board) → record_of (addressed_at n range c) x ≡ record_of c x
   addressed-other n None apart c = refl
   addressed-other n (Some r) apart c = set-other n (codes "addr") (val.Uint r.at) apart c
 
-  stood-other : (b : Board) (n : ℕ) (a : Wanted) (spot : Spot) (c : Board) → (x == n) ≡ false → (x == spot.bus) ≡ false → (x == parent_for a.id) ≡ false
+  pub stood-other : (b : Board) (n : ℕ) (a : Wanted) (spot : Spot) (c : Board) → (x == n) ≡ false → (x == spot.bus) ≡ false → (x == parent_for a.id) ≡ false
       → record_of (stood b n a spot c) x ≡ record_of c x
   stood-other b n a spot c apart bus parent =
       let c1 : Board = add (parent_for a.id) (name_for b a.id) (child n) c in

@@ -230,7 +230,7 @@ mild-val v = record { children = children; kids = kids; strongs = strongs }
     strongs (weak t target) = refl
     strongs (alias m property) = refl
 
-mild-unseen : IsMild unseen
+pub mild-unseen : IsMild unseen
 mild-unseen = record { children = children; kids = kids; strongs = strongs }
   where
     children : (s : List ℕ × Slot) → child_entry (s.0, unseen s.1) ≡ child_entry s

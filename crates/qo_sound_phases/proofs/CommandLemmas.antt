@@ -271,7 +271,7 @@ module _ (b : Board) (change : Change) (d : SoundDevices b) where
   kc : Placed (changed b change)
   kc = placed (changed b change) (devices_kept_lem.change b change d)
 
-  keeps : Keeps d.places.0 b (changed b change)
+  pub keeps : Keeps d.places.0 b (changed b change)
   keeps = changed-keeps d.places.0 b change (rest-from_sound b d.tree) d.places.1
 
   kin : KinAt b (changed b change)
@@ -283,7 +283,7 @@ module _ (b : Board) (change : Change) (d : SoundDevices b) where
   at-top : SameAt b (changed b change) MACHINE_BIRTH
   at-top = fixed-changed b d change MACHINE_BIRTH (at_machine refl) (child-live c kc.firm 1 MACHINE_BIRTH kc.places.machine)
 
-  frame : Frame b (changed b change)
+  pub frame : Frame b (changed b change)
   frame =
       record {
         kind = kin.kind;

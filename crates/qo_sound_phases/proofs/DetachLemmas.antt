@@ -106,7 +106,7 @@ module _ (b : Board) (d : ℕ) (s : SoundDevices b) (e : stands b d ≡ true) wh
   abbrev z : Board
   z = detach b d
 
-  kp : Placed (pin b d)
+  pub kp : Placed (pin b d)
   unfolding pin
   kp =
       record {
@@ -269,7 +269,7 @@ module _ (b : Board) (d : ℕ) (s : SoundDevices b) (e : stands b d ≡ true) wh
               let at : q ≡ x = one-parent (pin b d) kp q x m (owns-listed m (child_entries (pin b d) q) (owned q m o)) mine in
               none (subst (λ (n : ℕ). stands (detach b d) n ≡ true) at t)
 
-  unstood : (y : ℕ) → Under (pin b d) d y → stands (detach b d) y ≡ true → ⊥
+  pub unstood : (y : ℕ) → Under (pin b d) d y → stands (detach b d) y ≡ true → ⊥
   unstood y v = none-stands y (turned (pin b d) d d y itself v) v
 
   -- what stands keeps its children, and so does the machine
@@ -287,7 +287,7 @@ module _ (b : Board) (d : ℕ) (s : SoundDevices b) (e : stands b d ≡ true) wh
       ∙ dims.children MACHINE_BIRTH
       ∙ pin-children MACHINE_BIRTH
 
-  frame : Frame b (detach b d)
+  pub frame : Frame b (detach b d)
   frame =
       record {
         kind = λ x was live. kinds x live ∙ pin-kind x;
@@ -330,7 +330,7 @@ module _ (b : Board) (d : ℕ) (s : SoundDevices b) (e : stands b d ≡ true) wh
       (λ k. absurd (none (reach-above (detach b d) kz n o (post-reach (detach b d) kz n o (frame-post b (detach b d) kb kz frame n o i ∙ k)) i)))
       (λ k. k)
 
-  counts : (o : ℕ) → IsReached (detach b d) o → count (detach b d) o ≡ count b o
+  pub counts : (o : ℕ) → IsReached (detach b d) o → count (detach b d) o ≡ count b o
   counts o i =
       counted-same (λ r. among (post (detach b d) r) o) (λ r. among (post b r) o) (λ r. frame-post b (detach b d) kb kz frame r o i) (detach b d).holds
       ∙ ap (count_by (λ r. among (post b r) o)) still.holds
@@ -342,7 +342,7 @@ module _ (b : Board) (d : ℕ) (s : SoundDevices b) (e : stands b d ≡ true) wh
   lit-before : (x : ℕ) → stands b x ≡ true → is_realized (pin b d) x ≡ true
   lit-before x k = pin-realized x ∙ kb.places.each x k refl
 
-  lit-stands : (x : ℕ) → stands b x ≡ true → is_realized (unrealize (pin b d) d) x ≡ true → stands (detach b d) x ≡ true
+  pub lit-stands : (x : ℕ) → stands b x ≡ true → is_realized (unrealize (pin b d) d) x ≡ true → stands (detach b d) x ≡ true
   lit-stands x k lit = detach-lit s.places.0 b d rest s.places.1 e x k lit
 
   -- a bus of the machine is a bus still, for it is there

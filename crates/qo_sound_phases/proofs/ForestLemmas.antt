@@ -68,7 +68,7 @@ module _ (next : ℕ → List ℕ) where
     tree = record { none_round = λ n l. let rank : h.rank n < h.rank n = leads-rank l in omega (arith, rank); lives = h.there }
 
     -- of two objects above a third one is above the other
-    above : (r s o : ℕ) → Reach next r o → Reach next s o → {A : Type 0} → (Reach next r s → A) → (Reach next s r → A) → A
+    pub above : (r s o : ℕ) → Reach next r o → Reach next s o → {A : Type 0} → (Reach next r s → A) → (Reach next s r → A) → A
     above r s o itself k f g = g k
     above r s o (further i e) itself f g = f (further i e)
     above r s o (further {p} i e) (further {p = q} j d) f g =

@@ -25,13 +25,13 @@ use Rattle.qo_sound_phases.proofs.ShapeLemmas.{counted-same, PhasedSo, phased-so
 use Rattle.qo_sound_phases.proofs.StageLemmas.{noted-in, noted-out}
 
 -- how many holds there are with one more, and with one less
-abbrev one_if : Bool → ℕ
+abbrev pub one_if : Bool → ℕ
 one_if t = cond {A = ℕ} t 1 0
 
-count-more : (f : ℕ → Bool) (r : ℕ) (rs : List ℕ) → count_by f (rs ++ r ∷ []) ≡ count_by f rs + one_if (f r)
+pub count-more : (f : ℕ → Bool) (r : ℕ) (rs : List ℕ) → count_by f (rs ++ r ∷ []) ≡ count_by f rs + one_if (f r)
 count-more f r rs = omega (arith, sum_by-append (λ x. one_if (f x)) rs (r ∷ []), sum_by-cons (λ x. one_if (f x)) r [])
 
-count-less : (f : ℕ → Bool) (r : ℕ) (rs : List ℕ) → among rs r ≡ true → count_by f (without_first r rs) + one_if (f r) ≡ count_by f rs
+pub count-less : (f : ℕ → Bool) (r : ℕ) (rs : List ℕ) → among rs r ≡ true → count_by f (without_first r rs) + one_if (f r) ≡ count_by f rs
 count-less f r [] e = clash-back e
 count-less f r (x ∷ rs) e = go (x == r) refl (count-less f r rs)
   where
@@ -80,17 +80,17 @@ now-held : (b : Board) (o : ℕ) → is_out b o ≡ false → stage_now b o ≡ 
 now-held b o e = rw e refl
 
 -- what holds count on boards of one shape
-count-shape : (b c : Board) → SameShape b c → (o : ℕ) → count c o ≡ count_by (λ r. among (post b r) o) c.holds
+pub count-shape : (b c : Board) → SameShape b c → (o : ℕ) → count c o ≡ count_by (λ r. among (post b r) o) c.holds
 count-shape b c h o = counted-same (λ r. among (post c r) o) (λ r. among (post b r) o) (λ r. ap (λ (xs : List ℕ). among xs o) (shape-post b c h r)) c.holds
 
 -- a hold
-record HeldSo (b : Board) (r : ℕ) (c : Board) : Type 0 where
-  shape : SameShape b c
-  holds : c.holds ≡ b.holds ++ r ∷ []
+pub record HeldSo (b : Board) (r : ℕ) (c : Board) : Type 0 where
+  pub shape : SameShape b c
+  pub holds : c.holds ≡ b.holds ++ r ∷ []
   born : c.born ≡ b.born
   notes : c.notes ≡ (b.notes ++ map (did Enter) (filter (is_out b) (post b r))) ++ map (did Hold) (filter (is_out b) (post b r))
 
-held-so : (b : Board) (r : ℕ) → HeldSo b r (held b r)
+pub held-so : (b : Board) (r : ℕ) → HeldSo b r (held b r)
 unfolding held
 held-so b r =
     let os : List ℕ = filter (is_out b) (post b r) in
@@ -180,16 +180,16 @@ pub hold-phases : (b : Board) (r : ℕ) → SoundDevices b → IsReached b r →
 hold-phases b r d reached h = held-phases b r (placed b d) reached h (held b r) (held-so b r)
 
 -- a hold less
-record ReleasedSo (b : Board) (r : ℕ) (c : Board) : Type 0 where
-  less : Board
-  same : SameShape b less
-  fewer : less.holds ≡ without_first r b.holds
-  shape : SameShape less c
-  holds : c.holds ≡ less.holds
+pub record ReleasedSo (b : Board) (r : ℕ) (c : Board) : Type 0 where
+  pub less : Board
+  pub same : SameShape b less
+  pub fewer : less.holds ≡ without_first r b.holds
+  pub shape : SameShape less c
+  pub holds : c.holds ≡ less.holds
   born : c.born ≡ b.born
   notes : c.notes ≡ b.notes ++ map (did Exit) (filter (is_out less) (post less r))
 
-released-so : (b : Board) (r : ℕ) → ReleasedSo b r (released b r)
+pub released-so : (b : Board) (r : ℕ) → ReleasedSo b r (released b r)
 unfolding released
 released-so b r =
     let less : Board = record b { holds = without_first r b.holds } in

@@ -52,7 +52,7 @@ use Rattle.qo_sound_phases.proofs.ShapeLemmas.{PhasedSo, phased-so, SameShape, s
 use Rattle.qo_sound_phases.proofs.StageLemmas.{noted-in, noted-out}
 
 -- acts, one after another, are phases as far as their notes go
-same-acts : (act : Act) (ns : List ℕ) (b : Board) → acted_all act ns b ≡ phased act ns b
+pub same-acts : (act : Act) (ns : List ℕ) (b : Board) → acted_all act ns b ≡ phased act ns b
 same-acts act [] b = refl
 same-acts act (n ∷ ns) b = same-acts act ns _
 
@@ -115,13 +115,13 @@ live-shape b c h x =
     sym (is_some-map (λ (r : Record). r.kind) (record_of c x)) ∙ ap is_some (h.kind x) ∙ is_some-map (λ (r : Record). r.kind) (record_of b x)
 
 -- what is told, and the phases of a device that is added
-record StartedSo (f : Board) (n : ℕ) (c : Board) : Type 0 where
-  shape : SameShape f c
+pub record StartedSo (f : Board) (n : ℕ) (c : Board) : Type 0 where
+  pub shape : SameShape f c
   holds : c.holds ≡ f.holds
   born : c.born ≡ f.born
   notes : c.notes ≡ ((f.notes ++ map (did Enter) (post f n)) ++ map (did Hold) (post f n)) ++ map (did Exit) (filter (is_out f) (post f n))
 
-told-so : (n : ℕ) (f : Board) → StartedSo f n (told_plug n (plugged f n))
+pub told-so : (n : ℕ) (f : Board) → StartedSo f n (told_plug n (plugged f n))
 unfolding plugged
 told-so n f =
     let os : List ℕ = post f n in
@@ -168,7 +168,7 @@ module _ (b : Board) (kb : Placed b) (h : SoundPhases b) (n on slot : ℕ) (id :
   its-live x s = stands-live b kb.firm x s
 
   -- seen from behind, what was there stands as before
-  back : Frame c b
+  pub back : Frame c b
   back =
       record {
         kind = λ x e g. sym (kind-alike b c x (j.body x g));
@@ -198,14 +198,14 @@ module _ (b : Board) (kb : Placed b) (h : SoundPhases b) (n on slot : ℕ) (id :
           bridges p (old-stands kb.depth b n on slot id t c j kb.firm kb.places p s)
           (ap (list_any (owns_it o)) (j.children p (its-live p s) (shelf-apart p s)) ∙ w)
 
-  new-there : stands c n ≡ true
+  pub new-there : stands c n ≡ true
   new-there = new-stands kb.depth b n on slot id t c j kb.firm kb.places
 
   old-listed : (p o : ℕ) → stands b p ≡ true → owns c p o ≡ true → owns b p o ≡ true
   old-listed p o s w = sym (ap (list_any (owns_it o)) (j.children p (its-live p s) (shelf-apart p s))) ∙ w
 
   -- what is below the device is new
-  below-new : (o : ℕ) → Reach (below c) n o → is_live b o ≡ false
+  pub below-new : (o : ℕ) → Reach (below c) n o → is_live b o ≡ false
   below-new o itself = j.absent
   below-new o (further {p} k e) = decide (is_live b o) (λ live. clash (sym live ∙ dead (below-new p k))) (λ dead. dead)
     where
@@ -232,7 +232,7 @@ module _ (b : Board) (kb : Placed b) (h : SoundPhases b) (n on slot : ℕ) (id :
               (λ new. j.heirs o (owns-listed o (child_entries c n) (subst (λ (x : ℕ). owns c x o ≡ true) new w)))
 
   -- who is reached and is not below the device was reached
-  reached-old : (o : ℕ) → IsReached c o → among (post c n) o ≡ false → IsReached b o
+  pub reached-old : (o : ℕ) → IsReached c o → among (post c n) o ≡ false → IsReached b o
   reached-old o (machine at) apart = machine at
   reached-old o (device s) apart = stands-cases o s device (λ new. clash (sym (reach-post c kc n o (subst (Reach (below c) n) (sym new) itself)) ∙ apart))
   reached-old o (bus is (machines u)) apart =

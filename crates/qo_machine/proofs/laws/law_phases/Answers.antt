@@ -1,4 +1,4 @@
-use Rattle.qo_machine.proofs.PhaseLemmas.{phases_in_runs}
+use Rattle.qo_machine.proofs.HoldLemmas.{phases_in_runs}
 use Rattle.qo_machine.proofs.laws.law_phases.Goals as goal
 
 pub returns : goal.returns

@@ -31,7 +31,9 @@ returns-in-Err-clause-later g c = g.met.H.Hub.after _ _ _ c.loop.invariant.later
 pub loop-preserved : goal.loop-preserved
 loop-preserved g c =
     record {
-      gone = going_on _ _ _ c.loop.machine c.turn.new.machine c.loop.counter (g.H.Hub.bad c.loop.hub) c.loop.invariant.gone c.in_default-turn.ensures.meets (sym c.if-ended.ensures);
+      gone =
+          going_on _ _ _ c.loop.machine c.turn.new.machine c.loop.counter (g.H.Hub.bad c.loop.hub) c.loop.invariant.gone c.in_default-turn.ensures.meets
+          (sym c.if-ended.ensures);
       bad = c.turn.ensures.bad ∙ c.loop.invariant.bad;
       asked = c.turn.ensures.asked ∙ c.loop.invariant.asked;
       next_count = c.in_default-turn.ensures.next_quiet (λ e. cc) ∙ c.loop.invariant.next_count;

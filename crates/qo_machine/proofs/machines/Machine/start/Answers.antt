@@ -1,4 +1,5 @@
 -- The board at first is the opening one, which is sound.
+use Rattle.qo_machine.proofs.BoardLemmas.{started_board}
 use Rattle.qo_machine.proofs.ClocksLemmas.{started_run}
 use Rattle.qo_machine.proofs.SoundLemmas.{started_sound}
 use Rattle.qo_machine.proofs.machines.Machine.start.Goals as goal
@@ -8,3 +9,6 @@ returns-clause-sound c = started_sound c.start_counting.result c.start_counting.
 
 pub returns-clause-kept : goal.returns-clause-kept
 returns-clause-kept c = started_run c.start_counting.result c.start_counting.ensures.state
+
+pub returns-clause-whole : goal.returns-clause-whole
+returns-clause-whole c = started_board c.start_counting.result c.start_counting.ensures.state

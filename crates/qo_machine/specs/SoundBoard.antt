@@ -1,0 +1,20 @@
+-- When the board of a machine is sound: what holds of it between two inputs.
+use Rattle.qo_model.specs.Board.{Board}
+use Rattle.qo_sound_bounds.specs.SoundBounds.{SoundBounds}
+use Rattle.qo_sound_bounds.specs.SoundSources.{SoundSources}
+use Rattle.qo_sound_claims.specs.SoundBackends.{SoundBackends}
+use Rattle.qo_sound_clocks.specs.ClockRuns.{SoundRun}
+use Rattle.qo_sound_shapes.specs.SoundShape.{SoundShape}
+
+-- all groups of facts but those on the events, none of which waits, and on the notes of phases
+pub record SoundBoard (b : Board) : Type 0 where
+  -- the tree is sound, devices stand in their places, and the lists that name devices name those; and so are the clocks with their numbers, and the moments of timers
+  pub run : SoundRun b
+  -- each object is shaped as its type says
+  pub shape : SoundShape b
+  -- the clock of each device goes by the one for its bus, and no other clock goes by one
+  pub sources : SoundSources b
+  -- the rings are sound, and so is what devices claim of rings, memory and addresses: what they name is there, and no two name the same
+  pub backends : SoundBackends b
+  -- there are no more objects than there may be, and it is no later than it may be
+  pub bounds : SoundBounds b

@@ -1,0 +1,372 @@
+-- The law: what keeps the holds of a board sound.
+use Rattle.std.proofs.Common.{◌≡◌, refl, ap, sym, subst, ◌∙◌, ℕ, zero, suc, ◌+◌, ◌≤◌, Bool, true, false, ◌==◌, eqb, List, [], ◌∷◌, ◌++◌, length, Option, Some, None, is_some, Ok, arith}
+use Rattle.std.specs.Prelude.{count_by, nat_lt}
+use Rattle.std.specs.List.{AllByRecursion, list_any}
+use Rattle.std.proofs.lemmas.Bool.{eqb-true}
+use Rattle.std.proofs.lemmas.Bool.Decides.{nat_tests}
+use Rattle.std.proofs.lemmas.List.Sums.{sum_by-cons}
+use Rattle.qo_values.specs.Registers.{Registers}
+use Rattle.qo_values.specs.declared.births.TheConstants.{MACHINE_BIRTH}
+use Rattle.qo_values.specs.declared.kinds.Act.{Act}
+use Rattle.qo_values.specs.declared.kinds.TypeId.{TypeId}
+use Rattle.qo_values.specs.declared.properties.Val.TheVariants as val
+use Rattle.qo_model.specs.Board.{Board, is_live, slots_at}
+use Rattle.qo_model.specs.Changes.{set}
+use Rattle.qo_model.specs.ClockChanges.{clock_scaled, clock_set}
+use Rattle.qo_model.specs.Clocks.{acted}
+use Rattle.qo_model.specs.Depth.{among}
+use Rattle.qo_model.specs.FinalNotesRuns.{Change, changed}
+use Rattle.qo_model.specs.Hotplug.{all_completed, asked, asked_of, completed, device_at, refused, reset_whole}
+use Rattle.qo_model.specs.Objects.{place_from, with_attempt}
+use Rattle.qo_model.specs.Opening.{opening_board}
+use Rattle.qo_model.specs.Paths.{attached, births}
+use Rattle.qo_model.specs.Plug.{Wanted, cut_attempt, notice_barred, plug, plug_attempt, spot_of, with_plugged}
+use Rattle.qo_model.specs.Release.{without_first}
+use Rattle.qo_model.specs.Reset.{below, count, held, is_deep, post, pulse, released}
+use Rattle.qo_model.specs.Unplug.{detach, first_of, is_named, set_named}
+use Rattle.qo_model.proofs.StaysLemmas.{changed-stays}
+use Rattle.qo_sound.proofs.DevicesStayLemmas.{devices_stay_lem}
+use Rattle.qo_sound.proofs.RecordLemmas.{all-imply}
+use Rattle.qo_sound.proofs.ViewLemmas.{rest-from_sound}
+use Rattle.qo_sound_devices.specs.SoundDevices.{SoundDevices}
+use Rattle.qo_sound_devices.specs.SoundLists.{IsOn}
+use Rattle.qo_sound_devices.specs.SoundPlaces.{stands}
+use Rattle.qo_sound_devices.proofs.DevicesLawLemmas.{devices_kept_lem}
+use Rattle.qo_sound_devices.proofs.JoinedLemmas.{done, Joined}
+use Rattle.qo_sound_devices.proofs.LowLemmas.{stands-dimmed}
+use Rattle.qo_sound_devices.proofs.PlacesLemmas.{kind-alike}
+use Rattle.qo_sound_devices.proofs.PlugLemmas.{Accepted, behind-plug}
+use Rattle.qo_sound_devices.proofs.PluggedLemmas.{accepted-joined}
+use Rattle.qo_sound_devices.proofs.ResetLemmas.{detached-below, first-on}
+use Rattle.qo_sound_devices.proofs.UnrealizeLemmas.{Dims, dims-acted, dims-none, dims-set, dims-then}
+use Rattle.qo_sound_clocks.specs.RegistersKept.{registers_set, with_registers}
+use Rattle.qo_sound_clocks.proofs.KeepLemmas.{writes_keep_lem}
+use Rattle.qo_sound_clocks.proofs.StepsLemmas.{kept-scaled, kept-set, KeepsNumbers}
+use Rattle.qo_sound_phases.specs.PhaseRuns.{SoundResets}
+use Rattle.qo_sound_phases.specs.SoundPhases.{IsReached, bus}
+use Rattle.qo_sound_phases.proofs.BelowLemmas.{forest, kid-leads, Placed, placed, post-reach, reach-post}
+use Rattle.qo_sound_phases.proofs.CommandLemmas.{frame}
+use Rattle.qo_sound_phases.proofs.DetachLemmas as detaching
+use Rattle.qo_sound_phases.proofs.ForestLemmas.{above, before, Reach}
+use Rattle.qo_sound_phases.proofs.FrameLemmas.{Frame, frame-count, frame-reached}
+use Rattle.qo_sound_phases.proofs.HoldLemmas.{count-less, count-more, count-shape, held-so, HeldSo, one_if, released-so, ReleasedSo}
+use Rattle.qo_sound_phases.proofs.ListLemmas.{among-right, clash, clash-back, decide, one-among}
+use Rattle.qo_sound_phases.proofs.PlugLemmas.{back, below-new, new-there, reached-old}
+use Rattle.qo_sound_phases.proofs.ReachedLemmas.{reached-live, shape-reached}
+use Rattle.qo_sound_phases.proofs.ShapeLemmas.{counted-same, SameShape, shape-acted, shape-back, shape-count, shape-edit, shape-post, shape-records, shape-then}
+use Rattle.qo_sound_bounds.specs.HoldsKept.{HoldsKeptLaw}
+use Rattle.qo_sound_bounds.specs.SoundHolds.{SoundHolds}
+use Rattle.qo_sound_bounds.proofs.FeedLemmas.{added-placed}
+
+-- boards of one shape with the same holds
+
+shape-holds : (b c : Board) → SameShape b c → c.holds ≡ b.holds → SoundHolds b → SoundHolds c
+shape-holds b c shape holds h n i =
+    subst (λ (k : ℕ). k ≤ 49) (sym (shape-count b c shape holds n)) (h n (shape-reached c b (shape-back b c shape) n i))
+
+beside-holds : (b c : Board) → c.records ≡ b.records → c.holds ≡ b.holds → SoundHolds b → SoundHolds c
+beside-holds b c records holds h = shape-holds b c (shape-records b c records) holds h
+
+acted-holds : (act : Act) (n period : ℕ) (b : Board) → SoundHolds b → SoundHolds (acted act n period b)
+unfolding acted
+acted-holds act n period b h = shape-holds b (acted act n period b) (shape-acted act n period b) refl h
+
+-- a hold
+
+deep-none : (b : Board) (n : ℕ) → is_deep b n ≡ false → (o : ℕ) → among (post b n) o ≡ true → count b o ≤ 48
+deep-none b n e o i = go (post b n) e i
+  where
+    go : (os : List ℕ) → list_any (λ x. nat_lt 48 (count b x)) os ≡ false → among os o ≡ true → count b o ≤ 48
+    go [] f j = clash-back j
+    go (x ∷ os) f j =
+        decide (nat_lt 48 (count b x)) (λ p. clash (rw p at f))
+        (λ p.
+        decide (eqb o x)
+        (λ q. subst (λ (y : ℕ). count b y ≤ 48) (sym (eqb-true o x q)) (grind (arith, nat_tests, p)))
+        (λ q. go os (rw p at f) (rw q at j)))
+
+held-holds : (b : Board) (n : ℕ) → is_deep b n ≡ false → SoundHolds b → SoundHolds (held b n)
+held-holds b n e h o i =
+    decide (among (post b n) o)
+    (λ p.
+    let one : one_if (among (post b n) o) ≡ 1 = ap one_if p in
+    let few : count b o ≤ 48 = deep-none b n e o p in
+    omega (arith, counted, one, few))
+    (λ p.
+    let none : one_if (among (post b n) o) ≡ 0 = ap one_if p in
+    let few : count b o ≤ 49 = h o (shape-reached (held b n) b (shape-back b (held b n) s.shape) o i) in
+    omega (arith, counted, none, few))
+  where
+    s : HeldSo b n (held b n)
+    s = held-so b n
+
+    counted : count (held b n) o ≡ count b o + one_if (among (post b n) o)
+    counted =
+        count-shape b (held b n) s.shape o
+        ∙ ap (count_by (λ x. among (post b x) o)) s.holds
+        ∙ count-more (λ x. among (post b x) o) n b.holds
+
+-- a hold less
+
+fewer-counted : (f : ℕ → Bool) (n : ℕ) (rs : List ℕ) → count_by f (without_first n rs) ≤ count_by f rs
+fewer-counted f n [] = omega arith
+fewer-counted f n (x ∷ rs) = go (x == n) refl (fewer-counted f n rs)
+  where
+    go : (t : Bool) → (x == n) ≡ t → count_by f (without_first n rs) ≤ count_by f rs → count_by f (without_first n (x ∷ rs)) ≤ count_by f (x ∷ rs)
+    go true p rest = rw p (omega (arith, sum_by-cons (λ y. one_if (f y)) x rs))
+    go false p rest =
+        rw p (omega (arith, rest, sum_by-cons (λ y. one_if (f y)) x rs, sum_by-cons (λ y. one_if (f y)) x (without_first n rs)))
+
+-- what is counted behind it
+released-count : (b : Board) (n o : ℕ) → count (released b n) o ≡ count_by (λ x. among (post b x) o) (without_first n b.holds)
+released-count b n o =
+    count-shape s.less (released b n) s.shape o
+    ∙ counted-same (λ x. among (post s.less x) o) (λ x. among (post b x) o) (λ x. ap (λ (os : List ℕ). among os o) (shape-post b s.less s.same x))
+    (released b n).holds
+    ∙ ap (count_by (λ x. among (post b x) o)) (s.holds ∙ s.fewer)
+  where
+    s : ReleasedSo b n (released b n)
+    s = released-so b n
+
+released-shape : (b : Board) (n : ℕ) → SameShape b (released b n)
+released-shape b n =
+    let s : ReleasedSo b n (released b n) = released-so b n in
+    shape-then b s.less (released b n) s.same s.shape
+
+released-holds : (b : Board) (n : ℕ) → SoundHolds b → SoundHolds (released b n)
+released-holds b n h o i =
+    let few : count b o ≤ 49 = h o (shape-reached (released b n) b (shape-back b (released b n) (released-shape b n)) o i) in
+    omega (arith, released-count b n o, fewer-counted (λ x. among (post b x) o) n b.holds, few)
+
+-- both: as many holds as before
+pulse-count : (b : Board) (n o : ℕ) → count (pulse b n) o ≡ count b o
+unfolding pulse
+pulse-count b n o =
+    let s : HeldSo b n (held b n) = held-so b n in
+    let f : ℕ → Bool = λ x. among (post b x) o in
+    released-count (held b n) n o
+    ∙ counted-same (λ x. among (post (held b n) x) o) f (λ x. ap (λ (os : List ℕ). among os o) (shape-post b (held b n) s.shape x))
+    (without_first n (held b n).holds)
+    ∙ ap (λ (hs : List ℕ). count_by f (without_first n hs)) s.holds
+    ∙ (let less : count_by f (without_first n (b.holds ++ n ∷ [])) + one_if (f n) ≡ count_by f (b.holds ++ n ∷ []) =
+    count-less f n (b.holds ++ n ∷ []) (among-right n b.holds (n ∷ []) (one-among n)) in
+    let more : count_by f (b.holds ++ n ∷ []) ≡ count_by f b.holds + one_if (f n) = count-more f n b.holds in
+    omega (arith, less, more))
+
+pulse-holds : (b : Board) (n : ℕ) → SoundHolds b → SoundHolds (pulse b n)
+unfolding pulse
+pulse-holds b n h o i =
+    let shape : SameShape b (released (held b n) n) =
+    shape-then b (held b n) (released (held b n) n) (held-so b n).shape (released-shape (held b n) n) in
+    subst (λ (k : ℕ). k ≤ 49) (sym (pulse-count b n o)) (h o (shape-reached (released (held b n) n) b (shape-back b (released (held b n) n) shape) o i))
+
+-- removals that are asked for
+
+asked_of-holds : (b : Board) (d : ℕ) → SoundHolds b → SoundHolds (asked_of b d).board
+asked_of-holds b d h =
+    decide (attached b d)
+    (λ e. decide (among b.pending d) (λ f. rw (asked_of, e, f) h)
+    (λ f. decide (is_some (notice_barred b)) (λ g. rw (asked_of, e, f, g) h) (λ g. rw (asked_of, e, f, g) (beside-holds b _ refl refl h))))
+    (λ e. rw (asked_of, e) h)
+
+asked-holds : (b : Board) (id : List ℕ) → SoundHolds b → SoundHolds (asked b id).board
+asked-holds b id h = go (device_at b id) refl
+  where
+    go : (o : Option ℕ) → device_at b id ≡ o → SoundHolds (asked b id).board
+    go None e = rw (asked, e) h
+    go (Some d) e = rw (asked, e) (asked_of-holds b d h)
+
+-- where what a reset reaches is as before
+
+frame-holds : (b c : Board) → Placed b → Placed c → Frame b c → c.holds ≡ b.holds → SoundHolds b → SoundHolds c
+frame-holds b c kb kc f holds h o i = subst (λ (k : ℕ). k ≤ 49) (sym (frame-count b c kb kc f o i holds)) (h o (frame-reached b c kb kc f o i))
+
+changed-holds : (b : Board) (change : Change) → SoundDevices b → SoundHolds b → SoundHolds (changed b change)
+changed-holds b change d h =
+    frame-holds b (changed b change) (placed b d) (placed (changed b change) (devices_kept_lem.change b change d)) (frame b change d)
+    (changed-stays b change).holds h
+
+-- writes of clocks
+record Written (b c : Board) : Type 0 where
+  dims : Dims b c
+  holds : c.holds ≡ b.holds
+
+written-acts : (b : Board) (act : Act) (n period : ℕ) (c : Board) → Written b c → Written b (acted act n period c)
+unfolding acted
+written-acts b act n period c h =
+    record { dims = dims-then b c (acted act n period c) h.dims (dims-acted act n period c); holds = h.holds }
+
+written-numbers : (b : Board) → KeepsNumbers (Written b)
+unfolding set
+written-numbers b name no_slot no_mark n v c h = go (place_from (is_named name) 0 (slots_at c n)) refl
+  where
+    dims : Dims b (set_named n name (val.Uint v) c)
+    dims = dims-then b c (set_named n name (val.Uint v) c) h.dims (dims-set n name (val.Uint v) no_slot no_mark c)
+
+    go : (o : Option ℕ) → place_from (is_named name) 0 (slots_at c n) ≡ o → Written b (set_named n name (val.Uint v) c)
+    go None e = record { dims = dims; holds = rw (set_named, e) h.holds }
+    go (Some i) e = record { dims = dims; holds = rw (set_named, e) h.holds }
+
+written-holds : (b c : Board) → SoundDevices b → SoundDevices c → Written b c → SoundHolds b → SoundHolds c
+written-holds b c d g w h =
+    frame-holds b c (placed b d) (placed c g)
+    (record {
+      kind = λ x was live. kind-alike b c x (w.dims.dimmed.body x);
+      stood = λ x s. sym (stands-dimmed b c w.dims.dimmed x) ∙ s;
+      bus = λ x s. w.dims.dimmed.bus x;
+      children = λ x s. w.dims.dimmed.children x;
+      machine = w.dims.dimmed.children MACHINE_BIRTH;
+    })
+    w.holds h
+
+set-holds : (b d : Board) (c period : ℕ) → clock_set b c period ≡ Ok d → SoundDevices b → SoundHolds b → SoundHolds d
+set-holds b d c period e s h =
+    written-holds b d s (writes_keep_lem.set_devices b d c period e s)
+    (kept-set (Written b) (written-acts b) (written-numbers b) b d c period e (record { dims = dims-none b; holds = refl })) h
+
+scaled-holds : (b d : Board) (c mul div : ℕ) → clock_scaled b c mul div ≡ Ok d → SoundDevices b → SoundHolds b → SoundHolds d
+scaled-holds b d c mul div e s h =
+    written-holds b d s (writes_keep_lem.scaled_devices b d c mul div e s)
+    (kept-scaled (Written b) (written-acts b) (written-numbers b) b d c mul div e (record { dims = dims-none b; holds = refl })) h
+
+-- a device that is added: what is below it has no more holds above it than its bus
+
+more-counted : (f g : ℕ → Bool) (rs : List ℕ) → AllByRecursion (λ r. f r ≡ true → g r ≡ true) rs → count_by f rs ≤ count_by g rs
+more-counted f g [] h = omega arith
+more-counted f g (r ∷ rs) h =
+    decide (f r)
+    (λ p.
+    let one : one_if (g r) ≡ 1 = ap one_if (h.0 p) in
+    let also : one_if (f r) ≡ 1 = ap one_if p in
+    omega (arith, one, also, more-counted f g rs h.1, sum_by-cons (λ y. one_if (f y)) r rs, sum_by-cons (λ y. one_if (g y)) r rs))
+    (λ p.
+    let none : one_if (f r) ≡ 0 = ap one_if p in
+    omega (arith, none, more-counted f g rs h.1, sum_by-cons (λ y. one_if (f y)) r rs, sum_by-cons (λ y. one_if (g y)) r rs))
+
+module _ (b : Board) (a : Wanted) (w : SoundResets b) (h : SoundHolds b) (t : TypeId) (at : ℕ) (k : Accepted b t at a) where
+  abbrev c : Board
+  c = with_plugged b t a (spot_of b t at a.props)
+
+  abbrev n : ℕ
+  n = b.born + 1
+
+  abbrev kb : Placed b
+  kb = record { depth = w.devices.places.0; places = w.devices.places.1; firm = (rest-from_sound b w.devices.tree).used.firm }
+
+  j : Joined kb.depth b (b.born + 1) at (spot_of b t at a.props).slot a.id t (done b at (spot_of b t at a.props).slot a.id)
+      (with_plugged b t a (spot_of b t at a.props))
+  j = accepted-joined w.devices.places.0 b a (rest-from_sound b w.devices.tree) w.devices.places.1 t at k
+
+  kc : Placed (with_plugged b t a (spot_of b t at a.props))
+  kc = added-placed b a w.devices t at k
+
+  holds : (with_plugged b t a (spot_of b t at a.props)).holds ≡ b.holds
+  holds = (devices_stay_lem.added b t a (spot_of b t at a.props)).holds
+
+  -- who was reached has as many
+  old-count : (o : ℕ) → IsReached b o → count (with_plugged b t a (spot_of b t at a.props)) o ≡ count b o
+  old-count o i =
+      sym (frame-count c b kc kb (back b kb w.phases n at (spot_of b t at a.props).slot a.id t c kc j) o i (sym holds))
+
+  stood : stands (with_plugged b t a (spot_of b t at a.props)) (b.born + 1) ≡ true
+  stood = new-there b kb w.phases n at (spot_of b t at a.props).slot a.id t c kc j
+
+  -- a hold above what is below the device is above its bus
+  over-bus : (o : ℕ) → among (post (with_plugged b t a (spot_of b t at a.props)) (b.born + 1)) o ≡ true → (r : ℕ) → IsReached b r
+      → among (post (with_plugged b t a (spot_of b t at a.props)) r) o ≡ true → among (post (with_plugged b t a (spot_of b t at a.props)) r) at ≡ true
+  over-bus o e r i q =
+      above (below c) (births c) (forest c kc) r n o (post-reach c kc r o q) (post-reach c kc n o e) high low
+    where
+      there : is_live b r ≡ true
+      there = reached-live b kb r i
+
+      low : Reach (below c) n r → among (post c r) at ≡ true
+      low v = clash (sym there ∙ below-new b kb w.phases n at (spot_of b t at a.props).slot a.id t c kc j r v)
+
+      apart : eqb r n ≡ false
+      apart = decide (eqb r n) (λ p. clash (sym there ∙ ap (is_live b) (eqb-true r n p) ∙ j.absent)) (λ p. p)
+
+      high : Reach (below c) r n → among (post c r) at ≡ true
+      high v = reach-post c kc r at (before (below c) (births c) (forest c kc) r at n v (kid-leads c kc n at stood j.on) apart)
+
+  accepted-holds : SoundHolds (with_plugged b t a (spot_of b t at a.props))
+  accepted-holds o i = decide (among (post c n) o) below-it other
+    where
+      other : among (post c n) o ≡ false → count c o ≤ 49
+      other e =
+          let was : IsReached b o = reached-old b kb w.phases n at (spot_of b t at a.props).slot a.id t c kc j o i e in
+          let same : count c o ≡ count b o = old-count o was in
+          let few : count b o ≤ 49 = h o was in
+          omega (arith, same, few)
+
+      below-it : among (post c n) o ≡ true → count c o ≤ 49
+      below-it e =
+          let its : IsReached b at = bus j.is_bus j.owner in
+          let same : count c at ≡ count b at = old-count at its in
+          let few : count b at ≤ 49 = h at its in
+          let less : count c o ≤ count c at =
+          more-counted (λ r. among (post c r) o) (λ r. among (post c r) at) c.holds
+          (subst (AllByRecursion (λ r. among (post c r) o ≡ true → among (post c r) at ≡ true)) (sym holds)
+          (all-imply (IsReached b) (λ r. among (post c r) o ≡ true → among (post c r) at ≡ true) (λ r v. over-bus o e r v) b.holds w.phases.holds)) in
+          omega (arith, less, same, few)
+
+plug-holds : (b : Board) (a : Wanted) → SoundResets b → SoundHolds b → SoundHolds (plug b a).board
+plug-holds b a w h =
+    behind-plug SoundHolds b a h (λ t bus stage. beside-holds b (plug_attempt b t bus stage) refl refl h)
+    (λ t bus k. accepted-holds b a w h t bus k)
+
+-- a device that is detached, and the reset of the whole board
+
+detach-holds : (b : Board) (d : ℕ) → SoundDevices b → stands b d ≡ true → SoundHolds b → SoundHolds (detach b d)
+detach-holds b d s e h o i =
+    let same : count (detach b d) o ≡ count b o = detaching.counts b d s e o i in
+    let few : count b o ≤ 49 =
+    h o
+    (frame-reached b (detach b d) (placed b s) (placed (detach b d) (devices_kept_lem.detached b d s e)) (detaching.frame b d s e) o i) in
+    omega (arith, same, few)
+
+completed-holds : (times : ℕ) (b : Board) → SoundDevices b → SoundHolds b → SoundHolds (all_completed times b)
+completed-holds zero b d h = h
+completed-holds (suc times) b d h = go (first_of b.pending) refl (completed-holds times)
+  where
+    go : (o : Option ℕ) → first_of b.pending ≡ o → ((c : Board) → SoundDevices c → SoundHolds c → SoundHolds (all_completed times c))
+        → SoundHolds (all_completed (suc times) b)
+    go None e rest = rw (all_completed, e) h
+    go (Some n) e rest =
+        let on : IsOn b n = first-on (IsOn b) b.pending d.lists.pending n e in
+        rw (all_completed, e) (rest (completed b n) (detached-below b n d on.0) (detach-holds b n d on.0 h))
+
+reset-holds : (b : Board) → SoundDevices b → SoundHolds b → SoundHolds (reset_whole b)
+unfolding reset_whole
+reset-holds b d h = pulse-holds (all_completed (length b.pending) b) MACHINE_BIRTH (completed-holds (length b.pending) b d h)
+
+opening-holds : SoundHolds opening_board
+unfolding opening_board
+opening-holds o i = omega arith
+
+registers-holds : (b : Board) (n : ℕ) (registers : Registers) → SoundHolds b → SoundHolds (registers_set b n registers)
+registers-holds b n registers h =
+    shape-holds b (registers_set b n registers) (shape-edit n (with_registers registers) (λ r. refl) (λ r. refl) (λ r. refl) b) refl h
+
+pub holds_kept_lem : HoldsKeptLaw
+holds_kept_lem =
+    record {
+      opening = opening-holds;
+      beside = beside-holds;
+      attempt = λ b t h. beside-holds b (with_attempt b t) refl refl h;
+      given_up = λ b t bus stage h. beside-holds b (plug_attempt b t bus stage) refl refl h;
+      cut = λ b t i joined h. beside-holds b (cut_attempt b t i joined) refl refl h;
+      asked_for = asked-holds;
+      refused_by = λ b d h. beside-holds b (refused b d) refl refl h;
+      acts = acted-holds;
+      held_so = held-holds;
+      released_so = released-holds;
+      pulsed = pulse-holds;
+      set = set-holds;
+      scaled = scaled-holds;
+      registers = registers-holds;
+      change = changed-holds;
+      plugged = plug-holds;
+      detached = detach-holds;
+      reset = reset-holds;
+    }

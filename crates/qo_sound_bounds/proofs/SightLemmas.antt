@@ -1,0 +1,615 @@
+-- What stays seen: an object that is still there goes by what it went by, where that is still there too.
+use Rattle.std.proofs.Common.{◌≡◌, refl, ap, sym, subst, ◌∙◌, ℕ, zero, suc, ◌+◌, Bool, true, false, not, ◌&&◌, ◌||◌, ◌==◌, List, [], ◌∷◌, ◌++◌, length, map, position, remove, slice_get, Option, Some, None, is_some, option_map, option_and_then, codes, nat_eq, Result, Ok, Err}
+use Rattle.std.specs.List.{list_any}
+use Rattle.std.specs.Option.{option_map_or, option_or}
+use Rattle.std.specs.Str.{bytes_eq}
+use Rattle.std.proofs.lemmas.Bool.{and_parts, eqb-true, eq-eqb}
+use Rattle.std.proofs.lemmas.Option.{same_Some}
+use Rattle.std.proofs.lemmas.Slice.Eq.{bytes_eq-Decides}
+use Rattle.qo_values.specs.Properties.{admits}
+use Rattle.qo_values.specs.Registers.{fresh_registers}
+use Rattle.qo_values.specs.declared.births.TheConstants.{ANONYMOUS_BIRTH, OBJECTS_BIRTH, PERIPHERAL_BIRTH}
+use Rattle.qo_values.specs.declared.codes.Code.{Code}
+use Rattle.qo_values.specs.declared.kinds.TypeId.{TypeId}
+use Rattle.qo_values.specs.declared.properties.Val.{Val}
+use Rattle.qo_values.specs.declared.properties.Val.TheVariants as val
+use Rattle.qo_model.specs.Board.{Board, Record, Slot, plain, child, strong, weak, alias, is_live, kind_of, record_of, slots_at, slot_at, held}
+use Rattle.qo_model.specs.Changes.{changed_at, cut, point, pointed, set, with_added, with_changed, with_cut, with_val}
+use Rattle.qo_model.specs.Depth.{among}
+use Rattle.qo_model.specs.Devices.{bus_of, buses_of, kids_of}
+use Rattle.qo_model.specs.FinalNotesRuns.{Change, added, behind_write, changed, deleted, severed, wrote}
+use Rattle.qo_model.specs.Objects.{Given, added_as, added_by, barred, given_slots, is_object_named, object_add, object_del, place_from, refusal_of, sever, severed_from, with_object}
+use Rattle.qo_model.specs.Paths.{attached}
+use Rattle.qo_model.specs.Properties.{link_target, link_written, linked, may_set, pointed_at, relinked, row_of_property, write, written, written_by}
+use Rattle.qo_model.specs.Release.{after, drop_slot, edit, edited, emptied, finalise, finish, forgotten, forgotten_in, let_go, pin, unpin, with_dropped, without_hold, without_pin}
+use Rattle.qo_model.specs.ReleaseKeeps.{KeepsRelease}
+use Rattle.qo_model.specs.Types.{TypeRow, row_named}
+use Rattle.qo_model.specs.Unplug.{apart_within, drained, first_of, is_bus_slot, is_child_slot, is_named, left_bus, left_parent, let_go_where, lost_bus, lost_buses, names_kid, take_slot, take_where, taken_by}
+use Rattle.qo_model.specs.declared.properties.Property.{Property}
+use Rattle.qo_model.specs.declared.properties.RowKind.{RowKind}
+use Rattle.qo_model.specs.declared.properties.RowKind.TheVariants as row
+use Rattle.qo_model.proofs.ReleaseKeepsLemmas.{after_keeps}
+use Rattle.qo_model.proofs.StepLemmas.{drop-record, finish-gone, finish-record, found_at, found-edited, is_some-map}
+use Rattle.qo_sound.proofs.RecordLemmas.{found-birth}
+use Rattle.qo_sound.proofs.SlotLemmas.{each_slot}
+use Rattle.qo_sound.proofs.UnplugLemmas.{Found, found-at}
+use Rattle.qo_sound_clocks.proofs.CommandLemmas.{dropped-at, kept-slot, MaySet, position-slot, set-other, SlotFound}
+use Rattle.qo_sound_clocks.proofs.FewerLemmas.{slots_in}
+use Rattle.qo_sound_clocks.proofs.FoundLemmas.{found-append}
+use Rattle.qo_sound_clocks.proofs.LessLemmas.{or-less, or-right, OtherName, sees, sees_it, Slots}
+use Rattle.qo_sound_phases.proofs.ListLemmas.{clash, clash-back, decide}
+
+-- slots that see no less
+
+abbrev pub SeesOn : Slots → Slots → Type 0
+SeesOn xs ys = (s : ℕ) → sees s xs ≡ true → sees s ys ≡ true
+
+or-skip : (t u : Bool) → t ≡ false → (t || u) ≡ true → u ≡ true
+or-skip true u none e = clash none
+or-skip false u none e = e
+
+and-none : (t : Bool) → (t && false) ≡ false
+and-none true = refl
+and-none false = refl
+
+-- whether a slot is no source
+abbrev pub harmless : List ℕ × Slot → Bool
+harmless (name, weak t target) = not (bytes_eq name (codes "source"))
+harmless s = true
+
+flipped : (t : Bool) → not t ≡ true → t ≡ false
+flipped true e = sym e
+flipped false e = refl
+
+sees-none : (s : ℕ) (x : List ℕ × Slot) → harmless x ≡ true → sees_it s x ≡ false
+sees-none s (name, plain v) e = and-none (bytes_eq name (codes "source"))
+sees-none s (name, child m) e = and-none (bytes_eq name (codes "source"))
+sees-none s (name, strong t target) e = and-none (bytes_eq name (codes "source"))
+sees-none s (name, alias m property) e = and-none (bytes_eq name (codes "source"))
+sees-none s (name, weak t target) e = rw (flipped (bytes_eq name (codes "source")) e) refl
+
+-- a slot that is let go
+
+sees-dropped : (i : ℕ) (xs : Slots) → ((x : List ℕ × Slot) → slice_get xs i ≡ Some x → harmless x ≡ true) → SeesOn xs (without_hold i xs)
+sees-dropped i [] fine s e = e
+sees-dropped (suc i) (x ∷ xs) fine s e =
+    or-less (sees_it s x) (sees s xs) (sees_it s x) (sees s (without_hold i xs)) (λ k. k) (sees-dropped i xs fine s) e
+sees-dropped zero ((own, plain v) ∷ xs) fine s e = e
+sees-dropped zero ((own, child m) ∷ xs) fine s e = or-skip (sees_it s (own, child m)) (sees s xs) (sees-none s (own, child m) refl) e
+sees-dropped zero ((own, strong t target) ∷ xs) fine s e = e
+sees-dropped zero ((own, weak t target) ∷ xs) fine s e =
+    or-right (sees_it s (own, weak t None)) (sees s xs)
+    (or-skip (sees_it s (own, weak t target)) (sees s xs) (sees-none s (own, weak t target) (fine (own, weak t target) refl)) e)
+sees-dropped zero ((own, alias m property) ∷ xs) fine s e = e
+
+-- and removed
+sees-removed : (i : ℕ) (xs : Slots) → ((x : List ℕ × Slot) → slice_get xs i ≡ Some x → harmless x ≡ true) → SeesOn xs (remove xs i)
+sees-removed zero [] fine s e = e
+sees-removed (suc i) [] fine s e = e
+sees-removed zero (x ∷ xs) fine s e = or-skip (sees_it s x) (sees s xs) (sees-none s x (fine x refl)) e
+sees-removed (suc i) (x ∷ xs) fine s e =
+    or-less (sees_it s x) (sees s xs) (sees_it s x) (sees s (remove xs i)) (λ k. k) (sees-removed i xs fine s) e
+
+-- a slot that is changed
+pub sees-changed : (g : Slot → Slot) (i : ℕ) (xs : Slots)
+    → ((x : List ℕ × Slot) → slice_get xs i ≡ Some x → (s : ℕ) → sees_it s x ≡ true → sees_it s (x.0, g x.1) ≡ true) → SeesOn xs (changed_at g i xs)
+sees-changed g i [] fine s e = e
+sees-changed g zero (x ∷ xs) fine s e = or-less (sees_it s x) (sees s xs) (sees_it s (x.0, g x.1)) (sees s xs) (fine x refl s) (λ k. k) e
+sees-changed g (suc i) (x ∷ xs) fine s e =
+    or-less (sees_it s x) (sees s xs) (sees_it s x) (sees s (changed_at g i xs)) (λ k. k) (sees-changed g i xs fine s) e
+
+pub sees-val : (v : Val) (x : List ℕ × Slot) (s : ℕ) → sees_it s x ≡ true → sees_it s (x.0, with_val v x.1) ≡ true
+sees-val v (name, plain w) s e = e
+sees-val v (name, child m) s e = e
+sees-val v (name, strong t target) s e = e
+sees-val v (name, weak t target) s e = e
+sees-val v (name, alias m property) s e = e
+
+-- a slot more
+pub sees-added : (name : List ℕ) (t : Slot) (xs : Slots) → SeesOn xs (xs ++ (name, t) ∷ [])
+sees-added name t [] s e = clash-back e
+sees-added name t (x ∷ xs) s e =
+    or-less (sees_it s x) (sees s xs) (sees_it s x) (sees s (xs ++ (name, t) ∷ [])) (λ k. k) (sees-added name t xs s) e
+
+-- weak links to an object that goes are emptied
+sees-forgotten_it : (n s : ℕ) → (s == n) ≡ false → (x : List ℕ × Slot) → sees_it s x ≡ true → sees_it s (x.0, forgotten_in n x.1) ≡ true
+sees-forgotten_it n s apart (name, plain v) e = e
+sees-forgotten_it n s apart (name, child m) e = e
+sees-forgotten_it n s apart (name, strong t target) e = e
+sees-forgotten_it n s apart (name, alias m property) e = e
+sees-forgotten_it n s apart (name, weak t None) e = e
+sees-forgotten_it n s apart (name, weak t (Some m)) e = decide (m == n) (λ p. gone p) (λ p. rw p e)
+  where
+    gone : (m == n) ≡ true → sees_it s (name, forgotten_in n (weak t (Some m))) ≡ true
+    gone p =
+        let both : (bytes_eq name (codes "source") ≡ true) × ((m == s) ≡ true) = and_parts (bytes_eq name (codes "source")) (m == s) e in
+        let is : s ≡ n = sym (eqb-true m s both.1) ∙ eqb-true m n p in
+        clash (sym (eq-eqb s n is) ∙ apart)
+
+sees-forgotten : (n s : ℕ) → (s == n) ≡ false → (xs : Slots) → sees s xs ≡ true → sees s (each_slot (forgotten_in n) xs) ≡ true
+sees-forgotten n s apart [] e = e
+sees-forgotten n s apart (x ∷ xs) e =
+    or-less (sees_it s x) (sees s xs) (sees_it s (x.0, forgotten_in n x.1)) (sees s (each_slot (forgotten_in n) xs)) (sees-forgotten_it n s apart x)
+    (sees-forgotten n s apart xs) e
+
+-- boards
+
+pub record Sight (b c : Board) : Type 0 where
+  pub live : (x : ℕ) → is_live c x ≡ true → is_live b x ≡ true
+  pub seen : (k s : ℕ) → is_live c k ≡ true → is_live c s ≡ true → sees s (slots_at b k) ≡ true → sees s (slots_at c k) ≡ true
+
+pub sight-none : (b : Board) → Sight b b
+sight-none b = record { live = λ x e. e; seen = λ k s i j e. e }
+
+pub sight-then : (b c d : Board) → Sight b c → Sight c d → Sight b d
+sight-then b c d h k =
+    record {
+      live = λ x e. h.live x (k.live x e);
+      seen = λ m s i j e. k.seen m s i j (h.seen m s (k.live m i) (k.live s j) e);
+    }
+
+-- an edit of an object
+pub edit-seen : (n : ℕ) (change : Record → Record) → ((r : Record) → (change r).birth ≡ r.birth) → (c : Board)
+    → ((r : Record) → record_of c n ≡ Some r → SeesOn r.slots (change r).slots) → (k s : ℕ) → sees s (slots_at c k) ≡ true
+    → sees s (slots_at (edit n change c) k) ≡ true
+edit-seen n change same_birth c on k s e =
+    subst (λ (o : Option Record). sees s (slots_in o) ≡ true) (sym (found-edited n change same_birth k c.records)) (go (record_of c k) refl e)
+  where
+    at_record : (r : Record) → record_of c k ≡ Some r → sees s r.slots ≡ true → (t : Bool) → (r.birth == n) ≡ t → sees s (edited n change r).slots ≡ true
+    at_record r q e true p =
+        let is : k ≡ n = sym (found-birth k c.records r q) ∙ eqb-true r.birth n p in
+        rw (edited, p) (on r (subst (λ (m : ℕ). record_of c m ≡ Some r) is q) s e)
+    at_record r q e false p = rw (edited, p) e
+
+    go : (o : Option Record) → record_of c k ≡ o → sees s (slots_in o) ≡ true → sees s (slots_in (option_map (edited n change) o)) ≡ true
+    go None q e = clash-back e
+    go (Some r) q e = at_record r q e (r.birth == n) refl
+
+pub edit-sight : (n : ℕ) (change : Record → Record) → ((r : Record) → (change r).birth ≡ r.birth) → (c : Board)
+    → ((r : Record) → record_of c n ≡ Some r → SeesOn r.slots (change r).slots) → Sight c (edit n change c)
+edit-sight n change same_birth c on =
+    record {
+      live = λ x e. sym (ap is_some (found-edited n change same_birth x c.records) ∙ is_some-map (edited n change) (record_of c x)) ∙ e;
+      seen = λ k s i j e. edit-seen n change same_birth c on k s e;
+    }
+
+-- a release: but for the objects that are being finalised
+record SightBut (b : Board) (work : List (ℕ × ℕ)) (c : Board) : Type 0 where
+  live : (x : ℕ) → is_live c x ≡ true → is_live b x ≡ true
+  seen : (k s : ℕ) → among (map (λ (w : ℕ × ℕ). w.0) work) k ≡ false → is_live c k ≡ true → is_live c s ≡ true → sees s (slots_at b k) ≡ true
+      → sees s (slots_at c k) ≡ true
+
+drop-live : (c : Board) (n i x : ℕ) → is_live (drop_slot c n i) x ≡ is_live c x
+drop-live c n i x = ap is_some (drop-record c n i x) ∙ is_some-map (edited n (with_dropped i)) (record_of c x)
+
+drop-other : (c : Board) (n i k : ℕ) → (k == n) ≡ false → slots_at (drop_slot c n i) k ≡ slots_at c k
+drop-other c n i k apart = ap slots_in (drop-record c n i k) ∙ go (record_of c k) refl
+  where
+    at_record : (r : Record) → record_of c k ≡ Some r → (t : Bool) → (r.birth == n) ≡ t → (edited n (with_dropped i) r).slots ≡ r.slots
+    at_record r q true p = clash (sym (eq-eqb k n (sym (found-birth k c.records r q) ∙ eqb-true r.birth n p)) ∙ apart)
+    at_record r q false p = rw (edited, p) refl
+
+    go : (o : Option Record) → record_of c k ≡ o → slots_in (option_map (edited n (with_dropped i)) o) ≡ slots_in o
+    go None q = refl
+    go (Some r) q = at_record r q (r.birth == n) refl
+
+head-apart : (k n : ℕ) (ns : List ℕ) → among (n ∷ ns) k ≡ false → ((k == n) ≡ false) × (among ns k ≡ false)
+head-apart k n ns e = go (k == n) refl
+  where
+    go : (t : Bool) → (k == n) ≡ t → ((k == n) ≡ false) × (among ns k ≡ false)
+    go true p = clash (rw p at e)
+    go false p = (p, rw p at e)
+
+but-drop : (b : Board) (n i : ℕ) (work : List (ℕ × ℕ)) (c : Board) → SightBut b ((n, i) ∷ work) c → (j : ℕ) → SightBut b ((n, j) ∷ work) (drop_slot c n i)
+but-drop b n i work c h j =
+    record {
+      live = λ x e. h.live x (sym (drop-live c n i x) ∙ e);
+      seen = λ k s out there also e.
+          let apart : (k == n) ≡ false = (head-apart k n (map (λ (w : ℕ × ℕ). w.0) work) out).0 in
+          subst (λ (xs : Slots). sees s xs ≡ true) (sym (drop-other c n i k apart))
+          (h.seen k s out (sym (drop-live c n i k) ∙ there) (sym (drop-live c n i s) ∙ also) e);
+    }
+
+but-more : (b : Board) (m : ℕ) (work : List (ℕ × ℕ)) (c : Board) → SightBut b work c → SightBut b ((m, 0) ∷ work) c
+but-more b m work c h =
+    record {
+      live = h.live;
+      seen = λ k s out there also e. h.seen k s (head-apart k m (map (λ (w : ℕ × ℕ). w.0) work) out).1 there also e;
+    }
+
+finish-live : (c : Board) (n x : ℕ) → is_live (finish c n) x ≡ true → (is_live c x ≡ true) × ((x == n) ≡ false)
+finish-live c n x e = go (x == n) refl
+  where
+    go : (t : Bool) → (x == n) ≡ t → (is_live c x ≡ true) × ((x == n) ≡ false)
+    go true p =
+        let gone : record_of (finish c n) x ≡ None = ap (record_of (finish c n)) (eqb-true x n p) ∙ finish-gone c n in
+        clash-back (sym (ap is_some gone) ∙ e)
+    go false p = (sym (ap is_some (finish-record c n x p) ∙ is_some-map (forgotten n) (record_of c x)) ∙ e, p)
+
+but-finish : (b : Board) (n i : ℕ) (work : List (ℕ × ℕ)) (c : Board) → SightBut b ((n, i) ∷ work) c → SightBut b work (finish c n)
+but-finish b n i work c h =
+    record {
+      live = λ x e. h.live x (finish-live c n x e).0;
+      seen = λ k s out there also e.
+          let own : (is_live c k ≡ true) × ((k == n) ≡ false) = finish-live c n k there in
+          let its : (is_live c s ≡ true) × ((s == n) ≡ false) = finish-live c n s also in
+          let before : sees s (slots_at c k) ≡ true = h.seen k s (rw own.1 out) own.0 its.0 e in
+          subst (λ (o : Option Record). sees s (slots_in o) ≡ true) (sym (finish-record c n k own.1)) (go s its.1 (record_of c k) before);
+    }
+  where
+    go : (s : ℕ) → (s == n) ≡ false → (o : Option Record) → sees s (slots_in o) ≡ true → sees s (slots_in (option_map (forgotten n) o)) ≡ true
+    go s apart None e = e
+    go s apart (Some r) e = sees-forgotten n s apart r.slots e
+
+release-sight : (b : Board) → KeepsRelease (λ (work : List (ℕ × ℕ)) (c : Board). SightBut b work c)
+release-sight b =
+    record {
+      ended = λ c n i work h e. but-finish b n i work c h;
+      freed = λ c n i work s m h e q free. but-more b m _ _ (but-drop b n i work c h _);
+      kept = λ c n i work s h e held_on. but-drop b n i work c h _;
+    }
+
+pub after-sight : (o : Option ℕ) (c : Board) → Sight c (after finalise c o)
+after-sight o c =
+    let k : SightBut c [] (after finalise c o) =
+    after_keeps (λ (work : List (ℕ × ℕ)) (d : Board). SightBut c work d) (release-sight c) c o [] (λ m e free. but-more c m [] c none) (λ held_on. none) in
+    record { live = k.live; seen = λ m s i j e. k.seen m s refl i j e }
+  where
+    none : SightBut c [] c
+    none = record { live = λ x e. e; seen = λ k s out i j e. e }
+
+-- small steps
+pub drop-sight : (c : Board) (n i : ℕ) → ((x : List ℕ × Slot) → slice_get (slots_at c n) i ≡ Some x → harmless x ≡ true) → Sight c (drop_slot c n i)
+unfolding drop_slot
+drop-sight c n i fine =
+    edit-sight n (with_dropped i) (λ r. refl) c
+    (λ r q. sees-dropped i r.slots (λ x e. fine x (ap (λ (o : Option Record). slice_get (slots_in o) i) q ∙ e)))
+
+module _ (b : Board) where
+  pub sight-after : (o : Option ℕ) (c : Board) → Sight b c → Sight b (after finalise c o)
+  sight-after o c h = sight-then b c (after finalise c o) h (after-sight o c)
+
+  pub sight-pin : (n : ℕ) (c : Board) → Sight b c → Sight b (pin c n)
+  unfolding pin
+  sight-pin n c h = record { live = h.live; seen = h.seen }
+
+  pub sight-unpin : (n : ℕ) (c : Board) → Sight b c → Sight b (unpin c n)
+  unfolding unpin
+  sight-unpin n c h = go (list_any (nat_eq n) c.pins) refl
+    where
+      go : (u : Bool) → list_any (nat_eq n) c.pins ≡ u → Sight b (unpin c n)
+      go true e = rw (unpin, e) (sight-after (Some n) (without_pin c n) (record { live = h.live; seen = h.seen }))
+      go false e = rw (unpin, e) h
+
+  pub sight-let_go : (n i : ℕ) (c : Board) → ((x : List ℕ × Slot) → slice_get (slots_at c n) i ≡ Some x → harmless x ≡ true) → Sight b c
+      → Sight b (let_go c n i)
+  unfolding let_go
+  sight-let_go n i c fine h = go (slot_at c n i) refl
+    where
+      go : (o : Option Slot) → slot_at c n i ≡ o → Sight b (let_go c n i)
+      go None e = rw (let_go, e) h
+      go (Some s) e = rw (let_go, e) (sight-after (held s) _ (sight-then b c (drop_slot c n i) h (drop-sight c n i fine)))
+
+  -- taking out
+
+  sight-where : (p : List ℕ × Slot → Bool) → ((x : List ℕ × Slot) → p x ≡ true → harmless x ≡ true) → (n : ℕ) (c : Board) → Sight b c
+      → Sight b (let_go_where p n c)
+  sight-where p fine n c h = go (place_from p 0 (slots_at c n)) refl
+    where
+      go : (o : Option ℕ) → place_from p 0 (slots_at c n) ≡ o → Sight b (let_go_where p n c)
+      go None e = rw (let_go_where, e) h
+      go (Some i) e =
+          let f : Found p (slots_at c n) i = found-at p i (slots_at c n) e in
+          rw (let_go_where, e)
+          (sight-let_go n i c (λ x q. fine x (ap p (same_Some x f.entry (sym q ∙ f.at)) ∙ f.passes)) h)
+
+  -- a link to a kid is let go and removed
+  sight-taken : (n i : ℕ) (own : List ℕ) (t : TypeId) (target : Option ℕ) (c : Board) → slice_get (slots_at c n) i ≡ Some (own, strong t target)
+      → Sight b c → Sight b (take_slot c n i)
+  unfolding cut
+  sight-taken n i own t target c at h =
+      let there : slot_at c n i ≡ Some (strong t target) = ap (option_map (λ (s : List ℕ × Slot). s.1)) at in
+      rw (take_slot, there)
+      (sight-after target (edit n (with_cut i) d)
+      (sight-then b d (edit n (with_cut i) d)
+      (sight-then b c d h (drop-sight c n i (λ x q. ap harmless (same_Some x (own, strong t target) (sym q ∙ at)))))
+      (edit-sight n (with_cut i) (λ r. refl) d cuts)))
+    where
+      d : Board
+      d = drop_slot c n i
+
+      cuts : (r : Record) → record_of d n ≡ Some r → SeesOn r.slots (remove r.slots i)
+      cuts r e =
+          sees-removed i r.slots
+          (λ x q.
+          let left : slice_get (without_hold i (slots_at c n)) i ≡ Some (own, strong t None) =
+          kept-slot i (slots_at c n) own (strong t target) (strong t None) at refl in
+          let same : without_hold i (slots_at c n) ≡ r.slots = dropped-at c n i (own, strong t target) at r e in
+          ap harmless (same_Some x (own, strong t None) (sym q ∙ sym (ap (λ (xs : Slots). slice_get xs i) same) ∙ left)))
+
+  sight-take : (d n : ℕ) (c : Board) → Sight b c → Sight b (take_where (names_kid d) n c)
+  sight-take d n c h = go (place_from (names_kid d) 0 (slots_at c n)) refl
+    where
+      of : (i : ℕ) (x : List ℕ × Slot) → slice_get (slots_at c n) i ≡ Some x → names_kid d x ≡ true → Sight b (take_slot c n i)
+      of i (own, plain v) at passes = clash-back passes
+      of i (own, child m) at passes = clash-back passes
+      of i (own, strong t target) at passes = sight-taken n i own t target c at h
+      of i (own, weak t target) at passes = clash-back passes
+      of i (own, alias m property) at passes = clash-back passes
+
+      go : (o : Option ℕ) → place_from (names_kid d) 0 (slots_at c n) ≡ o → Sight b (take_where (names_kid d) n c)
+      go None e = rw (take_where, e) h
+      go (Some i) e =
+          let f : Found (names_kid d) (slots_at c n) i = found-at (names_kid d) i (slots_at c n) e in
+          rw (take_where, e) (of i f.entry f.at f.passes)
+
+  child-fine : (d : ℕ) (x : List ℕ × Slot) → is_child_slot d x ≡ true → harmless x ≡ true
+  child-fine d (own, plain v) e = refl
+  child-fine d (own, child m) e = refl
+  child-fine d (own, strong t target) e = refl
+  child-fine d (own, weak t target) e = clash-back e
+  child-fine d (own, alias m property) e = refl
+
+  bus-fine : (m : ℕ) (x : List ℕ × Slot) → is_bus_slot m x ≡ true → harmless x ≡ true
+  bus-fine m (own, plain v) e = refl
+  bus-fine m (own, child k) e = refl
+  bus-fine m (own, strong t target) e = refl
+  bus-fine m (own, weak t target) e = clash-back e
+  bus-fine m (own, alias k property) e = refl
+
+  named-fine : (name : List ℕ) → bytes_eq name (codes "source") ≡ false → (x : List ℕ × Slot) → is_named name x ≡ true → harmless x ≡ true
+  named-fine name apart (own, plain v) e = refl
+  named-fine name apart (own, child k) e = refl
+  named-fine name apart (own, strong t target) e = refl
+  named-fine name apart (own, weak t target) e =
+      let other : bytes_eq own (codes "source") ≡ false =
+      subst (λ (x : List ℕ). bytes_eq x (codes "source") ≡ false) (sym ((bytes_eq-Decides own name).0 e)) apart in
+      rw other refl
+  named-fine name apart (own, alias k property) e = refl
+
+  sight-left_bus : (d : ℕ) (c : Board) → Sight b c → Sight b (left_bus d c)
+  sight-left_bus d c h = go (bus_of c d) refl
+    where
+      go : (o : Option ℕ) → bus_of c d ≡ o → Sight b (left_bus d c)
+      go None e = rw (left_bus, e) h
+      go (Some m) e =
+          rw (left_bus, e)
+          (sight-where (is_named (codes "parent_bus")) (named-fine (codes "parent_bus") refl) d (take_where (names_kid d) m c) (sight-take d m c h))
+
+  sight-left_parent : (d : ℕ) (c : Board) → Sight b c → Sight b (left_parent d c)
+  sight-left_parent d c h =
+      sight-where (is_child_slot d) (child-fine d) ANONYMOUS_BIRTH (let_go_where (is_child_slot d) PERIPHERAL_BIRTH c)
+      (sight-where (is_child_slot d) (child-fine d) PERIPHERAL_BIRTH c h)
+
+  module _ (f : ℕ → Board → Board) (keeps : (n : ℕ) (c : Board) → Sight b c → Sight b (f n c)) where
+    sight-drained : (times m : ℕ) (c : Board) → Sight b c → Sight b (drained f times m c)
+    sight-drained zero m c h = h
+    sight-drained (suc times) m c h = go (first_of (kids_of c m)) refl (sight-drained times m)
+      where
+        go : (o : Option ℕ) → first_of (kids_of c m) ≡ o → ((e : Board) → Sight b e → Sight b (drained f times m e)) → Sight b (drained f (suc times) m c)
+        go None e rest = rw (drained, e) h
+        go (Some k) e rest = rw (drained, e) (rest (f k c) (keeps k c h))
+
+    sight-lost_bus : (d m : ℕ) (c : Board) → Sight b c → Sight b (lost_bus f d m c)
+    sight-lost_bus d m c h =
+        sight-where (is_bus_slot m) (bus-fine m) d (drained f (length (slots_at c m)) m c) (sight-drained (length (slots_at c m)) m c h)
+
+    sight-lost_buses : (times d : ℕ) (c : Board) → Sight b c → Sight b (lost_buses f times d c)
+    sight-lost_buses zero d c h = h
+    sight-lost_buses (suc times) d c h = go (first_of (buses_of c d)) refl (sight-lost_buses times d)
+      where
+        go : (o : Option ℕ) → first_of (buses_of c d) ≡ o → ((e : Board) → Sight b e → Sight b (lost_buses f times d e))
+            → Sight b (lost_buses f (suc times) d c)
+        go None e rest = rw (lost_buses, e) h
+        go (Some m) e rest = rw (lost_buses, e) (rest (lost_bus f d m c) (sight-lost_bus d m c h))
+
+    pub sight-taken_by : (d : ℕ) (c : Board) → Sight b c → Sight b (taken_by f d c)
+    sight-taken_by d c h =
+        sight-left_parent d (left_bus d (lost_buses f (length (slots_at c d)) d c))
+        (sight-left_bus d (lost_buses f (length (slots_at c d)) d c) (sight-lost_buses (length (slots_at c d)) d c h))
+
+  pub sight-apart : (depth d : ℕ) (c : Board) → Sight b c → Sight b (apart_within depth d c)
+  unfolding apart_within
+  sight-apart zero d c h = h
+  sight-apart (suc depth) d c h =
+      sight-unpin d (taken_by (apart_within depth) d (pin c d)) (sight-taken_by (apart_within depth) (sight-apart depth) d (pin c d) (sight-pin d c h))
+
+-- the commands on objects
+
+-- `qom-set`
+set-sight : (b : Board) (n i : ℕ) (v : Val) → Sight b (set n i v b)
+unfolding set
+set-sight b n i v = edit-sight n (with_changed (with_val v) i) (λ r. refl) b (λ r q. sees-changed (with_val v) i r.slots (λ x e s k. sees-val v x s k))
+
+other-fine : (x : List ℕ × Slot) → bytes_eq x.0 (codes "source") ≡ false → harmless x ≡ true
+other-fine (own, plain v) e = refl
+other-fine (own, child k) e = refl
+other-fine (own, strong t target) e = refl
+other-fine (own, weak t target) e = rw e refl
+other-fine (own, alias k property) e = refl
+
+module _ (b : Board) (n i : ℕ) (own : List ℕ) (s left : Slot)
+    (at : slice_get (slots_at b n) i ≡ Some (own, s)) (stays : emptied s ≡ Some left) (other : bytes_eq own (codes "source") ≡ false) where
+  dropped : Sight b (drop_slot b n i)
+  dropped = drop-sight b n i (λ x q. other-fine x (ap (λ (y : List ℕ × Slot). bytes_eq y.0 (codes "source")) (same_Some x (own, s) (sym q ∙ at)) ∙ other))
+
+  pointed-sight : (target : Option ℕ) → Sight b (pointed_at target n i (drop_slot b n i))
+  unfolding point
+  pointed-sight None = dropped
+  pointed-sight (Some m) =
+      sight-then b (drop_slot b n i) (edit n (with_changed (pointed m) i) (drop_slot b n i)) dropped
+      (edit-sight n (with_changed (pointed m) i) (λ r. refl) (drop_slot b n i)
+      (λ r e. sees-changed (pointed m) i r.slots
+      (λ x q z k.
+      let there : slice_get r.slots i ≡ Some (own, left) =
+      sym (ap (λ (xs : Slots). slice_get xs i) (dropped-at b n i (own, s) at r e)) ∙ kept-slot i (slots_at b n) own s left at stays in
+      let name : bytes_eq x.0 (codes "source") ≡ false =
+      ap (λ (y : List ℕ × Slot). bytes_eq y.0 (codes "source")) (same_Some x (own, left) (sym q ∙ there)) ∙ other in
+      clash-back (sym (sees-none z x (other-fine x name)) ∙ k))))
+
+  relinked-sight : (target : Option ℕ) → Sight b (relinked b n i target)
+  relinked-sight target =
+      let there : slot_at b n i ≡ Some s = ap (option_map (λ (x : List ℕ × Slot). x.1)) at in
+      rw (relinked, there) (sight-after b (held s) (pointed_at target n i (drop_slot b n i)) (pointed-sight target))
+
+  linked-sight : (target : Result (Option ℕ) Code) → Sight b (behind_write b (linked b n i target))
+  linked-sight (Ok target) = relinked-sight target
+  linked-sight (Err code) = sight-none b
+
+  link_written-sight : (t : TypeId) (v : Val) → Sight b (behind_write b (link_written b n i t v))
+  link_written-sight t (val.Text path) = linked-sight (link_target b t path)
+  link_written-sight t (val.Bool v) = sight-none b
+  link_written-sight t (val.Int v) = sight-none b
+  link_written-sight t (val.Uint v) = sight-none b
+  link_written-sight t val.Nothing = sight-none b
+
+written-sight : (b : Board) (n i : ℕ) (own : List ℕ) (s : Slot) → slice_get (slots_at b n) i ≡ Some (own, s) → bytes_eq own (codes "source") ≡ false
+    → (kind : RowKind) (v : Val) → Sight b (behind_write b (written b n i kind (Some s) v))
+written-sight b n i own (plain old) at other (row.Plain type first) v = go (admits type v) refl
+  where
+    go : (t : Bool) → admits type v ≡ t → Sight b (behind_write b (written b n i (row.Plain type first) (Some (plain old)) v))
+    go true p = rw (written, p) (set-sight b n i v)
+    go false p = rw (written, p) (sight-none b)
+written-sight b n i own (strong to target) at other (row.Link t holds) v =
+    link_written-sight b n i own (strong to target) (strong to None) at refl other to v
+written-sight b n i own (weak to target) at other (row.Link t holds) v =
+    link_written-sight b n i own (weak to target) (weak to None) at refl other to v
+written-sight b n i own (child m) at other (row.Plain type first) v = sight-none b
+written-sight b n i own (strong to target) at other (row.Plain type first) v = sight-none b
+written-sight b n i own (weak to target) at other (row.Plain type first) v = sight-none b
+written-sight b n i own (alias m property) at other (row.Plain type first) v = sight-none b
+written-sight b n i own (plain old) at other (row.Link t holds) v = sight-none b
+written-sight b n i own (child m) at other (row.Link t holds) v = sight-none b
+written-sight b n i own (alias m property) at other (row.Link t holds) v = sight-none b
+written-sight b n i own s at other (row.Child t) v = sight-none b
+written-sight b n i own s at other (row.Alias owner property) v = sight-none b
+
+written_by-sight : (b : Board) (n i : ℕ) (name : List ℕ) (v : Val) → SlotFound name (slots_at b n) i → (t : Option TypeId) → kind_of b n ≡ t
+    → Sight b (behind_write b (written_by b n i (option_and_then (λ k. row_of_property k name) t) v))
+written_by-sight b n i name v f None q = sight-none b
+written_by-sight b n i name v f (Some t) q = go (row_of_property t name) refl
+  where
+    its : name ≡ f.entry.0
+    its = sym ((bytes_eq-Decides f.entry.0 name).0 f.passes)
+
+    by : (p : Property) → row_of_property t name ≡ Some p → (u : Bool) → may_set p.mark ≡ u → Sight b (behind_write b (written_by b n i (Some p) v))
+    by p e false m = rw (written_by, m) (sight-none b)
+    by p e true m =
+        let may : MaySet t name ≡ true = ap (λ (o : Option Property). option_map_or (λ (x : Property). may_set x.mark) o false) e ∙ m in
+        let there : slot_at b n i ≡ Some f.entry.1 = ap (option_map (λ (x : List ℕ × Slot). x.1)) f.at in
+        let other : OtherName name = set-other t name may in
+        rw (written_by, m, there)
+        (written-sight b n i f.entry.0 f.entry.1 f.at (subst (λ (x : List ℕ). bytes_eq x (codes "source") ≡ false) its other.source) p.kind v)
+
+    go : (o : Option Property) → row_of_property t name ≡ o → Sight b (behind_write b (written_by b n i o v))
+    go None e = sight-none b
+    go (Some p) e = by p e (may_set p.mark) refl
+
+write-sight : (b : Board) (n : ℕ) (name : List ℕ) (v : Val) → Sight b (behind_write b (write b n name v))
+write-sight b n name v = go (position (λ (s : List ℕ × Slot). bytes_eq s.0 name) (slots_at b n)) refl
+  where
+    go : (place : Option ℕ) → position (λ (s : List ℕ × Slot). bytes_eq s.0 name) (slots_at b n) ≡ place → Sight b (behind_write b (write b n name v))
+    go None p = rw (write, p) (sight-none b)
+    go (Some i) p = rw (write, p) (written_by-sight b n i name v (position-slot name (slots_at b n) i p) (kind_of b n) refl)
+
+-- `object-del`
+object-fine : (id : List ℕ) (x : List ℕ × Slot) → is_object_named id x ≡ true → harmless x ≡ true
+object-fine id (own, plain v) e = refl
+object-fine id (own, child m) e = refl
+object-fine id (own, strong t target) e = refl
+object-fine id (own, weak t target) e = clash-back e
+object-fine id (own, alias m property) e = refl
+
+object_del-sight : (b : Board) (id : List ℕ) → Sight b (object_del b id).board
+object_del-sight b id = go (place_from (is_object_named id) 0 (slots_at b OBJECTS_BIRTH)) refl
+  where
+    go : (place : Option ℕ) → place_from (is_object_named id) 0 (slots_at b OBJECTS_BIRTH) ≡ place → Sight b (object_del b id).board
+    go None p = rw (object_del, p) (sight-none b)
+    go (Some i) p =
+        let f : Found (is_object_named id) (slots_at b OBJECTS_BIRTH) i = found-at (is_object_named id) i (slots_at b OBJECTS_BIRTH) p in
+        rw (object_del, p)
+        (sight-let_go b OBJECTS_BIRTH i b
+        (λ x q. object-fine id x (ap (is_object_named id) (same_Some x f.entry (sym q ∙ f.at)) ∙ f.passes)) (sight-none b))
+
+-- `x-sever`
+severed-sight : (b : Board) (places i n : ℕ) (c : Board) → Sight b c → Sight b (severed_from places i n c)
+severed-sight b zero i n c h = h
+severed-sight b (suc places) i n c h = go (slot_at c n i) refl (severed-sight b places (suc i) n)
+  where
+    strong-fine : (t : TypeId) (target : Option ℕ) → slot_at c n i ≡ Some (strong t target) → (x : List ℕ × Slot) → slice_get (slots_at c n) i ≡ Some x
+        → harmless x ≡ true
+    strong-fine t target p x q = by x (same_Some x.1 (strong t target) (sym (ap (option_map (λ (y : List ℕ × Slot). y.1)) q) ∙ p))
+      where
+        by : (y : List ℕ × Slot) → y.1 ≡ strong t target → harmless y ≡ true
+        by (own, plain v) e = refl
+        by (own, child m) e = refl
+        by (own, strong to at) e = refl
+        by (own, weak to at) e = cc
+        by (own, alias m property) e = refl
+
+    go : (s : Option Slot) → slot_at c n i ≡ s → ((d : Board) → Sight b d → Sight b (severed_from places (suc i) n d))
+        → Sight b (severed_from (suc places) i n c)
+    go None p rest = rw (severed_from, p) (rest c h)
+    go (Some (plain v)) p rest = rw (severed_from, p) (rest c h)
+    go (Some (child m)) p rest = rw (severed_from, p) (rest c h)
+    go (Some (strong t target)) p rest = rw (severed_from, p) (rest (let_go c n i) (sight-let_go b n i c (strong-fine t target p) h))
+    go (Some (weak t target)) p rest = rw (severed_from, p) (rest c h)
+    go (Some (alias m property)) p rest = rw (severed_from, p) (rest c h)
+
+sever-sight : (b : Board) (n : ℕ) → Sight b (sever b n).board
+sever-sight b n = go (is_live b n) refl (attached b n) refl
+  where
+    go : (there : Bool) → is_live b n ≡ there → (at_home : Bool) → attached b n ≡ at_home → Sight b (sever b n).board
+    go false p at_home q = rw (sever, p) (sight-none b)
+    go true p true q = rw (sever, p, q) (sight-none b)
+    go true p false q =
+        rw (sever, p, q)
+        (sight-unpin b n (severed_from (length (slots_at b n)) 0 n (pin b n))
+        (severed-sight b (length (slots_at b n)) 0 n (pin b n) (sight-pin b n b (sight-none b))))
+
+-- what was seen is seen where both are there
+abbrev pub StillSeen : Board → Board → Type 0
+StillSeen b c = (k s : ℕ) → is_live c k ≡ true → is_live c s ≡ true → sees s (slots_at b k) ≡ true → sees s (slots_at c k) ≡ true
+
+-- `object-add`
+with_object-seen : (b : Board) (t : TypeId) (id : List ℕ) (props : List Given) → StillSeen b (with_object b t id props)
+with_object-seen b t id props k s i j e =
+    rw (found-append k (map (edited OBJECTS_BIRTH change) b.records) (new ∷ []), found-edited OBJECTS_BIRTH change (λ r. refl) k b.records)
+    (go (record_of b k) e)
+  where
+    change : Record → Record
+    change = with_added id (child (b.born + 1))
+
+    new : Record
+    new =
+        record { birth = b.born + 1; kind = t; slots = given_slots b t props; registers = fresh_registers t; device_id = None; kept_path = None }
+
+    at_record : (r : Record) → sees s r.slots ≡ true → (u : Bool) → (r.birth == OBJECTS_BIRTH) ≡ u → sees s (edited OBJECTS_BIRTH change r).slots ≡ true
+    at_record r q true p = rw (edited, p) (sees-added id (child (b.born + 1)) r.slots s q)
+    at_record r q false p = rw (edited, p) q
+
+    go : (o : Option Record) → sees s (slots_in o) ≡ true
+        → sees s (slots_in (option_or (option_map (edited OBJECTS_BIRTH change) o) (found_at k (new ∷ [])))) ≡ true
+    go None q = clash-back q
+    go (Some r) q = at_record r q (r.birth == OBJECTS_BIRTH) refl
+
+object_add-seen : (b : Board) (driver id : List ℕ) (props : List Given) → StillSeen b (object_add b driver id props).board
+object_add-seen b driver id props = go (row_named driver) refl
+  where
+    of : (t : TypeId) (o : Option Code) → StillSeen b (added_as b t id props o).board
+    of t (Some code) = λ k s i j e. e
+    of t None = with_object-seen b t id props
+
+    by : (row : TypeRow) (o : Option Code) → StillSeen b (added_by b row id props o).board
+    by row (Some code) = λ k s i j e. e
+    by row None = of row.id (refusal_of b row.id props)
+
+    go : (row : Option TypeRow) → row_named driver ≡ row → StillSeen b (object_add b driver id props).board
+    go None p = rw (object_add, p) (λ k s i j e. e)
+    go (Some row) p = rw (object_add, p) (by row (barred b row id))
+
+pub changed-seen : (b : Board) (change : Change) → StillSeen b (changed b change)
+changed-seen b (added driver id props) = object_add-seen b driver id props
+changed-seen b (deleted id) = (object_del-sight b id).seen
+changed-seen b (wrote n name v) = (write-sight b n name v).seen
+changed-seen b (severed n) = (sever-sight b n).seen

@@ -1,0 +1,40 @@
+//! The rest of what a sound board is: that it stays within the profile's limits, that its clocks go
+//! by the clocks that they are connected to, and that nothing on it is held in reset too often.
+//! Functions without effect, whose contracts say what keeps it so. The definitions stand in `specs/`.
+#![tactic(auto)]
+
+ghost use Rattle.qo_sound_bounds.specs.BoundsKept.{BoundsKeptLaw};
+ghost use Rattle.qo_sound_bounds.specs.HoldsKept.{HoldsKeptLaw};
+ghost use Rattle.qo_sound_bounds.specs.SourcesKept.{SourcesKeptLaw};
+
+/// There are no more objects than the profile allows, and the virtual time is no later, on the opening
+/// board, and behind each command on objects, a device that is added, refused at any stage or cut, a
+/// removal that is asked for or refused, a device that is detached, acts and holds, the reset of the
+/// whole board, a write of a clock's numbers that is not refused, other registers of an object, and
+/// what changes no object and sets a time that is no later.
+#[tactic(auto, using(crate::proofs::BoundsLemmas::bounds_kept_lem))]
+pub fn law_bounds_kept()
+    ensures { BoundsKeptLaw }
+{}
+
+/// The clock of each realized device goes by that of the bridge whose bus the device is on, or by the
+/// system's, and no other clock goes by one, on the opening board, behind what changes no object, and,
+/// where the board is sound as far as devices go, behind each command on objects, a device that is
+/// added or refused at any stage, one that stands in its place and is detached, acts and holds, the
+/// reset of the whole board, a write of a clock's numbers that is not refused, and other registers of
+/// an object.
+#[tactic(auto, using(crate::proofs::SourcesLawLemmas::sources_kept_lem))]
+pub fn law_sources_kept()
+    ensures { SourcesKeptLaw }
+{}
+
+/// No object that a reset reaches has more holds on it and above it than one more than the profile
+/// allows before a hold, on the opening board, and behind what changes no object and no hold, an act,
+/// a hold that is not one too many, a hold less, both, and other registers of an object; where the
+/// board is sound as far as devices go, behind each command on objects, a device that stands in its
+/// place and is detached, the reset of the whole board, and a write of a clock's numbers that is not
+/// refused; and where its phases are sound too, behind a device that is added or refused at any stage.
+#[tactic(auto, using(crate::proofs::HoldsLemmas::holds_kept_lem))]
+pub fn law_holds_kept()
+    ensures { HoldsKeptLaw }
+{}

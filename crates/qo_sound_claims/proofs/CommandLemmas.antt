@@ -1,0 +1,371 @@
+-- The commands on objects: what they add is not realized, what they write is not claimed, and what they let go no realized device holds.
+use Rattle.std.proofs.Common.{◌≡◌, inl, inr, refl, ap, sym, subst, ◌∙◌, rules, ℕ, zero, suc, ◌+◌, Bool, true, false, not, ◌==◌, List, [], ◌∷◌, map, length, position, slice_get, Option, Some, None, option_map, option_and_then, codes, Result, Ok, Err, get_or, ◌<◌, arith}
+use Rattle.std.specs.List.{AllByRecursion}
+use Rattle.std.specs.Option.{option_map_or, option_or}
+use Rattle.std.specs.Str.{bytes_eq}
+use Rattle.std.proofs.lemmas.Option.{same_Some}
+use Rattle.std.proofs.lemmas.Slice.Eq.{bytes_eq-Decides}
+use Rattle.std.proofs.lemmas.List.Quantifiers.{position-Some}
+use Rattle.qo_values.specs.Properties.{admits}
+use Rattle.qo_values.specs.Registers.{fresh_registers}
+use Rattle.qo_values.specs.declared.births.TheConstants.{OBJECTS_BIRTH}
+use Rattle.qo_values.specs.declared.codes.Code.{Code}
+use Rattle.qo_values.specs.declared.codes.Code.TheVariants.{E21, E22}
+use Rattle.qo_values.specs.declared.kinds.TypeId.{TypeId}
+use Rattle.qo_values.specs.declared.kinds.TypeId.TheVariants.{Object, Container, Machine, Device, SlotDevice, SlotUart, SlotTimer, SlotBridge, MemDimm, Bus, SlotBus, MemBus, Clock, MemoryBackend, MemoryBackendRam, Tag}
+use Rattle.qo_values.specs.declared.properties.Val.{Val}
+use Rattle.qo_values.specs.declared.properties.Val.TheVariants as val
+use Rattle.qo_model.specs.Board.{Board, Record, Slot, plain, child, strong, weak, alias, is_live, kind_of, record_of, slot_at, slots_at, held}
+use Rattle.qo_model.specs.Changes.{point, pointed, set, with_added, with_changed, with_val}
+use Rattle.qo_model.specs.Devices.{is_realized}
+use Rattle.qo_model.specs.FinalNotesRuns.{Change, added, deleted, wrote, severed, behind_write, changed}
+use Rattle.qo_model.specs.Objects.{Given, added_as, added_by, barred, is_object_named, object_add, object_del, place_from, refusal_of, sever, severed_from, slot_given, with_object}
+use Rattle.qo_model.specs.Opening.{fresh_slots}
+use Rattle.qo_model.specs.Paths.{attached, is_of}
+use Rattle.qo_model.specs.Properties.{link_target, link_written, linked, may_set, pointed_at, relinked, row_of_property, write, written, written_by}
+use Rattle.qo_model.specs.Release.{drop_slot, edited, emptied, let_go, pin, without_hold}
+use Rattle.qo_model.specs.Types.{TypeRow, is_a, row_named, types}
+use Rattle.qo_model.specs.declared.properties.Property.{Property}
+use Rattle.qo_model.specs.declared.properties.RowKind.{RowKind}
+use Rattle.qo_model.specs.declared.properties.RowKind.TheVariants as row
+use Rattle.qo_model.proofs.StepLemmas.{found-edited, found_at}
+use Rattle.qo_sound.proofs.AddLemmas.{unbarred}
+use Rattle.qo_sound.proofs.RecordLemmas.{all-map}
+use Rattle.qo_sound.proofs.UnplugLemmas.{Found, found-at}
+use Rattle.qo_sound_devices.specs.SoundDevices.{SoundDevices}
+use Rattle.qo_sound_devices.proofs.PlugLemmas.{stands-device}
+use Rattle.qo_sound_devices.proofs.SayLemmas.{devices_say_lem}
+use Rattle.qo_sound_clocks.proofs.FoundLemmas.{found-append}
+use Rattle.qo_sound_clocks.proofs.LessLemmas.{Slots}
+use Rattle.qo_sound_claims.proofs.DetachLemmas.{dropped-at}
+use Rattle.qo_sound_claims.proofs.FewerLemmas.{at-record, Fewer, fewer-after, fewer-drop, fewer-let_go, fewer-none, fewer-pin, fewer-slots, fewer-unpin, Harmless, LessRecord, NearAt, record-none, record-slots, spares-harmless, Spares}
+use Rattle.qo_sound_claims.proofs.ReadLemmas.{realized-at}
+use Rattle.qo_sound_claims.proofs.SlotLemmas.{is_memdev, less-added, less-pointed, less-set, lit_in, OtherName}
+
+-- no property that is claimed is written by `qom-set`
+
+abbrev MaySet : TypeId → List ℕ → Bool
+MaySet t name = option_map_or (λ (p : Property). may_set p.mark) (row_of_property t name) false
+
+record NeverSet (t : TypeId) : Type 0 where
+  chardev : MaySet t (codes "chardev") ≡ false
+  addr : MaySet t (codes "addr") ≡ false
+  size : MaySet t (codes "size") ≡ false
+  realized : MaySet t (codes "realized") ≡ false
+  memdev : MaySet t (codes "memdev") ≡ false
+
+never-set : (t : TypeId) → NeverSet t
+unfolding types
+never-set Object = record { chardev = refl; addr = refl; size = refl; realized = refl; memdev = refl }
+never-set Container = record { chardev = refl; addr = refl; size = refl; realized = refl; memdev = refl }
+never-set Machine = record { chardev = refl; addr = refl; size = refl; realized = refl; memdev = refl }
+never-set Device = record { chardev = refl; addr = refl; size = refl; realized = refl; memdev = refl }
+never-set SlotDevice = record { chardev = refl; addr = refl; size = refl; realized = refl; memdev = refl }
+never-set SlotUart = record { chardev = refl; addr = refl; size = refl; realized = refl; memdev = refl }
+never-set SlotTimer = record { chardev = refl; addr = refl; size = refl; realized = refl; memdev = refl }
+never-set SlotBridge = record { chardev = refl; addr = refl; size = refl; realized = refl; memdev = refl }
+never-set MemDimm = record { chardev = refl; addr = refl; size = refl; realized = refl; memdev = refl }
+never-set Bus = record { chardev = refl; addr = refl; size = refl; realized = refl; memdev = refl }
+never-set SlotBus = record { chardev = refl; addr = refl; size = refl; realized = refl; memdev = refl }
+never-set MemBus = record { chardev = refl; addr = refl; size = refl; realized = refl; memdev = refl }
+never-set Clock = record { chardev = refl; addr = refl; size = refl; realized = refl; memdev = refl }
+never-set MemoryBackend = record { chardev = refl; addr = refl; size = refl; realized = refl; memdev = refl }
+never-set MemoryBackendRam = record { chardev = refl; addr = refl; size = refl; realized = refl; memdev = refl }
+never-set Tag = record { chardev = refl; addr = refl; size = refl; realized = refl; memdev = refl }
+
+record Unclaimed (name : List ℕ) : Type 0 where
+  values : OtherName name
+  realized : bytes_eq name (codes "realized") ≡ false
+  memdev : is_memdev name ≡ false
+
+set-other : (t : TypeId) (name : List ℕ) → MaySet t name ≡ true → Unclaimed name
+set-other t name e =
+    record {
+      values = record { chardev = apart (codes "chardev") n.chardev; addr = apart (codes "addr") n.addr; size = apart (codes "size") n.size };
+      realized = apart (codes "realized") n.realized;
+      memdev = apart (codes "memdev") n.memdev;
+    }
+  where
+    n : NeverSet t
+    n = never-set t
+
+    apart : (other : List ℕ) → MaySet t other ≡ false → bytes_eq name other ≡ false
+    apart other never = go (bytes_eq name other) refl
+      where
+        go : (u : Bool) → bytes_eq name other ≡ u → bytes_eq name other ≡ false
+        go true p = absurd (let clash : true ≡ false = sym e ∙ ap (MaySet t) ((bytes_eq-Decides name other).0 p) ∙ never in cc)
+        go false p = p
+
+-- the slot that is written
+
+slice-of : (xs : Slots) (i : ℕ) (d : List ℕ × Slot) → i < length xs → slice_get xs i ≡ Some (get_or xs i d)
+slice-of [] i d low = absurd (omega (arith, low))
+slice-of (x ∷ xs) zero d low = refl
+slice-of (x ∷ xs) (suc i) d low = slice-of xs i d (omega (arith, low))
+
+record SlotFound (name : List ℕ) (slots : Slots) (i : ℕ) : Type 0 where
+  entry : List ℕ × Slot
+  at : slice_get slots i ≡ Some entry
+  passes : bytes_eq entry.0 name ≡ true
+
+position-slot : (name : List ℕ) (slots : Slots) (i : ℕ) → position (λ (s : List ℕ × Slot). bytes_eq s.0 name) slots ≡ Some i → SlotFound name slots i
+position-slot name slots i e =
+    let d : List ℕ × Slot = ([], plain val.Nothing) in
+    let h : (i < length slots) × (bytes_eq (get_or slots i d).0 name ≡ true) × ((k : ℕ) → k < i → bytes_eq (get_or slots k d).0 name ≡ false) =
+    position-Some (λ (s : List ℕ × Slot). bytes_eq s.0 name) slots i d e in
+    record { entry = get_or slots i d; at = slice-of slots i d h.0; passes = h.1 }
+
+kept-slot : (i : ℕ) (xs : Slots) (own : List ℕ) (s left : Slot) → slice_get xs i ≡ Some (own, s) → emptied s ≡ Some left
+    → slice_get (without_hold i xs) i ≡ Some (own, left)
+kept-slot i [] own s left e stays = cc
+kept-slot zero (x ∷ xs) own s left e stays =
+    ap (λ (y : List ℕ × Slot). slice_get (without_hold zero (y ∷ xs)) 0) (same_Some x (own, s) e)
+    ∙ ap (λ (o : Option Slot). slice_get (elim o as (λ _. Slots) [ None ↦ xs | Some l ↦ (own, l) ∷ xs ]) 0) stays
+kept-slot (suc i) (x ∷ xs) own s left e stays = kept-slot i xs own s left e stays
+
+set-fewer : (b : Board) (n i : ℕ) (v : Val) (x : List ℕ × Slot) → slice_get (slots_at b n) i ≡ Some x → Unclaimed x.0 → Fewer false b (set n i v b)
+unfolding set
+set-fewer b n i v x at other =
+    fewer-slots false b n (with_changed (with_val v) i) (λ r. refl) (λ r. refl) (λ r. refl) b
+    (λ r q. less-set (is_a r.kind (codes "mem-dimm")) false v i r.slots x (at-record b n i x r at q) other.values (inr other.realized)) (fewer-none false b)
+
+-- a link that is written
+
+module _ (b : Board) (n i : ℕ) (own : List ℕ) (s left : Slot)
+    (at : slice_get (slots_at b n) i ≡ Some (own, s)) (stays : emptied s ≡ Some left) (other : Unclaimed own) where
+  link-dropped : Fewer false b (drop_slot b n i)
+  link-dropped = fewer-drop false b b n i (spares-harmless b n i (own, s) at (inr other.memdev)) (fewer-none false b)
+
+  pointed-fewer : (target : Option ℕ) → Fewer false b (pointed_at target n i (drop_slot b n i))
+  unfolding point
+  pointed-fewer None = link-dropped
+  pointed-fewer (Some m) =
+      fewer-slots false b n (with_changed (pointed m) i) (λ r. refl) (λ r. refl) (λ r. refl) (drop_slot b n i)
+      (λ r e.
+      less-pointed (is_a r.kind (codes "mem-dimm")) false m i r.slots (own, left)
+      (sym (ap (λ (xs : Slots). slice_get xs i) (dropped-at b n i (own, s) at r e)) ∙ kept-slot i (slots_at b n) own s left at stays)
+      other.memdev refl)
+      link-dropped
+
+  relinked-fewer : (target : Option ℕ) → Fewer false b (relinked b n i target)
+  relinked-fewer target =
+      let there : slot_at b n i ≡ Some s = ap (option_map (λ (x : List ℕ × Slot). x.1)) at in
+      rw (relinked, there) (fewer-after false b (held s) (pointed_at target n i (drop_slot b n i)) (pointed-fewer target))
+
+  linked-fewer : (target : Result (Option ℕ) Code) → Fewer false b (behind_write b (linked b n i target))
+  linked-fewer (Ok target) = relinked-fewer target
+  linked-fewer (Err code) = fewer-none false b
+
+  link_written-fewer : (t : TypeId) (v : Val) → Fewer false b (behind_write b (link_written b n i t v))
+  link_written-fewer t (val.Text path) = linked-fewer (link_target b t path)
+  link_written-fewer t (val.Bool v) = fewer-none false b
+  link_written-fewer t (val.Int v) = fewer-none false b
+  link_written-fewer t (val.Uint v) = fewer-none false b
+  link_written-fewer t val.Nothing = fewer-none false b
+
+written-fewer : (b : Board) (n i : ℕ) (own : List ℕ) (s : Slot) → slice_get (slots_at b n) i ≡ Some (own, s) → Unclaimed own → (kind : RowKind) (v : Val)
+    → Fewer false b (behind_write b (written b n i kind (Some s) v))
+written-fewer b n i own (plain old) at other (row.Plain type first) v = go (admits type v) refl
+  where
+    go : (t : Bool) → admits type v ≡ t → Fewer false b (behind_write b (written b n i (row.Plain type first) (Some (plain old)) v))
+    go true p = rw (written, p) (set-fewer b n i v (own, plain old) at other)
+    go false p = rw (written, p) (fewer-none false b)
+written-fewer b n i own (strong to target) at other (row.Link t holds) v =
+    link_written-fewer b n i own (strong to target) (strong to None) at refl other to v
+written-fewer b n i own (weak to target) at other (row.Link t holds) v =
+    link_written-fewer b n i own (weak to target) (weak to None) at refl other to v
+written-fewer b n i own (child m) at other (row.Plain type first) v = fewer-none false b
+written-fewer b n i own (strong to target) at other (row.Plain type first) v = fewer-none false b
+written-fewer b n i own (weak to target) at other (row.Plain type first) v = fewer-none false b
+written-fewer b n i own (alias m property) at other (row.Plain type first) v = fewer-none false b
+written-fewer b n i own (plain old) at other (row.Link t holds) v = fewer-none false b
+written-fewer b n i own (child m) at other (row.Link t holds) v = fewer-none false b
+written-fewer b n i own (alias m property) at other (row.Link t holds) v = fewer-none false b
+written-fewer b n i own s at other (row.Child t) v = fewer-none false b
+written-fewer b n i own s at other (row.Alias owner property) v = fewer-none false b
+
+written_by-fewer : (b : Board) (n i : ℕ) (name : List ℕ) (v : Val) → SlotFound name (slots_at b n) i → (t : Option TypeId) → kind_of b n ≡ t
+    → Fewer false b (behind_write b (written_by b n i (option_and_then (λ k. row_of_property k name) t) v))
+written_by-fewer b n i name v f None q = fewer-none false b
+written_by-fewer b n i name v f (Some t) q = go (row_of_property t name) refl
+  where
+    its : name ≡ f.entry.0
+    its = sym ((bytes_eq-Decides f.entry.0 name).0 f.passes)
+
+    by : (p : Property) → row_of_property t name ≡ Some p → (u : Bool) → may_set p.mark ≡ u → Fewer false b (behind_write b (written_by b n i (Some p) v))
+    by p e false m = rw (written_by, m) (fewer-none false b)
+    by p e true m =
+        let may : MaySet t name ≡ true = ap (λ (o : Option Property). option_map_or (λ (x : Property). may_set x.mark) o false) e ∙ m in
+        let there : slot_at b n i ≡ Some f.entry.1 = ap (option_map (λ (x : List ℕ × Slot). x.1)) f.at in
+        rw (written_by, m, there) (written-fewer b n i f.entry.0 f.entry.1 f.at (subst Unclaimed its (set-other t name may)) p.kind v)
+
+    go : (o : Option Property) → row_of_property t name ≡ o → Fewer false b (behind_write b (written_by b n i o v))
+    go None e = fewer-none false b
+    go (Some p) e = by p e (may_set p.mark) refl
+
+write-fewer : (b : Board) (n : ℕ) (name : List ℕ) (v : Val) → Fewer false b (behind_write b (write b n name v))
+write-fewer b n name v = go (position (λ (s : List ℕ × Slot). bytes_eq s.0 name) (slots_at b n)) refl
+  where
+    go : (place : Option ℕ) → position (λ (s : List ℕ × Slot). bytes_eq s.0 name) (slots_at b n) ≡ place → Fewer false b (behind_write b (write b n name v))
+    go None p = rw (write, p) (fewer-none false b)
+    go (Some i) p = rw (write, p) (written_by-fewer b n i name v (position-slot name (slots_at b n) i p) (kind_of b n) refl)
+
+-- an object that goes
+
+object-harmless : (id : List ℕ) (s : List ℕ × Slot) → is_object_named id s ≡ true → Harmless s
+object-harmless id (name, plain v) e = inl refl
+object-harmless id (name, child m) e = inl refl
+object-harmless id (name, strong t target) e = absurd (let clash : false ≡ true = e in cc)
+object-harmless id (name, weak t target) e = inl refl
+object-harmless id (name, alias m property) e = inl refl
+
+object_del-fewer : (b : Board) (id : List ℕ) → Fewer false b (object_del b id).board
+object_del-fewer b id = go (place_from (is_object_named id) 0 (slots_at b OBJECTS_BIRTH)) refl
+  where
+    go : (place : Option ℕ) → place_from (is_object_named id) 0 (slots_at b OBJECTS_BIRTH) ≡ place → Fewer false b (object_del b id).board
+    go None p = rw (object_del, p) (fewer-none false b)
+    go (Some i) p =
+        let f : Found (is_object_named id) (slots_at b OBJECTS_BIRTH) i = found-at (is_object_named id) i (slots_at b OBJECTS_BIRTH) p in
+        rw (object_del, p)
+        (fewer-let_go false b OBJECTS_BIRTH i b (spares-harmless b OBJECTS_BIRTH i f.entry f.at (object-harmless id f.entry f.passes)) (fewer-none false b))
+
+-- one that lets go of its links, which is not realized
+
+module _ (b : Board) (h : SoundDevices b) where
+  dark-apart : (n : ℕ) → attached b n ≡ false → is_realized b n ≡ false
+  dark-apart n away = go (is_realized b n) refl
+    where
+      go : (t : Bool) → is_realized b n ≡ t → is_realized b n ≡ false
+      go true e =
+          let device : is_of b (codes "device") n ≡ true =
+          stands-device h.places.0 None (λ x. false) b h.places.1 n (h.places.1.only n e) in
+          absurd (let clash : true ≡ false = sym e ∙ devices_say_lem.realized b h n device ∙ away in cc)
+      go false e = e
+
+  spares-dark : (n i : ℕ) → is_realized b n ≡ false → (c : Board) → Fewer false b c → Spares c n i
+  spares-dark n i dark c less s e k kind lit q = absurd (go (record_of b n) refl)
+    where
+      go : (o : Option Record) → record_of b n ≡ o → ⊥
+      go None p = let off : lit_in s.slots ≡ false = rw (p, e) at (less n) in absurd (let clash : true ≡ false = sym lit ∙ off in cc)
+      go (Some r) p =
+          let one : LessRecord false r s = rw (p, e) at (less n) in
+          absurd (let clash : true ≡ false = sym (one.slots.lit lit) ∙ sym (realized-at b h.tree n r p) ∙ dark in cc)
+
+  severed-fewer : (places i n : ℕ) → is_realized b n ≡ false → (c : Board) → Fewer false b c → Fewer false b (severed_from places i n c)
+  severed-fewer zero i n dark c k = k
+  severed-fewer (suc places) i n dark c k = go (slot_at c n i) refl (severed-fewer places (suc i) n dark)
+    where
+      go : (s : Option Slot) → slot_at c n i ≡ s → ((d : Board) → Fewer false b d → Fewer false b (severed_from places (suc i) n d))
+          → Fewer false b (severed_from (suc places) i n c)
+      go None p rest = rw (severed_from, p) (rest c k)
+      go (Some (plain v)) p rest = rw (severed_from, p) (rest c k)
+      go (Some (child m)) p rest = rw (severed_from, p) (rest c k)
+      go (Some (strong t target)) p rest = rw (severed_from, p) (rest (let_go c n i) (fewer-let_go false b n i c (spares-dark n i dark c k) k))
+      go (Some (weak t target)) p rest = rw (severed_from, p) (rest c k)
+      go (Some (alias m property)) p rest = rw (severed_from, p) (rest c k)
+
+  sever-fewer : (n : ℕ) → Fewer false b (sever b n).board
+  sever-fewer n = go (is_live b n) refl (attached b n) refl
+    where
+      go : (there : Bool) → is_live b n ≡ there → (at_home : Bool) → attached b n ≡ at_home → Fewer false b (sever b n).board
+      go false p at_home q = rw (sever, p) (fewer-none false b)
+      go true p true q = rw (sever, p, q) (fewer-none false b)
+      go true p false q =
+          rw (sever, p, q)
+          (fewer-unpin false b n (severed_from (length (slots_at b n)) 0 n (pin b n))
+          (severed-fewer (length (slots_at b n)) 0 n (dark-apart n q) (pin b n) (fewer-pin false b n b (fewer-none false b))))
+
+-- an object that is added is no device
+
+abbrev Dark : List ℕ × Slot → Type 0
+Dark s = bytes_eq s.0 (codes "realized") ≡ false
+
+dark-lit : (xs : Slots) → AllByRecursion Dark xs → lit_in xs ≡ false
+dark-lit [] h = refl
+dark-lit (x ∷ xs) h = rw h.0 (dark-lit xs h.1)
+
+created-dark : (t : TypeId) → is_a t (codes "user-creatable") ≡ true → AllByRecursion Dark (fresh_slots t)
+unfolding types
+created-dark Object e = absurd (let clash : false ≡ true = e in cc)
+created-dark Container e = absurd (let clash : false ≡ true = e in cc)
+created-dark Machine e = absurd (let clash : false ≡ true = e in cc)
+created-dark Device e = absurd (let clash : false ≡ true = e in cc)
+created-dark SlotDevice e = absurd (let clash : false ≡ true = e in cc)
+created-dark SlotUart e = absurd (let clash : false ≡ true = e in cc)
+created-dark SlotTimer e = absurd (let clash : false ≡ true = e in cc)
+created-dark SlotBridge e = absurd (let clash : false ≡ true = e in cc)
+created-dark MemDimm e = absurd (let clash : false ≡ true = e in cc)
+created-dark Bus e = absurd (let clash : false ≡ true = e in cc)
+created-dark SlotBus e = absurd (let clash : false ≡ true = e in cc)
+created-dark MemBus e = absurd (let clash : false ≡ true = e in cc)
+created-dark Clock e = absurd (let clash : false ≡ true = e in cc)
+created-dark MemoryBackend e = search rules
+created-dark MemoryBackendRam e = search rules
+created-dark Tag e = search rules
+
+with_object-fewer : (b : Board) (t : TypeId) (id : List ℕ) (props : List Given) → AllByRecursion Dark (fresh_slots t)
+    → Fewer false b (with_object b t id props)
+with_object-fewer b t id props dark x =
+    rw (found-append x (map (edited OBJECTS_BIRTH change) b.records) (new ∷ []), found-edited OBJECTS_BIRTH change (λ r. refl) x b.records)
+    (go (record_of b x) refl)
+  where
+    change : Record → Record
+    change = with_added id (child (b.born + 1))
+
+    new : Record
+    new =
+        record {
+          birth = b.born + 1;
+          kind = t;
+          slots = map (slot_given b props) (fresh_slots t);
+          registers = fresh_registers t;
+          device_id = None;
+          kept_path = None;
+        }
+
+    at_record : (r : Record) (u : Bool) → (r.birth == OBJECTS_BIRTH) ≡ u → LessRecord false r (edited OBJECTS_BIRTH change r)
+    at_record r true p =
+        rw (edited, p)
+        (record-slots false change (λ y. refl) (λ y. refl) r
+        (less-added (is_a r.kind (codes "mem-dimm")) false id (child (b.born + 1)) refl (inl refl) (inl refl) r.slots))
+    at_record r false p = rw (edited, p) (record-none false r)
+
+    last : (u : Bool) → ((b.born + 1) == x) ≡ u → NearAt false None (found_at x (new ∷ []))
+    last true p = rw p (dark-lit new.slots (all-map Dark Dark (slot_given b props) (λ s k. k) (fresh_slots t) dark))
+    last false p = rw p tt
+
+    go : (o : Option Record) → record_of b x ≡ o → NearAt false o (option_or (option_map (edited OBJECTS_BIRTH change) o) (found_at x (new ∷ [])))
+    go None e = last ((b.born + 1) == x) refl
+    go (Some r) e = at_record r (r.birth == OBJECTS_BIRTH) refl
+
+flipped : (u : Bool) → not u ≡ false → u ≡ true
+flipped true e = refl
+flipped false e = absurd (let clash : true ≡ false = e in cc)
+
+creatable : (b : Board) (row : TypeRow) (id : List ℕ) → barred b row id ≡ None → is_a row.id (codes "user-creatable") ≡ true
+creatable b row id e =
+    let first = unbarred row.is_abstract E21 _ e in
+    let second = unbarred (not (is_a row.id (codes "user-creatable"))) E22 _ first.1 in
+    flipped (is_a row.id (codes "user-creatable")) second.0
+
+added-fewer : (b : Board) (t : TypeId) (id : List ℕ) (props : List Given) → AllByRecursion Dark (fresh_slots t) → (o : Option Code)
+    → Fewer false b (added_as b t id props o).board
+added-fewer b t id props dark (Some code) = fewer-none false b
+added-fewer b t id props dark None = with_object-fewer b t id props dark
+
+object_add-fewer : (b : Board) (driver id : List ℕ) (props : List Given) → Fewer false b (object_add b driver id props).board
+object_add-fewer b driver id props = go (row_named driver) refl
+  where
+    by : (row : TypeRow) (o : Option Code) → barred b row id ≡ o → Fewer false b (added_by b row id props o).board
+    by row (Some code) e = fewer-none false b
+    by row None e = added-fewer b row.id id props (created-dark row.id (creatable b row id e)) (refusal_of b row.id props)
+
+    go : (row : Option TypeRow) → row_named driver ≡ row → Fewer false b (object_add b driver id props).board
+    go None p = rw (object_add, p) (fewer-none false b)
+    go (Some row) p = rw (object_add, p) (by row (barred b row id) refl)
+
+pub changed-fewer : (b : Board) → SoundDevices b → (change : Change) → Fewer false b (changed b change)
+changed-fewer b h (added driver id props) = object_add-fewer b driver id props
+changed-fewer b h (deleted id) = object_del-fewer b id
+changed-fewer b h (wrote n name v) = write-fewer b n name v
+changed-fewer b h (severed n) = sever-fewer b h n

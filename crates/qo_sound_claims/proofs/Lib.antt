@@ -1,0 +1,14 @@
+pub mod BesideLemmas
+pub mod CommandLemmas
+pub mod DetachLemmas
+pub mod FewerLemmas
+pub mod GrowingLemmas
+pub mod KeptLemmas
+pub mod LawLemmas
+pub mod OpeningLemmas
+pub mod OwnLemmas
+pub mod PlugLemmas
+pub mod ReadLemmas
+pub mod RingLemmas
+pub mod SlotLemmas
+pub mod StepsLemmas

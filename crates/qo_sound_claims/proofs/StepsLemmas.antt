@@ -1,0 +1,258 @@
+-- Acts, holds, clocks that are written, registers that a guest writes, devices that go, and the reset of the whole board keep the backends sound.
+use Rattle.std.proofs.Common.{◌≡◌, inl, refl, ap, sym, subst, ◌∙◌, ℕ, zero, suc, Bool, true, false, eqb, List, [], ◌∷◌, filter, length, codes, Option, Some, None, is_some, option_map, Ok, Err}
+use Rattle.std.specs.List.{AllByRecursion}
+use Rattle.std.proofs.lemmas.Option.{same_Some}
+use Rattle.qo_values.specs.Bodies.{Effect, body_write, bridge_write, effect_of, nothing}
+use Rattle.qo_values.specs.Dimm.{dimm_read}
+use Rattle.qo_values.specs.Registers.{BridgeRegisters, Registers, TimerRegisters, UartRegisters, bare, bridge, dimm, timer, uart}
+use Rattle.qo_values.specs.Timer.{timer_write}
+use Rattle.qo_values.specs.Uart.{uart_write}
+use Rattle.qo_values.specs.declared.births.TheConstants.{MACHINE_BIRTH}
+use Rattle.qo_values.specs.declared.codes.Code.TheVariants.{E45, E46}
+use Rattle.qo_values.specs.declared.kinds.Act.{Act}
+use Rattle.qo_values.specs.declared.kinds.Act.TheVariants.{Enter, Hold, Exit}
+use Rattle.qo_values.specs.declared.properties.Val.TheVariants as val
+use Rattle.qo_values.specs.declared.ranges.Range.{Range}
+use Rattle.qo_model.specs.Board.{Board, Record, record_of, slots_at}
+use Rattle.qo_model.specs.Changes.{set}
+use Rattle.qo_model.specs.ClockChanges.{clock_scaled, clock_set}
+use Rattle.qo_model.specs.Clocks.{acted, source_of}
+use Rattle.qo_model.specs.Depth.{among}
+use Rattle.qo_model.specs.FinalNotesRuns.{Change, changed}
+use Rattle.qo_model.specs.Hotplug.{all_completed, asked, asked_of, completed, device_at, reset_whole}
+use Rattle.qo_model.specs.Objects.{place_from}
+use Rattle.qo_model.specs.Paths.{attached}
+use Rattle.qo_model.specs.Plug.{notice_barred, range_in}
+use Rattle.qo_model.specs.Release.{without_first}
+use Rattle.qo_model.specs.Reset.{held, is_out, phased, post, pulse, released}
+use Rattle.qo_model.specs.Types.{is_a}
+use Rattle.qo_model.specs.Unplug.{detach, first_of, is_named, set_named}
+use Rattle.qo_model.proofs.StaysLemmas.{stays_lem}
+use Rattle.qo_sound.proofs.DevicesStayLemmas.{devices_stay_lem}
+use Rattle.qo_sound_devices.specs.SoundDevices.{SoundDevices}
+use Rattle.qo_sound_devices.specs.SoundLists.{IsOn}
+use Rattle.qo_sound_devices.specs.SoundPlaces.{stands}
+use Rattle.qo_sound_devices.proofs.DevicesLawLemmas.{devices_kept_lem}
+use Rattle.qo_sound_clocks.specs.RegistersKept.{registers_set, with_registers}
+use Rattle.qo_sound_clocks.proofs.KeepLemmas.{writes_keep_lem}
+use Rattle.qo_sound_clocks.proofs.RegisterLemmas.{registers_kept_lem}
+use Rattle.qo_sound_clocks.proofs.StepsLemmas.{kept-written}
+use Rattle.qo_sound_claims.specs.SoundBackends.{SoundBackends}
+use Rattle.qo_sound_claims.specs.SoundRings.{AreGoodRings}
+use Rattle.qo_sound_claims.proofs.BesideLemmas.{claims-beside}
+use Rattle.qo_sound_claims.proofs.CommandLemmas.{changed-fewer}
+use Rattle.qo_sound_claims.proofs.DetachLemmas.{detach-fewer}
+use Rattle.qo_sound_claims.proofs.FewerLemmas.{Fewer, fewer-acted, fewer-edit, fewer-loose, fewer-none, fewer-phased, fewer-set}
+use Rattle.qo_sound_claims.proofs.KeptLemmas.{claims-fewer}
+use Rattle.qo_sound_claims.proofs.SlotLemmas.{less-none, OtherName}
+
+-- neither objects nor rings change
+pub backends-beside : (b c : Board) → c.records ≡ b.records → c.rings ≡ b.rings → SoundBackends b → SoundBackends c
+backends-beside b c objects same h =
+    record { rings = subst AreGoodRings (sym same) h.rings; claims = claims-beside b c objects same h.claims }
+
+-- objects claim no more, and the rings stay
+pub backends-fewer : (b c : Board) → SoundDevices b → SoundDevices c → c.rings ≡ b.rings → Fewer false b c → SoundBackends b → SoundBackends c
+backends-fewer b c before after same fewer h =
+    record {
+      rings = subst AreGoodRings (sym same) h.rings;
+      claims = claims-fewer b c before.tree after.tree same h.claims fewer;
+    }
+
+-- removals that are asked for
+
+asked_of-backends : (b : Board) (d : ℕ) → SoundBackends b → SoundBackends (asked_of b d).board
+asked_of-backends b d h = go (attached b d) refl (among b.pending d) refl (is_some (notice_barred b)) refl
+  where
+    go : (u : Bool) → attached b d ≡ u → (v : Bool) → among b.pending d ≡ v → (w : Bool) → is_some (notice_barred b) ≡ w → SoundBackends (asked_of b d).board
+    go false p v q w r = rw (asked_of, p) h
+    go true p true q w r = rw (asked_of, p, q) h
+    go true p false q true r = rw (asked_of, p, q, r) h
+    go true p false q false r = rw (asked_of, p, q, r) (backends-beside b _ refl refl h)
+
+pub asked-backends : (b : Board) (id : List ℕ) → SoundBackends b → SoundBackends (asked b id).board
+asked-backends b id h = go (device_at b id) refl
+  where
+    go : (o : Option ℕ) → device_at b id ≡ o → SoundBackends (asked b id).board
+    go None p = rw (asked, p) h
+    go (Some d) p = rw (asked, p) (asked_of-backends b d h)
+
+-- acts and holds
+
+acted-rings : (act : Act) (n period : ℕ) (c : Board) → (acted act n period c).rings ≡ c.rings
+unfolding acted
+acted-rings act n period c = refl
+
+pub acted-backends : (act : Act) (n period : ℕ) (b : Board) → SoundDevices b → SoundBackends b → SoundBackends (acted act n period b)
+acted-backends act n period b d h =
+    backends-fewer b (acted act n period b) d (devices_kept_lem.acts act n period b d) (acted-rings act n period b)
+    (fewer-acted false b act n period b (fewer-none false b)) h
+
+module _ (b : Board) where
+  fewer-held : (c : Board) (n : ℕ) → Fewer false b c → Fewer false b (held c n)
+  unfolding held
+  fewer-held c n h =
+      fewer-phased false b Hold (filter (is_out c) (post c n)) (phased Enter (filter (is_out c) (post c n)) c)
+      (fewer-phased false b Enter (filter (is_out c) (post c n)) c h)
+
+  fewer-released : (c : Board) (n : ℕ) → Fewer false b c → Fewer false b (released c n)
+  unfolding released
+  fewer-released c n h =
+      let x : Board = record c { holds = without_first n c.holds } in
+      fewer-phased false b Exit (filter (is_out x) (post x n)) x h
+
+  fewer-pulse : (c : Board) (n : ℕ) → Fewer false b c → Fewer false b (pulse c n)
+  unfolding pulse
+  fewer-pulse c n h = fewer-released (held c n) n (fewer-held c n h)
+
+pub held-backends : (b : Board) (n : ℕ) → SoundDevices b → SoundBackends b → SoundBackends (held b n)
+held-backends b n d h =
+    backends-fewer b (held b n) d (devices_kept_lem.held_so b n d) (devices_stay_lem.held_so b n).rings (fewer-held b b n (fewer-none false b)) h
+
+pub released-backends : (b : Board) (n : ℕ) → SoundDevices b → SoundBackends b → SoundBackends (released b n)
+released-backends b n d h =
+    backends-fewer b (released b n) d (devices_kept_lem.released_so b n d) (devices_stay_lem.released_so b n).rings
+    (fewer-released b b n (fewer-none false b)) h
+
+pub pulse-backends : (b : Board) (n : ℕ) → SoundDevices b → SoundBackends b → SoundBackends (pulse b n)
+pulse-backends b n d h =
+    backends-fewer b (pulse b n) d (devices_kept_lem.pulsed b n d) (devices_stay_lem.pulsed b n).rings (fewer-pulse b b n (fewer-none false b)) h
+
+-- clocks that are written
+
+record Goes (b c : Board) : Type 0 where
+  fewer : Fewer false b c
+  rings : c.rings ≡ b.rings
+
+goes-acted : (b : Board) (act : Act) (n period : ℕ) (c : Board) → Goes b c → Goes b (acted act n period c)
+goes-acted b act n period c h =
+    record { fewer = fewer-acted false b act n period c h.fewer; rings = acted-rings act n period c ∙ h.rings }
+
+goes-set : (b : Board) (n : ℕ) (name : List ℕ) (v : ℕ) → OtherName name → (c : Board) → Goes b c → Goes b (set_named n name (val.Uint v) c)
+unfolding set
+goes-set b n name v other c h =
+    record { fewer = fewer-set false b n name (val.Uint v) other (inl refl) c h.fewer; rings = go (place_from (is_named name) 0 (slots_at c n)) refl }
+  where
+    go : (o : Option ℕ) → place_from (is_named name) 0 (slots_at c n) ≡ o → (set_named n name (val.Uint v) c).rings ≡ b.rings
+    go None e = rw (set_named, e) h.rings
+    go (Some i) e = rw (set_named, e) h.rings
+
+goes-none : (b : Board) → Goes b b
+goes-none b = record { fewer = fewer-none false b; rings = refl }
+
+set-goes : (b d : Board) (c period : ℕ) → clock_set b c period ≡ Ok d → Goes b d
+set-goes b d c period e = go (is_some (source_of b c)) refl
+  where
+    go : (t : Bool) → is_some (source_of b c) ≡ t → Goes b d
+    go true p = absurd (let clash : Err E45 ≡ Ok d = rw (clock_set, p) at e in cc)
+    go false p =
+        kept-written (Goes b) (goes-acted b) b (set_named c (codes "period") (val.Uint period) b) d c
+        (goes-set b c (codes "period") period (record { chardev = refl; addr = refl; size = refl }) b (goes-none b)) (rw (clock_set, p) at e)
+
+scaled-goes : (b d : Board) (c mul div : ℕ) → clock_scaled b c mul div ≡ Ok d → Goes b d
+scaled-goes b d c mul div e = go (eqb div 0) refl
+  where
+    mid : Board
+    mid = set_named c (codes "mul") (val.Uint mul) b
+
+    go : (t : Bool) → eqb div 0 ≡ t → Goes b d
+    go true p = absurd (let clash : Err E46 ≡ Ok d = rw (clock_scaled, p) at e in cc)
+    go false p =
+        kept-written (Goes b) (goes-acted b) b (set_named c (codes "div") (val.Uint div) mid) d c
+        (goes-set b c (codes "div") div (record { chardev = refl; addr = refl; size = refl }) mid
+        (goes-set b c (codes "mul") mul (record { chardev = refl; addr = refl; size = refl }) b (goes-none b)))
+        (rw (clock_scaled, p) at e)
+
+pub set-backends : (b d : Board) (c period : ℕ) → clock_set b c period ≡ Ok d → SoundDevices b → SoundBackends b → SoundBackends d
+set-backends b d c period e devices h =
+    let k : Goes b d = set-goes b d c period e in
+    backends-fewer b d devices (writes_keep_lem.set_devices b d c period e devices) k.rings k.fewer h
+
+pub scaled-backends : (b d : Board) (c mul div : ℕ) → clock_scaled b c mul div ≡ Ok d → SoundDevices b → SoundBackends b → SoundBackends d
+scaled-backends b d c mul div e devices h =
+    let k : Goes b d = scaled-goes b d c mul div e in
+    backends-fewer b d devices (writes_keep_lem.scaled_devices b d c mul div e devices) k.rings k.fewer h
+
+-- registers that a guest writes
+
+mapped-range : {A : Type 0} (f : A → Registers × Effect) (gs : List Range) → ((x : A) → range_in (f x).0 ≡ gs) → (o : Option A) (s : Registers)
+    (effect : Effect) → option_map f o ≡ Some (s, effect) → range_in s ≡ gs
+mapped-range f gs same None s effect e = cc
+mapped-range f gs same (Some x) s effect e = ap range_in (sym (ap (λ (p : Registers × Effect). p.0) (same_Some (f x) (s, effect) e))) ∙ same x
+
+bridge-range : (g : BridgeRegisters) (reg value : ℕ) (s : Registers) (effect : Effect) → bridge_write g reg value ≡ Some (s, effect) → range_in s ≡ []
+bridge-range g reg value s effect e = go (eqb reg 0) refl (eqb reg 1) refl
+  where
+    is : (x : BridgeRegisters) (f : Effect) → ◌≡◌ {A = Option (Registers × Effect)} (Some (bridge x, f)) (Some (s, effect)) → range_in s ≡ []
+    is x f q = ap range_in (sym (ap (λ (p : Registers × Effect). p.0) (same_Some (bridge x, f) (s, effect) q)))
+
+    go : (u : Bool) → eqb reg 0 ≡ u → (v : Bool) → eqb reg 1 ≡ v → range_in s ≡ []
+    go true p v q = is _ _ (rw (bridge_write, p) at e)
+    go false p true q = is _ _ (rw (bridge_write, p, q) at e)
+    go false p false q = absurd (let clash : None ≡ Some (s, effect) = rw (bridge_write, p, q) at e in cc)
+
+write-range : (r s : Registers) (effect : Effect) (reg value : ℕ) (ring : Bool) (now period : ℕ) → body_write r reg value ring now period ≡ Some (s, effect)
+    → range_in s ≡ range_in r
+write-range (uart u) s effect reg value ring now period e =
+    mapped-range (λ (p : UartRegisters × Option ℕ). (uart p.0, effect_of p.1)) [] (λ p. refl) (uart_write u reg value ring) s effect e
+write-range (timer t) s effect reg value ring now period e =
+    mapped-range (λ (x : TimerRegisters). (timer x, nothing)) [] (λ x. refl) (timer_write t reg value now period) s effect e
+write-range (dimm d) s effect reg value ring now period e =
+    mapped-range (λ (n : ℕ). (dimm d, nothing)) (range_in (dimm d)) (λ n. refl) (dimm_read d reg) s effect e
+write-range (bridge g) s effect reg value ring now period e = bridge-range g reg value s effect e
+write-range bare s effect reg value ring now period e = cc
+
+pub wrote-backends : (b : Board) (n : ℕ) (r : Record) (s : Registers) (effect : Effect) (reg value : ℕ) (ring : Bool) (now period : ℕ) → record_of b n ≡ Some r
+    → body_write r.registers reg value ring now period ≡ Some (s, effect) → SoundDevices b → SoundBackends b → SoundBackends (registers_set b n s)
+wrote-backends b n r s effect reg value ring now period there e d h =
+    backends-fewer b (registers_set b n s) d (registers_kept_lem.devices b n s d) refl
+    (fewer-edit false b n (with_registers s) (λ x. refl) b
+    (λ x q.
+    record {
+      kind = refl;
+      range =
+          write-range r.registers s effect reg value ring now period e
+          ∙ ap (λ (y : Record). range_in y.registers) (same_Some r x (sym there ∙ q));
+      slots = less-none (is_a x.kind (codes "mem-dimm")) false x.slots;
+    }) (fewer-none false b)) h
+
+-- commands on objects
+
+pub changed-backends : (b : Board) (change : Change) → SoundDevices b → SoundBackends b → SoundBackends (changed b change)
+changed-backends b change d h =
+    backends-fewer b (changed b change) d (devices_kept_lem.change b change d) (stays_lem.change b change).rings (changed-fewer b d change) h
+
+-- devices that go, and the reset of the whole board
+
+pub detach-backends : (b : Board) (d : ℕ) → SoundDevices b → stands b d ≡ true → SoundBackends b → SoundBackends (detach b d)
+detach-backends b d devices e h =
+    backends-fewer b (detach b d) devices (devices_kept_lem.detached b d devices e) (devices_stay_lem.detached b d).rings
+    (fewer-loose b (detach b d) (detach-fewer b devices.tree devices.places.0 devices.places.1 h.claims d e)) h
+
+record Both (b : Board) : Type 0 where
+  devices : SoundDevices b
+  backends : SoundBackends b
+
+first-on : (b : Board) → SoundDevices b → (d : ℕ) → first_of b.pending ≡ Some d → stands b d ≡ true
+first-on b h d e = go b.pending h.lists.pending e
+  where
+    go : (ns : List ℕ) → AllByRecursion (IsOn b) ns → first_of ns ≡ Some d → stands b d ≡ true
+    go [] on k = cc
+    go (n ∷ ns) on k = subst (λ (m : ℕ). stands b m ≡ true) (same_Some n d k) on.0.0
+
+completed-both : (times : ℕ) (b : Board) → Both b → Both (all_completed times b)
+completed-both zero b h = h
+completed-both (suc times) b h = go (first_of b.pending) refl (completed-both times)
+  where
+    go : (o : Option ℕ) → first_of b.pending ≡ o → ((c : Board) → Both c → Both (all_completed times c)) → Both (all_completed (suc times) b)
+    go None p rest = rw (all_completed, p) h
+    go (Some d) p rest =
+        let on : stands b d ≡ true = first-on b h.devices d p in
+        rw (all_completed, p)
+        (rest (completed b d) (record { devices = devices_kept_lem.detached b d h.devices on; backends = detach-backends b d h.devices on h.backends }))
+
+pub reset-backends : (b : Board) → SoundDevices b → SoundBackends b → SoundBackends (reset_whole b)
+unfolding reset_whole
+reset-backends b d h =
+    let k : Both (all_completed (length b.pending) b) = completed-both (length b.pending) b (record { devices = d; backends = h }) in
+    pulse-backends (all_completed (length b.pending) b) MACHINE_BIRTH k.devices k.backends

@@ -1,0 +1,4 @@
+pub mod ClaimsKept
+pub mod SoundBackends
+pub mod SoundClaims
+pub mod SoundRings

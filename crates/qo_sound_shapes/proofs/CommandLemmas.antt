@@ -1,0 +1,435 @@
+-- The commands on objects keep the shape.
+use Rattle.std.proofs.Common.{◌≡◌, refl, ap, sym, subst, ◌∙◌, rules, ℕ, zero, suc, ◌<◌, ◌≤◌, ◌+◌, Bool, true, false, not, eqb, List, [], ◌∷◌, length, map, position, slice_get, codes, Option, Some, None, is_some, option_map, option_and_then, Result, Ok, Err, arith}
+use Rattle.std.specs.Prelude.{get_or}
+use Rattle.std.specs.Bool.{⊤}
+use Rattle.std.specs.List.{AllByRecursion}
+use Rattle.std.specs.Option.{option_map_or}
+use Rattle.std.specs.Str.{bytes_eq}
+use Rattle.std.proofs.lemmas.Bool.{eqb-true}
+use Rattle.std.proofs.lemmas.List.Quantifiers.{position-Some}
+use Rattle.std.proofs.lemmas.Option.{same_Some}
+use Rattle.qo_values.specs.Properties.{admits}
+use Rattle.qo_values.specs.Registers.{fresh_registers}
+use Rattle.qo_values.specs.declared.births.TheConstants.{ANONYMOUS_BIRTH, MACHINE_BIRTH, MEMORY_BUS_BIRTH, OBJECTS_BIRTH, PERIPHERAL_BIRTH, ROOT_BIRTH, ROOT_BUS_BIRTH, SYSTEM_CLOCK_BIRTH}
+use Rattle.qo_values.specs.declared.codes.Code.{Code}
+use Rattle.qo_values.specs.declared.codes.Code.TheVariants.{E21, E22}
+use Rattle.qo_values.specs.declared.kinds.TypeId.{TypeId}
+use Rattle.qo_values.specs.declared.kinds.TypeId.TheVariants.{Container}
+use Rattle.qo_values.specs.declared.properties.Val.{Val}
+use Rattle.qo_values.specs.declared.properties.Val.TheVariants as val
+use Rattle.qo_model.specs.Board.{Board, Record, Slot, plain, child, strong, weak, alias, held, is_live, kind_of, record_of, slot_at, slots_at}
+use Rattle.qo_model.specs.Changes.{changed_at, point, pointed, set, with_added, with_changed, with_val}
+use Rattle.qo_model.specs.Depth.{among}
+use Rattle.qo_model.specs.FinalNotesRuns.{Change, added, behind_write, changed, deleted, severed, wrote}
+use Rattle.qo_model.specs.Objects.{Given, added_as, added_by, barred, given_slots, is_object_named, object_add, object_del, place_from, refusal_of, sever, severed_from, with_object}
+use Rattle.qo_model.specs.Opening.{opening_board}
+use Rattle.qo_model.specs.Paths.{attached, child_of}
+use Rattle.qo_model.specs.Properties.{link_target, link_written, linked, may_set, pointed_at, relinked, row_of_property, write, written, written_by}
+use Rattle.qo_model.specs.Release.{drop_slot, edit, forgotten, forgotten_in, let_go, pin, with_dropped, without_hold}
+use Rattle.qo_model.specs.Types.{TypeRow, is_a, row_named, slots_of, types}
+use Rattle.qo_model.specs.declared.properties.Property.{Property}
+use Rattle.qo_model.specs.declared.properties.RowKind.{RowKind}
+use Rattle.qo_model.specs.declared.properties.RowKind.TheVariants as row
+use Rattle.qo_sound.proofs.AddLemmas.{unbarred}
+use Rattle.qo_sound.proofs.FirmLemmas.{Firm}
+use Rattle.qo_sound.proofs.SlotLemmas.{names-changed, names-each, names_in}
+use Rattle.qo_sound.proofs.ViewLemmas.{rest-from_sound}
+use Rattle.qo_sound_devices.specs.SoundDevices.{SoundDevices}
+use Rattle.qo_sound_devices.specs.SoundPlaces.{child_entries, child_entry, listed, PlacesBut, stands}
+use Rattle.qo_sound_devices.proofs.DevicesLawLemmas.{devices_kept_lem}
+use Rattle.qo_sound_devices.proofs.PlacesLemmas.{child-live, high-absent, stands-live}
+use Rattle.qo_sound_shapes.specs.SoundShape.{HasSlots, IsChildSlot, is_child_row, IsAsRow, IsFurther, IsShaped, SoundShape}
+use Rattle.qo_sound_shapes.proofs.BoardLemmas.{all-after, all-edit, all-let_go, all-new, all-pin, all-unpin, AllOf, good-all, OpeningLive, shape-all}
+use Rattle.qo_sound_shapes.proofs.GoodLemmas.{Good, good-added, good-changed, good-dropped, good-forgotten, good-slots, is_first, mild-pointed, rows-pointed}
+use Rattle.qo_sound_shapes.proofs.MadeLemmas.{created-own, fresh-has, fresh-like, given-has, good-new}
+use Rattle.qo_sound_shapes.proofs.QuietLemmas.{good-set, RowTakes, slot-of, Takes}
+use Rattle.qo_sound_shapes.proofs.RowLemmas.{has-dropped, Slots}
+use Rattle.qo_sound_shapes.proofs.WholeLemmas.{entries-changed, entries-each, entries-let_go, entries_in, entry-val, Kept, kept-of, kept-slots, names-let_go, whole-kept}
+
+-- on a board that is sound as far as devices go the machine's objects are there
+pub live-devices : (b : Board) → SoundDevices b → OpeningLive b
+unfolding opening_board types
+live-devices b h = (
+  root (kind_of b ROOT_BIRTH) refl,
+  (
+    there ROOT_BIRTH MACHINE_BIRTH p.machine,
+    (
+      there MACHINE_BIRTH PERIPHERAL_BIRTH p.parts.0,
+      (
+        there MACHINE_BIRTH ANONYMOUS_BIRTH p.parts.1.0,
+        (
+          there MACHINE_BIRTH SYSTEM_CLOCK_BIRTH p.parts.1.1.1.1.0,
+          (
+            there MACHINE_BIRTH ROOT_BUS_BIRTH p.parts.1.1.0,
+            (there MACHINE_BIRTH MEMORY_BUS_BIRTH p.parts.1.1.1.0, (there ROOT_BIRTH OBJECTS_BIRTH p.objects, tt)),
+          ),
+        ),
+      ),
+    ),
+  ),
+)
+  where
+    p : PlacesBut h.places.0 None (λ d. false) b
+    p = h.places.1
+
+    firm : Firm b
+    firm = (rest-from_sound b h.tree).used.firm
+
+    there : (m n : ℕ) → listed n (child_entries b m) ≡ true → is_live b n ≡ true
+    there m n e = child-live b firm m n e
+
+    root : (o : Option TypeId) → kind_of b ROOT_BIRTH ≡ o → is_live b ROOT_BIRTH ≡ true
+    root o e = go (record_of b ROOT_BIRTH) refl
+      where
+        go : (r : Option Record) → record_of b ROOT_BIRTH ≡ r → is_live b ROOT_BIRTH ≡ true
+        go None q = absurd (let clash : None ≡ Some Container = sym (ap (option_map (λ (y : Record). y.kind)) q) ∙ p.rooted.root in cc)
+        go (Some r) q = ap is_some q
+
+-- containers
+
+pub container-kind : (n : ℕ) → kind_of opening_board n ≡ Some Container → (r : Record) → r.birth ≡ n → Good r → r.kind ≡ Container
+container-kind n e r own h = h.kind Container (ap (kind_of opening_board) own ∙ e)
+
+pub childless : AllByRecursion (λ (p : Property). is_child_row p.kind ≡ false) (slots_of Container)
+unfolding types
+childless = search rules
+
+pub child-row : (kind : RowKind) (m : ℕ) → IsAsRow kind (child m) → is_child_row kind ≡ true
+child-row (row.Plain type first) m h = absurd h
+child-row (row.Child k) m h = refl
+child-row (row.Link k true) m h = absurd h
+child-row (row.Link k false) m h = absurd h
+child-row (row.Alias owner of) m h = absurd h
+
+-- a slot of a container is let go
+pub good-emptied : (i : ℕ) (r : Record) → is_first r.birth ≡ false → r.kind ≡ Container → Good r → Good (with_dropped i r)
+good-emptied i r apart kind h = good-slots r _ h has (λ e. absurd (let clash : true ≡ false = sym e ∙ apart in cc))
+  where
+    R : Property → Type 0
+    R p = is_child_row p.kind ≡ false
+
+    has : HasSlots r.kind (slots_of r.kind) (with_dropped i r).slots
+    has =
+        has-dropped (λ (p : Property). is_child_row p.kind ≡ false) r.kind i (slots_of r.kind)
+        (subst (λ (t : TypeId). AllByRecursion (λ (p : Property). is_child_row p.kind ≡ false) (slots_of t)) (sym kind) childless) h.shaped.slots
+        (λ p s m own at is row.
+        absurd
+        (let clash : true ≡ false = sym (child-row p.kind m (subst (IsAsRow p.kind) is row.fits)) ∙ own in
+        cc))
+
+container-eight : kind_of opening_board OBJECTS_BIRTH ≡ Some Container
+unfolding opening_board types
+container-eight = refl
+
+-- a fact of each object: it is good, and from a board on it is kept whole where it stood in a container
+pub record Full (o : Board) (r : Record) : Type 0 where
+  pub good : Good r
+  pub kept : Kept o r
+
+late-shelf : (n : ℕ) → 8 < n → among (PERIPHERAL_BIRTH ∷ ANONYMOUS_BIRTH ∷ []) n ≡ false
+late-shelf n late = go (eqb n PERIPHERAL_BIRTH) refl (eqb n ANONYMOUS_BIRTH) refl
+  where
+    go : (t : Bool) → eqb n PERIPHERAL_BIRTH ≡ t → (u : Bool) → eqb n ANONYMOUS_BIRTH ≡ u → among (PERIPHERAL_BIRTH ∷ ANONYMOUS_BIRTH ∷ []) n ≡ false
+    go true p u q = let is : n ≡ PERIPHERAL_BIRTH = eqb-true n PERIPHERAL_BIRTH p in absurd (let clash : 8 < 3 = omega (arith, late, is) in omega arith)
+    go false p true q = let is : n ≡ ANONYMOUS_BIRTH = eqb-true n ANONYMOUS_BIRTH q in absurd (let clash : 8 < 4 = omega (arith, late, is) in omega arith)
+    go false p false q = rw (p, q) refl
+
+module _ (o : Board) where
+  full-slots : (r : Record) (slots : Slots) → Good (record r { slots = slots }) → names_in slots ≡ names_in r.slots
+      → entries_in slots ≡ entries_in r.slots → Full o r
+      → Full o (record r { slots = slots })
+  full-slots r slots good names entries h = record { good = good; kept = kept-slots o r slots names entries h.kept }
+
+  full-forgotten : (n : ℕ) (r : Record) → Full o r → Full o (forgotten n r)
+  full-forgotten n r h =
+      full-slots r (map (λ (s : List ℕ × Slot). (s.0, forgotten_in n s.1)) r.slots) (good-forgotten n r h.good) (names-each (forgotten_in n) r.slots)
+      (entries-each (forgotten_in n) (entry-forgotten n) r.slots) h
+    where
+      entry-forgotten : (n : ℕ) (s : List ℕ × Slot) → child_entry (s.0, forgotten_in n s.1) ≡ child_entry s
+      entry-forgotten n (name, plain v) = refl
+      entry-forgotten n (name, child m) = refl
+      entry-forgotten n (name, strong t target) = refl
+      entry-forgotten n (name, weak t None) = refl
+      entry-forgotten n (name, weak t (Some m)) = refl
+      entry-forgotten n (name, alias m property) = refl
+
+  full-dropped : (i : ℕ) (r : Record) → ((s : List ℕ × Slot) → slice_get r.slots i ≡ Some s → child_of s.1 ≡ None) → Full o r → Full o (with_dropped i r)
+  full-dropped i r none h =
+      full-slots r (without_hold i r.slots) (good-dropped i r none h.good) (names-let_go i r.slots none) (entries-let_go i r.slots none) h
+
+  full-pointed : (m i : ℕ) (r : Record) → Full o r → Full o (with_changed (pointed m) i r)
+  full-pointed m i r h =
+      full-slots r (changed_at (pointed m) i r.slots)
+      (good-changed (pointed m) (mild-pointed m) i r (λ p x row at is. rows-pointed m p.kind x.1 is.fits) h.good) (names-changed (pointed m) i r.slots)
+      (entries-changed (pointed m) (entry-pointed m) i r.slots) h
+    where
+      entry-pointed : (m : ℕ) (s : List ℕ × Slot) → child_entry (s.0, pointed m s.1) ≡ child_entry s
+      entry-pointed m (name, plain v) = refl
+      entry-pointed m (name, child k) = refl
+      entry-pointed m (name, strong t target) = refl
+      entry-pointed m (name, weak t target) = refl
+      entry-pointed m (name, alias k property) = refl
+
+  full-set : (name : List ℕ) (v : Val) (i : ℕ) (r : Record) (entry : List ℕ × Slot) → slice_get r.slots i ≡ Some entry → bytes_eq entry.0 name ≡ true
+      → Takes r.kind name v → Full o r → Full o (with_changed (with_val v) i r)
+  full-set name v i r entry at named takes h =
+      full-slots r (changed_at (with_val v) i r.slots) (good-set name v i r entry at named takes h.good) (names-changed (with_val v) i r.slots)
+      (entries-changed (with_val v) (entry-val v) i r.slots) h
+
+  module _ (aside : stands o OBJECTS_BIRTH ≡ false) where
+    -- at `/objects`
+    kept-objects : (r : Record) → r.birth ≡ OBJECTS_BIRTH → Kept o r
+    kept-objects r own =
+        record {
+          each = λ s. absurd (let clash : true ≡ false = sym s ∙ ap (stands o) own ∙ aside in cc);
+          shelf = λ on. absurd (let clash : true ≡ false = sym on ∙ ap (among (PERIPHERAL_BIRTH ∷ ANONYMOUS_BIRTH ∷ [])) own in cc);
+        }
+
+    full-emptied : (i : ℕ) (r : Record) → r.birth ≡ OBJECTS_BIRTH → Full o r → Full o (with_dropped i r)
+    full-emptied i r own h =
+        record {
+          good = good-emptied i r (ap is_first own) (container-kind OBJECTS_BIRTH container-eight r own h.good) h.good;
+          kept = kept-objects (with_dropped i r) own;
+        }
+
+    full-added : (name : List ℕ) (s : Slot) → IsChildSlot s → (r : Record) → r.birth ≡ OBJECTS_BIRTH → Full o r → Full o (with_added name s r)
+    full-added name s kin r own h =
+        record {
+          good =
+              good-added name s r (ap is_first own)
+              (subst (λ (x : TypeId). IsFurther x (name, s)) (sym (container-kind OBJECTS_BIRTH container-eight r own h.good)) kin) h.good;
+          kept = kept-objects (with_added name s r) own;
+        }
+
+slice-of : (xs : Slots) (j : ℕ) (d : List ℕ × Slot) → j < length xs → slice_get xs j ≡ Some (get_or xs j d)
+slice-of [] j d low = absurd (omega (arith, low))
+slice-of (x ∷ xs) zero d low = refl
+slice-of (x ∷ xs) (suc j) d low = slice-of xs j d (omega (arith, low))
+
+module _ (base : Board) (aside : stands base OBJECTS_BIRTH ≡ false) where
+  -- `object-del`
+  deleted-all : (b : Board) (id : List ℕ) → AllOf (Full base) b → AllOf (Full base) (object_del b id).board
+  deleted-all b id h = go (place_from (is_object_named id) 0 (slots_at b OBJECTS_BIRTH)) refl
+    where
+      go : (place : Option ℕ) → place_from (is_object_named id) 0 (slots_at b OBJECTS_BIRTH) ≡ place → AllOf (Full base) (object_del b id).board
+      go None p = rw (object_del, p) h
+      go (Some i) p =
+          rw (object_del, p)
+          (all-let_go (Full base) (full-forgotten base) OBJECTS_BIRTH i b
+          (λ r e own k. full-emptied base aside i r own k) h)
+
+  -- `x-sever`
+  severed-all : (places i n : ℕ) (b : Board) → AllOf (Full base) b → AllOf (Full base) (severed_from places i n b)
+  severed-all zero i n b h = h
+  severed-all (suc places) i n b h = go (slot_at b n i) refl (severed-all places (suc i) n)
+    where
+      go : (s : Option Slot) → slot_at b n i ≡ s → ((c : Board) → AllOf (Full base) c → AllOf (Full base) (severed_from places (suc i) n c))
+          → AllOf (Full base) (severed_from (suc places) i n b)
+      go None p rest = rw (severed_from, p) (rest b h)
+      go (Some (plain v)) p rest = rw (severed_from, p) (rest b h)
+      go (Some (child m)) p rest = rw (severed_from, p) (rest b h)
+      go (Some (weak t target)) p rest = rw (severed_from, p) (rest b h)
+      go (Some (alias m property)) p rest = rw (severed_from, p) (rest b h)
+      go (Some (strong t target)) p rest =
+          rw (severed_from, p)
+          (rest (let_go b n i)
+          (all-let_go (Full base) (full-forgotten base) n i b (λ r e own k. full-dropped base i r (no_child r e) k) h))
+        where
+          no_child : (r : Record) → record_of b n ≡ Some r → (s : List ℕ × Slot) → slice_get r.slots i ≡ Some s → child_of s.1 ≡ None
+          no_child r e s at =
+              let here : slot_at b n i ≡ Some s.1 =
+              ap (λ (o : Option Record). option_map (λ (x : List ℕ × Slot). x.1) (slice_get (option_map_or (λ (y : Record). y.slots) o []) i)) e
+              ∙ ap (option_map (λ (x : List ℕ × Slot). x.1)) at in
+              sym (ap child_of (same_Some (strong t target) s.1 (sym p ∙ here)))
+
+  sever-all : (b : Board) (n : ℕ) → AllOf (Full base) b → AllOf (Full base) (sever b n).board
+  sever-all b n h = go (is_live b n) refl (attached b n) refl
+    where
+      go : (there : Bool) → is_live b n ≡ there → (home : Bool) → attached b n ≡ home → AllOf (Full base) (sever b n).board
+      go false p home q = rw (sever, p) h
+      go true p true q = rw (sever, p, q) h
+      go true p false q =
+          rw (sever, p, q)
+          (all-unpin (Full base) (full-forgotten base) n (severed_from (length (slots_at b n)) 0 n (pin b n))
+          (severed-all (length (slots_at b n)) 0 n (pin b n) (all-pin (Full base) n b h)))
+
+  -- `object-add`
+
+  object-all : (b : Board) (t : TypeId) (id : List ℕ) (props : List Given) → stands base (b.born + 1) ≡ false → 8 ≤ b.born
+      → is_a t (codes "user-creatable") ≡ true → refusal_of b t props ≡ None
+      → AllOf (Full base) b → AllOf (Full base) (with_object b t id props)
+  object-all b t id props apart begun creatable none h =
+      all-new (Full base) new (edit OBJECTS_BIRTH (with_added id (child (b.born + 1))) b) (with_object b t id props) refl
+      (full-new new refl (record { slots = given-has b t props none (fresh-has t (created-own t creatable)); registers = fresh-like t }))
+      (all-edit (Full base) OBJECTS_BIRTH (with_added id (child (b.born + 1))) (λ r. refl) b
+      (λ r e own k. full-added base aside id (child (b.born + 1)) tt r own k) h)
+    where
+      full-new : (r : Record) → r.birth ≡ b.born + 1 → IsShaped r → Full base r
+      full-new r own shaped =
+          record {
+            good = good-new r (omega (arith, begun, own)) shaped;
+            kept =
+                record {
+                  each = λ s. absurd (let clash : true ≡ false = sym s ∙ ap (stands base) own ∙ apart in cc);
+                  shelf =
+                      λ on. absurd (let clash : true ≡ false = sym on ∙ ap (among (PERIPHERAL_BIRTH ∷ ANONYMOUS_BIRTH ∷ [])) own
+                      ∙ late-shelf (b.born + 1) (omega (arith, begun)) in cc);
+                };
+          }
+
+      new : Record
+      new = record { birth = b.born + 1; kind = t; slots = given_slots b t props; registers = fresh_registers t; device_id = None; kept_path = None }
+
+  added-all : (b : Board) (driver id : List ℕ) (props : List Given) → stands base (b.born + 1) ≡ false → 8 ≤ b.born → AllOf (Full base) b
+      → AllOf (Full base) (object_add b driver id props).board
+  added-all b driver id props apart begun h = go (row_named driver) refl
+    where
+      flipped : (u : Bool) → not u ≡ false → u ≡ true
+      flipped true e = refl
+      flipped false e = absurd (let clash : true ≡ false = e in cc)
+
+      taken : (row : TypeRow) → is_a row.id (codes "user-creatable") ≡ true → (o : Option Code) → refusal_of b row.id props ≡ o
+          → AllOf (Full base) (added_as b row.id id props o).board
+      taken row creatable (Some code) e = h
+      taken row creatable None e = object-all b row.id id props apart begun creatable e h
+
+      by : (row : TypeRow) (o : Option Code) → barred b row id ≡ o → AllOf (Full base) (added_by b row id props o).board
+      by row (Some code) e = h
+      by row None e =
+          let first = unbarred row.is_abstract E21 _ e in
+          let second = unbarred (not (is_a row.id (codes "user-creatable"))) E22 _ first.1 in
+          taken row (flipped (is_a row.id (codes "user-creatable")) second.0) (refusal_of b row.id props) refl
+
+      go : (row : Option TypeRow) → row_named driver ≡ row → AllOf (Full base) (object_add b driver id props).board
+      go None p = rw (object_add, p) h
+      go (Some row) p = rw (object_add, p) (by row (barred b row id) refl)
+
+  -- `qom-set`
+
+  slot-at : (b : Board) (n i : ℕ) (r : Record) (s : List ℕ × Slot) → record_of b n ≡ Some r → slice_get r.slots i ≡ Some s → slot_at b n i ≡ Some s.1
+  slot-at b n i r s e at =
+      ap (λ (o : Option Record). option_map (λ (x : List ℕ × Slot). x.1) (slice_get (option_map_or (λ (y : Record). y.slots) o []) i)) e
+      ∙ ap (option_map (λ (x : List ℕ × Slot). x.1)) at
+
+  module _ (b : Board) (h : AllOf (Full base) b) (n i : ℕ) where
+    relinked-all : (s : Slot) → slot_at b n i ≡ Some s → child_of s ≡ None → (target : Option ℕ) → AllOf (Full base) (relinked b n i target)
+    unfolding point drop_slot
+    relinked-all s e none target =
+        rw (relinked, e) (all-after (Full base) (full-forgotten base) (held s) (pointed_at target n i (drop_slot b n i)) (points target))
+      where
+        dropped : AllOf (Full base) (drop_slot b n i)
+        dropped =
+            all-edit (Full base) n (with_dropped i) (λ r. refl) b
+            (λ r q own k. full-dropped base i r (λ x at. ap child_of (same_Some x.1 s (sym (slot-at b n i r x q at) ∙ e)) ∙ none) k) h
+
+        points : (to : Option ℕ) → AllOf (Full base) (pointed_at to n i (drop_slot b n i))
+        points None = dropped
+        points (Some m) =
+            all-edit (Full base) n (with_changed (pointed m) i) (λ r. refl) (drop_slot b n i)
+            (λ r q own k. full-pointed base m i r k) dropped
+
+    linked-all : (s : Slot) → slot_at b n i ≡ Some s → child_of s ≡ None → (target : Result (Option ℕ) Code)
+        → AllOf (Full base) (behind_write b (linked b n i target))
+    linked-all s e none (Ok target) = relinked-all s e none target
+    linked-all s e none (Err code) = h
+
+    link-all : (s : Slot) → slot_at b n i ≡ Some s → child_of s ≡ None → (t : TypeId) (v : Val) → AllOf (Full base) (behind_write b (link_written b n i t v))
+    link-all s e none t (val.Text path) = linked-all s e none (link_target b t path)
+    link-all s e none t (val.Bool v) = h
+    link-all s e none t (val.Int v) = h
+    link-all s e none t (val.Uint v) = h
+    link-all s e none t val.Nothing = h
+
+    module _ (name : List ℕ) (entry : List ℕ × Slot) (at : slice_get (slots_at b n) i ≡ Some entry) (named : bytes_eq entry.0 name ≡ true) where
+      val-all : (v : Val) → ((r : Record) → record_of b n ≡ Some r → Takes r.kind name v) → AllOf (Full base) (set n i v b)
+      unfolding set
+      val-all v takes =
+          all-edit (Full base) n (with_changed (with_val v) i) (λ r. refl) b
+          (λ r q own k. full-set base name v i r entry (slot-of b n i r entry q at) named (takes r q) k) h
+
+      written-all : (kind : RowKind) (s : Option Slot) → slot_at b n i ≡ s → (v : Val)
+          → (RowTakes kind v → (r : Record) → record_of b n ≡ Some r → Takes r.kind name v) → AllOf (Full base) (behind_write b (written b n i kind s v))
+      written-all (row.Plain type first) (Some (plain old)) e v takes = go (admits type v) refl
+        where
+          go : (t : Bool) → admits type v ≡ t → AllOf (Full base) (behind_write b (written b n i (row.Plain type first) (Some (plain old)) v))
+          go true p = rw (written, p) (val-all v (takes p))
+          go false p = rw (written, p) h
+      written-all (row.Link t holds) (Some (strong to target)) e v takes = link-all (strong to target) e refl to v
+      written-all (row.Link t holds) (Some (weak to target)) e v takes = link-all (weak to target) e refl to v
+      written-all (row.Plain type first) None e v takes = h
+      written-all (row.Plain type first) (Some (child m)) e v takes = h
+      written-all (row.Plain type first) (Some (strong to target)) e v takes = h
+      written-all (row.Plain type first) (Some (weak to target)) e v takes = h
+      written-all (row.Plain type first) (Some (alias m property)) e v takes = h
+      written-all (row.Link t holds) None e v takes = h
+      written-all (row.Link t holds) (Some (plain old)) e v takes = h
+      written-all (row.Link t holds) (Some (child m)) e v takes = h
+      written-all (row.Link t holds) (Some (alias m property)) e v takes = h
+      written-all (row.Child t) s e v takes = h
+      written-all (row.Alias owner property) s e v takes = h
+
+      by-row : (o : Option Property) → option_and_then (λ t. row_of_property t name) (kind_of b n) ≡ o → (v : Val)
+          → AllOf (Full base) (behind_write b (written_by b n i o v))
+      by-row None e v = h
+      by-row (Some row) e v = go (may_set row.mark) refl
+        where
+          takes : RowTakes row.kind v → (r : Record) → record_of b n ≡ Some r → Takes r.kind name v
+          takes fits r q =
+              let kind : kind_of b n ≡ Some r.kind = ap (option_map (λ (y : Record). y.kind)) q in
+              let found : row_of_property r.kind name ≡ Some row = sym (ap (option_and_then (λ t. row_of_property t name)) kind) ∙ e in
+              subst (λ (o : Option Property). elim o as (λ _. Type 0) [ None ↦ ⊤ | Some x ↦ RowTakes x.kind v ]) (sym found) fits
+
+          go : (t : Bool) → may_set row.mark ≡ t → AllOf (Full base) (behind_write b (written_by b n i (Some row) v))
+          go true p = rw (written_by, p) (written-all row.kind (slot_at b n i) refl v takes)
+          go false p = rw (written_by, p) h
+
+  write-all : (b : Board) (n : ℕ) (name : List ℕ) (v : Val) → AllOf (Full base) b → AllOf (Full base) (behind_write b (write b n name v))
+  write-all b n name v h = go (position (λ (s : List ℕ × Slot). bytes_eq s.0 name) (slots_at b n)) refl
+    where
+      go : (place : Option ℕ) → position (λ (s : List ℕ × Slot). bytes_eq s.0 name) (slots_at b n) ≡ place
+          → AllOf (Full base) (behind_write b (write b n name v))
+      go None p = rw (write, p) h
+      go (Some i) p =
+          let d : List ℕ × Slot = ([], plain val.Nothing) in
+          let k : (i < length (slots_at b n)) × (bytes_eq (get_or (slots_at b n) i d).0 name ≡ true) ×
+          ((m : ℕ) → m < i → bytes_eq (get_or (slots_at b n) m d).0 name ≡ false) =
+          position-Some (λ (s : List ℕ × Slot). bytes_eq s.0 name) (slots_at b n) i d p in
+          rw (write, p)
+          (by-row b h n i name (get_or (slots_at b n) i d) (slice-of (slots_at b n) i d k.0) k.1
+          (option_and_then (λ t. row_of_property t name) (kind_of b n)) refl v)
+
+-- each of them
+
+changed-all : (b : Board) (change : Change) → stands b OBJECTS_BIRTH ≡ false → stands b (b.born + 1) ≡ false → 8 ≤ b.born → AllOf (Full b) b
+    → AllOf (Full b) (changed b change)
+changed-all b (added driver id props) aside apart begun h = added-all b aside b driver id props apart begun h
+changed-all b (deleted id) aside apart begun h = deleted-all b aside b id h
+changed-all b (wrote n name v) aside apart begun h = write-all b aside b n name v h
+changed-all b (severed n) aside apart begun h = sever-all b aside b n h
+
+pub begun-devices : (b : Board) → SoundDevices b → 8 ≤ b.born
+begun-devices b h = (rest-from_sound b h.tree).used.firm.begun
+
+-- no device stands in a container that is still to be born
+pub unborn-apart : (b : Board) → SoundDevices b → stands b (b.born + 1) ≡ false
+unborn-apart b h = go (stands b (b.born + 1)) refl
+  where
+    firm : Firm b
+    firm = (rest-from_sound b h.tree).used.firm
+
+    go : (t : Bool) → stands b (b.born + 1) ≡ t → stands b (b.born + 1) ≡ false
+    go true e =
+        absurd
+        (let clash : true ≡ false = sym (stands-live b firm (b.born + 1) e) ∙ high-absent b firm (b.born + 1) (omega arith) in
+        cc)
+    go false e = e
+
+pub changed-shape : (b : Board) (change : Change) → SoundDevices b → SoundShape b → SoundShape (changed b change)
+changed-shape b change devices h =
+    shape-all (changed b change) (live-devices (changed b change) (devices_kept_lem.change b change devices))
+    (whole-kept b (changed b change) (λ x r e. (all x r e).kept)) (λ x r e. (all x r e).good)
+  where
+    all : AllOf (Full b) (changed b change)
+    all =
+        changed-all b change devices.places.1.aside.1.1.1.1.1.1.0 (unborn-apart b devices) (begun-devices b devices)
+        (λ x r e. record { good = good-all b h x r e; kept = kept-of b h.whole x r e })

@@ -1,0 +1,14 @@
+pub mod BoardLemmas
+pub mod CommandLemmas
+pub mod DetachLemmas
+pub mod DetachedLemmas
+pub mod DraftLemmas
+pub mod GoodLemmas
+pub mod LawLemmas
+pub mod MadeLemmas
+pub mod PlugLemmas
+pub mod QuietLemmas
+pub mod RowLemmas
+pub mod SayLemmas
+pub mod StayLemmas
+pub mod WholeLemmas

@@ -1,0 +1,3 @@
+pub mod ShapesKept
+pub mod ShapesSay
+pub mod SoundShape

@@ -1,0 +1,23 @@
+-- What the shape of objects says of their properties (include/qom/object.h: properties, child and link).
+use Rattle.std.specs.Prelude.{◌≡◌, ℕ, true, List, Some}
+use Rattle.qo_values.specs.declared.kinds.TypeId.{TypeId}
+use Rattle.qo_model.specs.Board.{Board, Slot, kind_of, slot_named}
+use Rattle.qo_model.specs.Properties.{row_of_property}
+use Rattle.qo_model.specs.declared.properties.Property.{Property}
+use Rattle.qo_sound_devices.specs.SoundPlaces.{stands}
+use Rattle.qo_sound_shapes.specs.SoundShape.{IsAsRow, SoundShape}
+
+-- an object of a type, and the row of its property of a name
+pub record HasProperty (b : Board) (n : ℕ) (name : List ℕ) (p : Property) : Type 0 where
+  pub kind : TypeId
+  pub its : kind_of b n ≡ Some kind
+  pub row : row_of_property kind name ≡ Some p
+
+-- on a board whose objects are shaped as their types say
+pub record ShapesSayLaw : Type 0 where
+  -- what an object has under the name of a property is as the property's row says
+  pub named : (b : Board) → SoundShape b → (n : ℕ) (name : List ℕ) (p : Property) (s : Slot) → HasProperty b n name p → slot_named b n name ≡ Some s
+      → IsAsRow p.kind s
+  -- and a device that stands in a container has something there
+  pub there : (b : Board) → SoundShape b → (d : ℕ) (name : List ℕ) (p : Property) → stands b d ≡ true → HasProperty b d name p
+      → (s : Slot) × ((slot_named b d name ≡ Some s) × IsAsRow p.kind s)

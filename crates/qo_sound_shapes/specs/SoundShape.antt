@@ -1,0 +1,108 @@
+-- When the objects of a board are shaped as their types say (docs/devel/qom.rst, "The QEMU Object Model"; include/qom/object.h: properties, child and link).
+use Rattle.std.specs.Prelude.{◌≡◌, ◌⊎◌, ℕ, ◌<◌, Bool, true, false, not, ◌&&◌, List, [], ◌∷◌, map, Some, ⊤}
+use Rattle.std.specs.List.{AllByRecursion}
+use Rattle.std.specs.Str.{bytes_eq}
+use Rattle.qo_values.specs.Properties.{admits}
+use Rattle.qo_values.specs.Registers.{Registers, bare, bridge, dimm, fresh_registers, timer, uart}
+use Rattle.qo_values.specs.declared.births.TheConstants.{MACHINE_BIRTH, ROOT_BIRTH}
+use Rattle.qo_values.specs.declared.kinds.TypeId.{TypeId}
+use Rattle.qo_values.specs.declared.kinds.TypeId.TheVariants.{Container, Device, Machine, MemBus, SlotBus}
+use Rattle.qo_values.specs.declared.limits.TheConstants.{BUS_SLOTS}
+use Rattle.qo_values.specs.declared.properties.PropType.{PropType}
+use Rattle.qo_values.specs.declared.properties.Val.{Val}
+use Rattle.qo_values.specs.declared.properties.Val.TheVariants as val
+use Rattle.qo_model.specs.Board.{Board, Record, Slot, plain, child, strong, weak, alias, kind_of, record_of, slots_at}
+use Rattle.qo_model.specs.Devices.{clock_name, kid_name}
+use Rattle.qo_model.specs.Objects.{has_slot}
+use Rattle.qo_model.specs.Opening.{opening_board}
+use Rattle.qo_model.specs.RowNames.{property_name}
+use Rattle.qo_model.specs.SoundGraph.{without_value}
+use Rattle.qo_model.specs.Types.{slots_of}
+use Rattle.qo_model.specs.declared.properties.Property.{Property}
+use Rattle.qo_model.specs.declared.properties.RowKind.{RowKind}
+use Rattle.qo_model.specs.declared.properties.RowKind.TheVariants as row
+use Rattle.qo_sound_devices.specs.SoundPlaces.{stands}
+
+-- what a plain property of a type may hold: nothing, or a value that the type admits
+abbrev pub MayHold : PropType → Val → Type 0
+MayHold type v = (v ≡ val.Nothing) ⊎ (admits type v ≡ true)
+
+-- a slot is as a row says: it holds such a value, is a child, links to objects of the row's type, strongly or weakly, or is another name for the row's property
+abbrev pub IsAsRow : RowKind → Slot → Type 0
+IsAsRow (row.Plain type first) (plain v) = MayHold type v
+IsAsRow (row.Child type) (child m) = ⊤
+IsAsRow (row.Link t true) (strong to target) = to ≡ t
+IsAsRow (row.Link t false) (weak to target) = to ≡ t
+IsAsRow (row.Alias owner of) (alias m name) = name ≡ property_name of
+IsAsRow kind s = ⊥
+
+-- and has the row's name
+pub record IsOfRow (p : Property) (s : List ℕ × Slot) : Type 0 where
+  pub name : s.0 ≡ property_name p.name
+  pub fits : IsAsRow p.kind s.1
+
+-- a child that is not the clock may be missing: the bus of a bridge that was detached
+abbrev pub is_child_row : RowKind → Bool
+is_child_row (row.Child type) = true
+is_child_row kind = false
+
+abbrev pub may_miss : Property → Bool
+may_miss p = is_child_row p.kind && not (bytes_eq (property_name p.name) clock_name)
+
+-- a further slot: of a bus a link `child[N]` that holds a device, of a container and of the machine a child, of any other object none
+abbrev pub IsKidLink : List ℕ → Slot → Type 0
+IsKidLink name (strong to target) = (to ≡ Device) × ((k : ℕ) × ((k < BUS_SLOTS) × (name ≡ kid_name k)))
+IsKidLink name s = ⊥
+
+abbrev pub IsChildSlot : Slot → Type 0
+IsChildSlot (child m) = ⊤
+IsChildSlot s = ⊥
+
+abbrev pub IsFurther : TypeId → List ℕ × Slot → Type 0
+IsFurther SlotBus s = IsKidLink s.0 s.1
+IsFurther MemBus s = IsKidLink s.0 s.1
+IsFurther Container s = IsChildSlot s.1
+IsFurther Machine s = IsChildSlot s.1
+IsFurther t s = ⊥
+
+-- slots of an object of a type are those of these rows, in order, and behind them further ones
+pub data HasSlots (t : TypeId) : List Property → List (List ℕ × Slot) → Type 0 where
+  further : {slots : List (List ℕ × Slot)} → AllByRecursion (IsFurther t) slots → HasSlots t [] slots
+  next : {p : Property} {ps : List Property} {s : List ℕ × Slot} {slots : List (List ℕ × Slot)} → IsOfRow p s → HasSlots t ps slots
+      → HasSlots t (p ∷ ps) (s ∷ slots)
+  missing : {p : Property} {ps : List Property} {slots : List (List ℕ × Slot)} → may_miss p ≡ true → HasSlots t ps slots → HasSlots t (p ∷ ps) slots
+
+-- two bodies are of one kind
+abbrev pub is_like : Registers → Registers → Bool
+is_like (uart u) (uart v) = true
+is_like (timer t) (timer u) = true
+is_like (dimm d) (dimm e) = true
+is_like (bridge b) (bridge c) = true
+is_like bare bare = true
+is_like r s = false
+
+-- an object is shaped as its type says
+pub record IsShaped (r : Record) : Type 0 where
+  -- it has the slots of its type's properties, base first, and behind them further ones
+  pub slots : HasSlots r.kind (slots_of r.kind) r.slots
+  -- its registers are those of its type's body
+  pub registers : is_like r.registers (fresh_registers r.kind) ≡ true
+
+-- slots without their plain values
+abbrev pub unvalued : List (List ℕ × Slot) → List (List ℕ × Slot)
+unvalued slots = map (λ (s : List ℕ × Slot). (s.0, without_value s.1)) slots
+
+-- an object has a slot for each property of a type
+abbrev pub HasEach : Board → ℕ → TypeId → Type 0
+HasEach b n t = AllByRecursion (λ (p : Property). has_slot b n (property_name p.name) ≡ true) (slots_of t)
+
+-- the objects of a board are shaped as their types say
+pub record SoundShape (b : Board) : Type 0 where
+  -- each object that is there is
+  pub shaped : (n : ℕ) (r : Record) → record_of b n ≡ Some r → IsShaped r
+  -- a device that stands in a container lacks none of its slots
+  pub whole : (d : ℕ) (t : TypeId) → stands b d ≡ true → kind_of b d ≡ Some t → HasEach b d t
+  -- the objects that every machine begins with are there, with their types
+  pub opening : AllByRecursion (λ (o : Record). kind_of b o.birth ≡ Some o.kind) opening_board.records
+  -- the root and the machine have the slots, but for plain values, that they begin with: so their children, under the same names
+  pub fixed : AllByRecursion (λ n. unvalued (slots_at b n) ≡ unvalued (slots_at opening_board n)) (ROOT_BIRTH ∷ MACHINE_BIRTH ∷ [])

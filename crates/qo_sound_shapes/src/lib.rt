@@ -1,0 +1,25 @@
+//! The shape of a board's objects: each has the slots that its type says, with values and links of
+//! their rows, and registers of its type's body. Functions without effect, whose contracts say what
+//! keeps it so. The definitions stand in `specs/`.
+#![tactic(auto)]
+
+ghost use Rattle.qo_sound_shapes.specs.ShapesKept.{ShapesKeptLaw};
+ghost use Rattle.qo_sound_shapes.specs.ShapesSay.{ShapesSayLaw};
+
+/// The objects of a board are shaped as their types say on the opening board. They are so behind what
+/// changes no object, behind acts and holds, behind a write of a clock that is not refused, and behind
+/// other registers of an object's own body, as a guest's write leaves them. Where the board is sound
+/// as far as devices go, they are so behind each command on objects, behind a device that is added or
+/// refused at any stage, behind one that is detached, and behind the reset of the whole board.
+#[tactic(auto, using(crate::proofs::LawLemmas::shapes_kept_lem))]
+pub fn law_shapes_kept()
+    ensures { ShapesKeptLaw }
+{}
+
+/// On a board whose objects are shaped as their types say, what an object has under the name of a
+/// property of its type is as the property's row says; and a device that stands in a container has
+/// something there.
+#[tactic(auto, using(crate::proofs::SayLemmas::shapes_say_lem))]
+pub fn law_shapes_say()
+    ensures { ShapesSayLaw }
+{}
