@@ -1,5 +1,5 @@
 -- A device that stands in a container behind a detachment has the children that it had, and so lacks none of its slots.
-use Rattle.std.proofs.Common.{◌≡◌, ◌⊎◌, inl, inr, refl, ap, sym, subst, ◌∙◌, ℕ, ◌≤◌, leb, Bool, true, false, not, eqb, List, [], ◌∷◌, length, sum_by, Option, Some, None, is_some, option_map, arith, codes}
+use Rattle.std.proofs.Common.{◌≡◌, ◌⊎◌, inl, inr, refl, ap, sym, subst, ◌∙◌, ℕ, Bool, true, false, not, List, [], ◌∷◌, Option, Some, None, is_some, option_map, codes}
 use Rattle.std.specs.List.{AllByRecursion, list_any}
 use Rattle.std.specs.Option.{option_map_or}
 use Rattle.std.specs.Str.{bytes_eq}
@@ -7,40 +7,24 @@ use Rattle.std.proofs.lemmas.Bool.{and_parts}
 use Rattle.std.proofs.lemmas.Option.{same_Some}
 use Rattle.std.proofs.lemmas.Slice.Eq.{bytes_eq-Decides}
 use Rattle.std.proofs.Math.Bool.{or-true}
-use Rattle.qo_values.specs.declared.births.TheConstants.{ANONYMOUS_BIRTH, MACHINE_BIRTH, PERIPHERAL_BIRTH}
 use Rattle.qo_values.specs.declared.kinds.TypeId.{TypeId}
-use Rattle.qo_model.specs.Board.{Board, Record, Slot, plain, child, strong, weak, alias, is_live, kind_of, record_of, slots_at}
-use Rattle.qo_model.specs.Depth.{among}
-use Rattle.qo_model.specs.Devices.{bus_of, buses_of, clock_name, kids_of}
-use Rattle.qo_model.specs.Paths.{births, child_of, is_of}
+use Rattle.qo_model.specs.Board.{Board, Record, Slot, plain, child, strong, weak, alias, kind_of, record_of}
+use Rattle.qo_model.specs.Devices.{clock_name}
+use Rattle.qo_model.specs.Paths.{child_of, is_of}
 use Rattle.qo_model.specs.Properties.{row_of_property}
-use Rattle.qo_model.specs.Release.{pin, put_in_order}
 use Rattle.qo_model.specs.RowNames.{property_name}
 use Rattle.qo_model.specs.Types.{is_a, slots_of}
-use Rattle.qo_model.specs.Unplug.{apart_within, detach, left_bus, lost_buses, unrealize}
+use Rattle.qo_model.specs.Unplug.{detach}
 use Rattle.qo_model.specs.declared.properties.Property.{Property}
 use Rattle.qo_model.specs.declared.properties.RowKind.{RowKind}
 use Rattle.qo_model.specs.declared.properties.RowKind.TheVariants as row
-use Rattle.qo_model.proofs.ReleaseLemmas.{found-within}
-use Rattle.qo_sound.proofs.FirmLemmas.{parents_in}
-use Rattle.qo_sound.proofs.SlotLemmas.{one_child}
-use Rattle.qo_sound.proofs.ViewLemmas.{AtRest, rest-from_sound}
+use Rattle.qo_sound.proofs.ViewLemmas.{rest-from_sound}
 use Rattle.qo_sound_devices.specs.SoundDevices.{SoundDevices}
-use Rattle.qo_sound_devices.specs.SoundPlaces.{child_entries, HasOwner, machines, bridges, IsHome, kid_entries, listed, owns, owns_it, stands}
-use Rattle.qo_sound_devices.proofs.AttachedLemmas.{owns-listed}
-use Rattle.qo_sound_devices.proofs.CommandLemmas.{goes-pins}
+use Rattle.qo_sound_devices.specs.SoundPlaces.{child_entries, stands}
 use Rattle.qo_sound_devices.proofs.DevicesLawLemmas.{devices_kept_lem}
-use Rattle.qo_sound_devices.proofs.LowLemmas.{is-bus_of, IsBusOf, kid-of, kids-listed, stands-dimmed, under-stands, unrealize-dimmed}
-use Rattle.qo_sound_devices.proofs.MovedLemmas.{within-listed}
-use Rattle.qo_sound_devices.proofs.PlacesLemmas.{of-live, or-cases, kind-alike, stands-live}
-use Rattle.qo_sound_devices.proofs.StepsLemmas.{within-any}
-use Rattle.qo_sound_devices.proofs.TakeLemmas.{aside-apart}
-use Rattle.qo_sound_devices.proofs.UnrealizeLemmas.{Dimmed, Under, here, down}
-use Rattle.qo_sound_phases.proofs.ApartLemmas.{gone-apart, gone-before, gone-left_parent, Keeps, left-none, times, times-children, times-within, Walked, walked-none, walked-unpin}
-use Rattle.qo_sound_phases.proofs.BelowLemmas.{one-parent, Placed}
-use Rattle.qo_sound_phases.proofs.ListLemmas.{clash}
-use Rattle.qo_sound_phases.proofs.ReachedLemmas.{machines-listed}
-use Rattle.qo_sound_phases.proofs.UnrealizeLemmas.{under-more}
+use Rattle.qo_sound_devices.proofs.PlacesLemmas.{stands-live}
+use Rattle.qo_sound_phases.proofs.DetachLemmas.{frame}
+use Rattle.qo_sound_phases.proofs.FrameLemmas.{Frame}
 use Rattle.qo_sound_shapes.specs.SoundShape.{further, HasEach, HasSlots, is_child_row, IsAsRow, IsOfRow, may_miss, missing, next}
 use Rattle.qo_sound_shapes.proofs.BoardLemmas.{AllOf}
 use Rattle.qo_sound_shapes.proofs.GoodLemmas.{Good}
@@ -48,206 +32,21 @@ use Rattle.qo_sound_shapes.proofs.DetachLemmas.{device-calm}
 use Rattle.qo_sound_shapes.proofs.RowLemmas.{has-all, IsRowOf, own-rows, Slots}
 use Rattle.qo_sound_shapes.proofs.WholeLemmas.{entries_in, HasRows, Whole}
 
-put-one : (n : ℕ) → among (put_in_order n (1 ∷ [])) 1 ≡ true
-put-one n = go (leb 1 n) refl
-  where
-    go : (t : Bool) → leb 1 n ≡ t → among (put_in_order n (1 ∷ [])) 1 ≡ true
-    go true p = rw (put_in_order, p) refl
-    go false p = rw (put_in_order, p) (or-true (eqb 1 n))
-
--- what is below a device, seen from below
-data Chain (b : Board) (d : ℕ) : ℕ → Type 0 where
-  itself : Chain b d d
-  beyond : {k : ℕ} (x m : ℕ) → Chain b d x → among (buses_of b x) m ≡ true → among (kids_of b m) k ≡ true → Chain b d k
-
-turned : (b : Board) (d x y : ℕ) → Chain b d x → Under b x y → Chain b d y
-turned b d x y a here = a
-turned b d x y a (down m k im ik u) = turned b d k y (beyond x m a im ik) u
-
-module _ (b : Board) (d : ℕ) (s : SoundDevices b) (e : stands b d ≡ true) where
-  rest : AtRest b
-  rest = rest-from_sound b s.tree
-
-  abbrev depth : ℕ → ℕ
-  depth = s.places.0
-
-  kb : Placed b
-  kb = record { depth = s.places.0; places = s.places.1; firm = (rest-from_sound b s.tree).used.firm }
-
-  abbrev p : Board
-  p = pin b d
-
-  abbrev u : Board
-  u = unrealize (pin b d) d
-
-  abbrev z : Board
-  z = detach b d
-
-  kp : Placed (pin b d)
-  unfolding pin
-  kp =
-      record {
-        depth = s.places.0;
-        places =
-            (goes-pins s.places.0 None (λ x. false) b (put_in_order d b.pins) kb.firm
-            (ap (λ (ps : List ℕ). among (put_in_order d ps) 1) rest.pinned ∙ put-one d) s.places.1).places;
-        firm =
-            record {
-              rising = kb.firm.rising;
-              within = kb.firm.within;
-              begun = kb.firm.begun;
-              named = kb.firm.named;
-              linked = kb.firm.linked;
-              one_parent = kb.firm.one_parent;
-              none_round = kb.firm.none_round;
-            };
-      }
-
-  -- a pin changes nothing that is read here
-  pin-stands : (x : ℕ) → stands (pin b d) x ≡ stands b x
-  unfolding pin
-  pin-stands x = refl
-
-  pin-bus : (x : ℕ) → bus_of (pin b d) x ≡ bus_of b x
-  unfolding pin
-  pin-bus x = refl
-
-  pin-children : (x : ℕ) → child_entries (pin b d) x ≡ child_entries b x
-  unfolding pin
-  pin-children x = refl
-
-  pin-kind : (x : ℕ) → kind_of (pin b d) x ≡ kind_of b x
-  unfolding pin
-  pin-kind x = refl
-
-  pin-of : (name : List ℕ) (x : ℕ) → is_of (pin b d) name x ≡ is_of b name x
-  pin-of name x = ap (λ (o : Option TypeId). option_map_or (λ (t : TypeId). is_a t name) o false) (pin-kind x)
-
-  kz : Placed (detach b d)
-  kz =
-      let k : SoundDevices (detach b d) = devices_kept_lem.detached b d s e in
-      record { depth = k.places.0; places = k.places.1; firm = (rest-from_sound (detach b d) k.tree).used.firm }
-
-  dims : Dimmed (pin b d) (unrealize (pin b d) d)
-  dims = unrealize-dimmed (pin b d) d
-
-  there : stands (pin b d) d ≡ true
-  there = pin-stands d ∙ e
-
-  below-stands : (y : ℕ) → Under (pin b d) d y → stands (pin b d) y ≡ true
-  below-stands y v = under-stands kp.depth None (λ x. false) (pin b d) kp.places d y v there
-
-  -- what was taken away
-  before : Board
-  before = left_bus d (lost_buses (apart_within (length (births b))) (length (slots_at (unrealize (pin b d) d) d)) d (unrealize (pin b d) d))
-
-  walked-before : Walked (unrealize (pin b d) d) (Keeps (pin b d) (unrealize (pin b d) d) dims d) before
-  unfolding before
-  walked-before =
-      gone-before (pin b d) (unrealize (pin b d) d) dims d (apart_within (length (births b)))
-      (λ x c v h. gone-apart (pin b d) (unrealize (pin b d) d) dims d (length (births b)) x c v h) d (unrealize (pin b d) d) here
-      (walked-none (unrealize (pin b d) d) (Keeps (pin b d) (unrealize (pin b d) d) dims d))
-
-  walked : Walked (unrealize (pin b d) d) (Keeps (pin b d) (unrealize (pin b d) d) dims d) (detach b d)
-  unfolding detach before
-  walked =
-      walked-unpin (unrealize (pin b d) d) (Keeps (pin b d) (unrealize (pin b d) d) dims d) d _
-      (gone-left_parent (pin b d) (unrealize (pin b d) d) dims d d before walked-before)
-
-  -- it stands in no container any more
-  once-before : (n : ℕ) → times d (child_entries before n) ≤ 1
-  unfolding times
-  once-before n =
-      let few : times d (child_entries (unrealize (pin b d) d) n) ≤ 1 =
-      subst (λ (xs : List (List ℕ × ℕ)). times d xs ≤ 1) (sym (dims.children n ∙ pin-children n)) (at_record (record_of b n) refl) in
-      omega (arith, few, times-within d (walked-before.children n))
-    where
-      at_record : (o : Option Record) → record_of b n ≡ o → times d (child_entries b n) ≤ 1
-      at_record None q = rw q (omega arith)
-      at_record (Some r) q =
-          let one : sum_by (one_child d) r.slots ≤ 1 = omega (arith, found-within (parents_in d) n b.records r q, kb.firm.one_parent d) in
-          rw q (omega (arith, one, times-children d r.slots))
-
-  gone : stands (detach b d) d ≡ false
-  unfolding detach before
-  gone = left-none d before (once-before PERIPHERAL_BIRTH) (once-before ANONYMOUS_BIRTH)
-
-  -- what was, of what is
-  stood : (x : ℕ) → stands (detach b d) x ≡ true → stands (pin b d) x ≡ true
-  stood x k =
-      sym (stands-dimmed (pin b d) (unrealize (pin b d) d) dims x)
-      ∙ or-cases (listed x (child_entries (detach b d) PERIPHERAL_BIRTH)) (listed x (child_entries (detach b d) ANONYMOUS_BIRTH)) k
-      (λ l. rw (within-listed x (walked.children PERIPHERAL_BIRTH) l) refl)
-      (λ l. rw (within-listed x (walked.children ANONYMOUS_BIRTH) l) (or-true (listed x (child_entries (unrealize (pin b d) d) PERIPHERAL_BIRTH))))
-
-  kinds-stay : (x : ℕ) → is_live (detach b d) x ≡ true → kind_of (detach b d) x ≡ kind_of (pin b d) x
-  kinds-stay x live = (walked.kin x live).1 ∙ kind-alike (pin b d) (unrealize (pin b d) d) x (dims.body x)
-
-  same-of : (name : List ℕ) (x : ℕ) → is_live (detach b d) x ≡ true → is_of (detach b d) name x ≡ is_of (pin b d) name x
-  same-of name x live = ap (λ (o : Option TypeId). option_map_or (λ (t : TypeId). is_a t name) o false) (kinds-stay x live)
-
-  owned : (x q : ℕ) → owns (detach b d) x q ≡ true → owns (pin b d) x q ≡ true
-  owned x q o = sym (ap (list_any (owns_it q)) (dims.children x)) ∙ within-any (owns_it q) (walked.children x) o
-
-  -- on the same bus
-  home-before : (x : ℕ) (k : IsHome (detach b d) x) → bus_of (pin b d) x ≡ Some k.bus
-  home-before x k =
-      let is : is_of (pin b d) (codes "bus") k.bus ≡ true = sym (same-of (codes "bus") k.bus (of-live (detach b d) (codes "bus") k.bus k.is_bus)) ∙ k.is_bus in
-      let l : listed x (kid_entries (pin b d) k.bus) ≡ true = sym (ap (listed x) (dims.kids k.bus)) ∙ within-listed x (walked.kids k.bus) k.kid in
-      (kid-of kp.depth None (λ y. false) (pin b d) kp.places k.bus x is l).1
-
-  -- what was below the device does not stand
-  none-stands : (y : ℕ) → Chain (pin b d) d y → Under (pin b d) d y → stands (detach b d) y ≡ true → ⊥
-  none-stands y itself v k = clash (sym k ∙ gone)
-  none-stands y (beyond x m a im ik) v k = up (under-of x a) (none-stands x a (under-of x a))
-    where
-      under-of : (x : ℕ) → Chain (pin b d) d x → Under (pin b d) d x
-      under-of w itself = here
-      under-of w (beyond q n c jn jk) = under-more (pin b d) d q n w (under-of q c) jn jk
-
-      bus : IsBusOf (pin b d) x m
-      bus = is-bus_of (pin b d) x m im
-
-      home : IsHome (detach b d) y
-      home = kz.places.home y k (λ w. cc)
-
-      on : home.bus ≡ m
-      on =
-          same_Some home.bus m
-          (sym (home-before y home)
-          ∙ (kid-of kp.depth None (λ w. false) (pin b d) kp.places m y bus.bus (kids-listed y (slots_at (pin b d) m) ik)).1)
-
-      up : Under (pin b d) d x → (stands (detach b d) x ≡ true → ⊥) → ⊥
-      up w none = owner (subst (HasOwner (detach b d)) on (kz.places.owner y home.bus k home.on))
-        where
-          mine : listed m (child_entries (pin b d) x) ≡ true
-          mine = owns-listed m (child_entries (pin b d) x) bus.owned
-
-          owner : HasOwner (detach b d) m → ⊥
-          owner (machines i) =
-              let at : x ≡ MACHINE_BIRTH = one-parent (pin b d) kp x MACHINE_BIRTH m mine (machines-listed (pin b d) kp m i) in
-              clash (sym (below-stands x w) ∙ ap (stands (pin b d)) at ∙ kp.places.aside.1.0)
-          owner (bridges q t o) =
-              let at : q ≡ x = one-parent (pin b d) kp q x m (owns-listed m (child_entries (pin b d) q) (owned q m o)) mine in
-              none (subst (λ (n : ℕ). stands (detach b d) n ≡ true) at t)
-
-  unstood : (y : ℕ) → Under (pin b d) d y → stands (detach b d) y ≡ true → ⊥
-  unstood y v = none-stands y (turned (pin b d) d d y itself v) v
-
-  -- what stands keeps its children, and so does the machine
-  shelf : (x : ℕ) → stands (pin b d) x ≡ true → among (PERIPHERAL_BIRTH ∷ ANONYMOUS_BIRTH ∷ []) x ≡ false
-  shelf x k = aside-apart (pin b d) (PERIPHERAL_BIRTH ∷ ANONYMOUS_BIRTH ∷ []) (kp.places.aside.1.1.0, (kp.places.aside.1.1.1.0, tt)) x k
-
-  children-stay : (x : ℕ) → stands (detach b d) x ≡ true → child_entries (detach b d) x ≡ child_entries b x
-  children-stay x k =
-      walked.still x (λ v. unstood x v k, shelf x (stood x k)) (stands-live (detach b d) kz.firm x k) ∙ dims.children x ∙ pin-children x
-
-  pub stays : (x : ℕ) → stands (detach b d) x ≡ true
-      → (stands b x ≡ true) × ((kind_of (detach b d) x ≡ kind_of b x) × (child_entries (detach b d) x ≡ child_entries b x))
-  stays x k = (
-    sym (pin-stands x) ∙ stood x k,
-    (kinds-stay x (stands-live (detach b d) kz.firm x k) ∙ pin-kind x, children-stay x k),
-  )
+-- who stands behind the detachment stood before, with the same type and the same children
+pub stays : (b : Board) (d : ℕ) → SoundDevices b → stands b d ≡ true → (x : ℕ) → stands (detach b d) x ≡ true
+    → (stands b x ≡ true) × ((kind_of (detach b d) x ≡ kind_of b x) × (child_entries (detach b d) x ≡ child_entries b x))
+stays b d s e x k =
+    let f : Frame b (detach b d) = frame b d s e in
+    let t : SoundDevices (detach b d) = devices_kept_lem.detached b d s e in
+    let before : stands b x ≡ true = f.stood x k in
+    (
+      before,
+      (
+        f.kind x (stands-live b (rest-from_sound b s.tree).used.firm x before)
+        (stands-live (detach b d) (rest-from_sound (detach b d) t.tree).used.firm x k),
+        f.children x k,
+      ),
+    )
 
 -- the slots of a device under the name of a child
 
