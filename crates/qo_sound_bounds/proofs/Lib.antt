@@ -7,3 +7,4 @@ pub mod DraftLemmas
 pub mod FeedLemmas
 pub mod SourcesLawLemmas
 pub mod HoldsLemmas
+pub mod SegmentLemmas
