@@ -8,3 +8,4 @@ pub mod FeedLemmas
 pub mod SourcesLawLemmas
 pub mod HoldsLemmas
 pub mod SegmentLemmas
+pub mod SegmentsLawLemmas

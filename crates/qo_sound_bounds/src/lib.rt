@@ -5,6 +5,7 @@
 
 ghost use Rattle.qo_sound_bounds.specs.BoundsKept.{BoundsKeptLaw};
 ghost use Rattle.qo_sound_bounds.specs.HoldsKept.{HoldsKeptLaw};
+ghost use Rattle.qo_sound_bounds.specs.SegmentsKept.{SegmentsKeptLaw};
 ghost use Rattle.qo_sound_bounds.specs.SourcesKept.{SourcesKeptLaw};
 
 /// There are no more objects than the profile allows, and the virtual time is no later, on the opening
@@ -37,4 +38,14 @@ pub fn law_sources_kept()
 #[tactic(auto, using(crate::proofs::HoldsLemmas::holds_kept_lem))]
 pub fn law_holds_kept()
     ensures { HoldsKeptLaw }
+{}
+
+/// The segments of timers are sound on the opening board, and behind what changes no object, whatever
+/// the time, and other registers of an object, where their own are; where no timer is ahead of the
+/// virtual time, behind acts and holds, a write of a clock's numbers that is not refused, each command
+/// on objects, a device that is added, refused at any stage or detached, and the reset of the whole
+/// board. A guest's write to a timer's register leaves them so.
+#[tactic(auto, using(crate::proofs::SegmentsLawLemmas::segments_kept_lem))]
+pub fn law_segments_kept()
+    ensures { SegmentsKeptLaw }
 {}
