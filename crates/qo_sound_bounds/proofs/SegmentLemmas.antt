@@ -1,6 +1,5 @@
 -- What acts and a guest's writes do to the segments of a timer that is not ahead of the time.
 use Rattle.std.proofs.Common.{◌≡◌, refl, ap, sym, subst, ◌∙◌, ℕ, ◌+◌, ◌-◌, ◌*◌, ◌≤◌, ◌%◌, ◌||◌, Bool, true, false, cond, eqb, Option, Some, None, is_some, option_map, arith}
-use Rattle.std.specs.Bool.{⊤}
 use Rattle.std.proofs.Math.Nat.{div-le_self}
 use Rattle.std.proofs.lemmas.Option.{same_Some}
 use Rattle.qo_values.specs.Bodies.{Effect, body_act, body_write, bridge_write, effect_of, nothing}
