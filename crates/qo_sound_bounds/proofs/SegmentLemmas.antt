@@ -1,5 +1,6 @@
 -- What acts and a guest's writes do to the segments of a timer that is not ahead of the time.
-use Rattle.std.proofs.Common.{◌≡◌, refl, ap, sym, subst, ◌∙◌, ℕ, ◌+◌, ◌-◌, ◌*◌, ◌≤◌, ◌%◌, ◌||◌, Bool, true, false, cond, eqb, Option, Some, None, is_some, option_map, arith}
+use Rattle.std.proofs.Common.{◌≡◌, ◌≢◌, refl, ap, sym, subst, ◌∙◌, ℕ, ◌+◌, ◌-◌, ◌*◌, ◌≤◌, ◌%◌, ◌||◌, Bool, true, false, cond, eqb, Option, Some, None, is_some, option_map, arith}
+use Rattle.std.specs.Bool.{⊤}
 use Rattle.std.proofs.Math.Nat.{div-le_self}
 use Rattle.std.proofs.lemmas.Option.{same_Some}
 use Rattle.qo_values.specs.Bodies.{Effect, body_act, body_write, bridge_write, effect_of, nothing}
@@ -21,9 +22,9 @@ Timed now r = IsTimely now r × IsSegmented r
 abbrev Fits : ℕ → TimerRegisters → Type 0
 Fits now t = (t.last ≤ now) × SegmentsFit t
 
-either-fits : (u : Bool) (t s : TimerRegisters) (now : ℕ) → (u ≡ true → Fits now t) → Fits now s → Fits now (cond u t s)
+either-fits : (u : Bool) (t s : TimerRegisters) (now : ℕ) → (u ≡ true → Fits now t) → (u ≡ false → Fits now s) → Fits now (cond u t s)
 either-fits true t s now h k = h refl
-either-fits false t s now h k = k
+either-fits false t s now h k = k refl
 
 -- segments that begin and end now
 
@@ -41,87 +42,118 @@ ended-few t from now period is le few =
     let span = span-few (now - from) period in
     omega (arith, is, le, few, span)
 
-ended : (t : TimerRegisters) (now period : ℕ) → Fits now t → ((after_end t now period).began ≡ None) × Fits now (after_end t now period)
+-- a timer with no segment that is open, whether enabled or not, whose last moment is no later than one
+pub record Rests (now : ℕ) (t : TimerRegisters) : Type 0 where
+  closed : t.began ≡ None
+  low : t.last ≤ now
+  ticks : t.done ≤ 4294967296 * t.last
+
+ended : (t : TimerRegisters) (now period : ℕ) → Fits now t → Rests now (after_end t now period)
 ended t now period h = go t.began refl
   where
-    go : (o : Option ℕ) → t.began ≡ o → ((after_end t now period).began ≡ None) × Fits now (after_end t now period)
+    go : (o : Option ℕ) → t.began ≡ o → Rests now (after_end t now period)
     go None e =
         let none : is_some t.began ≡ false = ap is_some e in
-        rw (after_end, none) (e, h)
+        rw (after_end, none) (record { closed = e; low = h.0; ticks = h.1.ticks })
     go (Some from) e =
         let some : is_some t.began ≡ true = ap is_some e in
         let few : t.done + span_ticks (now - from) period ≤ 4294967296 * now = ended-few t from now period (h.1.began from e) h.0 h.1.ticks in
-        rw (after_end, some) (refl, (omega arith, record { began = λ f q. cc; enabled = λ f q. cc; ticks = rw e few }))
+        rw (after_end, some) (record { closed = refl; low = omega arith; ticks = rw e few })
 
--- behind an end of the segment that is open, a timer may be enabled or not
+-- where it is disabled, its segments are sound
+disabled : (t : TimerRegisters) (now : ℕ) → t.enabled ≡ false → Rests now t → Fits now t
+disabled t now off h =
+    let none : is_some t.began ≡ false = ap is_some h.closed in
+    (h.low, record { running = none ∙ sym off; began = λ f q. absurd (let clash : None ≡ Some f = sym h.closed ∙ q in cc); ticks = h.ticks })
+
 halted : (t : TimerRegisters) (now period : ℕ) → Fits now t → Fits now (timer_halt t now period)
 halted t now period h =
-    let k = ended t now period h in
-    (k.1.0, record { began = k.1.1.began; enabled = λ f q. absurd (let clash : None ≡ Some f = sym k.0 ∙ q in cc); ticks = k.1.1.ticks })
+    let k : Rests now (after_end t now period) = ended t now period h in
+    disabled (timer_halt t now period) now refl (record { closed = k.closed; low = k.low; ticks = k.ticks })
 
 -- a segment that begins in an enabled timer
 begun : (t : TimerRegisters) (now : ℕ) → t.enabled ≡ true → t.last ≤ now → t.done ≤ 4294967296 * t.last → Fits now (after_begin t now)
 begun t now on le few =
     let same : (from : ℕ) → ◌≡◌ {A = Option ℕ} (Some now) (Some from) → from ≡ now = λ from q. sym (same_Some now from q) in
-    (omega arith, record { began = same; enabled = λ from q. on; ticks = omega (arith, le, few) })
+    (omega arith, record { running = sym on; began = same; ticks = omega (arith, le, few) })
+
+-- Update behind Pre
+followed : (t : TimerRegisters) (now : ℕ) → Rests now t → Fits now (timer_update t now)
+followed t now h =
+    either-fits t.enabled (after_begin t now) t now (λ on. begun t now on h.low h.ticks) (λ off. disabled t now off h)
 
 updated : (t : TimerRegisters) (now : ℕ) → Fits now t → Fits now (timer_update t now)
-updated t now h = either-fits t.enabled (after_begin t now) t now (λ on. begun t now on h.0 h.1.ticks) h
+updated t now h = either-fits t.enabled (after_begin t now) t now (λ on. begun t now on h.0 h.1.ticks) (λ off. h)
 
 -- Enter empties the segments, and leaves the last moment
 entered : (t : TimerRegisters) (now : ℕ) → Fits now t → Fits now (timer_enter t)
-entered t now h = (h.0, record { began = λ f q. cc; enabled = λ f q. cc; ticks = omega arith })
+entered t now h = (h.0, record { running = refl; began = λ f q. cc; ticks = omega arith })
 
 held_once : (t : TimerRegisters) (now : ℕ) → Fits now t → Fits now (timer_hold t)
-held_once t now h = (h.0, record { began = h.1.began; enabled = h.1.enabled; ticks = h.1.ticks })
+held_once t now h = (h.0, record { running = h.1.running; began = h.1.began; ticks = h.1.ticks })
 
--- an act
-pub act-timed : (act : Act) (now period : ℕ) (r : Registers) → Timed now r → Timed now (body_act act now period r)
-act-timed (Init k) now period r h = h
-act-timed Realize now period r h = h
-act-timed Unrealize now period (uart u) h = h
-act-timed Unrealize now period (timer t) h = halted t now period h
-act-timed Unrealize now period (dimm d) h = h
-act-timed Unrealize now period (bridge b) h = h
-act-timed Unrealize now period bare h = h
-act-timed Enter now period (uart u) h = h
-act-timed Enter now period (timer t) h = entered t now h
-act-timed Enter now period (dimm d) h = h
-act-timed Enter now period (bridge b) h = h
-act-timed Enter now period bare h = h
-act-timed Hold now period (uart u) h = h
-act-timed Hold now period (timer t) h = held_once t now h
-act-timed Hold now period (dimm d) h = h
-act-timed Hold now period (bridge b) h = h
-act-timed Hold now period bare h = h
-act-timed Exit now period (uart u) h = h
-act-timed Exit now period (timer t) h = h
-act-timed Exit now period (dimm d) h = h
-act-timed Exit now period (bridge b) h = h
-act-timed Exit now period bare h = h
-act-timed Pre now period (uart u) h = h
-act-timed Pre now period (timer t) h = (ended t now period h).1
-act-timed Pre now period (dimm d) h = h
-act-timed Pre now period (bridge b) h = h
-act-timed Pre now period bare h = h
-act-timed Update now period (uart u) h = h
-act-timed Update now period (timer t) h = updated t now h
-act-timed Update now period (dimm d) h = h
-act-timed Update now period (bridge b) h = h
-act-timed Update now period bare h = h
+-- an act that is not Pre
+pub act-timed : (act : Act) (now period : ℕ) (r : Registers) → act ≢ Pre → Timed now r → Timed now (body_act act now period r)
+act-timed (Init k) now period r other h = h
+act-timed Realize now period r other h = h
+act-timed Unrealize now period (uart u) other h = h
+act-timed Unrealize now period (timer t) other h = halted t now period h
+act-timed Unrealize now period (dimm d) other h = h
+act-timed Unrealize now period (bridge b) other h = h
+act-timed Unrealize now period bare other h = h
+act-timed Enter now period (uart u) other h = h
+act-timed Enter now period (timer t) other h = entered t now h
+act-timed Enter now period (dimm d) other h = h
+act-timed Enter now period (bridge b) other h = h
+act-timed Enter now period bare other h = h
+act-timed Hold now period (uart u) other h = h
+act-timed Hold now period (timer t) other h = held_once t now h
+act-timed Hold now period (dimm d) other h = h
+act-timed Hold now period (bridge b) other h = h
+act-timed Hold now period bare other h = h
+act-timed Exit now period (uart u) other h = h
+act-timed Exit now period (timer t) other h = h
+act-timed Exit now period (dimm d) other h = h
+act-timed Exit now period (bridge b) other h = h
+act-timed Exit now period bare other h = h
+act-timed Pre now period r other h = absurd (other refl)
+act-timed Update now period (uart u) other h = h
+act-timed Update now period (timer t) other h = updated t now h
+act-timed Update now period (dimm d) other h = h
+act-timed Update now period (bridge b) other h = h
+act-timed Update now period bare other h = h
+
+-- registers between Pre and Update
+abbrev pub Paused : ℕ → Registers → Type 0
+Paused now (timer t) = Rests now t
+Paused now r = ⊤
+
+pub pre-paused : (now period : ℕ) (r : Registers) → Timed now r → Paused now (body_act Pre now period r)
+pre-paused now period (uart u) h = tt
+pre-paused now period (timer t) h = ended t now period h
+pre-paused now period (dimm d) h = tt
+pre-paused now period (bridge b) h = tt
+pre-paused now period bare h = tt
+
+pub paused-timed : (now period : ℕ) (r : Registers) → Paused now r → Timed now (body_act Update now period r)
+paused-timed now period (uart u) h = (tt, tt)
+paused-timed now period (timer t) h = followed t now h
+paused-timed now period (dimm d) h = (tt, tt)
+paused-timed now period (bridge b) h = (tt, tt)
+paused-timed now period bare h = (tt, tt)
 
 -- a guest's write
 
 control-fits : (t : TimerRegisters) (value now period : ℕ) → Fits now t → Fits now (control_write t value now period)
 control-fits t value now period h =
     either-fits (eqb (value % 2) 1) _ _ now
-    (λ rises. either-fits t.enabled t _ now (λ on. h) (begun (record t { enabled = true; done = 0 }) now refl h.0 (omega arith)))
-    (either-fits t.enabled (timer_halt t now period) t now (λ on. halted t now period h) h)
+    (λ rises. either-fits t.enabled t _ now (λ on. h) (λ off. begun (record t { enabled = true; done = 0 }) now refl h.0 (omega arith)))
+    (λ falls. either-fits t.enabled (timer_halt t now period) t now (λ on. halted t now period h) (λ off. h))
 
 reload-fits : (t : TimerRegisters) (value now : ℕ) → Fits now t → Fits now (reload_write t value now)
 reload-fits t value now h =
     either-fits t.enabled (after_begin emptied now) emptied now (λ on. begun emptied now on h.0 (omega arith))
-    (h.0, record { began = h.1.began; enabled = h.1.enabled; ticks = omega arith })
+    (λ off. (h.0, record { running = h.1.running; began = h.1.began; ticks = omega arith }))
   where
     emptied : TimerRegisters
     emptied = record t { reload = value; done = 0 }
@@ -181,7 +213,7 @@ fresh-timed now Machine = (tt, tt)
 fresh-timed now Device = (tt, tt)
 fresh-timed now SlotDevice = (tt, tt)
 fresh-timed now SlotUart = (tt, tt)
-fresh-timed now SlotTimer = (omega arith, record { began = λ f q. cc; enabled = λ f q. cc; ticks = omega arith })
+fresh-timed now SlotTimer = (omega arith, record { running = refl; began = λ f q. cc; ticks = omega arith })
 fresh-timed now SlotBridge = (tt, tt)
 fresh-timed now MemDimm = (tt, tt)
 fresh-timed now Bus = (tt, tt)

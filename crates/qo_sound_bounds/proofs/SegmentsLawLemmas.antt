@@ -1,19 +1,17 @@
 -- The law: what keeps the segments of timers sound.
-use Rattle.std.proofs.Common.{◌≡◌, refl, sym, subst, rules, ℕ, zero, suc, ◌+◌, Bool, true, false, not, ◌==◌, List, [], ◌∷◌, filter, length, Option, Some, None, is_some}
+use Rattle.std.proofs.Common.{◌≡◌, refl, sym, subst, ◌∙◌, rules, ℕ, zero, suc, ◌+◌, Bool, true, false, not, ◌==◌, List, [], ◌∷◌, filter, length, Option, Some, None, is_some}
 use Rattle.std.specs.Bool.{⊤}
 use Rattle.std.specs.List.{AllByRecursion}
 use Rattle.qo_values.specs.Registers.{Registers}
 use Rattle.qo_values.specs.declared.births.TheConstants.{MACHINE_BIRTH, OBJECTS_BIRTH}
 use Rattle.qo_values.specs.declared.codes.Code.{Code}
-use Rattle.qo_values.specs.declared.kinds.Act.{Act}
-use Rattle.qo_values.specs.declared.kinds.Act.TheVariants.{Realize, Enter, Hold, Exit}
+use Rattle.qo_values.specs.declared.kinds.Act.TheVariants.{Realize, Enter, Hold, Exit, Pre, Update}
 use Rattle.qo_values.specs.declared.kinds.TypeId.{TypeId}
 use Rattle.qo_values.specs.declared.properties.Val.TheVariants as val
 use Rattle.qo_values.specs.declared.ranges.Range.{Range}
 use Rattle.qo_model.specs.Board.{Board, Record}
 use Rattle.qo_model.specs.Clocks.{acted, period, with_act_on}
 use Rattle.qo_model.specs.Depth.{among}
-use Rattle.qo_model.specs.Devices.{buses_of, kids_of}
 use Rattle.qo_model.specs.FinalNotesRuns.{Change, added, deleted, wrote, severed, changed}
 use Rattle.qo_model.specs.Hotplug.{all_completed, asked, asked_of, completed, device_at, reset_whole}
 use Rattle.qo_model.specs.Objects.{Given, added_as, added_by, barred, object_add, refusal_of}
@@ -27,16 +25,17 @@ use Rattle.qo_model.specs.Types.{TypeRow, row_named, slots_of, types}
 use Rattle.qo_model.specs.Unplug.{detach, first_of}
 use Rattle.qo_model.proofs.ReleaseKeepsLemmas.{after_keeps}
 use Rattle.qo_sound.proofs.RecordLemmas.{all-append, all-both, all-filter, all-imply, all-map}
-use Rattle.qo_sound.proofs.MakeStepsLemmas.{all-any, any-rows, KeepsActs, KeepsEdits, KeepsNew, new_with, step-acted_all, step-drafted, step-plugged, step-set, step-stood}
-use Rattle.qo_sound.proofs.DetachStepsLemmas.{KeepsEnds, KeepsLists, KeepsPins, step-detach, step-pin, step-unrealize}
+use Rattle.qo_sound.proofs.MakeStepsLemmas.{any-rows, KeepsEdits, KeepsNew, new_with, step-drafted, step-set, step-stood}
+use Rattle.qo_sound.proofs.DetachStepsLemmas.{KeepsEnds, KeepsLists, KeepsPins, step-detach, step-pin}
 use Rattle.qo_sound.proofs.ChangeStepsLemmas.{step-object_del, step-sever, step-write}
 use Rattle.qo_sound_clocks.proofs.FoundLemmas.{all-found}
-use Rattle.qo_sound_clocks.proofs.StepsLemmas.{kept-scaled, kept-set, KeepsNumbers}
+use Rattle.qo_sound_clocks.proofs.StepsLemmas.{KeepsNumbers}
 use Rattle.qo_sound_clocks.specs.RegistersKept.{registers_set, with_registers}
 use Rattle.qo_sound_clocks.specs.SoundTimes.{IsTimely, SoundTimes}
 use Rattle.qo_sound_bounds.specs.SegmentsKept.{SegmentsKeptLaw}
 use Rattle.qo_sound_bounds.specs.SoundSegments.{IsSegmented, SoundSegments}
-use Rattle.qo_sound_bounds.proofs.SegmentLemmas.{Timed, act-timed, fresh-timed, write-segments}
+use Rattle.qo_sound_bounds.proofs.CallsLemmas.{KeepsOtherActs, call-acted_all, call-phased, call-plugged, call-scaled, call-set, call-unrealize}
+use Rattle.qo_sound_bounds.proofs.SegmentLemmas.{Paused, pre-paused, paused-timed, Timed, act-timed, fresh-timed, write-segments}
 
 -- objects that are not ahead of a moment, with sound segments
 abbrev RecordTimed : ℕ → Record → Type 0
@@ -66,9 +65,37 @@ edit-segments n change c keeps h = all-map (RecordTimed c.now) (RecordTimed c.no
 segments-edits : KeepsEdits Sound
 segments-edits n change same c h = edit-segments n change c (λ r k. subst (RecordTimed c.now) (sym (same r)) k) h
 
-segments-acts : KeepsActs (λ n. ⊤) Sound
+segments-acts : KeepsOtherActs Sound
 unfolding acted
-segments-acts act n period unbound on c h = edit-segments n (with_act_on act c.now period) c (λ r k. act-timed act c.now period r.registers k) h
+segments-acts act n period other c h = edit-segments n (with_act_on act c.now period) c (λ r k. act-timed act c.now period r.registers other k) h
+
+-- Pre and Update of one object
+record BetweenCalls (now n : ℕ) (r : Record) : Type 0 where
+  here : (r.birth == n) ≡ true → Paused now r.registers
+  elsewhere : (r.birth == n) ≡ false → RecordTimed now r
+
+segments-calls : (n old new : ℕ) (c : Board) → Sound c → Sound (acted Update n new (acted Pre n old c))
+unfolding acted
+segments-calls n old new c h =
+    all-map (BetweenCalls c.now n) (RecordTimed c.now) (edited n (with_act_on Update c.now new)) second _
+    (all-map (RecordTimed c.now) (BetweenCalls c.now n) (edited n (with_act_on Pre c.now old)) first c.records h)
+  where
+    first : (r : Record) → RecordTimed c.now r → BetweenCalls c.now n (edited n (with_act_on Pre c.now old) r)
+    first r k = go (r.birth == n) refl
+      where
+        go : (u : Bool) → (r.birth == n) ≡ u → BetweenCalls c.now n (edited n (with_act_on Pre c.now old) r)
+        go true e =
+            let none : (r.birth == n) ≡ false → RecordTimed c.now (with_act_on Pre c.now old r) =
+            λ q. absurd (let clash : true ≡ false = sym e ∙ q in cc) in
+            rw (edited, e) (record { here = λ q. pre-paused c.now old r.registers k; elsewhere = none })
+        go false e = rw (edited, e) (record { here = λ q. absurd (let clash : false ≡ true = sym e ∙ q in cc); elsewhere = λ q. k })
+
+    second : (r : Record) → BetweenCalls c.now n r → RecordTimed c.now (edited n (with_act_on Update c.now new) r)
+    second r k = go (r.birth == n) refl
+      where
+        go : (u : Bool) → (r.birth == n) ≡ u → RecordTimed c.now (edited n (with_act_on Update c.now new) r)
+        go true e = rw (edited, e) (paused-timed c.now new r.registers (k.here e))
+        go false e = rw (edited, e) (k.elsewhere e)
 
 segments-new : KeepsNew (λ t. ⊤) Sound
 segments-new t slots made c h = all-append (RecordTimed c.now) c.records (new_with c t slots ∷ []) h (fresh-timed c.now t, tt)
@@ -141,8 +168,8 @@ counted-segments (Some id) c h = h
 plugged-segments : (b : Board) (t : TypeId) (a : Wanted) (spot : Spot) → Sound b → Sound (with_plugged b t a spot)
 plugged-segments b t a spot h =
     edit-segments n (with_path (canonical passed_on n)) passed_on (λ r k. k)
-    (step-plugged (λ m. ⊤) Sound segments-acts n _ (all-any (post (acted_all Realize (n ∷ bus_births n t) (with_device b t a spot)) n))
-    (step-acted_all (λ m. ⊤) Sound segments-acts Realize refl (n ∷ bus_births n t) (all-any (n ∷ bus_births n t)) _
+    (call-plugged Sound segments-acts n _
+    (call-acted_all Sound segments-acts Realize (λ q. cc) (n ∷ bus_births n t) _
     (counted-segments a.id _
     (step-stood Sound segments-edits b n a spot
     (λ c k. edit-segments n (with_body_of a.id spot.range) c (body-timed c.now a.id spot.range) k) (drafted b t)
@@ -183,8 +210,7 @@ plug-segments b a h = by-segments b a (type_barred a.driver) h
 detach-segments : (b : Board) (d : ℕ) → Sound b → Sound (detach b d)
 detach-segments b d h =
     step-detach Sound segments-edits segments-pins segments-ends b d
-    (step-unrealize (λ n. ⊤) Sound segments-edits segments-acts segments-lists (pin b d)
-    (λ m. all-any (buses_of (pin b d) m)) (λ m. all-any (kids_of (pin b d) m)) d tt
+    (call-unrealize Sound segments-acts segments-edits segments-lists (pin b d) d
     (step-pin Sound segments-edits segments-pins segments-ends d b h))
 
 -- removals that are asked for, and the reset of the whole board
@@ -213,25 +239,17 @@ completed-segments (suc times) b h = go (first_of b.pending) refl (completed-seg
     go None p rest = rw (all_completed, p) h
     go (Some d) p rest = rw (all_completed, p) (rest (completed b d) (detach-segments b d h))
 
-acted-segments : (act : Act) (n period : ℕ) (c : Board) → Sound c → Sound (acted act n period c)
-unfolding acted
-acted-segments act n period c h = edit-segments n (with_act_on act c.now period) c (λ r k. act-timed act c.now period r.registers k) h
-
-phased-segments : (act : Act) (ns : List ℕ) (c : Board) → Sound c → Sound (phased act ns c)
-phased-segments act [] c h = h
-phased-segments act (n ∷ ns) c h = phased-segments act ns (acted act n 0 c) (acted-segments act n 0 c h)
-
 held-segments : (b : Board) (n : ℕ) → Sound b → Sound (held b n)
 unfolding held
 held-segments b n h =
     let out : List ℕ = filter (is_out b) (post b n) in
-    phased-segments Hold out (phased Enter out b) (phased-segments Enter out b h)
+    call-phased Sound segments-acts Hold (λ q. cc) out (phased Enter out b) (call-phased Sound segments-acts Enter (λ q. cc) out b h)
 
 released-segments : (b : Board) (n : ℕ) → Sound b → Sound (released b n)
 unfolding released
 released-segments b n h =
     let c : Board = record b { holds = without_first n b.holds } in
-    phased-segments Exit (filter (is_out c) (post c n)) c h
+    call-phased Sound segments-acts Exit (λ q. cc) (filter (is_out c) (post c n)) c h
 
 pulse-segments : (b : Board) (n : ℕ) → Sound b → Sound (pulse b n)
 unfolding pulse
@@ -278,12 +296,13 @@ segments_kept_lem =
       asked_for = asked-segments;
       refused_by = λ b d h. h;
       wrote = write-segments;
-      acts = λ act n period b times h. alone (acted act n period b) (acted-segments act n period b (both b times h));
+      acts = λ act n period b other times h. alone (acted act n period b) (segments-acts act n period other b (both b times h));
+      called_back = λ n old new b times h. alone (acted Update n new (acted Pre n old b)) (segments-calls n old new b (both b times h));
       held_so = λ b n times h. alone (held b n) (held-segments b n (both b times h));
       released_so = λ b n times h. alone (released b n) (released-segments b n (both b times h));
       pulsed = λ b n times h. alone (pulse b n) (pulse-segments b n (both b times h));
-      set = λ b d c period e times h. alone d (kept-set Sound acted-segments segments-numbers b d c period e (both b times h));
-      scaled = λ b d c mul div e times h. alone d (kept-scaled Sound acted-segments segments-numbers b d c mul div e (both b times h));
+      set = λ b d c period e times h. alone d (call-set Sound segments-calls segments-numbers b d c period e (both b times h));
+      scaled = λ b d c mul div e times h. alone d (call-scaled Sound segments-calls segments-numbers b d c mul div e (both b times h));
       registers = set-segments;
       change = λ b change times h. alone (changed b change) (changed-segments b change (both b times h));
       plugged = λ b a times h. alone (plug b a).board (plug-segments b a (both b times h));

@@ -1,8 +1,9 @@
 -- What keeps the segments of timers sound.
-use Rattle.std.specs.Prelude.{◌≡◌, ℕ, Bool, List, Some, Ok}
+use Rattle.std.specs.Prelude.{◌≡◌, ◌≢◌, ℕ, Bool, List, Some, Ok}
 use Rattle.qo_values.specs.Bodies.{Effect, body_write}
 use Rattle.qo_values.specs.Registers.{Registers}
 use Rattle.qo_values.specs.declared.kinds.Act.{Act}
+use Rattle.qo_values.specs.declared.kinds.Act.TheVariants.{Pre, Update}
 use Rattle.qo_values.specs.declared.kinds.TypeId.{TypeId}
 use Rattle.qo_model.specs.Board.{Board, Record, record_of}
 use Rattle.qo_model.specs.ClockChanges.{clock_scaled, clock_set}
@@ -33,8 +34,9 @@ pub record SegmentsKeptLaw : Type 0 where
   -- a guest's write to a register at a moment that is not before the last one of the timer
   pub wrote : (r s : Registers) (effect : Effect) (reg value : ℕ) (ring : Bool) (now period : ℕ) → body_write r reg value ring now period ≡ Some (s, effect)
       → IsTimely now r → IsSegmented r → IsSegmented s
-  -- an act; a hold, a hold less, and both
-  pub acts : (act : Act) (n period : ℕ) (b : Board) → SoundTimes b → SoundSegments b → SoundSegments (acted act n period b)
+  -- an act but Pre, which Update follows; these two; a hold, a hold less, and both
+  pub acts : (act : Act) (n period : ℕ) (b : Board) → act ≢ Pre → SoundTimes b → SoundSegments b → SoundSegments (acted act n period b)
+  pub called_back : (n old new : ℕ) (b : Board) → SoundTimes b → SoundSegments b → SoundSegments (acted Update n new (acted Pre n old b))
   pub held_so : (b : Board) (n : ℕ) → SoundTimes b → SoundSegments b → SoundSegments (held b n)
   pub released_so : (b : Board) (n : ℕ) → SoundTimes b → SoundSegments b → SoundSegments (released b n)
   pub pulsed : (b : Board) (n : ℕ) → SoundTimes b → SoundSegments b → SoundSegments (pulse b n)
