@@ -7,3 +7,6 @@ pub mod DraftLemmas
 pub mod FeedLemmas
 pub mod SourcesLawLemmas
 pub mod HoldsLemmas
+pub mod CallsLemmas
+pub mod SegmentLemmas
+pub mod SegmentsLawLemmas

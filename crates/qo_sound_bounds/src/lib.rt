@@ -1,10 +1,12 @@
 //! The rest of what a sound board is: that it stays within the profile's limits, that its clocks go
-//! by the clocks that they are connected to, and that nothing on it is held in reset too often.
-//! Functions without effect, whose contracts say what keeps it so. The definitions stand in `specs/`.
+//! by the clocks that they are connected to, that nothing on it is held in reset too often, and that
+//! its timers count in the segments for which they are enabled. Functions without effect, whose
+//! contracts say what keeps it so. The definitions stand in `specs/`.
 #![tactic(auto)]
 
 ghost use Rattle.qo_sound_bounds.specs.BoundsKept.{BoundsKeptLaw};
 ghost use Rattle.qo_sound_bounds.specs.HoldsKept.{HoldsKeptLaw};
+ghost use Rattle.qo_sound_bounds.specs.SegmentsKept.{SegmentsKeptLaw};
 ghost use Rattle.qo_sound_bounds.specs.SourcesKept.{SourcesKeptLaw};
 
 /// There are no more objects than the profile allows, and the virtual time is no later, on the opening
@@ -37,4 +39,16 @@ pub fn law_sources_kept()
 #[tactic(auto, using(crate::proofs::HoldsLemmas::holds_kept_lem))]
 pub fn law_holds_kept()
     ensures { HoldsKeptLaw }
+{}
+
+/// Each timer that is enabled has a segment open, and no other has; it began when one last began or
+/// ended, and the ended ones have no more ticks than the time until then allows. So it is on the
+/// opening board, and behind what changes no object, whatever the time, and other registers of an
+/// object that are so; where no timer is ahead of the virtual time, behind acts (Pre with its Update)
+/// and holds, a write of a clock's numbers that is not refused, each command on objects, a device that
+/// is added, refused at any stage or detached, and the reset of the whole board. A guest's write to a
+/// register of a timer that is not ahead of the time leaves it so.
+#[tactic(auto, using(crate::proofs::SegmentsLawLemmas::segments_kept_lem))]
+pub fn law_segments_kept()
+    ensures { SegmentsKeptLaw }
 {}

@@ -1,0 +1,225 @@
+-- What acts and a guest's writes do to the segments of a timer that is not ahead of the time.
+use Rattle.std.proofs.Common.{◌≡◌, ◌≢◌, refl, ap, sym, subst, ◌∙◌, ℕ, ◌+◌, ◌-◌, ◌*◌, ◌≤◌, ◌%◌, ◌||◌, Bool, true, false, cond, eqb, Option, Some, None, is_some, option_map, arith}
+use Rattle.std.specs.Bool.{⊤}
+use Rattle.std.proofs.Math.Nat.{div-le_self}
+use Rattle.std.proofs.lemmas.Option.{same_Some}
+use Rattle.qo_values.specs.Bodies.{Effect, body_act, body_write, bridge_write, effect_of, nothing}
+use Rattle.qo_values.specs.Dimm.{dimm_read}
+use Rattle.qo_values.specs.Registers.{BridgeRegisters, Registers, TimerRegisters, UartRegisters, bare, bridge, dimm, fresh_registers, timer, uart}
+use Rattle.qo_values.specs.Timer.{after_begin, after_end, control_write, reload_write, span_ticks, timer_enter, timer_halt, timer_hold, timer_update, timer_write}
+use Rattle.qo_values.specs.Uart.{uart_write}
+use Rattle.qo_values.specs.declared.kinds.Act.{Act}
+use Rattle.qo_values.specs.declared.kinds.Act.TheVariants.{Init, Realize, Unrealize, Enter, Hold, Exit, Pre, Update}
+use Rattle.qo_values.specs.declared.kinds.TypeId.{TypeId}
+use Rattle.qo_values.specs.declared.kinds.TypeId.TheVariants.{Object, Container, Machine, Device, SlotDevice, SlotUart, SlotTimer, SlotBridge, MemDimm, Bus, SlotBus, MemBus, Clock, MemoryBackend, MemoryBackendRam, Tag}
+use Rattle.qo_sound_clocks.specs.SoundTimes.{IsTimely}
+use Rattle.qo_sound_bounds.specs.SoundSegments.{IsSegmented, SegmentsFit}
+
+-- registers whose last moment is no later than one, and whose segments are sound
+abbrev pub Timed : ℕ → Registers → Type 0
+Timed now r = IsTimely now r × IsSegmented r
+
+abbrev Fits : ℕ → TimerRegisters → Type 0
+Fits now t = (t.last ≤ now) × SegmentsFit t
+
+either-fits : (u : Bool) (t s : TimerRegisters) (now : ℕ) → (u ≡ true → Fits now t) → (u ≡ false → Fits now s) → Fits now (cond u t s)
+either-fits true t s now h k = h refl
+either-fits false t s now h k = k refl
+
+-- segments that begin and end now
+
+span-few : (span period : ℕ) → span_ticks span period ≤ span * 4294967296
+span-few span period = go (eqb period 0) refl
+  where
+    go : (u : Bool) → eqb period 0 ≡ u → span_ticks span period ≤ span * 4294967296
+    go true e = rw (span_ticks, e) (omega arith)
+    go false e = rw (span_ticks, e) (div-le_self (span * 4294967296) period)
+
+-- what ends now counts no more than the time has
+ended-few : (t : TimerRegisters) (from now period : ℕ) → from ≡ t.last → t.last ≤ now → t.done ≤ 4294967296 * t.last
+    → t.done + span_ticks (now - from) period ≤ 4294967296 * now
+ended-few t from now period is le few =
+    let span = span-few (now - from) period in
+    omega (arith, is, le, few, span)
+
+-- a timer with no segment that is open, whether enabled or not, whose last moment is no later than one
+pub record Rests (now : ℕ) (t : TimerRegisters) : Type 0 where
+  closed : t.began ≡ None
+  low : t.last ≤ now
+  ticks : t.done ≤ 4294967296 * t.last
+
+ended : (t : TimerRegisters) (now period : ℕ) → Fits now t → Rests now (after_end t now period)
+ended t now period h = go t.began refl
+  where
+    go : (o : Option ℕ) → t.began ≡ o → Rests now (after_end t now period)
+    go None e =
+        let none : is_some t.began ≡ false = ap is_some e in
+        rw (after_end, none) (record { closed = e; low = h.0; ticks = h.1.ticks })
+    go (Some from) e =
+        let some : is_some t.began ≡ true = ap is_some e in
+        let few : t.done + span_ticks (now - from) period ≤ 4294967296 * now = ended-few t from now period (h.1.began from e) h.0 h.1.ticks in
+        rw (after_end, some) (record { closed = refl; low = omega arith; ticks = rw e few })
+
+-- where it is disabled, its segments are sound
+disabled : (t : TimerRegisters) (now : ℕ) → t.enabled ≡ false → Rests now t → Fits now t
+disabled t now off h =
+    let none : is_some t.began ≡ false = ap is_some h.closed in
+    (h.low, record { running = none ∙ sym off; began = λ f q. absurd (let clash : None ≡ Some f = sym h.closed ∙ q in cc); ticks = h.ticks })
+
+halted : (t : TimerRegisters) (now period : ℕ) → Fits now t → Fits now (timer_halt t now period)
+halted t now period h =
+    let k : Rests now (after_end t now period) = ended t now period h in
+    disabled (timer_halt t now period) now refl (record { closed = k.closed; low = k.low; ticks = k.ticks })
+
+-- a segment that begins in an enabled timer
+begun : (t : TimerRegisters) (now : ℕ) → t.enabled ≡ true → t.last ≤ now → t.done ≤ 4294967296 * t.last → Fits now (after_begin t now)
+begun t now on le few =
+    let same : (from : ℕ) → ◌≡◌ {A = Option ℕ} (Some now) (Some from) → from ≡ now = λ from q. sym (same_Some now from q) in
+    (omega arith, record { running = sym on; began = same; ticks = omega (arith, le, few) })
+
+-- Update behind Pre
+followed : (t : TimerRegisters) (now : ℕ) → Rests now t → Fits now (timer_update t now)
+followed t now h =
+    either-fits t.enabled (after_begin t now) t now (λ on. begun t now on h.low h.ticks) (λ off. disabled t now off h)
+
+updated : (t : TimerRegisters) (now : ℕ) → Fits now t → Fits now (timer_update t now)
+updated t now h = either-fits t.enabled (after_begin t now) t now (λ on. begun t now on h.0 h.1.ticks) (λ off. h)
+
+-- Enter empties the segments, and leaves the last moment
+entered : (t : TimerRegisters) (now : ℕ) → Fits now t → Fits now (timer_enter t)
+entered t now h = (h.0, record { running = refl; began = λ f q. cc; ticks = omega arith })
+
+held_once : (t : TimerRegisters) (now : ℕ) → Fits now t → Fits now (timer_hold t)
+held_once t now h = (h.0, record { running = h.1.running; began = h.1.began; ticks = h.1.ticks })
+
+-- an act that is not Pre
+pub act-timed : (act : Act) (now period : ℕ) (r : Registers) → act ≢ Pre → Timed now r → Timed now (body_act act now period r)
+act-timed (Init k) now period r other h = h
+act-timed Realize now period r other h = h
+act-timed Unrealize now period (uart u) other h = h
+act-timed Unrealize now period (timer t) other h = halted t now period h
+act-timed Unrealize now period (dimm d) other h = h
+act-timed Unrealize now period (bridge b) other h = h
+act-timed Unrealize now period bare other h = h
+act-timed Enter now period (uart u) other h = h
+act-timed Enter now period (timer t) other h = entered t now h
+act-timed Enter now period (dimm d) other h = h
+act-timed Enter now period (bridge b) other h = h
+act-timed Enter now period bare other h = h
+act-timed Hold now period (uart u) other h = h
+act-timed Hold now period (timer t) other h = held_once t now h
+act-timed Hold now period (dimm d) other h = h
+act-timed Hold now period (bridge b) other h = h
+act-timed Hold now period bare other h = h
+act-timed Exit now period (uart u) other h = h
+act-timed Exit now period (timer t) other h = h
+act-timed Exit now period (dimm d) other h = h
+act-timed Exit now period (bridge b) other h = h
+act-timed Exit now period bare other h = h
+act-timed Pre now period r other h = absurd (other refl)
+act-timed Update now period (uart u) other h = h
+act-timed Update now period (timer t) other h = updated t now h
+act-timed Update now period (dimm d) other h = h
+act-timed Update now period (bridge b) other h = h
+act-timed Update now period bare other h = h
+
+-- registers between Pre and Update
+abbrev pub Paused : ℕ → Registers → Type 0
+Paused now (timer t) = Rests now t
+Paused now r = ⊤
+
+pub pre-paused : (now period : ℕ) (r : Registers) → Timed now r → Paused now (body_act Pre now period r)
+pre-paused now period (uart u) h = tt
+pre-paused now period (timer t) h = ended t now period h
+pre-paused now period (dimm d) h = tt
+pre-paused now period (bridge b) h = tt
+pre-paused now period bare h = tt
+
+pub paused-timed : (now period : ℕ) (r : Registers) → Paused now r → Timed now (body_act Update now period r)
+paused-timed now period (uart u) h = (tt, tt)
+paused-timed now period (timer t) h = followed t now h
+paused-timed now period (dimm d) h = (tt, tt)
+paused-timed now period (bridge b) h = (tt, tt)
+paused-timed now period bare h = (tt, tt)
+
+-- a guest's write
+
+control-fits : (t : TimerRegisters) (value now period : ℕ) → Fits now t → Fits now (control_write t value now period)
+control-fits t value now period h =
+    either-fits (eqb (value % 2) 1) _ _ now
+    (λ rises. either-fits t.enabled t _ now (λ on. h) (λ off. begun (record t { enabled = true; done = 0 }) now refl h.0 (omega arith)))
+    (λ falls. either-fits t.enabled (timer_halt t now period) t now (λ on. halted t now period h) (λ off. h))
+
+reload-fits : (t : TimerRegisters) (value now : ℕ) → Fits now t → Fits now (reload_write t value now)
+reload-fits t value now h =
+    either-fits t.enabled (after_begin emptied now) emptied now (λ on. begun emptied now on h.0 (omega arith))
+    (λ off. (h.0, record { running = h.1.running; began = h.1.began; ticks = omega arith }))
+  where
+    emptied : TimerRegisters
+    emptied = record t { reload = value; done = 0 }
+
+timer-fits : (t s : TimerRegisters) (reg value now period : ℕ) → timer_write t reg value now period ≡ Some s → Fits now t → Fits now s
+timer-fits t s reg value now period e h = go (eqb reg 0) refl (eqb reg 1) refl (eqb reg 2 || eqb reg 3) refl
+  where
+    is : (x : TimerRegisters) → timer_write t reg value now period ≡ Some x → Fits now x → Fits now s
+    is x q k = subst (Fits now) (same_Some x s (sym q ∙ e)) k
+
+    go : (u : Bool) → eqb reg 0 ≡ u → (v : Bool) → eqb reg 1 ≡ v → (w : Bool) → (eqb reg 2 || eqb reg 3) ≡ w → Fits now s
+    go true p v q w k = is (control_write t value now period) (rw (timer_write, p) refl) (control-fits t value now period h)
+    go false p true q w k = is (reload_write t value now) (rw (timer_write, p, q) refl) (reload-fits t value now h)
+    go false p false q true k = is t (rw (timer_write, p, q, k) refl) h
+    go false p false q false k = absurd (let clash : None ≡ Some s = rw (timer_write, p, q, k) at e in cc)
+
+-- no other body becomes a timer
+
+mapped-segments : {A : Type 0} (f : A → Registers × Effect) → ((x : A) → IsSegmented (f x).0) → (o : Option A) (s : Registers) (effect : Effect)
+    → option_map f o ≡ Some (s, effect) → IsSegmented s
+mapped-segments f sound None s effect e = cc
+mapped-segments f sound (Some x) s effect e = subst IsSegmented (ap (λ (p : Registers × Effect). p.0) (same_Some (f x) (s, effect) e)) (sound x)
+
+bridge-segments : (g : BridgeRegisters) (reg value : ℕ) (s : Registers) (effect : Effect) → bridge_write g reg value ≡ Some (s, effect) → IsSegmented s
+bridge-segments g reg value s effect e = go (eqb reg 0) refl (eqb reg 1) refl
+  where
+    is : (x : BridgeRegisters) (f : Effect) → ◌≡◌ {A = Option (Registers × Effect)} (Some (bridge x, f)) (Some (s, effect)) → IsSegmented s
+    is x f q = subst IsSegmented (ap (λ (p : Registers × Effect). p.0) (same_Some (bridge x, f) (s, effect) q)) tt
+
+    go : (u : Bool) → eqb reg 0 ≡ u → (v : Bool) → eqb reg 1 ≡ v → IsSegmented s
+    go true p v q = is _ _ (rw (bridge_write, p) at e)
+    go false p true q = is _ _ (rw (bridge_write, p, q) at e)
+    go false p false q = absurd (let clash : None ≡ Some (s, effect) = rw (bridge_write, p, q) at e in cc)
+
+pub write-segments : (r s : Registers) (effect : Effect) (reg value : ℕ) (ring : Bool) (now period : ℕ)
+    → body_write r reg value ring now period ≡ Some (s, effect) → IsTimely now r → IsSegmented r → IsSegmented s
+write-segments (uart u) s effect reg value ring now period e le h =
+    mapped-segments (λ (p : UartRegisters × Option ℕ). (uart p.0, effect_of p.1)) (λ p. tt) (uart_write u reg value ring) s effect e
+write-segments (timer t) s effect reg value ring now period e le h = go (timer_write t reg value now period) refl
+  where
+    go : (o : Option TimerRegisters) → timer_write t reg value now period ≡ o → IsSegmented s
+    go None p = absurd (let clash : None ≡ Some (s, effect) = rw p at e in cc)
+    go (Some x) p =
+        let is : timer x ≡ s = ap (λ (q : Registers × Effect). q.0) (same_Some (timer x, nothing) (s, effect) (rw p at e)) in
+        subst IsSegmented is (timer-fits t x reg value now period p (le, h)).1
+write-segments (dimm d) s effect reg value ring now period e le h =
+    mapped-segments (λ (n : ℕ). (dimm d, nothing)) (λ n. tt) (dimm_read d reg) s effect e
+write-segments (bridge g) s effect reg value ring now period e le h = bridge-segments g reg value s effect e
+write-segments bare s effect reg value ring now period e le h = cc
+
+-- what is made
+
+pub fresh-timed : (now : ℕ) (t : TypeId) → Timed now (fresh_registers t)
+fresh-timed now Object = (tt, tt)
+fresh-timed now Container = (tt, tt)
+fresh-timed now Machine = (tt, tt)
+fresh-timed now Device = (tt, tt)
+fresh-timed now SlotDevice = (tt, tt)
+fresh-timed now SlotUart = (tt, tt)
+fresh-timed now SlotTimer = (omega arith, record { running = refl; began = λ f q. cc; ticks = omega arith })
+fresh-timed now SlotBridge = (tt, tt)
+fresh-timed now MemDimm = (tt, tt)
+fresh-timed now Bus = (tt, tt)
+fresh-timed now SlotBus = (tt, tt)
+fresh-timed now MemBus = (tt, tt)
+fresh-timed now Clock = (tt, tt)
+fresh-timed now MemoryBackend = (tt, tt)
+fresh-timed now MemoryBackendRam = (tt, tt)
+fresh-timed now Tag = (tt, tt)
