@@ -22,6 +22,8 @@ use Rattle.qo_model.specs.Opening.{first_slot, first_value, fresh_record, fresh_
 use Rattle.qo_model.specs.Properties.{row_of_property}
 use Rattle.qo_model.specs.RowNames.{property_name}
 use Rattle.qo_model.specs.Types.{is_a, slots_of, types}
+use Rattle.qo_model.specs.declared.properties.First.{First}
+use Rattle.qo_model.specs.declared.properties.First.TheVariants as first
 use Rattle.qo_model.specs.declared.properties.Property.{Property}
 use Rattle.qo_model.specs.declared.properties.RowKind.{RowKind}
 use Rattle.qo_model.specs.declared.properties.RowKind.TheVariants as row
@@ -33,27 +35,21 @@ use Rattle.qo_sound_shapes.proofs.GoodLemmas.{further-same, Good, is_first}
 use Rattle.qo_sound_shapes.proofs.RowLemmas.{has-added, has-each, IsRowOf, own-rows, Slots}
 
 -- what plain properties hold at first
-abbrev pub is_nothing : Val → Bool
-is_nothing val.Nothing = true
-is_nothing v = false
+abbrev pub begins_empty : First → Bool
+begins_empty first.Nothing = true
+begins_empty begins = false
 
 abbrev pub first_fits : TypeId → RowKind → Bool
-first_fits t (row.Plain type first) = is_nothing (first_value t first) || admits type (first_value t first)
+first_fits t (row.Plain type begins) = begins_empty begins || admits type (first_value t begins)
 first_fits t kind = true
 
-nothing-is : (v : Val) → is_nothing v ≡ true → v ≡ val.Nothing
-nothing-is val.Nothing e = refl
-nothing-is (val.Bool b) e = absurd (let clash : false ≡ true = e in cc)
-nothing-is (val.Int n) e = absurd (let clash : false ≡ true = e in cc)
-nothing-is (val.Uint n) e = absurd (let clash : false ≡ true = e in cc)
-nothing-is (val.Text text) e = absurd (let clash : false ≡ true = e in cc)
-
-pub may-hold : (type : PropType) (v : Val) → (is_nothing v || admits type v) ≡ true → MayHold type v
-may-hold type v e = go (is_nothing v) refl
-  where
-    go : (t : Bool) → is_nothing v ≡ t → MayHold type v
-    go true p = inl (nothing-is v p)
-    go false p = inr (rw p at e)
+pub may-hold : (t : TypeId) (type : PropType) (begins : First) → (begins_empty begins || admits type (first_value t begins)) ≡ true
+    → MayHold type begins (first_value t begins)
+may-hold t type first.Nothing e = inl (refl, refl)
+may-hold t type first.TypeName e = inr e
+may-hold t type (first.Bool b) e = inr e
+may-hold t type (first.Uint n) e = inr e
+may-hold t type first.NoText e = inr e
 
 abbrev pub RowsFirst : TypeId → List Property → Type 0
 RowsFirst t ps = AllByRecursion (λ (p : Property). first_fits t p.kind ≡ true) ps
@@ -108,7 +104,7 @@ first-has t (p ∷ ps) fits own = go p.kind refl (first-has t ps fits.1 own.1)
     go : (kind : RowKind) → p.kind ≡ kind → HasSlots t ps (slots_for t ps) → HasSlots t (p ∷ ps) (slots_for t (p ∷ ps))
     go (row.Plain type first) e rest =
         let has : HasSlots t (p ∷ ps) ((property_name p.name, plain (first_value t first)) ∷ slots_for t ps) =
-        next (of-row p (row.Plain type first) (plain (first_value t first)) e (may-hold type (first_value t first) (rw e at fits.0))) rest in
+        next (of-row p (row.Plain type first) (plain (first_value t first)) e (may-hold t type first (rw e at fits.0))) rest in
         subst (HasSlots t (p ∷ ps)) (sym (begins (row.Plain type first) e)) has
     go (row.Link k true) e rest =
         let has : HasSlots t (p ∷ ps) ((property_name p.name, strong k None) ∷ slots_for t ps) =
@@ -179,7 +175,7 @@ module _ (b : Board) where
   given-row : (kind : RowKind) (s : Slot) (v : Val) → misfit b kind v ≡ None → IsAsRow kind s → IsAsRow kind (given_to b s v)
   given-row (row.Plain type first) (plain w) v e h = go (admits type v) refl
     where
-      go : (t : Bool) → admits type v ≡ t → MayHold type v
+      go : (t : Bool) → admits type v ≡ t → MayHold type first v
       go true p = inr p
       go false p = absurd (let clash : Some E19 ≡ None = rw p at e in cc)
   given-row (row.Plain type first) (child m) v e h = absurd h
