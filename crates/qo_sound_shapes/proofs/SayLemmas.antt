@@ -15,7 +15,7 @@ use Rattle.qo_model.specs.declared.properties.Property.{Property}
 use Rattle.qo_sound_devices.specs.SoundPlaces.{stands}
 use Rattle.qo_sound_shapes.specs.ShapesSay.{HasProperty, ShapesSayLaw}
 use Rattle.qo_sound_shapes.specs.SoundShape.{further, HasSlots, IsAsRow, IsFurther, IsOfRow, may_miss, missing, next, SoundShape}
-use Rattle.qo_sound_shapes.proofs.RowLemmas.{has-all, IsRowOf, own-rows, Slots}
+use Rattle.qo_sound_shapes.proofs.RowLemmas.{each-found, has-all, IsRowOf, own-rows, Slots}
 
 abbrev NoneMisses : List Property → Type 0
 NoneMisses ps = AllByRecursion (λ (p : Property). may_miss p ≡ false) ps
@@ -138,15 +138,6 @@ there-found name (x ∷ xs) e = go (bytes_eq x.0 name) refl (there-found name xs
         → (s : List ℕ × Slot) × (find (λ (y : List ℕ × Slot). bytes_eq y.0 name) (x ∷ xs) ≡ Some s)
     go true p rest = (x, rw p refl)
     go false p rest = let (s, f) = rest (rw p at e) in (s, rw p f)
-
-each-found : (P : Property → Type 0) (name : List ℕ) (ps : List Property) → AllByRecursion P ps → (p : Property)
-    → find (λ (q : Property). bytes_eq (property_name q.name) name) ps ≡ Some p → P p
-each-found P name [] h p e = cc
-each-found P name (q ∷ ps) h p e = go (bytes_eq (property_name q.name) name) refl (each-found P name ps h.1 p)
-  where
-    go : (u : Bool) → bytes_eq (property_name q.name) name ≡ u → (find (λ (x : Property). bytes_eq (property_name x.name) name) ps ≡ Some p → P p) → P p
-    go true k rest = subst P (same_Some q p (rw k at e)) h.0
-    go false k rest = rest (rw k at e)
 
 there-says : (b : Board) → SoundShape b → (d : ℕ) (name : List ℕ) (p : Property) → stands b d ≡ true → HasProperty b d name p
     → (s : Slot) × ((slot_named b d name ≡ Some s) × IsAsRow p.kind s)

@@ -53,7 +53,7 @@ may_miss p = is_child_row p.kind && not (bytes_eq (property_name p.name) clock_n
 
 -- a further slot: of a bus a link `child[N]` that holds a device, of a container and of the machine a child, of any other object none
 abbrev pub IsKidLink : List ℕ → Slot → Type 0
-IsKidLink name (strong to target) = (to ≡ Device) × ((k : ℕ) × ((k < BUS_SLOTS) × (name ≡ kid_name k)))
+IsKidLink name (strong to (Some m)) = (to ≡ Device) × ((k : ℕ) × ((k < BUS_SLOTS) × (name ≡ kid_name k)))
 IsKidLink name s = ⊥
 
 abbrev pub IsChildSlot : Slot → Type 0
