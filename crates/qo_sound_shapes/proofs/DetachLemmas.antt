@@ -1,5 +1,5 @@
 -- A device that is detached, with all that is below it, leaves the others shaped as their types say.
-use Rattle.std.proofs.Common.{◌≡◌, ◌⊎◌, inl, inr, refl, ap, sym, subst, ◌∙◌, rules, ℕ, zero, suc, Bool, true, false, not, ◌==◌, eqb, List, [], ◌∷◌, filter_map, find, length, remove, slice_get, codes, Option, Some, None, option_map, option_and_then}
+use Rattle.std.proofs.Common.{◌≡◌, ◌⊎◌, inl, inr, refl, ap, sym, subst, ◌∙◌, ℕ, zero, suc, Bool, true, false, not, ◌==◌, eqb, List, [], ◌∷◌, filter_map, find, length, remove, slice_get, codes, Option, Some, None, option_map, option_and_then}
 use Rattle.std.specs.List.{AllByRecursion}
 use Rattle.std.specs.Option.{option_map_or}
 use Rattle.std.specs.Str.{bytes_eq}
@@ -20,16 +20,15 @@ use Rattle.qo_model.specs.Depth.{by_depth}
 use Rattle.qo_model.specs.Devices.{bus_in, bus_of, buses_of, clock_name, clock_of, kids_of, strong_in}
 use Rattle.qo_model.specs.Objects.{place_from}
 use Rattle.qo_model.specs.Opening.{opening_board}
-use Rattle.qo_model.specs.Paths.{births, child_of, is_child, is_of}
+use Rattle.qo_model.specs.Paths.{births, is_child, is_of}
 use Rattle.qo_model.specs.Properties.{row_of_property}
-use Rattle.qo_model.specs.Release.{drop_slot, edit, edited, emptied, forgotten, forgotten_in, let_go, pin, with_dropped, without_hold}
+use Rattle.qo_model.specs.Release.{drop_slot, edit, emptied, forgotten, forgotten_in, let_go, pin, with_dropped, without_hold}
 use Rattle.qo_model.specs.RowNames.{property_name}
 use Rattle.qo_model.specs.Types.{is_a, slots_of, types}
 use Rattle.qo_model.specs.Unplug.{apart_within, detach, disconnected, drained, each, first_of, is_bus_slot, is_child_slot, is_named, left_bus, left_parent, let_go_where, lost_bus, lost_buses, names_kid, set_named, take_slot, take_where, taken_by, unrealize, unrealize_turn, unrealized_bus, unrealized_device, unseen, unseen_named}
 use Rattle.qo_model.specs.declared.properties.Property.{Property}
 use Rattle.qo_model.specs.declared.properties.RowKind.{RowKind}
 use Rattle.qo_model.specs.declared.properties.RowKind.TheVariants as row
-use Rattle.qo_model.proofs.StepLemmas.{found-edited}
 use Rattle.qo_sound.proofs.FirmLemmas.{FitsKind, Linked}
 use Rattle.qo_sound.proofs.RecordLemmas.{all-both, all-map, found-birth}
 use Rattle.qo_sound.proofs.SlotLemmas.{all-changed, all-dropped}
