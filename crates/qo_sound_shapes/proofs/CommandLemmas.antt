@@ -40,12 +40,12 @@ use Rattle.qo_sound_devices.specs.SoundPlaces.{child_entries, child_entry, IsKid
 use Rattle.qo_sound_devices.proofs.AttachedLemmas.{owner-attached}
 use Rattle.qo_sound_devices.proofs.DevicesLawLemmas.{devices_kept_lem}
 use Rattle.qo_sound_devices.proofs.PlacesLemmas.{child-live, high-absent, stands-live}
-use Rattle.qo_sound_shapes.specs.SoundShape.{HasSlots, IsChildSlot, is_child_row, IsAsRow, IsFurther, IsKidLink, IsShaped, SoundShape}
+use Rattle.qo_sound_shapes.specs.SoundShape.{HasSlots, IsChildSlot, is_child_row, IsAsRow, IsFurther, IsShaped, SoundShape}
 use Rattle.qo_sound_shapes.proofs.BoardLemmas.{all-after, all-edit, all-imply_of, all-let_go, all-new, all-pin, all-unpin, AllOf, good-all, OpeningLive, shape-all}
 use Rattle.qo_sound_shapes.proofs.GoodLemmas.{Good, good-added, good-changed, good-dropped, good-forgotten, good-slots, is_first, mild-pointed, rows-pointed}
 use Rattle.qo_sound_shapes.proofs.MadeLemmas.{created-own, fresh-has, fresh-like, given-has, good-new}
 use Rattle.qo_sound_shapes.proofs.QuietLemmas.{good-set, RowTakes, slot-of, Takes}
-use Rattle.qo_sound_shapes.proofs.RowLemmas.{bus-kid, bus-plain, has-all, has-dropped, is_plain_row, link-apart, NoKidLinks, none-kid, plain-strong, Slots}
+use Rattle.qo_sound_shapes.proofs.RowLemmas.{has-dropped, held-slots, IsHolding, link-apart, NoKidLinks, none-kid, Slots}
 use Rattle.qo_sound_shapes.proofs.WholeLemmas.{entries-changed, entries-each, entries-let_go, entries_in, entry-val, Kept, kept-of, kept-slots, names-let_go, whole-kept}
 
 -- on a board that is sound as far as devices go the machine's objects are there
@@ -222,11 +222,6 @@ weak-at [] i t target h e = absurd (let clash : None ≡ Some (strong t target) 
 weak-at ((name, s) ∷ xs) zero t target h e = subst (λ (x : Slot). IsWeak (name, x)) (same_Some s (strong t target) e) h.0
 weak-at (x ∷ xs) (suc i) t target h e = weak-at xs i t target h.1 e
 
--- strong links that are not empty
-abbrev IsHolding : List ℕ × Slot → Type 0
-IsHolding (name, strong t None) = ⊥
-IsHolding s = ⊤
-
 weak-slots : (xs : Slots) → AllByRecursion IsHolding xs → filter_map kid_entry xs ≡ [] → AllByRecursion IsWeak xs
 weak-slots [] h e = tt
 weak-slots ((name, plain v) ∷ xs) h e = (tt, weak-slots xs h.1 e)
@@ -235,28 +230,6 @@ weak-slots ((name, strong t None) ∷ xs) h e = absurd h.0
 weak-slots ((name, strong t (Some m)) ∷ xs) h e = absurd (let clash : (name, m) ∷ filter_map kid_entry xs ≡ [] = e in cc)
 weak-slots ((name, weak t target) ∷ xs) h e = (tt, weak-slots xs h.1 e)
 weak-slots ((name, alias m property) ∷ xs) h e = (tt, weak-slots xs h.1 e)
-
--- so it is of buses
-held-slots : (r : Record) → is_a r.kind (codes "bus") ≡ true → Good r → AllByRecursion IsHolding r.slots
-held-slots r bus h =
-    has-all (λ (p : Property). is_plain_row p.kind ≡ true) IsHolding r.kind (λ p s plains is. plain-holding p.kind s.0 s.1 plains is.fits)
-    (λ s k. kid-holding s.0 s.1 (bus-kid r.kind bus s k)) (slots_of r.kind) (bus-plain r.kind bus) h.shaped.slots
-  where
-    plain-holding : (kind : RowKind) (name : List ℕ) (s : Slot) → is_plain_row kind ≡ true → IsAsRow kind s → IsHolding (name, s)
-    plain-holding kind name (plain v) plains is = tt
-    plain-holding kind name (child m) plains is = tt
-    plain-holding kind name (strong t (Some m)) plains is = tt
-    plain-holding kind name (strong t None) plains is = plain-strong kind t None plains is
-    plain-holding kind name (weak t target) plains is = tt
-    plain-holding kind name (alias m property) plains is = tt
-
-    kid-holding : (name : List ℕ) (s : Slot) → IsKidLink name s → IsHolding (name, s)
-    kid-holding name (plain v) h = tt
-    kid-holding name (child m) h = tt
-    kid-holding name (strong t (Some m)) h = tt
-    kid-holding name (strong t None) h = h
-    kid-holding name (weak t target) h = tt
-    kid-holding name (alias m property) h = tt
 
 module _ (base : Board) (aside : stands base OBJECTS_BIRTH ≡ false) where
   -- `object-del`
@@ -340,7 +313,7 @@ module _ (base : Board) (aside : stands base OBJECTS_BIRTH ≡ false) where
               sym (ap (λ (o : Option Record). filter_map kid_entry (option_map_or (λ (y : Record). y.slots) o [])) e) ∙ bare is in
               let weaks : AllByRecursion IsWeak (slots_at b n) =
               subst (AllByRecursion IsWeak) (sym (ap (λ (o : Option Record). option_map_or (λ (y : Record). y.slots) o []) e))
-              (weak-slots r.slots (held-slots r q (h n r e).good) none) in
+              (weak-slots r.slots (held-slots r.kind q (h n r e).good.shaped.slots) none) in
               subst (AllOf (Full base)) (sym (severed-bus places 0 n (pin b n) weaks)) pinned
 
   sever-all : (b : Board) (n : ℕ) → (attached b n ≡ false → is_of b (codes "bus") n ≡ true → kid_entries b n ≡ []) → AllOf (Full base) b
@@ -439,7 +412,8 @@ module _ (base : Board) (aside : stands base OBJECTS_BIRTH ≡ false) where
     linked-all apart s e none (Ok target) = relinked-all apart s e none target
     linked-all apart s e none (Err code) = h
 
-    link-all : IsApart → (s : Slot) → slot_at b n i ≡ Some s → child_of s ≡ None → (t : TypeId) (v : Val) → AllOf (Full base) (behind_write b (link_written b n i t v))
+    link-all : IsApart → (s : Slot) → slot_at b n i ≡ Some s → child_of s ≡ None → (t : TypeId) (v : Val)
+        → AllOf (Full base) (behind_write b (link_written b n i t v))
     link-all apart s e none t (val.Text path) = linked-all apart s e none (link_target b t path)
     link-all apart s e none t (val.Bool v) = h
     link-all apart s e none t (val.Int v) = h
@@ -454,8 +428,8 @@ module _ (base : Board) (aside : stands base OBJECTS_BIRTH ≡ false) where
           (λ r q own k. full-set base name v i r entry (slot-of b n i r entry q at) named (takes r q) k) h
 
       written-all : (kind : RowKind) (s : Option Slot) → slot_at b n i ≡ s → (v : Val)
-          → (RowTakes kind v → (r : Record) → record_of b n ≡ Some r → Takes r.kind name v) → ((t : TypeId) (holds : Bool) → kind ≡ row.Link t holds → IsApart)
-          → AllOf (Full base) (behind_write b (written b n i kind s v))
+          → (RowTakes kind v → (r : Record) → record_of b n ≡ Some r → Takes r.kind name v)
+          → ((t : TypeId) (holds : Bool) → kind ≡ row.Link t holds → IsApart) → AllOf (Full base) (behind_write b (written b n i kind s v))
       written-all (row.Plain type first) (Some (plain old)) e v takes apart = go (admits type v) refl
         where
           go : (t : Bool) → admits type v ≡ t → AllOf (Full base) (behind_write b (written b n i (row.Plain type first) (Some (plain old)) v))

@@ -73,8 +73,8 @@ good-slots r slots h has same =
     }
 
 -- further slots, each by what it may be
-pub further-same : (t : TypeId) (name : List ℕ) (s u : Slot) → (is_a t (codes "bus") ≡ true → IsKidLink name s → IsKidLink name u) → (IsChildSlot s → IsChildSlot u)
-    → IsFurther t (name, s) → IsFurther t (name, u)
+pub further-same : (t : TypeId) (name : List ℕ) (s u : Slot) → (is_a t (codes "bus") ≡ true → IsKidLink name s → IsKidLink name u)
+    → (IsChildSlot s → IsChildSlot u) → IsFurther t (name, s) → IsFurther t (name, u)
 unfolding types
 further-same Object name s u kid kin h = h
 further-same Container name s u kid kin h = kin h

@@ -1,5 +1,6 @@
 -- Slots of rows: what a change of one slot or of each keeps.
 use Rattle.std.proofs.Common.{◌≡◌, ◌⊎◌, inl, inr, refl, ap, sym, subst, ◌∙◌, rules, ℕ, zero, suc, Bool, true, false, List, [], ◌∷◌, ◌++◌, map, remove, find, slice_get, codes, Option, Some, None}
+use Rattle.std.specs.Bool.{⊤}
 use Rattle.std.specs.List.{AllByRecursion}
 use Rattle.std.specs.Str.{bytes_eq}
 use Rattle.std.proofs.lemmas.Option.{same_Some}
@@ -20,7 +21,7 @@ use Rattle.qo_sound_shapes.specs.SoundShape.{HasSlots, further, IsAsRow, IsFurth
 abbrev pub Slots : Type 0
 Slots = List (List ℕ × Slot)
 
--- no further slot of a type is a strong link: so it is but of buses
+-- no further slot of a type is a strong link, as of every type but those of buses
 abbrev pub NoKidLinks : TypeId → Type 0
 NoKidLinks t = (name : List ℕ) (to : TypeId) (target : Option ℕ) → IsFurther t (name, strong to target) → ⊥
 
@@ -294,3 +295,30 @@ plain-strong (row.Child k) t target e h = h
 plain-strong (row.Link k true) t target e h = absurd (let clash : false ≡ true = e in cc)
 plain-strong (row.Link k false) t target e h = h
 plain-strong (row.Alias owner of) t target e h = h
+
+-- strong links that are not empty
+abbrev pub IsHolding : List ℕ × Slot → Type 0
+IsHolding (name, strong t None) = ⊥
+IsHolding s = ⊤
+
+-- those of buses are so
+pub held-slots : (t : TypeId) → is_a t (codes "bus") ≡ true → {slots : Slots} → HasSlots t (slots_of t) slots → AllByRecursion IsHolding slots
+held-slots t bus h =
+    has-all (λ (p : Property). is_plain_row p.kind ≡ true) IsHolding t (λ p s plains is. plain-holding p.kind s.0 s.1 plains is.fits)
+    (λ s k. kid-holding s.0 s.1 (bus-kid t bus s k)) (slots_of t) (bus-plain t bus) h
+  where
+    plain-holding : (kind : RowKind) (name : List ℕ) (s : Slot) → is_plain_row kind ≡ true → IsAsRow kind s → IsHolding (name, s)
+    plain-holding kind name (plain v) plains is = tt
+    plain-holding kind name (child m) plains is = tt
+    plain-holding kind name (strong t (Some m)) plains is = tt
+    plain-holding kind name (strong t None) plains is = plain-strong kind t None plains is
+    plain-holding kind name (weak t target) plains is = tt
+    plain-holding kind name (alias m property) plains is = tt
+
+    kid-holding : (name : List ℕ) (s : Slot) → IsKidLink name s → IsHolding (name, s)
+    kid-holding name (plain v) h = tt
+    kid-holding name (child m) h = tt
+    kid-holding name (strong t (Some m)) h = tt
+    kid-holding name (strong t None) h = h
+    kid-holding name (weak t target) h = tt
+    kid-holding name (alias m property) h = tt
