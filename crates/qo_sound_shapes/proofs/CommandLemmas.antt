@@ -1,5 +1,5 @@
 -- The commands on objects keep the shape.
-use Rattle.std.proofs.Common.{◌≡◌, refl, ap, sym, subst, ◌∙◌, rules, ℕ, zero, suc, ◌<◌, ◌≤◌, ◌+◌, Bool, true, false, not, eqb, List, [], ◌∷◌, length, map, position, slice_get, codes, Option, Some, None, is_some, option_map, option_and_then, Result, Ok, Err, arith}
+use Rattle.std.proofs.Common.{◌≡◌, refl, ap, sym, subst, ◌∙◌, rules, ℕ, zero, suc, ◌<◌, ◌≤◌, ◌+◌, Bool, true, false, not, eqb, List, [], ◌∷◌, length, filter_map, map, position, slice_get, codes, Option, Some, None, is_some, option_map, option_and_then, Result, Ok, Err, arith}
 use Rattle.std.specs.Prelude.{get_or}
 use Rattle.std.specs.Bool.{⊤}
 use Rattle.std.specs.List.{AllByRecursion}
@@ -23,7 +23,7 @@ use Rattle.qo_model.specs.Depth.{among}
 use Rattle.qo_model.specs.FinalNotesRuns.{Change, added, behind_write, changed, deleted, severed, wrote}
 use Rattle.qo_model.specs.Objects.{Given, added_as, added_by, barred, given_slots, is_object_named, object_add, object_del, place_from, refusal_of, sever, severed_from, with_object}
 use Rattle.qo_model.specs.Opening.{opening_board}
-use Rattle.qo_model.specs.Paths.{attached, child_of}
+use Rattle.qo_model.specs.Paths.{attached, child_of, is_of}
 use Rattle.qo_model.specs.Properties.{link_target, link_written, linked, may_set, pointed_at, relinked, row_of_property, write, written, written_by}
 use Rattle.qo_model.specs.Release.{drop_slot, edit, forgotten, forgotten_in, let_go, pin, with_dropped, without_hold}
 use Rattle.qo_model.specs.Types.{TypeRow, is_a, row_named, slots_of, types}
@@ -32,18 +32,20 @@ use Rattle.qo_model.specs.declared.properties.RowKind.{RowKind}
 use Rattle.qo_model.specs.declared.properties.RowKind.TheVariants as row
 use Rattle.qo_sound.proofs.AddLemmas.{unbarred}
 use Rattle.qo_sound.proofs.FirmLemmas.{Firm}
+use Rattle.qo_sound.proofs.RecordLemmas.{found-birth}
 use Rattle.qo_sound.proofs.SlotLemmas.{names-changed, names-each, names_in}
 use Rattle.qo_sound.proofs.ViewLemmas.{rest-from_sound}
 use Rattle.qo_sound_devices.specs.SoundDevices.{SoundDevices}
-use Rattle.qo_sound_devices.specs.SoundPlaces.{child_entries, child_entry, listed, PlacesBut, stands}
+use Rattle.qo_sound_devices.specs.SoundPlaces.{child_entries, child_entry, IsKid, kid_entries, kid_entry, listed, PlacesBut, stands}
+use Rattle.qo_sound_devices.proofs.AttachedLemmas.{owner-attached}
 use Rattle.qo_sound_devices.proofs.DevicesLawLemmas.{devices_kept_lem}
 use Rattle.qo_sound_devices.proofs.PlacesLemmas.{child-live, high-absent, stands-live}
 use Rattle.qo_sound_shapes.specs.SoundShape.{HasSlots, IsChildSlot, is_child_row, IsAsRow, IsFurther, IsShaped, SoundShape}
-use Rattle.qo_sound_shapes.proofs.BoardLemmas.{all-after, all-edit, all-let_go, all-new, all-pin, all-unpin, AllOf, good-all, OpeningLive, shape-all}
+use Rattle.qo_sound_shapes.proofs.BoardLemmas.{all-after, all-edit, all-imply_of, all-let_go, all-new, all-pin, all-unpin, AllOf, good-all, OpeningLive, shape-all}
 use Rattle.qo_sound_shapes.proofs.GoodLemmas.{Good, good-added, good-changed, good-dropped, good-forgotten, good-slots, is_first, mild-pointed, rows-pointed}
 use Rattle.qo_sound_shapes.proofs.MadeLemmas.{created-own, fresh-has, fresh-like, given-has, good-new}
 use Rattle.qo_sound_shapes.proofs.QuietLemmas.{good-set, RowTakes, slot-of, Takes}
-use Rattle.qo_sound_shapes.proofs.RowLemmas.{has-dropped, Slots}
+use Rattle.qo_sound_shapes.proofs.RowLemmas.{has-dropped, held-slots, IsHolding, link-apart, NoKidLinks, none-kid, Slots}
 use Rattle.qo_sound_shapes.proofs.WholeLemmas.{entries-changed, entries-each, entries-let_go, entries_in, entry-val, Kept, kept-of, kept-slots, names-let_go, whole-kept}
 
 -- on a board that is sound as far as devices go the machine's objects are there
@@ -116,6 +118,7 @@ good-emptied i r apart kind h = good-slots r _ h has (λ e. absurd (let clash : 
         absurd
         (let clash : true ≡ false = sym (child-row p.kind m (subst (IsAsRow p.kind) is row.fits)) ∙ own in
         cc))
+        (subst NoKidLinks (sym kind) (λ name to target k. k))
 
 container-eight : kind_of opening_board OBJECTS_BIRTH ≡ Some Container
 unfolding opening_board types
@@ -153,9 +156,10 @@ module _ (o : Board) where
       entry-forgotten n (name, weak t (Some m)) = refl
       entry-forgotten n (name, alias m property) = refl
 
-  full-dropped : (i : ℕ) (r : Record) → ((s : List ℕ × Slot) → slice_get r.slots i ≡ Some s → child_of s.1 ≡ None) → Full o r → Full o (with_dropped i r)
-  full-dropped i r none h =
-      full-slots r (without_hold i r.slots) (good-dropped i r none h.good) (names-let_go i r.slots none) (entries-let_go i r.slots none) h
+  full-dropped : (i : ℕ) (r : Record) → ((s : List ℕ × Slot) → slice_get r.slots i ≡ Some s → child_of s.1 ≡ None) → NoKidLinks r.kind → Full o r
+      → Full o (with_dropped i r)
+  full-dropped i r none apart h =
+      full-slots r (without_hold i r.slots) (good-dropped i r none apart h.good) (names-let_go i r.slots none) (entries-let_go i r.slots none) h
 
   full-pointed : (m i : ℕ) (r : Record) → Full o r → Full o (with_changed (pointed m) i r)
   full-pointed m i r h =
@@ -206,6 +210,27 @@ slice-of [] j d low = absurd (omega (arith, low))
 slice-of (x ∷ xs) zero d low = refl
 slice-of (x ∷ xs) (suc j) d low = slice-of xs j d (omega (arith, low))
 
+-- slots that are no strong links
+
+abbrev IsWeak : List ℕ × Slot → Type 0
+IsWeak (name, strong t target) = ⊥
+IsWeak s = ⊤
+
+weak-at : (xs : Slots) (i : ℕ) (t : TypeId) (target : Option ℕ) → AllByRecursion IsWeak xs
+    → option_map (λ (s : List ℕ × Slot). s.1) (slice_get xs i) ≡ Some (strong t target) → ⊥
+weak-at [] i t target h e = absurd (let clash : None ≡ Some (strong t target) = e in cc)
+weak-at ((name, s) ∷ xs) zero t target h e = subst (λ (x : Slot). IsWeak (name, x)) (same_Some s (strong t target) e) h.0
+weak-at (x ∷ xs) (suc i) t target h e = weak-at xs i t target h.1 e
+
+weak-slots : (xs : Slots) → AllByRecursion IsHolding xs → filter_map kid_entry xs ≡ [] → AllByRecursion IsWeak xs
+weak-slots [] h e = tt
+weak-slots ((name, plain v) ∷ xs) h e = (tt, weak-slots xs h.1 e)
+weak-slots ((name, child m) ∷ xs) h e = (tt, weak-slots xs h.1 e)
+weak-slots ((name, strong t None) ∷ xs) h e = absurd h.0
+weak-slots ((name, strong t (Some m)) ∷ xs) h e = absurd (let clash : (name, m) ∷ filter_map kid_entry xs ≡ [] = e in cc)
+weak-slots ((name, weak t target) ∷ xs) h e = (tt, weak-slots xs h.1 e)
+weak-slots ((name, alias m property) ∷ xs) h e = (tt, weak-slots xs h.1 e)
+
 module _ (base : Board) (aside : stands base OBJECTS_BIRTH ≡ false) where
   -- `object-del`
   deleted-all : (b : Board) (id : List ℕ) → AllOf (Full base) b → AllOf (Full base) (object_del b id).board
@@ -218,13 +243,30 @@ module _ (base : Board) (aside : stands base OBJECTS_BIRTH ≡ false) where
           (all-let_go (Full base) (full-forgotten base) OBJECTS_BIRTH i b
           (λ r e own k. full-emptied base aside i r own k) h)
 
-  -- `x-sever`
-  severed-all : (places i n : ℕ) (b : Board) → AllOf (Full base) b → AllOf (Full base) (severed_from places i n b)
+  -- `x-sever`: of a bus, which has no kids where it is detached, and of what is no bus
+  severed-bus : (places i n : ℕ) (b : Board) → AllByRecursion IsWeak (slots_at b n) → severed_from places i n b ≡ b
+  severed-bus zero i n b h = refl
+  severed-bus (suc places) i n b h = go (slot_at b n i) refl (severed-bus places (suc i) n b h)
+    where
+      go : (s : Option Slot) → slot_at b n i ≡ s → severed_from places (suc i) n b ≡ b → severed_from (suc places) i n b ≡ b
+      go None p rest = rw (severed_from, p) rest
+      go (Some (plain v)) p rest = rw (severed_from, p) rest
+      go (Some (child m)) p rest = rw (severed_from, p) rest
+      go (Some (weak t target)) p rest = rw (severed_from, p) rest
+      go (Some (alias m property)) p rest = rw (severed_from, p) rest
+      go (Some (strong t target)) p rest = absurd (weak-at (slots_at b n) i t target h p)
+
+  -- an object that is no bus where it is n
+  record Severing (n : ℕ) (r : Record) : Type 0 where
+    full : Full base r
+    apart : r.birth ≡ n → NoKidLinks r.kind
+
+  severed-all : (places i n : ℕ) (b : Board) → AllOf (Severing n) b → AllOf (Severing n) (severed_from places i n b)
   severed-all zero i n b h = h
   severed-all (suc places) i n b h = go (slot_at b n i) refl (severed-all places (suc i) n)
     where
-      go : (s : Option Slot) → slot_at b n i ≡ s → ((c : Board) → AllOf (Full base) c → AllOf (Full base) (severed_from places (suc i) n c))
-          → AllOf (Full base) (severed_from (suc places) i n b)
+      go : (s : Option Slot) → slot_at b n i ≡ s → ((c : Board) → AllOf (Severing n) c → AllOf (Severing n) (severed_from places (suc i) n c))
+          → AllOf (Severing n) (severed_from (suc places) i n b)
       go None p rest = rw (severed_from, p) (rest b h)
       go (Some (plain v)) p rest = rw (severed_from, p) (rest b h)
       go (Some (child m)) p rest = rw (severed_from, p) (rest b h)
@@ -233,7 +275,8 @@ module _ (base : Board) (aside : stands base OBJECTS_BIRTH ≡ false) where
       go (Some (strong t target)) p rest =
           rw (severed_from, p)
           (rest (let_go b n i)
-          (all-let_go (Full base) (full-forgotten base) n i b (λ r e own k. full-dropped base i r (no_child r e) k) h))
+          (all-let_go (Severing n) (λ m r k. record { full = full-forgotten base m r k.full; apart = k.apart }) n i b
+          (λ r e own k. record { full = full-dropped base i r (no_child r e) (k.apart own) k.full; apart = k.apart }) h))
         where
           no_child : (r : Record) → record_of b n ≡ Some r → (s : List ℕ × Slot) → slice_get r.slots i ≡ Some s → child_of s.1 ≡ None
           no_child r e s at =
@@ -242,8 +285,40 @@ module _ (base : Board) (aside : stands base OBJECTS_BIRTH ≡ false) where
               ∙ ap (option_map (λ (x : List ℕ × Slot). x.1)) at in
               sym (ap child_of (same_Some (strong t target) s.1 (sym p ∙ here)))
 
-  sever-all : (b : Board) (n : ℕ) → AllOf (Full base) b → AllOf (Full base) (sever b n).board
-  sever-all b n h = go (is_live b n) refl (attached b n) refl
+  sever-links : (b : Board) (n places : ℕ) → (is_of b (codes "bus") n ≡ true → kid_entries b n ≡ []) → AllOf (Full base) b
+      → AllOf (Full base) (severed_from places 0 n (pin b n))
+  unfolding pin
+  sever-links b n places bare h = go (record_of b n) refl
+    where
+      pinned : AllOf (Full base) (pin b n)
+      pinned = all-pin (Full base) n b h
+
+      of : (apart : (r : Record) → record_of b n ≡ Some r → NoKidLinks r.kind) → AllOf (Full base) (severed_from places 0 n (pin b n))
+      of apart =
+          all-imply_of (Severing n) (Full base) (λ r k. k.full) (severed_from places 0 n (pin b n))
+          (severed-all places 0 n (pin b n)
+          (λ x r e.
+          record { full = h x r e; apart = λ own. apart r (ap (record_of b) (sym own ∙ found-birth x b.records r e) ∙ e) }))
+
+      go : (o : Option Record) → record_of b n ≡ o → AllOf (Full base) (severed_from places 0 n (pin b n))
+      go None e = of (λ r q. absurd (let clash : None ≡ Some r = sym e ∙ q in cc))
+      go (Some r) e = by (is_a r.kind (codes "bus")) refl
+        where
+          by : (t : Bool) → is_a r.kind (codes "bus") ≡ t → AllOf (Full base) (severed_from places 0 n (pin b n))
+          by false q = of (λ y k. subst (λ (x : Record). NoKidLinks x.kind) (same_Some r y (sym e ∙ k)) (none-kid r.kind q))
+          by true q =
+              let is : is_of b (codes "bus") n ≡ true =
+              ap (λ (o : Option Record). option_map_or (λ (t : TypeId). is_a t (codes "bus")) (option_map (λ (y : Record). y.kind) o) false) e ∙ q in
+              let none : filter_map kid_entry r.slots ≡ [] =
+              sym (ap (λ (o : Option Record). filter_map kid_entry (option_map_or (λ (y : Record). y.slots) o [])) e) ∙ bare is in
+              let weaks : AllByRecursion IsWeak (slots_at b n) =
+              subst (AllByRecursion IsWeak) (sym (ap (λ (o : Option Record). option_map_or (λ (y : Record). y.slots) o []) e))
+              (weak-slots r.slots (held-slots r.kind q (h n r e).good.shaped.slots) none) in
+              subst (AllOf (Full base)) (sym (severed-bus places 0 n (pin b n) weaks)) pinned
+
+  sever-all : (b : Board) (n : ℕ) → (attached b n ≡ false → is_of b (codes "bus") n ≡ true → kid_entries b n ≡ []) → AllOf (Full base) b
+      → AllOf (Full base) (sever b n).board
+  sever-all b n bare h = go (is_live b n) refl (attached b n) refl
     where
       go : (there : Bool) → is_live b n ≡ there → (home : Bool) → attached b n ≡ home → AllOf (Full base) (sever b n).board
       go false p home q = rw (sever, p) h
@@ -251,7 +326,7 @@ module _ (base : Board) (aside : stands base OBJECTS_BIRTH ≡ false) where
       go true p false q =
           rw (sever, p, q)
           (all-unpin (Full base) (full-forgotten base) n (severed_from (length (slots_at b n)) 0 n (pin b n))
-          (severed-all (length (slots_at b n)) 0 n (pin b n) (all-pin (Full base) n b h)))
+          (sever-links b n (length (slots_at b n)) (bare q) h))
 
   -- `object-add`
 
@@ -312,15 +387,19 @@ module _ (base : Board) (aside : stands base OBJECTS_BIRTH ≡ false) where
       ∙ ap (option_map (λ (x : List ℕ × Slot). x.1)) at
 
   module _ (b : Board) (h : AllOf (Full base) b) (n i : ℕ) where
-    relinked-all : (s : Slot) → slot_at b n i ≡ Some s → child_of s ≡ None → (target : Option ℕ) → AllOf (Full base) (relinked b n i target)
+    -- an object that has no links to kids
+    abbrev IsApart : Type 0
+    IsApart = (r : Record) → record_of b n ≡ Some r → NoKidLinks r.kind
+
+    relinked-all : IsApart → (s : Slot) → slot_at b n i ≡ Some s → child_of s ≡ None → (target : Option ℕ) → AllOf (Full base) (relinked b n i target)
     unfolding point drop_slot
-    relinked-all s e none target =
+    relinked-all apart s e none target =
         rw (relinked, e) (all-after (Full base) (full-forgotten base) (held s) (pointed_at target n i (drop_slot b n i)) (points target))
       where
         dropped : AllOf (Full base) (drop_slot b n i)
         dropped =
             all-edit (Full base) n (with_dropped i) (λ r. refl) b
-            (λ r q own k. full-dropped base i r (λ x at. ap child_of (same_Some x.1 s (sym (slot-at b n i r x q at) ∙ e)) ∙ none) k) h
+            (λ r q own k. full-dropped base i r (λ x at. ap child_of (same_Some x.1 s (sym (slot-at b n i r x q at) ∙ e)) ∙ none) (apart r q) k) h
 
         points : (to : Option ℕ) → AllOf (Full base) (pointed_at to n i (drop_slot b n i))
         points None = dropped
@@ -328,17 +407,18 @@ module _ (base : Board) (aside : stands base OBJECTS_BIRTH ≡ false) where
             all-edit (Full base) n (with_changed (pointed m) i) (λ r. refl) (drop_slot b n i)
             (λ r q own k. full-pointed base m i r k) dropped
 
-    linked-all : (s : Slot) → slot_at b n i ≡ Some s → child_of s ≡ None → (target : Result (Option ℕ) Code)
+    linked-all : IsApart → (s : Slot) → slot_at b n i ≡ Some s → child_of s ≡ None → (target : Result (Option ℕ) Code)
         → AllOf (Full base) (behind_write b (linked b n i target))
-    linked-all s e none (Ok target) = relinked-all s e none target
-    linked-all s e none (Err code) = h
+    linked-all apart s e none (Ok target) = relinked-all apart s e none target
+    linked-all apart s e none (Err code) = h
 
-    link-all : (s : Slot) → slot_at b n i ≡ Some s → child_of s ≡ None → (t : TypeId) (v : Val) → AllOf (Full base) (behind_write b (link_written b n i t v))
-    link-all s e none t (val.Text path) = linked-all s e none (link_target b t path)
-    link-all s e none t (val.Bool v) = h
-    link-all s e none t (val.Int v) = h
-    link-all s e none t (val.Uint v) = h
-    link-all s e none t val.Nothing = h
+    link-all : IsApart → (s : Slot) → slot_at b n i ≡ Some s → child_of s ≡ None → (t : TypeId) (v : Val)
+        → AllOf (Full base) (behind_write b (link_written b n i t v))
+    link-all apart s e none t (val.Text path) = linked-all apart s e none (link_target b t path)
+    link-all apart s e none t (val.Bool v) = h
+    link-all apart s e none t (val.Int v) = h
+    link-all apart s e none t (val.Uint v) = h
+    link-all apart s e none t val.Nothing = h
 
     module _ (name : List ℕ) (entry : List ℕ × Slot) (at : slice_get (slots_at b n) i ≡ Some entry) (named : bytes_eq entry.0 name ≡ true) where
       val-all : (v : Val) → ((r : Record) → record_of b n ≡ Some r → Takes r.kind name v) → AllOf (Full base) (set n i v b)
@@ -348,40 +428,47 @@ module _ (base : Board) (aside : stands base OBJECTS_BIRTH ≡ false) where
           (λ r q own k. full-set base name v i r entry (slot-of b n i r entry q at) named (takes r q) k) h
 
       written-all : (kind : RowKind) (s : Option Slot) → slot_at b n i ≡ s → (v : Val)
-          → (RowTakes kind v → (r : Record) → record_of b n ≡ Some r → Takes r.kind name v) → AllOf (Full base) (behind_write b (written b n i kind s v))
-      written-all (row.Plain type first) (Some (plain old)) e v takes = go (admits type v) refl
+          → (RowTakes kind v → (r : Record) → record_of b n ≡ Some r → Takes r.kind name v)
+          → ((t : TypeId) (holds : Bool) → kind ≡ row.Link t holds → IsApart) → AllOf (Full base) (behind_write b (written b n i kind s v))
+      written-all (row.Plain type first) (Some (plain old)) e v takes apart = go (admits type v) refl
         where
           go : (t : Bool) → admits type v ≡ t → AllOf (Full base) (behind_write b (written b n i (row.Plain type first) (Some (plain old)) v))
           go true p = rw (written, p) (val-all v (takes p))
           go false p = rw (written, p) h
-      written-all (row.Link t holds) (Some (strong to target)) e v takes = link-all (strong to target) e refl to v
-      written-all (row.Link t holds) (Some (weak to target)) e v takes = link-all (weak to target) e refl to v
-      written-all (row.Plain type first) None e v takes = h
-      written-all (row.Plain type first) (Some (child m)) e v takes = h
-      written-all (row.Plain type first) (Some (strong to target)) e v takes = h
-      written-all (row.Plain type first) (Some (weak to target)) e v takes = h
-      written-all (row.Plain type first) (Some (alias m property)) e v takes = h
-      written-all (row.Link t holds) None e v takes = h
-      written-all (row.Link t holds) (Some (plain old)) e v takes = h
-      written-all (row.Link t holds) (Some (child m)) e v takes = h
-      written-all (row.Link t holds) (Some (alias m property)) e v takes = h
-      written-all (row.Child t) s e v takes = h
-      written-all (row.Alias owner property) s e v takes = h
+      written-all (row.Link t holds) (Some (strong to target)) e v takes apart = link-all (apart t holds refl) (strong to target) e refl to v
+      written-all (row.Link t holds) (Some (weak to target)) e v takes apart = link-all (apart t holds refl) (weak to target) e refl to v
+      written-all (row.Plain type first) None e v takes apart = h
+      written-all (row.Plain type first) (Some (child m)) e v takes apart = h
+      written-all (row.Plain type first) (Some (strong to target)) e v takes apart = h
+      written-all (row.Plain type first) (Some (weak to target)) e v takes apart = h
+      written-all (row.Plain type first) (Some (alias m property)) e v takes apart = h
+      written-all (row.Link t holds) None e v takes apart = h
+      written-all (row.Link t holds) (Some (plain old)) e v takes apart = h
+      written-all (row.Link t holds) (Some (child m)) e v takes apart = h
+      written-all (row.Link t holds) (Some (alias m property)) e v takes apart = h
+      written-all (row.Child t) s e v takes apart = h
+      written-all (row.Alias owner property) s e v takes apart = h
 
       by-row : (o : Option Property) → option_and_then (λ t. row_of_property t name) (kind_of b n) ≡ o → (v : Val)
           → AllOf (Full base) (behind_write b (written_by b n i o v))
       by-row None e v = h
-      by-row (Some row) e v = go (may_set row.mark) refl
+      by-row (Some p) e v = go (may_set p.mark) refl
         where
-          takes : RowTakes row.kind v → (r : Record) → record_of b n ≡ Some r → Takes r.kind name v
+          takes : RowTakes p.kind v → (r : Record) → record_of b n ≡ Some r → Takes r.kind name v
           takes fits r q =
               let kind : kind_of b n ≡ Some r.kind = ap (option_map (λ (y : Record). y.kind)) q in
-              let found : row_of_property r.kind name ≡ Some row = sym (ap (option_and_then (λ t. row_of_property t name)) kind) ∙ e in
+              let found : row_of_property r.kind name ≡ Some p = sym (ap (option_and_then (λ t. row_of_property t name)) kind) ∙ e in
               subst (λ (o : Option Property). elim o as (λ _. Type 0) [ None ↦ ⊤ | Some x ↦ RowTakes x.kind v ]) (sym found) fits
 
-          go : (t : Bool) → may_set row.mark ≡ t → AllOf (Full base) (behind_write b (written_by b n i (Some row) v))
-          go true p = rw (written_by, p) (written-all row.kind (slot_at b n i) refl v takes)
-          go false p = rw (written_by, p) h
+          apart : (t : TypeId) (holds : Bool) → p.kind ≡ row.Link t holds → IsApart
+          apart t holds is r q =
+              let kind : kind_of b n ≡ Some r.kind = ap (option_map (λ (y : Record). y.kind)) q in
+              let found : row_of_property r.kind name ≡ Some p = sym (ap (option_and_then (λ t. row_of_property t name)) kind) ∙ e in
+              link-apart r.kind t holds name p found is
+
+          go : (t : Bool) → may_set p.mark ≡ t → AllOf (Full base) (behind_write b (written_by b n i (Some p) v))
+          go true q = rw (written_by, q) (written-all p.kind (slot_at b n i) refl v takes apart)
+          go false q = rw (written_by, q) h
 
   write-all : (b : Board) (n : ℕ) (name : List ℕ) (v : Val) → AllOf (Full base) b → AllOf (Full base) (behind_write b (write b n name v))
   write-all b n name v h = go (position (λ (s : List ℕ × Slot). bytes_eq s.0 name) (slots_at b n)) refl
@@ -400,12 +487,12 @@ module _ (base : Board) (aside : stands base OBJECTS_BIRTH ≡ false) where
 
 -- each of them
 
-changed-all : (b : Board) (change : Change) → stands b OBJECTS_BIRTH ≡ false → stands b (b.born + 1) ≡ false → 8 ≤ b.born → AllOf (Full b) b
-    → AllOf (Full b) (changed b change)
-changed-all b (added driver id props) aside apart begun h = added-all b aside b driver id props apart begun h
-changed-all b (deleted id) aside apart begun h = deleted-all b aside b id h
-changed-all b (wrote n name v) aside apart begun h = write-all b aside b n name v h
-changed-all b (severed n) aside apart begun h = sever-all b aside b n h
+changed-all : (b : Board) (change : Change) → stands b OBJECTS_BIRTH ≡ false → stands b (b.born + 1) ≡ false → 8 ≤ b.born
+    → ((n : ℕ) → attached b n ≡ false → is_of b (codes "bus") n ≡ true → kid_entries b n ≡ []) → AllOf (Full b) b → AllOf (Full b) (changed b change)
+changed-all b (added driver id props) aside apart begun bare h = added-all b aside b driver id props apart begun h
+changed-all b (deleted id) aside apart begun bare h = deleted-all b aside b id h
+changed-all b (wrote n name v) aside apart begun bare h = write-all b aside b n name v h
+changed-all b (severed n) aside apart begun bare h = sever-all b aside b n (bare n) h
 
 pub begun-devices : (b : Board) → SoundDevices b → 8 ≤ b.born
 begun-devices b h = (rest-from_sound b h.tree).used.firm.begun
@@ -424,6 +511,19 @@ unborn-apart b h = go (stands b (b.born + 1)) refl
         cc)
     go false e = e
 
+-- a bus that is detached has no kids
+bare-devices : (b : Board) → SoundDevices b → (n : ℕ) → attached b n ≡ false → is_of b (codes "bus") n ≡ true → kid_entries b n ≡ []
+bare-devices b h n apart is = go (kid_entries b n) (h.places.1.kids n is)
+  where
+    go : (es : List (List ℕ × ℕ)) → AllByRecursion (IsKid b n) es → es ≡ []
+    go [] k = refl
+    go (e ∷ es) k =
+        absurd
+        (let clash : true ≡ false =
+        sym (owner-attached b h.tree.0 (rest-from_sound b h.tree).used.firm h.places.0 None (λ d. false) h.places.1 n
+        (h.places.1.owner e.1 n k.0.there k.0.on)) ∙ apart in
+        cc)
+
 pub changed-shape : (b : Board) (change : Change) → SoundDevices b → SoundShape b → SoundShape (changed b change)
 changed-shape b change devices h =
     shape-all (changed b change) (live-devices (changed b change) (devices_kept_lem.change b change devices))
@@ -431,5 +531,5 @@ changed-shape b change devices h =
   where
     all : AllOf (Full b) (changed b change)
     all =
-        changed-all b change devices.places.1.aside.1.1.1.1.1.1.0 (unborn-apart b devices) (begun-devices b devices)
+        changed-all b change devices.places.1.aside.1.1.1.1.1.1.0 (unborn-apart b devices) (begun-devices b devices) (bare-devices b devices)
         (λ x r e. record { good = good-all b h x r e; kept = kept-of b h.whole x r e })

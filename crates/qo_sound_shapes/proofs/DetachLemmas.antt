@@ -1,5 +1,5 @@
 -- A device that is detached, with all that is below it, leaves the others shaped as their types say.
-use Rattle.std.proofs.Common.{◌≡◌, ◌⊎◌, inl, inr, refl, ap, sym, subst, ◌∙◌, rules, ℕ, zero, suc, Bool, true, false, not, ◌==◌, eqb, List, [], ◌∷◌, filter_map, find, length, remove, slice_get, codes, Option, Some, None, option_map, option_and_then}
+use Rattle.std.proofs.Common.{◌≡◌, ◌⊎◌, inl, inr, refl, ap, sym, subst, ◌∙◌, ℕ, zero, suc, Bool, true, false, not, ◌==◌, eqb, List, [], ◌∷◌, filter_map, find, length, remove, slice_get, codes, Option, Some, None, option_map, option_and_then}
 use Rattle.std.specs.List.{AllByRecursion}
 use Rattle.std.specs.Option.{option_map_or}
 use Rattle.std.specs.Str.{bytes_eq}
@@ -20,27 +20,26 @@ use Rattle.qo_model.specs.Depth.{by_depth}
 use Rattle.qo_model.specs.Devices.{bus_in, bus_of, buses_of, clock_name, clock_of, kids_of, strong_in}
 use Rattle.qo_model.specs.Objects.{place_from}
 use Rattle.qo_model.specs.Opening.{opening_board}
-use Rattle.qo_model.specs.Paths.{births, child_of, is_child, is_of}
+use Rattle.qo_model.specs.Paths.{births, is_child, is_of}
 use Rattle.qo_model.specs.Properties.{row_of_property}
-use Rattle.qo_model.specs.Release.{drop_slot, edit, edited, emptied, forgotten, forgotten_in, let_go, pin, with_dropped, without_hold}
+use Rattle.qo_model.specs.Release.{drop_slot, edit, emptied, forgotten, forgotten_in, let_go, pin, with_dropped, without_hold}
 use Rattle.qo_model.specs.RowNames.{property_name}
 use Rattle.qo_model.specs.Types.{is_a, slots_of, types}
 use Rattle.qo_model.specs.Unplug.{apart_within, detach, disconnected, drained, each, first_of, is_bus_slot, is_child_slot, is_named, left_bus, left_parent, let_go_where, lost_bus, lost_buses, names_kid, set_named, take_slot, take_where, taken_by, unrealize, unrealize_turn, unrealized_bus, unrealized_device, unseen, unseen_named}
 use Rattle.qo_model.specs.declared.properties.Property.{Property}
 use Rattle.qo_model.specs.declared.properties.RowKind.{RowKind}
 use Rattle.qo_model.specs.declared.properties.RowKind.TheVariants as row
-use Rattle.qo_model.proofs.StepLemmas.{found-edited}
 use Rattle.qo_sound.proofs.FirmLemmas.{FitsKind, Linked}
 use Rattle.qo_sound.proofs.RecordLemmas.{all-both, all-map, found-birth}
 use Rattle.qo_sound.proofs.SlotLemmas.{all-changed, all-dropped}
 use Rattle.qo_sound.proofs.UnplugLemmas.{Found, found-at}
 use Rattle.qo_sound_devices.proofs.ResetLemmas.{first-on}
 use Rattle.qo_sound_shapes.specs.SoundShape.{is_child_row, IsAsRow, IsFurther, IsKidLink, IsOfRow, may_miss}
-use Rattle.qo_sound_shapes.proofs.BoardLemmas.{all-after, all-edit, all-let_go, all-pin, all-unpin, AllOf}
+use Rattle.qo_sound_shapes.proofs.BoardLemmas.{all-after, all-becomes, all-edit, all-let_go, all-pin, all-unpin, AllOf}
 use Rattle.qo_sound_shapes.proofs.CommandLemmas.{child-row, container-kind, good-emptied}
-use Rattle.qo_sound_shapes.proofs.GoodLemmas.{Good, good-changed, good-dropped, good-forgotten, good-let_go, good-slots, is_first, mild-unseen, rows-unseen}
+use Rattle.qo_sound_shapes.proofs.GoodLemmas.{Good, good-changed, good-forgotten, good-let_go, good-slots, is_first, mild-unseen, rows-unseen}
 use Rattle.qo_sound_shapes.proofs.QuietLemmas.{good-act, good-set, slot-of, Takes}
-use Rattle.qo_sound_shapes.proofs.RowLemmas.{has-all, has-removed, IsRowOf, own-rows, Slots}
+use Rattle.qo_sound_shapes.proofs.RowLemmas.{bus-kid, bus-plain, has-all, has-removed, is_plain_row, IsRowOf, own-rows, plain-strong, Slots}
 
 -- an object whose links are to objects of their types, where `kinds` says the types before
 pub record Kinded (kinds : ℕ → Option TypeId) (r : Record) : Type 0 where
@@ -129,51 +128,6 @@ device-bus Clock e p q = absurd (let clash : false ≡ true = e in cc)
 device-bus MemoryBackend e p q = absurd (let clash : false ≡ true = e in cc)
 device-bus MemoryBackendRam e p q = absurd (let clash : false ≡ true = e in cc)
 device-bus Tag e p q = absurd (let clash : false ≡ true = e in cc)
-
-abbrev is_plain_row : RowKind → Bool
-is_plain_row (row.Plain type first) = true
-is_plain_row kind = false
-
-abbrev PlainRows : List Property → Type 0
-PlainRows ps = AllByRecursion (λ (p : Property). is_plain_row p.kind ≡ true) ps
-
-bus-plain : (t : TypeId) → is_a t (codes "bus") ≡ true → PlainRows (slots_of t)
-unfolding types
-bus-plain Object e = absurd (let clash : false ≡ true = e in cc)
-bus-plain Container e = absurd (let clash : false ≡ true = e in cc)
-bus-plain Machine e = absurd (let clash : false ≡ true = e in cc)
-bus-plain Device e = absurd (let clash : false ≡ true = e in cc)
-bus-plain SlotDevice e = absurd (let clash : false ≡ true = e in cc)
-bus-plain SlotUart e = absurd (let clash : false ≡ true = e in cc)
-bus-plain SlotTimer e = absurd (let clash : false ≡ true = e in cc)
-bus-plain SlotBridge e = absurd (let clash : false ≡ true = e in cc)
-bus-plain MemDimm e = absurd (let clash : false ≡ true = e in cc)
-bus-plain Bus e = search rules
-bus-plain SlotBus e = search rules
-bus-plain MemBus e = search rules
-bus-plain Clock e = absurd (let clash : false ≡ true = e in cc)
-bus-plain MemoryBackend e = absurd (let clash : false ≡ true = e in cc)
-bus-plain MemoryBackendRam e = absurd (let clash : false ≡ true = e in cc)
-bus-plain Tag e = absurd (let clash : false ≡ true = e in cc)
-
-bus-kid : (t : TypeId) → is_a t (codes "bus") ≡ true → (s : List ℕ × Slot) → IsFurther t s → IsKidLink s.0 s.1
-unfolding types
-bus-kid Object e s h = absurd (let clash : false ≡ true = e in cc)
-bus-kid Container e s h = absurd (let clash : false ≡ true = e in cc)
-bus-kid Machine e s h = absurd (let clash : false ≡ true = e in cc)
-bus-kid Device e s h = absurd (let clash : false ≡ true = e in cc)
-bus-kid SlotDevice e s h = absurd (let clash : false ≡ true = e in cc)
-bus-kid SlotUart e s h = absurd (let clash : false ≡ true = e in cc)
-bus-kid SlotTimer e s h = absurd (let clash : false ≡ true = e in cc)
-bus-kid SlotBridge e s h = absurd (let clash : false ≡ true = e in cc)
-bus-kid MemDimm e s h = absurd (let clash : false ≡ true = e in cc)
-bus-kid Bus e s h = absurd h
-bus-kid SlotBus e s h = h
-bus-kid MemBus e s h = h
-bus-kid Clock e s h = absurd (let clash : false ≡ true = e in cc)
-bus-kid MemoryBackend e s h = absurd (let clash : false ≡ true = e in cc)
-bus-kid MemoryBackendRam e s h = absurd (let clash : false ≡ true = e in cc)
-bus-kid Tag e s h = absurd (let clash : false ≡ true = e in cc)
 
 -- neither is the root or the machine
 first-kind : (r : Record) → Good r → is_first r.birth ≡ true → (r.kind ≡ Container) ⊎ (r.kind ≡ Machine)
@@ -352,7 +306,8 @@ module _ (kinds : ℕ → Option TypeId) where
       keeps-let_go n i c
       (λ r q own k.
       good-let_go i r (device-apart r k.good (of-kind (codes "device") n device r own k))
-      (λ p s m row there is fits. may p s m (same_Some entry s (sym (slot-of c n i r entry q at) ∙ there)) is fits) k.good) h
+      (λ p s m row there is fits. may p s m (same_Some entry s (sym (slot-of c n i r entry q at) ∙ there)) is fits)
+      (λ name to target link. device-calm r.kind (of-kind (codes "device") n device r own k) (name, strong to target) link) k.good) h
     where
       may : (p : Property) (s : List ℕ × Slot) (m : ℕ) → entry ≡ s → s.1 ≡ child m → IsOfRow p s → may_miss p ≡ true
       may p s m same is fits =
@@ -404,12 +359,12 @@ module _ (kinds : ℕ → Option TypeId) where
 
   -- a link of a bus to a kid is let go and removed
 
-  kept-strong : (i : ℕ) (xs : Slots) (own : List ℕ) (t : TypeId) (target : Option ℕ) → slice_get xs i ≡ Some (own, strong t target)
-      → slice_get (without_hold i xs) i ≡ Some (own, strong t None)
-  kept-strong i [] own t target e = cc
-  kept-strong zero (x ∷ xs) own t target e =
-      ap (λ (y : List ℕ × Slot). slice_get (without_hold zero (y ∷ xs)) 0) (same_Some x (own, strong t target) e)
-  kept-strong (suc i) (x ∷ xs) own t target e = kept-strong i xs own t target e
+  cut-kept : (i : ℕ) (xs : Slots) (own : List ℕ) (t : TypeId) (target : Option ℕ) → slice_get xs i ≡ Some (own, strong t target)
+      → remove (without_hold i xs) i ≡ remove xs i
+  cut-kept i [] own t target e = cc
+  cut-kept zero (x ∷ xs) own t target e =
+      subst (λ (y : List ℕ × Slot). remove (without_hold zero (y ∷ xs)) zero ≡ remove (y ∷ xs) zero) (sym (same_Some x (own, strong t target) e)) refl
+  cut-kept (suc i) (x ∷ xs) own t target e = ap (λ (ys : Slots). x ∷ ys) (cut-kept i xs own t target e)
 
   removed-linked : (i : ℕ) (xs : Slots) → AllByRecursion (λ (s : List ℕ × Slot). Linked kinds s.1) xs
       → AllByRecursion (λ (s : List ℕ × Slot). Linked kinds s.1) (remove xs i)
@@ -418,27 +373,25 @@ module _ (kinds : ℕ → Option TypeId) where
   removed-linked zero (x ∷ xs) h = h.1
   removed-linked (suc i) (x ∷ xs) h = (h.0, removed-linked i xs h.1)
 
-  plain-strong : (kind : RowKind) (t : TypeId) (target : Option ℕ) → is_plain_row kind ≡ true → IsAsRow kind (strong t target) → ⊥
-  plain-strong (row.Plain type first) t target e h = h
-  plain-strong (row.Child k) t target e h = h
-  plain-strong (row.Link k true) t target e h = absurd (let clash : false ≡ true = e in cc)
-  plain-strong (row.Link k false) t target e h = h
-  plain-strong (row.Alias owner of) t target e h = h
-
-  keeps-cut : (i : ℕ) (r : Record) (own : List ℕ) (t : TypeId) → is_a r.kind (codes "bus") ≡ true → slice_get r.slots i ≡ Some (own, strong t None)
-      → Kinded kinds r → Kinded kinds (with_cut i r)
-  keeps-cut i r own t bus at h =
+  keeps-cut : (i : ℕ) (r : Record) (own : List ℕ) (t : TypeId) (target : Option ℕ) → is_a r.kind (codes "bus") ≡ true
+      → slice_get r.slots i ≡ Some (own, strong t target) → Kinded kinds r → Kinded kinds (with_cut i r)
+  keeps-cut i r own t target bus at h =
       record {
         good =
             good-slots r (remove r.slots i) h.good
             (has-removed (λ (p : Property). is_plain_row p.kind ≡ true) r.kind i (slots_of r.kind) (bus-plain r.kind bus) h.good.shaped.slots
             (λ p s plains there is.
-            plain-strong p.kind t None plains
-            (subst (λ (x : List ℕ × Slot). IsAsRow p.kind x.1) (same_Some s (own, strong t None) (sym there ∙ at)) is.fits)))
+            plain-strong p.kind t target plains
+            (subst (λ (x : List ℕ × Slot). IsAsRow p.kind x.1) (same_Some s (own, strong t target) (sym there ∙ at)) is.fits)))
             (λ e. absurd (let clash : true ≡ false = sym e ∙ bus-apart r h.good bus in cc));
         linked = removed-linked i r.slots h.linked;
         kind = h.kind;
       }
+
+  -- the bus between the two: it is as it should be once the link is removed
+  record Cutting (n i : ℕ) (r : Record) : Type 0 where
+    own : r.birth ≡ n → Kinded kinds (with_cut i r)
+    other : (r.birth == n) ≡ false → Kinded kinds r
 
   keeps-taken : (n i : ℕ) (own : List ℕ) (t : TypeId) (target : Option ℕ) (c : Board) → IsKind kinds (codes "bus") n
       → slice_get (slots_at c n) i ≡ Some (own, strong t target) → H c → H (take_slot c n i)
@@ -447,37 +400,25 @@ module _ (kinds : ℕ → Option TypeId) where
       let there : slot_at c n i ≡ Some (strong t target) = ap (option_map (λ (s : List ℕ × Slot). s.1)) at in
       rw (take_slot, there) (all-after (Kinded kinds) keeps-forgotten target _ both)
     where
-      d : Board
-      d = edit n (with_dropped i) c
+      clashes : (r : Record) → r.birth ≡ n → (r.birth == n) ≡ false → ⊥
+      clashes r its apart = absurd (let clash : true ≡ false = sym (eq-eqb r.birth n its) ∙ apart in cc)
 
-      first : H (edit n (with_dropped i) c)
+      cut-now : (r : Record) → record_of c n ≡ Some r → r.birth ≡ n → Kinded kinds r → Kinded kinds (with_cut i (with_dropped i r))
+      cut-now r q its k =
+          let here : slice_get r.slots i ≡ Some (own, strong t target) = slot-of c n i r (own, strong t target) q at in
+          subst (λ (xs : Slots). Kinded kinds (record r { slots = xs })) (sym (cut-kept i r.slots own t target here))
+          (keeps-cut i r own t target (of-kind (codes "bus") n bus r its k) here k)
+
+      first : AllOf (Cutting n i) (edit n (with_dropped i) c)
       first =
-          all-edit (Kinded kinds) n (with_dropped i) (λ r. refl) c
-          (λ r q its k.
-          keeps-dropped i r
-          (good-dropped i r (λ s there. ap (λ (x : List ℕ × Slot). child_of x.1)
-          (same_Some s (own, strong t target) (sym there ∙ slot-of c n i r (own, strong t target) q at)))
-          k.good) k) h
-
-      cuts : (r : Record) → record_of (edit n (with_dropped i) c) n ≡ Some r → slice_get r.slots i ≡ Some (own, strong t None)
-      cuts r e = go (record_of c n) refl
-        where
-          go : (o : Option Record) → record_of c n ≡ o → slice_get r.slots i ≡ Some (own, strong t None)
-          go None q = absurd (let clash : None ≡ Some (own, strong t target) = sym (ap (λ (o : Option Record). slice_get (slots_in o) i) q) ∙ at in cc)
-          go (Some x) q =
-              let was : slice_get x.slots i ≡ Some (own, strong t target) = slot-of c n i x (own, strong t target) q at in
-              let is : slots_in (option_map (edited n (with_dropped i)) (Some x)) ≡ r.slots =
-              sym (ap (λ (o : Option Record). slots_in (option_map (edited n (with_dropped i)) o)) q)
-              ∙ sym (ap slots_in (found-edited n (with_dropped i) (λ y. refl) n c.records))
-              ∙ ap slots_in e in
-              let own_birth : (x.birth == n) ≡ true = eq-eqb x.birth n (found-birth n c.records x q) in
-              let slots : without_hold i x.slots ≡ r.slots = rw (edited, own_birth) at is in
-              sym (ap (λ (ss : Slots). slice_get ss i) slots) ∙ kept-strong i x.slots own t target was
+          all-becomes (Kinded kinds) (Cutting n i) n (with_dropped i) (λ r. refl) c
+          (λ r q its k. record { own = λ e. cut-now r q its k; other = λ apart. absurd (clashes r its apart) })
+          (λ r apart k. record { own = λ its. absurd (clashes r its apart); other = λ e. k }) h
 
       both : H (edit n (with_cut i) (edit n (with_dropped i) c))
       both =
-          all-edit (Kinded kinds) n (with_cut i) (λ r. refl) (edit n (with_dropped i) c)
-          (λ r q its k. keeps-cut i r own t (of-kind (codes "bus") n bus r its k) (cuts r q) k) first
+          all-becomes (Cutting n i) (Kinded kinds) n (with_cut i) (λ r. refl) (edit n (with_dropped i) c) (λ r q its k. k.own its)
+          (λ r apart k. k.other apart) first
 
   keeps-take : (d n : ℕ) (c : Board) → IsKind kinds (codes "bus") n → H c → H (take_where (names_kid d) n c)
   keeps-take d n c bus h = go (place_from (names_kid d) 0 (slots_at c n)) refl
@@ -566,7 +507,8 @@ module _ (kinds : ℕ → Option TypeId) where
   kid-device : (name : List ℕ) (s : Slot) → IsKidLink name s → LinksDevice (name, s)
   kid-device name (plain v) h t target e = absurd h
   kid-device name (child m) h t target e = absurd h
-  kid-device name (strong to at) h t target e = sym (ap (λ (x : Slot). elim x as (λ _. TypeId) [ strong k o ↦ k | _ ↦ to ]) e) ∙ h.0
+  kid-device name (strong to None) h t target e = absurd h
+  kid-device name (strong to (Some m)) h t target e = sym (ap (λ (x : Slot). elim x as (λ _. TypeId) [ strong k o ↦ k | _ ↦ to ]) e) ∙ h.0
   kid-device name (weak to at) h t target e = absurd h
   kid-device name (alias m property) h t target e = absurd h
 

@@ -254,7 +254,7 @@ module _ (t : TypeId) (n : ℕ) where
           record {
             all =
                 draft-add has has p ps (plain (first_value t first))
-                (of-row p (row.Plain type first) (plain (first_value t first)) e (may-hold type (first_value t first) (rw e at fits)))
+                (of-row p (row.Plain type first) (plain (first_value t first)) e (may-hold t type first (rw e at fits)))
                 (adds (plain (first_value t first))) c h;
             high = omega arith;
           }

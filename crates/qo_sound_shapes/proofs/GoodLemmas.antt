@@ -1,5 +1,5 @@
 -- One object that is shaped as its type says, and as every machine begins: what changes of its slots keep.
-use Rattle.std.proofs.Common.{◌≡◌, refl, ap, sym, subst, ◌∙◌, rules, ℕ, zero, suc, Bool, true, false, ◌==◌, List, [], ◌∷◌, ◌++◌, map, slice_get, Option, Some, None}
+use Rattle.std.proofs.Common.{◌≡◌, refl, ap, sym, subst, ◌∙◌, rules, ℕ, zero, suc, Bool, true, false, ◌==◌, List, [], ◌∷◌, ◌++◌, map, slice_get, codes, Option, Some, None}
 use Rattle.std.specs.Bool.{⊤}
 use Rattle.std.specs.List.{AllByRecursion}
 use Rattle.std.proofs.lemmas.Bool.{eqb-true}
@@ -15,14 +15,14 @@ use Rattle.qo_model.specs.Paths.{child_of}
 use Rattle.qo_model.specs.Plug.{fitted}
 use Rattle.qo_model.specs.Release.{forgotten, forgotten_in, with_dropped, without_hold}
 use Rattle.qo_model.specs.SoundGraph.{without_value}
-use Rattle.qo_model.specs.Types.{slots_of, types}
+use Rattle.qo_model.specs.Types.{is_a, slots_of, types}
 use Rattle.qo_model.specs.Unplug.{unseen}
 use Rattle.qo_model.specs.declared.properties.Property.{Property}
 use Rattle.qo_model.specs.declared.properties.RowKind.{RowKind}
 use Rattle.qo_model.specs.declared.properties.RowKind.TheVariants as row
 use Rattle.qo_sound.proofs.RecordLemmas.{all-unmap}
 use Rattle.qo_sound_shapes.specs.SoundShape.{HasSlots, IsAsRow, IsChildSlot, IsFurther, IsKidLink, IsOfRow, IsShaped, may_miss, unvalued}
-use Rattle.qo_sound_shapes.proofs.RowLemmas.{has-added, has-changed, has-dropped, has-each, IsRowOf, own-rows, Slots}
+use Rattle.qo_sound_shapes.proofs.RowLemmas.{has-added, has-changed, has-dropped, has-each, IsRowOf, NoKidLinks, own-rows, Slots}
 
 -- the root and the machine
 abbrev pub is_first : ℕ → Bool
@@ -73,8 +73,9 @@ good-slots r slots h has same =
     }
 
 -- further slots, each by what it may be
-pub further-same : (t : TypeId) (name : List ℕ) (s u : Slot) → (IsKidLink name s → IsKidLink name u) → (IsChildSlot s → IsChildSlot u) → IsFurther t (name, s)
-    → IsFurther t (name, u)
+pub further-same : (t : TypeId) (name : List ℕ) (s u : Slot) → (is_a t (codes "bus") ≡ true → IsKidLink name s → IsKidLink name u)
+    → (IsChildSlot s → IsChildSlot u) → IsFurther t (name, s) → IsFurther t (name, u)
+unfolding types
 further-same Object name s u kid kin h = h
 further-same Container name s u kid kin h = kin h
 further-same Machine name s u kid kin h = kin h
@@ -85,8 +86,8 @@ further-same SlotTimer name s u kid kin h = h
 further-same SlotBridge name s u kid kin h = h
 further-same MemDimm name s u kid kin h = h
 further-same Bus name s u kid kin h = h
-further-same SlotBus name s u kid kin h = kid h
-further-same MemBus name s u kid kin h = kid h
+further-same SlotBus name s u kid kin h = kid refl h
+further-same MemBus name s u kid kin h = kid refl h
 further-same Clock name s u kid kin h = h
 further-same MemoryBackend name s u kid kin h = h
 further-same MemoryBackendRam name s u kid kin h = h
@@ -116,7 +117,7 @@ pub good-each : (g : Slot → Slot) → Mild g → KeepsRows g → (r : Record) 
 good-each g mild rows r h =
     good-slots r (map (λ (s : List ℕ × Slot). (s.0, g s.1)) r.slots) h
     (has-each (IsRowOf r.kind) r.kind (λ (s : List ℕ × Slot). (s.0, g s.1)) (λ p s own is. record { name = is.name; fits = rows p.kind s.1 is.fits })
-    (λ s k. further-same r.kind s.0 s.1 (g s.1) (mild.kid s.0 s.1) (mild.kin s.1) k) (slots_of r.kind) (own-rows r.kind) h.shaped.slots)
+    (λ s k. further-same r.kind s.0 s.1 (g s.1) (λ bus. mild.kid s.0 s.1) (mild.kin s.1) k) (slots_of r.kind) (own-rows r.kind) h.shaped.slots)
     (λ e. each-unvalued g mild r.slots (calm r h e))
 
 pub good-changed : (g : Slot → Slot) → Mild g → (i : ℕ) (r : Record)
@@ -126,7 +127,7 @@ good-changed g mild i r rows h =
     good-slots r (changed_at g i r.slots) h
     (has-changed (IsRowOf r.kind) r.kind g i (slots_of r.kind) (own-rows r.kind) h.shaped.slots
     (λ p s own at is. record { name = is.name; fits = rows p s own at is })
-    (λ s at k. further-same r.kind s.0 s.1 (g s.1) (mild.kid s.0 s.1) (mild.kin s.1) k))
+    (λ s at k. further-same r.kind s.0 s.1 (g s.1) (λ bus. mild.kid s.0 s.1) (mild.kin s.1) k))
     (λ e. changed-unvalued g mild i r.slots (calm r h e))
 
 -- weak links that are emptied
@@ -222,7 +223,8 @@ mild-pointed n = record { steady = steady; kid = kid; kin = kin }
     kid : (name : List ℕ) (s : Slot) → IsKidLink name s → IsKidLink name (pointed n s)
     kid name (plain v) h = h
     kid name (child m) h = h
-    kid name (strong t target) h = h
+    kid name (strong t None) h = absurd h
+    kid name (strong t (Some m)) h = h
     kid name (weak t target) h = h
     kid name (alias m property) h = h
 
@@ -268,7 +270,7 @@ mild-fitted b n = record { steady = steady; kid = kid; kin = kin }
     kid : (name : List ℕ) (s : Slot) → IsKidLink name s → IsKidLink name (fitted b n s)
     kid name (plain v) h = h
     kid name (child m) h = h
-    kid name (strong t None) h = h
+    kid name (strong t None) h = absurd h
     kid name (strong t (Some m)) h = h
     kid name (weak t None) h = h
     kid name (weak t (Some m)) h = h
@@ -331,19 +333,20 @@ dropped-unvalued zero ((name, weak t target) ∷ slots) h none = absurd h.0
 dropped-unvalued zero ((name, alias m property) ∷ slots) h none = absurd h.0
 
 -- one that is no child
-pub good-dropped : (i : ℕ) (r : Record) → ((s : List ℕ × Slot) → slice_get r.slots i ≡ Some s → child_of s.1 ≡ None) → Good r → Good (with_dropped i r)
-good-dropped i r none h =
+pub good-dropped : (i : ℕ) (r : Record) → ((s : List ℕ × Slot) → slice_get r.slots i ≡ Some s → child_of s.1 ≡ None) → NoKidLinks r.kind → Good r
+    → Good (with_dropped i r)
+good-dropped i r none apart h =
     good-slots r (without_hold i r.slots) h
     (has-dropped (IsRowOf r.kind) r.kind i (slots_of r.kind) (own-rows r.kind) h.shaped.slots
-    (λ p s m own at is row. absurd (let clash : Some m ≡ None = sym (ap child_of is) ∙ none s at in cc)))
+    (λ p s m own at is row. absurd (let clash : Some m ≡ None = sym (ap child_of is) ∙ none s at in cc)) apart)
     (λ e. dropped-unvalued i r.slots (calm r h e) none)
 
 -- a child of an object that is neither the root nor the machine
 pub good-let_go : (i : ℕ) (r : Record) → is_first r.birth ≡ false
-    → ((p : Property) (s : List ℕ × Slot) (m : ℕ) → IsRowOf r.kind p → slice_get r.slots i ≡ Some s → s.1 ≡ child m → IsOfRow p s → may_miss p ≡ true) → Good r
-    → Good (with_dropped i r)
-good-let_go i r apart may h =
-    good-slots r (without_hold i r.slots) h (has-dropped (IsRowOf r.kind) r.kind i (slots_of r.kind) (own-rows r.kind) h.shaped.slots may)
+    → ((p : Property) (s : List ℕ × Slot) (m : ℕ) → IsRowOf r.kind p → slice_get r.slots i ≡ Some s → s.1 ≡ child m → IsOfRow p s → may_miss p ≡ true)
+    → NoKidLinks r.kind → Good r → Good (with_dropped i r)
+good-let_go i r apart may links h =
+    good-slots r (without_hold i r.slots) h (has-dropped (IsRowOf r.kind) r.kind i (slots_of r.kind) (own-rows r.kind) h.shaped.slots may links)
     (λ e. absurd (let clash : true ≡ false = sym e ∙ apart in cc))
 
 -- a further slot more

@@ -9,7 +9,7 @@ use Rattle.qo_values.specs.Properties.{admits}
 use Rattle.qo_values.specs.Registers.{fresh_registers}
 use Rattle.qo_values.specs.declared.births.TheConstants.{MACHINE_BIRTH, ROOT_BIRTH, SYSTEM_CLOCK_BIRTH}
 use Rattle.qo_values.specs.declared.codes.Code.{Code}
-use Rattle.qo_values.specs.declared.codes.Code.TheVariants.{E18, E19}
+use Rattle.qo_values.specs.declared.codes.Code.TheVariants.{E17, E18, E19}
 use Rattle.qo_values.specs.declared.kinds.TypeId.{TypeId}
 use Rattle.qo_values.specs.declared.kinds.TypeId.TheVariants.{Object, Container, Machine, Device, SlotDevice, SlotUart, SlotTimer, SlotBridge, MemDimm, Bus, SlotBus, MemBus, Clock, MemoryBackend, MemoryBackendRam, Tag}
 use Rattle.qo_values.specs.declared.properties.PropType.{PropType}
@@ -17,11 +17,14 @@ use Rattle.qo_values.specs.declared.properties.Val.{Val}
 use Rattle.qo_values.specs.declared.properties.Val.TheVariants as val
 use Rattle.qo_values.specs.declared.limits.TheConstants.{SYSTEM_PERIOD}
 use Rattle.qo_model.specs.Board.{Board, Record, Slot, plain, child, strong, weak, alias, record_of}
+use Rattle.qo_model.specs.Devices.{kid_name}
 use Rattle.qo_model.specs.Objects.{Given, given_to, may_add, misfit, refusal_by, refusal_of, slot_given}
 use Rattle.qo_model.specs.Opening.{first_slot, first_value, fresh_record, fresh_slots, opening_board, opening_records, with_child, with_value}
 use Rattle.qo_model.specs.Properties.{row_of_property}
 use Rattle.qo_model.specs.RowNames.{property_name}
 use Rattle.qo_model.specs.Types.{is_a, slots_of, types}
+use Rattle.qo_model.specs.declared.properties.First.{First}
+use Rattle.qo_model.specs.declared.properties.First.TheVariants as first
 use Rattle.qo_model.specs.declared.properties.Property.{Property}
 use Rattle.qo_model.specs.declared.properties.RowKind.{RowKind}
 use Rattle.qo_model.specs.declared.properties.RowKind.TheVariants as row
@@ -30,30 +33,24 @@ use Rattle.qo_sound.proofs.RecordLemmas.{births_at}
 use Rattle.qo_sound_clocks.proofs.FoundLemmas.{all-found}
 use Rattle.qo_sound_shapes.specs.SoundShape.{further, HasSlots, is_like, IsAsRow, IsChildSlot, IsFurther, IsKidLink, IsOfRow, IsShaped, MayHold, next, SoundShape}
 use Rattle.qo_sound_shapes.proofs.GoodLemmas.{further-same, Good, is_first}
-use Rattle.qo_sound_shapes.proofs.RowLemmas.{has-added, has-each, IsRowOf, own-rows, Slots}
+use Rattle.qo_sound_shapes.proofs.RowLemmas.{has-added, has-each, IsRowOf, kid-rowless, own-rows, Slots}
 
 -- what plain properties hold at first
-abbrev pub is_nothing : Val → Bool
-is_nothing val.Nothing = true
-is_nothing v = false
+abbrev pub begins_empty : First → Bool
+begins_empty first.Nothing = true
+begins_empty begins = false
 
 abbrev pub first_fits : TypeId → RowKind → Bool
-first_fits t (row.Plain type first) = is_nothing (first_value t first) || admits type (first_value t first)
+first_fits t (row.Plain type begins) = begins_empty begins || admits type (first_value t begins)
 first_fits t kind = true
 
-nothing-is : (v : Val) → is_nothing v ≡ true → v ≡ val.Nothing
-nothing-is val.Nothing e = refl
-nothing-is (val.Bool b) e = absurd (let clash : false ≡ true = e in cc)
-nothing-is (val.Int n) e = absurd (let clash : false ≡ true = e in cc)
-nothing-is (val.Uint n) e = absurd (let clash : false ≡ true = e in cc)
-nothing-is (val.Text text) e = absurd (let clash : false ≡ true = e in cc)
-
-pub may-hold : (type : PropType) (v : Val) → (is_nothing v || admits type v) ≡ true → MayHold type v
-may-hold type v e = go (is_nothing v) refl
-  where
-    go : (t : Bool) → is_nothing v ≡ t → MayHold type v
-    go true p = inl (nothing-is v p)
-    go false p = inr (rw p at e)
+pub may-hold : (t : TypeId) (type : PropType) (begins : First) → (begins_empty begins || admits type (first_value t begins)) ≡ true
+    → MayHold type begins (first_value t begins)
+may-hold t type first.Nothing e = inl (refl, refl)
+may-hold t type first.TypeName e = inr e
+may-hold t type (first.Bool b) e = inr e
+may-hold t type (first.Uint n) e = inr e
+may-hold t type first.NoText e = inr e
 
 abbrev pub RowsFirst : TypeId → List Property → Type 0
 RowsFirst t ps = AllByRecursion (λ (p : Property). first_fits t p.kind ≡ true) ps
@@ -108,7 +105,7 @@ first-has t (p ∷ ps) fits own = go p.kind refl (first-has t ps fits.1 own.1)
     go : (kind : RowKind) → p.kind ≡ kind → HasSlots t ps (slots_for t ps) → HasSlots t (p ∷ ps) (slots_for t (p ∷ ps))
     go (row.Plain type first) e rest =
         let has : HasSlots t (p ∷ ps) ((property_name p.name, plain (first_value t first)) ∷ slots_for t ps) =
-        next (of-row p (row.Plain type first) (plain (first_value t first)) e (may-hold type (first_value t first) (rw e at fits.0))) rest in
+        next (of-row p (row.Plain type first) (plain (first_value t first)) e (may-hold t type first (rw e at fits.0))) rest in
         subst (HasSlots t (p ∷ ps)) (sym (begins (row.Plain type first) e)) has
     go (row.Link k true) e rest =
         let has : HasSlots t (p ∷ ps) ((property_name p.name, strong k None) ∷ slots_for t ps) =
@@ -175,11 +172,19 @@ good-new r late h =
 
 -- values that are given and not refused
 
+kid-named : (name : List ℕ) (s : Slot) → IsKidLink name s → (k : ℕ) × (name ≡ kid_name k)
+kid-named name (plain v) h = absurd h
+kid-named name (child m) h = absurd h
+kid-named name (strong t None) h = absurd h
+kid-named name (strong t (Some m)) h = (h.1.0, h.1.1.1)
+kid-named name (weak t target) h = absurd h
+kid-named name (alias m property) h = absurd h
+
 module _ (b : Board) where
   given-row : (kind : RowKind) (s : Slot) (v : Val) → misfit b kind v ≡ None → IsAsRow kind s → IsAsRow kind (given_to b s v)
   given-row (row.Plain type first) (plain w) v e h = go (admits type v) refl
     where
-      go : (t : Bool) → admits type v ≡ t → MayHold type v
+      go : (t : Bool) → admits type v ≡ t → MayHold type first v
       go true p = inr p
       go false p = absurd (let clash : Some E19 ≡ None = rw p at e in cc)
   given-row (row.Plain type first) (child m) v e h = absurd h
@@ -214,17 +219,6 @@ module _ (b : Board) where
   given-row (row.Link k false) (weak t target) (val.Uint v) e h = h
   given-row (row.Link k false) (weak t target) val.Nothing e h = h
   given-row (row.Link k false) (alias m property) v e h = absurd h
-
-  given-kid : (name : List ℕ) (s : Slot) (v : Val) → IsKidLink name s → IsKidLink name (given_to b s v)
-  given-kid name (plain w) v h = absurd h
-  given-kid name (child m) v h = absurd h
-  given-kid name (strong t target) (val.Text path) h = h
-  given-kid name (strong t target) (val.Bool v) h = h
-  given-kid name (strong t target) (val.Int v) h = h
-  given-kid name (strong t target) (val.Uint v) h = h
-  given-kid name (strong t target) val.Nothing h = h
-  given-kid name (weak t target) v h = absurd h
-  given-kid name (alias m property) v h = absurd h
 
   given-kin : (s : Slot) (v : Val) → IsChildSlot s → IsChildSlot (given_to b s v)
   given-kin (plain w) v h = absurd h
@@ -267,17 +261,25 @@ module _ (b : Board) where
           let its : row_of_property t g.0 ≡ Some p = ap (row_of_property t) ((bytes_eq-Decides g.0 name).0 named ∙ is.name) ∙ own in
           rw (slot_given, e) (record { name = is.name; fits = given-row p.kind s g.1 (fits-by p g.1 (rw its at taken)) is.fits })
 
-  pub given-further : (t : TypeId) (props : List Given) (s : List ℕ × Slot) → IsFurther t s → IsFurther t (slot_given b props s)
-  given-further t props (name, s) h = go (find (λ (x : Given). bytes_eq x.0 name) props) refl
+  pub given-further : (t : TypeId) (props : List Given) → refusal_of b t props ≡ None → (s : List ℕ × Slot) → IsFurther t s
+      → IsFurther t (slot_given b props s)
+  given-further t props none (name, s) h = go (find (λ (x : Given). bytes_eq x.0 name) props) refl
     where
+      -- what is given has a row
+      no-kid : (g : Given) → find (λ (x : Given). bytes_eq x.0 name) props ≡ Some g → is_a t (codes "bus") ≡ true → (k : ℕ) × (name ≡ kid_name k) → ⊥
+      no-kid g e bus (k, at) =
+          let (named, taken) = found-given t name props g e none in
+          let its : row_of_property t g.0 ≡ None = ap (row_of_property t) ((bytes_eq-Decides g.0 name).0 named ∙ at) ∙ kid-rowless t bus k in
+          absurd (let clash : Some E17 ≡ None = sym (ap (λ (o : Option Property). refusal_by b o g.1) its) ∙ taken in cc)
+
       go : (o : Option Given) → find (λ (x : Given). bytes_eq x.0 name) props ≡ o → IsFurther t (slot_given b props (name, s))
       go None e = rw (slot_given, e) h
-      go (Some g) e = rw (slot_given, e) (further-same t name s (given_to b s g.1) (given-kid name s g.1) (given-kin s g.1) h)
+      go (Some g) e = rw (slot_given, e) (further-same t name s (given_to b s g.1) (λ bus k. absurd (no-kid g e bus (kid-named name s k))) (given-kin s g.1) h)
 
   pub given-has : (t : TypeId) (props : List Given) → refusal_of b t props ≡ None → {slots : Slots} → HasSlots t (slots_of t) slots
       → HasSlots t (slots_of t) (map (slot_given b props) slots)
   given-has t props none h =
-      has-each (IsRowOf t) t (slot_given b props) (given-of_row t props none) (given-further t props) (slots_of t) (own-rows t) h
+      has-each (IsRowOf t) t (slot_given b props) (given-of_row t props none) (given-further t props none) (slots_of t) (own-rows t) h
 
 -- what a command may make has rows of its own alone
 pub created-own : (t : TypeId) → is_a t (codes "user-creatable") ≡ true → OwnRows (slots_of t)

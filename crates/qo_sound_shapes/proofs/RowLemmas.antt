@@ -1,22 +1,29 @@
 -- Slots of rows: what a change of one slot or of each keeps.
-use Rattle.std.proofs.Common.{◌≡◌, ◌⊎◌, inl, inr, refl, subst, rules, ℕ, zero, suc, true, false, List, [], ◌∷◌, ◌++◌, map, remove, slice_get, Option, Some, None}
+use Rattle.std.proofs.Common.{◌≡◌, ◌⊎◌, inl, inr, refl, ap, sym, subst, ◌∙◌, rules, ℕ, zero, suc, Bool, true, false, List, [], ◌∷◌, ◌++◌, map, remove, find, slice_get, codes, Option, Some, None}
+use Rattle.std.specs.Bool.{⊤}
 use Rattle.std.specs.List.{AllByRecursion}
+use Rattle.std.specs.Str.{bytes_eq}
 use Rattle.std.proofs.lemmas.Option.{same_Some}
 use Rattle.qo_values.specs.declared.kinds.TypeId.{TypeId}
 use Rattle.qo_values.specs.declared.kinds.TypeId.TheVariants.{Object, Container, Machine, Device, SlotDevice, SlotUart, SlotTimer, SlotBridge, MemDimm, Bus, SlotBus, MemBus, Clock, MemoryBackend, MemoryBackendRam, Tag}
 use Rattle.qo_model.specs.Board.{Slot, plain, child, strong, weak, alias}
 use Rattle.qo_model.specs.Changes.{changed_at}
+use Rattle.qo_model.specs.Devices.{kid_name}
 use Rattle.qo_model.specs.Properties.{row_of_property}
 use Rattle.qo_model.specs.Release.{without_hold}
 use Rattle.qo_model.specs.RowNames.{property_name}
-use Rattle.qo_model.specs.Types.{slots_of, types}
+use Rattle.qo_model.specs.Types.{is_a, slots_of, types}
 use Rattle.qo_model.specs.declared.properties.Property.{Property}
 use Rattle.qo_model.specs.declared.properties.RowKind.{RowKind}
 use Rattle.qo_model.specs.declared.properties.RowKind.TheVariants as row
-use Rattle.qo_sound_shapes.specs.SoundShape.{HasSlots, further, IsAsRow, IsFurther, IsOfRow, may_miss, missing, next}
+use Rattle.qo_sound_shapes.specs.SoundShape.{HasSlots, further, IsAsRow, IsFurther, IsKidLink, IsOfRow, may_miss, missing, next}
 
 abbrev pub Slots : Type 0
 Slots = List (List ℕ × Slot)
+
+-- no further slot of a type is a strong link, as of every type but those of buses
+abbrev pub NoKidLinks : TypeId → Type 0
+NoKidLinks t = (name : List ℕ) (to : TypeId) (target : Option ℕ) → IsFurther t (name, strong to target) → ⊥
 
 module _ (R : Property → Type 0) (t : TypeId) where
   -- each slot is changed
@@ -46,30 +53,12 @@ module _ (R : Property → Type 0) (t : TypeId) where
   has-changed g (suc i) (p ∷ ps) rows (next is rest) of more = next is (has-changed g i ps rows.1 rest of more)
   has-changed g i (p ∷ ps) rows (missing may rest) of more = missing may (has-changed g i ps rows.1 rest of more)
 
-  -- one slot is let go: where it is a child, its row says that it may be missing
+  -- one slot is let go, where no further one is a strong link: where it is a child, its row says that it may be missing
   pub has-dropped : (i : ℕ) (ps : List Property) → AllByRecursion R ps → {slots : Slots} → HasSlots t ps slots
-      → ((p : Property) (s : List ℕ × Slot) (m : ℕ) → R p → slice_get slots i ≡ Some s → s.1 ≡ child m → IsOfRow p s → may_miss p ≡ true)
+      → ((p : Property) (s : List ℕ × Slot) (m : ℕ) → R p → slice_get slots i ≡ Some s → s.1 ≡ child m → IsOfRow p s → may_miss p ≡ true) → NoKidLinks t
       → HasSlots t ps (without_hold i slots)
-  has-dropped i [] rows {slots} (further all) may = further (one i slots all)
+  has-dropped i [] rows {slots} (further all) may none = further (one i slots all)
     where
-      left : (k : TypeId) (name : List ℕ) (to : TypeId) (target : Option ℕ) → IsFurther k (name, strong to target) → IsFurther k (name, strong to None)
-      left SlotBus name to target h = h
-      left MemBus name to target h = h
-      left Container name to target h = h
-      left Machine name to target h = h
-      left Object name to target h = h
-      left Device name to target h = h
-      left SlotDevice name to target h = h
-      left SlotUart name to target h = h
-      left SlotTimer name to target h = h
-      left SlotBridge name to target h = h
-      left MemDimm name to target h = h
-      left Bus name to target h = h
-      left Clock name to target h = h
-      left MemoryBackend name to target h = h
-      left MemoryBackendRam name to target h = h
-      left Tag name to target h = h
-
       blind : (k : TypeId) (name : List ℕ) (to : TypeId) (target : Option ℕ) → IsFurther k (name, weak to target) → IsFurther k (name, weak to None)
       blind SlotBus name to target h = h
       blind MemBus name to target h = h
@@ -92,11 +81,11 @@ module _ (R : Property → Type 0) (t : TypeId) where
       one j [] h = tt
       one zero ((name, plain v) ∷ xs) h = h
       one zero ((name, child m) ∷ xs) h = h.1
-      one zero ((name, strong to target) ∷ xs) h = (left t name to target h.0, h.1)
+      one zero ((name, strong to target) ∷ xs) h = absurd (none name to target h.0)
       one zero ((name, weak to target) ∷ xs) h = (blind t name to target h.0, h.1)
       one zero ((name, alias m property) ∷ xs) h = h
       one (suc j) (x ∷ xs) h = (h.0, one j xs h.1)
-  has-dropped zero (p ∷ ps) rows (next {s = s} {slots = slots} is rest) may = go s is (may p s)
+  has-dropped zero (p ∷ ps) rows (next {s = s} {slots = slots} is rest) may none = go s is (may p s)
     where
       emptied_row : (kind : RowKind) (to : TypeId) (target : Option ℕ) → IsAsRow kind (strong to target) → IsAsRow kind (strong to None)
       emptied_row (row.Plain type first) to target h = h
@@ -119,8 +108,8 @@ module _ (R : Property → Type 0) (t : TypeId) where
       go (name, strong to target) k may = next (record { name = k.name; fits = emptied_row p.kind to target k.fits }) rest
       go (name, weak to target) k may = next (record { name = k.name; fits = blinded_row p.kind to target k.fits }) rest
       go (name, alias m property) k may = next k rest
-  has-dropped (suc i) (p ∷ ps) rows (next is rest) may = next is (has-dropped i ps rows.1 rest may)
-  has-dropped i (p ∷ ps) rows (missing m rest) may = missing m (has-dropped i ps rows.1 rest may)
+  has-dropped (suc i) (p ∷ ps) rows (next is rest) may none = next is (has-dropped i ps rows.1 rest may none)
+  has-dropped i (p ∷ ps) rows (missing m rest) may none = missing m (has-dropped i ps rows.1 rest may none)
 
   -- one further slot is removed
   pub has-removed : (i : ℕ) (ps : List Property) → AllByRecursion R ps → {slots : Slots} → HasSlots t ps slots
@@ -192,3 +181,144 @@ own-rows Clock = search rules
 own-rows MemoryBackend = search rules
 own-rows MemoryBackendRam = search rules
 own-rows Tag = search rules
+
+-- what is found by its name has what each has
+pub each-found : (P : Property → Type 0) (name : List ℕ) (ps : List Property) → AllByRecursion P ps → (p : Property)
+    → find (λ (q : Property). bytes_eq (property_name q.name) name) ps ≡ Some p → P p
+each-found P name [] h p e = cc
+each-found P name (q ∷ ps) h p e = go (bytes_eq (property_name q.name) name) refl (each-found P name ps h.1 p)
+  where
+    go : (u : Bool) → bytes_eq (property_name q.name) name ≡ u → (find (λ (x : Property). bytes_eq (property_name x.name) name) ps ≡ Some p → P p) → P p
+    go true k rest = subst P (same_Some q p (rw k at e)) h.0
+    go false k rest = rest (rw k at e)
+
+-- the rows of buses, and who has links to kids
+
+abbrev pub is_plain_row : RowKind → Bool
+is_plain_row (row.Plain type first) = true
+is_plain_row kind = false
+
+abbrev pub PlainRows : List Property → Type 0
+PlainRows ps = AllByRecursion (λ (p : Property). is_plain_row p.kind ≡ true) ps
+
+pub bus-plain : (t : TypeId) → is_a t (codes "bus") ≡ true → PlainRows (slots_of t)
+unfolding types
+bus-plain Object e = absurd (let clash : false ≡ true = e in cc)
+bus-plain Container e = absurd (let clash : false ≡ true = e in cc)
+bus-plain Machine e = absurd (let clash : false ≡ true = e in cc)
+bus-plain Device e = absurd (let clash : false ≡ true = e in cc)
+bus-plain SlotDevice e = absurd (let clash : false ≡ true = e in cc)
+bus-plain SlotUart e = absurd (let clash : false ≡ true = e in cc)
+bus-plain SlotTimer e = absurd (let clash : false ≡ true = e in cc)
+bus-plain SlotBridge e = absurd (let clash : false ≡ true = e in cc)
+bus-plain MemDimm e = absurd (let clash : false ≡ true = e in cc)
+bus-plain Bus e = search rules
+bus-plain SlotBus e = search rules
+bus-plain MemBus e = search rules
+bus-plain Clock e = absurd (let clash : false ≡ true = e in cc)
+bus-plain MemoryBackend e = absurd (let clash : false ≡ true = e in cc)
+bus-plain MemoryBackendRam e = absurd (let clash : false ≡ true = e in cc)
+bus-plain Tag e = absurd (let clash : false ≡ true = e in cc)
+
+pub none-kid : (t : TypeId) → is_a t (codes "bus") ≡ false → NoKidLinks t
+unfolding types
+none-kid Object e name to target h = h
+none-kid Container e name to target h = h
+none-kid Machine e name to target h = h
+none-kid Device e name to target h = h
+none-kid SlotDevice e name to target h = h
+none-kid SlotUart e name to target h = h
+none-kid SlotTimer e name to target h = h
+none-kid SlotBridge e name to target h = h
+none-kid MemDimm e name to target h = h
+none-kid Bus e name to target h = h
+none-kid SlotBus e name to target h = absurd (let clash : true ≡ false = e in cc)
+none-kid MemBus e name to target h = absurd (let clash : true ≡ false = e in cc)
+none-kid Clock e name to target h = h
+none-kid MemoryBackend e name to target h = h
+none-kid MemoryBackendRam e name to target h = h
+none-kid Tag e name to target h = h
+
+pub link-apart : (t k : TypeId) (holds : Bool) (name : List ℕ) (p : Property) → row_of_property t name ≡ Some p → p.kind ≡ row.Link k holds → NoKidLinks t
+link-apart t k holds name p e is = go (is_a t (codes "bus")) refl
+  where
+    go : (u : Bool) → is_a t (codes "bus") ≡ u → NoKidLinks t
+    go true q =
+        let plains : is_plain_row p.kind ≡ true = each-found (λ (x : Property). is_plain_row x.kind ≡ true) name (slots_of t) (bus-plain t q) p e in
+        absurd (let clash : false ≡ true = sym (ap is_plain_row is) ∙ plains in cc)
+    go false q = none-kid t q
+
+-- no row of a bus has the name of a link to a kid
+pub kid-rowless : (t : TypeId) → is_a t (codes "bus") ≡ true → (k : ℕ) → row_of_property t (kid_name k) ≡ None
+unfolding types
+kid-rowless Object e k = absurd (let clash : false ≡ true = e in cc)
+kid-rowless Container e k = absurd (let clash : false ≡ true = e in cc)
+kid-rowless Machine e k = absurd (let clash : false ≡ true = e in cc)
+kid-rowless Device e k = absurd (let clash : false ≡ true = e in cc)
+kid-rowless SlotDevice e k = absurd (let clash : false ≡ true = e in cc)
+kid-rowless SlotUart e k = absurd (let clash : false ≡ true = e in cc)
+kid-rowless SlotTimer e k = absurd (let clash : false ≡ true = e in cc)
+kid-rowless SlotBridge e k = absurd (let clash : false ≡ true = e in cc)
+kid-rowless MemDimm e k = absurd (let clash : false ≡ true = e in cc)
+kid-rowless Bus e k = refl
+kid-rowless SlotBus e k = refl
+kid-rowless MemBus e k = refl
+kid-rowless Clock e k = absurd (let clash : false ≡ true = e in cc)
+kid-rowless MemoryBackend e k = absurd (let clash : false ≡ true = e in cc)
+kid-rowless MemoryBackendRam e k = absurd (let clash : false ≡ true = e in cc)
+kid-rowless Tag e k = absurd (let clash : false ≡ true = e in cc)
+
+-- a further slot of a bus is a link to a kid
+pub bus-kid : (t : TypeId) → is_a t (codes "bus") ≡ true → (s : List ℕ × Slot) → IsFurther t s → IsKidLink s.0 s.1
+unfolding types
+bus-kid Object e s h = absurd (let clash : false ≡ true = e in cc)
+bus-kid Container e s h = absurd (let clash : false ≡ true = e in cc)
+bus-kid Machine e s h = absurd (let clash : false ≡ true = e in cc)
+bus-kid Device e s h = absurd (let clash : false ≡ true = e in cc)
+bus-kid SlotDevice e s h = absurd (let clash : false ≡ true = e in cc)
+bus-kid SlotUart e s h = absurd (let clash : false ≡ true = e in cc)
+bus-kid SlotTimer e s h = absurd (let clash : false ≡ true = e in cc)
+bus-kid SlotBridge e s h = absurd (let clash : false ≡ true = e in cc)
+bus-kid MemDimm e s h = absurd (let clash : false ≡ true = e in cc)
+bus-kid Bus e s h = absurd h
+bus-kid SlotBus e s h = h
+bus-kid MemBus e s h = h
+bus-kid Clock e s h = absurd (let clash : false ≡ true = e in cc)
+bus-kid MemoryBackend e s h = absurd (let clash : false ≡ true = e in cc)
+bus-kid MemoryBackendRam e s h = absurd (let clash : false ≡ true = e in cc)
+bus-kid Tag e s h = absurd (let clash : false ≡ true = e in cc)
+
+-- a plain row has no strong link
+pub plain-strong : (kind : RowKind) (t : TypeId) (target : Option ℕ) → is_plain_row kind ≡ true → IsAsRow kind (strong t target) → ⊥
+plain-strong (row.Plain type first) t target e h = h
+plain-strong (row.Child k) t target e h = h
+plain-strong (row.Link k true) t target e h = absurd (let clash : false ≡ true = e in cc)
+plain-strong (row.Link k false) t target e h = h
+plain-strong (row.Alias owner of) t target e h = h
+
+-- strong links that are not empty
+abbrev pub IsHolding : List ℕ × Slot → Type 0
+IsHolding (name, strong t None) = ⊥
+IsHolding s = ⊤
+
+-- those of buses are so
+pub held-slots : (t : TypeId) → is_a t (codes "bus") ≡ true → {slots : Slots} → HasSlots t (slots_of t) slots → AllByRecursion IsHolding slots
+held-slots t bus h =
+    has-all (λ (p : Property). is_plain_row p.kind ≡ true) IsHolding t (λ p s plains is. plain-holding p.kind s.0 s.1 plains is.fits)
+    (λ s k. kid-holding s.0 s.1 (bus-kid t bus s k)) (slots_of t) (bus-plain t bus) h
+  where
+    plain-holding : (kind : RowKind) (name : List ℕ) (s : Slot) → is_plain_row kind ≡ true → IsAsRow kind s → IsHolding (name, s)
+    plain-holding kind name (plain v) plains is = tt
+    plain-holding kind name (child m) plains is = tt
+    plain-holding kind name (strong t (Some m)) plains is = tt
+    plain-holding kind name (strong t None) plains is = plain-strong kind t None plains is
+    plain-holding kind name (weak t target) plains is = tt
+    plain-holding kind name (alias m property) plains is = tt
+
+    kid-holding : (name : List ℕ) (s : Slot) → IsKidLink name s → IsHolding (name, s)
+    kid-holding name (plain v) h = tt
+    kid-holding name (child m) h = tt
+    kid-holding name (strong t (Some m)) h = tt
+    kid-holding name (strong t None) h = h
+    kid-holding name (weak t target) h = tt
+    kid-holding name (alias m property) h = tt

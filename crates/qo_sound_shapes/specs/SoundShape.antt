@@ -18,18 +18,20 @@ use Rattle.qo_model.specs.Opening.{opening_board}
 use Rattle.qo_model.specs.RowNames.{property_name}
 use Rattle.qo_model.specs.SoundGraph.{without_value}
 use Rattle.qo_model.specs.Types.{slots_of}
+use Rattle.qo_model.specs.declared.properties.First.{First}
+use Rattle.qo_model.specs.declared.properties.First.TheVariants as first
 use Rattle.qo_model.specs.declared.properties.Property.{Property}
 use Rattle.qo_model.specs.declared.properties.RowKind.{RowKind}
 use Rattle.qo_model.specs.declared.properties.RowKind.TheVariants as row
 use Rattle.qo_sound_devices.specs.SoundPlaces.{stands}
 
--- what a plain property of a type may hold: nothing, or a value that the type admits
-abbrev pub MayHold : PropType → Val → Type 0
-MayHold type v = (v ≡ val.Nothing) ⊎ (admits type v ≡ true)
+-- what a plain property of a type may hold: nothing where it begins with nothing, or a value that the type admits; so a clock's period, mul and div are numbers
+abbrev pub MayHold : PropType → First → Val → Type 0
+MayHold type begins v = ((begins ≡ first.Nothing) × (v ≡ val.Nothing)) ⊎ (admits type v ≡ true)
 
 -- a slot is as a row says: it holds such a value, is a child, links to objects of the row's type, strongly or weakly, or is another name for the row's property
 abbrev pub IsAsRow : RowKind → Slot → Type 0
-IsAsRow (row.Plain type first) (plain v) = MayHold type v
+IsAsRow (row.Plain type begins) (plain v) = MayHold type begins v
 IsAsRow (row.Child type) (child m) = ⊤
 IsAsRow (row.Link t true) (strong to target) = to ≡ t
 IsAsRow (row.Link t false) (weak to target) = to ≡ t
@@ -51,7 +53,7 @@ may_miss p = is_child_row p.kind && not (bytes_eq (property_name p.name) clock_n
 
 -- a further slot: of a bus a link `child[N]` that holds a device, of a container and of the machine a child, of any other object none
 abbrev pub IsKidLink : List ℕ → Slot → Type 0
-IsKidLink name (strong to target) = (to ≡ Device) × ((k : ℕ) × ((k < BUS_SLOTS) × (name ≡ kid_name k)))
+IsKidLink name (strong to (Some m)) = (to ≡ Device) × ((k : ℕ) × ((k < BUS_SLOTS) × (name ≡ kid_name k)))
 IsKidLink name s = ⊥
 
 abbrev pub IsChildSlot : Slot → Type 0

@@ -18,7 +18,8 @@ pub fn law_shapes_kept()
 
 /// On a board whose objects are shaped as their types say, what an object has under the name of a
 /// property of its type is as the property's row says; and a device that stands in a container has
-/// something there.
+/// something there. A clock's period, mul and div are numbers, and so is the size of a memory backend.
+/// No strong link of a bus is empty.
 #[tactic(auto, using(crate::proofs::SayLemmas::shapes_say_lem))]
 pub fn law_shapes_say()
     ensures { ShapesSayLaw }
