@@ -22,7 +22,10 @@ use Rattle.qo_realize.specs.Chardevs.{with_rings}
 use Rattle.qo_realize.specs.Guest.{polled}
 use Rattle.qo_realize.specs.Registers.{behind_effect, guest_written, pushed, registers_at, registers_written}
 use Rattle.qo_realize.specs.Time.{at_time, with_running}
+use Rattle.qo_realize.proofs.SoundLemmas.{registers-timely}
+use Rattle.qo_sound_bounds.specs.SoundSegments.{IsSegmented, SoundSegments}
 use Rattle.qo_sound_bounds.proofs.BoundsLemmas.{bounds_kept_lem}
+use Rattle.qo_sound_bounds.proofs.SegmentsLawLemmas.{segments_kept_lem}
 use Rattle.qo_sound_bounds.proofs.SourcesLawLemmas.{sources_kept_lem}
 use Rattle.qo_sound_claims.specs.SoundBackends.{SoundBackends}
 use Rattle.qo_sound_claims.proofs.LawLemmas.{claims_kept_lem}
@@ -47,6 +50,7 @@ beside b c records rings low run h =
       shape = shapes_kept_lem.beside b c records h.shape;
       sources = sources_kept_lem.beside b c records h.sources;
       backends = claims_kept_lem.beside b c records rings h.backends;
+      segments = segments_kept_lem.beside b c records h.segments;
       bounds = bounds_kept_lem.beside b c records low h.bounds;
     }
 
@@ -57,6 +61,7 @@ ringed b rings backends h =
       run = ringed_run b rings h.run;
       shape = shapes_kept_lem.beside b (with_rings rings b) refl h.shape;
       sources = sources_kept_lem.beside b (with_rings rings b) refl h.sources;
+      segments = segments_kept_lem.beside b (with_rings rings b) refl h.segments;
       backends = backends;
       bounds = bounds_kept_lem.beside b (with_rings rings b) refl h.bounds.time h.bounds;
     }
@@ -69,6 +74,7 @@ scaled_board b d c mul div narrow thin is run h =
       shape = shapes_kept_lem.scaled b d c mul div narrow thin is h.shape;
       sources = sources_kept_lem.scaled b d c mul div is h.run.devices h.sources;
       backends = claims_kept_lem.scaled b d c mul div is h.run.devices h.backends;
+      segments = segments_kept_lem.scaled b d c mul div is h.run.times h.segments;
       bounds = bounds_kept_lem.scaled b d c mul div is h.bounds;
     }
 
@@ -77,6 +83,13 @@ same_body : (b : Board) (d : ℕ) (registers : Registers) → is_like registers 
     → is_like registers r.registers ≡ true
 same_body b d registers like r found =
     sym (ap (λ (o : Option Record). is_like registers (option_map_or (λ (x : Record). x.registers) o bare)) found) ∙ like
+
+registers-segmented : (b : Board) (d : ℕ) → SoundSegments b → IsSegmented (registers_at b d)
+registers-segmented b d h = go (record_of b d) refl
+  where
+    go : (o : Option Record) → record_of b d ≡ o → IsSegmented (option_map_or (λ (r : Record). r.registers) o bare)
+    go None e = tt
+    go (Some r) e = segments_kept_lem.there b d r e h
 
 registers_board : (b : Board) (d reg value : ℕ) (registers : Registers) (e : Effect) → registers_written b d reg value ≡ Some (registers, e) → SoundBoard b
     → SoundBoard (registers_set b d registers)
@@ -89,6 +102,10 @@ registers_board b d reg value registers e is h =
           (shapes_kept_lem.wrote (registers_at b d) registers e reg value (is_some (claimed_ring b d)) b.now (device_period b d) is)) h.shape;
       sources = sources_kept_lem.registers b d registers h.run.devices h.sources;
       backends = registers_backends b d reg value registers e is h.run.devices h.backends;
+      segments =
+          segments_kept_lem.registers b d registers
+          (segments_kept_lem.wrote (registers_at b d) registers e reg value (is_some (claimed_ring b d)) b.now (device_period b d) is
+          (registers-timely b d h.run.times) (registers-segmented b d h.segments)) h.segments;
       bounds = bounds_kept_lem.registers b d registers h.bounds;
     }
 
@@ -100,6 +117,7 @@ pulsed_board b m h =
       shape = shapes_kept_lem.pulsed b m h.shape;
       sources = sources_kept_lem.pulsed b m h.run.devices h.sources;
       backends = claims_kept_lem.pulsed b m h.run.devices h.backends;
+      segments = segments_kept_lem.pulsed b m h.run.times h.segments;
       bounds = bounds_kept_lem.pulsed b m h.bounds;
     }
 
@@ -138,6 +156,7 @@ board_kept =
             shape = shapes_kept_lem.change b change h.run.devices h.shape;
             sources = sources_kept_lem.change b change h.run.devices h.sources;
             backends = claims_kept_lem.change b change h.run.devices h.backends;
+            segments = segments_kept_lem.change b change h.run.times h.segments;
             bounds = bounds_kept_lem.change b change h.bounds;
           };
       set = λ b d c period fits is h.
@@ -146,6 +165,7 @@ board_kept =
             shape = shapes_kept_lem.set b d c period fits is h.shape;
             sources = sources_kept_lem.set b d c period is h.run.devices h.sources;
             backends = claims_kept_lem.set b d c period is h.run.devices h.backends;
+            segments = segments_kept_lem.set b d c period is h.run.times h.segments;
             bounds = bounds_kept_lem.set b d c period is h.bounds;
           };
       multiplied = λ b d c mul fits is h. scaled_board b d c mul (div_of b c) fits (h.run.numbers c).div is (run_kept.multiplied b d c mul fits is h.run) h;
@@ -157,6 +177,7 @@ board_kept =
             shape = shapes_kept_lem.plugged b a h.run.devices h.shape;
             sources = sources_kept_lem.plugged b a h.run.devices h.sources;
             backends = claims_kept_lem.plugged b a h.run.devices h.backends;
+            segments = segments_kept_lem.plugged b a h.run.times h.segments;
             bounds = bounds_kept_lem.plugged b a h.bounds;
           };
       cut = λ b t i joined h. beside b (cut_attempt b t i joined) refl refl h.bounds.time (run_kept.cut b t i joined h.run) h;
@@ -166,6 +187,7 @@ board_kept =
             shape = shapes_kept_lem.asked_for b id h.shape;
             sources = sources_kept_lem.asked_for b id h.sources;
             backends = claims_kept_lem.asked_for b id h.backends;
+            segments = segments_kept_lem.asked_for b id h.segments;
             bounds = bounds_kept_lem.asked_for b id h.bounds;
           };
       completed = λ b at d is pending h.
@@ -175,6 +197,7 @@ board_kept =
             shape = shapes_kept_lem.detached b d h.run.devices there h.shape;
             sources = sources_kept_lem.detached b d h.run.devices there h.sources;
             backends = claims_kept_lem.detached b d h.run.devices there h.backends;
+            segments = segments_kept_lem.detached b d h.run.times h.segments;
             bounds = bounds_kept_lem.detached b d h.bounds;
           };
       refused = λ b d h. beside b (refused b d) refl refl h.bounds.time (run_kept.refused b d h.run) h;
@@ -195,6 +218,7 @@ board_kept =
             shape = shapes_kept_lem.held_so b n h.shape;
             sources = sources_kept_lem.held_so b n h.run.devices h.sources;
             backends = claims_kept_lem.held_so b n h.run.devices h.backends;
+            segments = segments_kept_lem.held_so b n h.run.times h.segments;
             bounds = bounds_kept_lem.held_so b n h.bounds;
           };
       released_so = λ b n is held h.
@@ -203,6 +227,7 @@ board_kept =
             shape = shapes_kept_lem.released_so b n h.shape;
             sources = sources_kept_lem.released_so b n h.run.devices h.sources;
             backends = claims_kept_lem.released_so b n h.run.devices h.backends;
+            segments = segments_kept_lem.released_so b n h.run.times h.segments;
             bounds = bounds_kept_lem.released_so b n h.bounds;
           };
       reset = λ b h.
@@ -211,6 +236,7 @@ board_kept =
             shape = shapes_kept_lem.reset b h.run.devices h.shape;
             sources = sources_kept_lem.reset b h.run.devices h.sources;
             backends = claims_kept_lem.reset b h.run.devices h.backends;
+            segments = segments_kept_lem.reset b h.run.times h.segments;
             bounds = bounds_kept_lem.reset b h.bounds;
           };
     }
@@ -226,6 +252,7 @@ opening_sound_board =
       shape = shapes_kept_lem.opening;
       sources = sources_kept_lem.opening;
       backends = claims_kept_lem.opening;
+      segments = segments_kept_lem.opening;
       bounds = bounds_kept_lem.opening;
     }
 

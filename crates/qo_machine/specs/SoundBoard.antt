@@ -1,6 +1,7 @@
 -- When the board of a machine is sound: what holds of it between two inputs.
 use Rattle.qo_model.specs.Board.{Board}
 use Rattle.qo_sound_bounds.specs.SoundBounds.{SoundBounds}
+use Rattle.qo_sound_bounds.specs.SoundSegments.{SoundSegments}
 use Rattle.qo_sound_bounds.specs.SoundSources.{SoundSources}
 use Rattle.qo_sound_claims.specs.SoundBackends.{SoundBackends}
 use Rattle.qo_sound_clocks.specs.ClockRuns.{SoundRun}
@@ -14,6 +15,8 @@ pub record SoundBoard (b : Board) : Type 0 where
   pub shape : SoundShape b
   -- the clock of each device goes by the one for its bus, and no other clock goes by one
   pub sources : SoundSources b
+  -- the segments of timers are sound: what a timer has counted, and the one that is open
+  pub segments : SoundSegments b
   -- the rings are sound, and so is what devices claim of rings, memory and addresses: what they name is there, and no two name the same
   pub backends : SoundBackends b
   -- there are no more objects than there may be, and it is no later than it may be
