@@ -1,0 +1,5 @@
+pub mod AptLemmas
+pub mod FactLemmas
+pub mod LawLemmas
+pub mod OwnersLemmas
+pub mod QuietLemmas
