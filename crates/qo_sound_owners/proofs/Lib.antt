@@ -1,4 +1,5 @@
 pub mod AptLemmas
+pub mod CreatableLemmas
 pub mod FactLemmas
 pub mod LawLemmas
 pub mod OwnersLemmas

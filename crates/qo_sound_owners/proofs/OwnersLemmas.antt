@@ -1,6 +1,7 @@
 -- The owners of a board, from what each object is by its type, and back; what keeps them.
 use Rattle.std.proofs.Common.{◌≡◌, refl, ap, sym, ◌∙◌, ℕ, Bool, true, false, eqb, List, codes, Option, Some, None, option_map, option_and_then, is_some, Result, Ok, Err}
 use Rattle.std.specs.Option.{option_map_or}
+use Rattle.std.specs.Str.{bytes_eq}
 use Rattle.std.proofs.lemmas.Option.{same_Some}
 use Rattle.qo_values.specs.Registers.{Registers}
 use Rattle.qo_values.specs.declared.births.TheConstants.{MACHINE_BIRTH}
@@ -25,9 +26,11 @@ use Rattle.qo_sound_clocks.specs.RegistersKept.{registers_set}
 use Rattle.qo_sound_clocks.proofs.StepsLemmas.{kept-written}
 use Rattle.qo_sound_devices.specs.SoundDevices.{SoundDevices}
 use Rattle.qo_sound_devices.specs.SoundPlaces.{path_of, stands}
+use Rattle.qo_sound_devices.proofs.DevicesLawLemmas.{devices_kept_lem}
 use Rattle.qo_sound_shapes.proofs.BoardLemmas.{all-same, AllOf}
 use Rattle.qo_sound_owners.specs.SoundOwners.{containers, SoundOwners}
 use Rattle.qo_sound_owners.proofs.AptLemmas.{apt-body, apt-changed, apt-opening, apt-plug, apt-slots, Apt}
+use Rattle.qo_sound_owners.proofs.CreatableLemmas.{Creatable, creatable-acted, creatable-beside, creatable-changed, creatable-detach, creatable-opening, creatable-plug, creatable-registers, creatable-set, firm-devices}
 use Rattle.qo_sound_owners.proofs.FactLemmas.{fact-act, fact-detach, fact-registers, fact-set}
 
 of-record : (b : Board) (x : ℕ) (r : Record) (name : List ℕ) → record_of b x ≡ Some r → is_of b name x ≡ is_a r.kind name
@@ -44,8 +47,8 @@ owners-all b h x r e =
       ),
     )
 
-all-owners : (b : Board) → AllOf Apt b → SoundOwners b
-all-owners b h = record { paths = paths; shelves = shelves; lone = lone }
+all-owners : (b : Board) → Creatable b → AllOf Apt b → SoundOwners b
+all-owners b objects h = record { objects = objects; paths = paths; shelves = shelves; lone = lone }
   where
     paths : (d : ℕ) (path : List ℕ) → path_of b d ≡ Some path → is_of b (codes "device") d ≡ true
     paths d path e = go (record_of b d) refl
@@ -73,20 +76,21 @@ all-owners b h = record { paths = paths; shelves = shelves; lone = lone }
             sym (found-birth n b.records r q) ∙ (h n r q).1.1 (same_Some r.kind Machine (sym (ap (option_map (λ (y : Record). y.kind)) q) ∙ e))
 
 pub opening-owners : SoundOwners opening_board
-opening-owners = all-owners opening_board apt-opening
+opening-owners = all-owners opening_board creatable-opening apt-opening
 
 pub same-owners : (b c : Board) → c.records ≡ b.records → SoundOwners b → SoundOwners c
-same-owners b c e h = all-owners c (all-same Apt b c e (owners-all b h))
+same-owners b c e h = all-owners c (creatable-beside b c e h.objects) (all-same Apt b c e (owners-all b h))
 
 pub acted-owners : (act : Act) (n period : ℕ) (b : Board) → SoundOwners b → SoundOwners (acted act n period b)
-acted-owners act n period b h = all-owners (acted act n period b) (fact-act Apt apt-slots apt-body act n period b (owners-all b h))
+acted-owners act n period b h = all-owners (acted act n period b) (creatable-acted act n period b h.objects) (fact-act Apt apt-slots apt-body act n period b (owners-all b h))
 
 pub registers-owners : (b : Board) (n : ℕ) (registers : Registers) → SoundOwners b → SoundOwners (registers_set b n registers)
-registers-owners b n registers h = all-owners (registers_set b n registers) (fact-registers Apt apt-slots apt-body b n registers (owners-all b h))
+registers-owners b n registers h = all-owners (registers_set b n registers) (creatable-registers b n registers h.objects) (fact-registers Apt apt-slots apt-body b n registers (owners-all b h))
 
 -- values of clocks
-set-owners : (n : ℕ) (name : List ℕ) (v : Val) (b : Board) → SoundOwners b → SoundOwners (set_named n name v b)
-set-owners n name v b h = all-owners (set_named n name v b) (fact-set Apt apt-slots apt-body n name v b (owners-all b h))
+set-owners : (n : ℕ) (name : List ℕ) (v : Val) → bytes_eq name (codes "slot") ≡ false → bytes_eq name (codes "realized") ≡ false → (b : Board)
+    → SoundOwners b → SoundOwners (set_named n name v b)
+set-owners n name v slot mark b h = all-owners (set_named n name v b) (creatable-set n name v slot mark b h.objects) (fact-set Apt apt-slots apt-body n name v b (owners-all b h))
 
 pub clock_set-owners : (b d : Board) (c period : ℕ) → clock_set b c period ≡ Ok d → SoundOwners b → SoundOwners d
 clock_set-owners b d c period e h = go (is_some (source_of b c)) refl
@@ -96,7 +100,7 @@ clock_set-owners b d c period e h = go (is_some (source_of b c)) refl
 
     go : (t : Bool) → is_some (source_of b c) ≡ t → SoundOwners d
     go true p = absurd (let clash : Err E45 ≡ Ok d = rw (clock_set, p) at e in cc)
-    go false p = kept-written SoundOwners acted-owners b new d c (set-owners c (codes "period") (val.Uint period) b h) (rw (clock_set, p) at e)
+    go false p = kept-written SoundOwners acted-owners b new d c (set-owners c (codes "period") (val.Uint period) refl refl b h) (rw (clock_set, p) at e)
 
 pub clock_scaled-owners : (b d : Board) (c mul div : ℕ) → clock_scaled b c mul div ≡ Ok d → SoundOwners b → SoundOwners d
 clock_scaled-owners b d c mul div e h = go (eqb div 0) refl
@@ -111,14 +115,15 @@ clock_scaled-owners b d c mul div e h = go (eqb div 0) refl
     go true p = absurd (let clash : Err E46 ≡ Ok d = rw (clock_scaled, p) at e in cc)
     go false p =
         kept-written SoundOwners acted-owners b new d c
-        (set-owners c (codes "div") (val.Uint div) mid (set-owners c (codes "mul") (val.Uint mul) b h)) (rw (clock_scaled, p) at e)
+        (set-owners c (codes "div") (val.Uint div) refl refl mid (set-owners c (codes "mul") (val.Uint mul) refl refl b h)) (rw (clock_scaled, p) at e)
 
 -- what changes objects
 pub changed-owners : (b : Board) (change : Change) → SoundDevices b → SoundOwners b → SoundOwners (changed b change)
-changed-owners b change devices h = all-owners (changed b change) (apt-changed b change (owners-all b h))
+changed-owners b change devices h = all-owners (changed b change) (creatable-changed b change devices h.objects) (apt-changed b change (owners-all b h))
 
 pub plug-owners : (b : Board) (a : Wanted) → SoundDevices b → SoundOwners b → SoundOwners (plug b a).board
-plug-owners b a devices h = all-owners (plug b a).board (apt-plug b a devices (owners-all b h))
+plug-owners b a devices h = all-owners (plug b a).board (creatable-plug b a devices h.objects) (apt-plug b a devices (owners-all b h))
 
 pub detach-owners : (b : Board) (d : ℕ) → SoundDevices b → stands b d ≡ true → SoundOwners b → SoundOwners (detach b d)
-detach-owners b d devices e h = all-owners (detach b d) (fact-detach Apt apt-slots apt-body b d (owners-all b h))
+detach-owners b d devices e h =
+    all-owners (detach b d) (creatable-detach b d (firm-devices (detach b d) (devices_kept_lem.detached b d devices e)) h.objects) (fact-detach Apt apt-slots apt-body b d (owners-all b h))
