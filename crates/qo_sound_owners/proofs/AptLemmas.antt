@@ -1,8 +1,7 @@
 -- What an object is by its type alone: who has a kept path, and which births are those of a container and of the machine.
-use Rattle.std.proofs.Common.{◌≡◌, refl, ap, sym, subst, ◌∙◌, rules, ℕ, ◌+◌, ◌&&◌, ◌||◌, ◌==◌, Bool, true, false, not, List, [], ◌∷◌, codes, Option, Some, None, is_some, option_map, option_and_then}
+use Rattle.std.proofs.Common.{◌≡◌, refl, ap, sym, subst, ◌∙◌, rules, ℕ, ◌+◌, ◌&&◌, ◌||◌, ◌==◌, Bool, true, false, not, List, codes, Option, Some, None, is_some, option_map}
 use Rattle.std.specs.Bool.{⊤}
 use Rattle.std.specs.List.{AllByRecursion}
-use Rattle.std.specs.Option.{option_map_or}
 use Rattle.std.proofs.lemmas.Bool.{and_parts, eqb-true}
 use Rattle.std.proofs.lemmas.Option.{same_Some}
 use Rattle.qo_values.specs.Registers.{Registers}
@@ -11,7 +10,7 @@ use Rattle.qo_values.specs.declared.codes.Code.{Code}
 use Rattle.qo_values.specs.declared.codes.Code.TheVariants.{E21, E22}
 use Rattle.qo_values.specs.declared.kinds.TypeId.{TypeId}
 use Rattle.qo_values.specs.declared.kinds.TypeId.TheVariants.{Object, Container, Machine, Device, SlotDevice, SlotUart, SlotTimer, SlotBridge, MemDimm, Bus, SlotBus, MemBus, Clock, MemoryBackend, MemoryBackendRam, Tag}
-use Rattle.qo_model.specs.Board.{Board, Record, kind_of, record_of}
+use Rattle.qo_model.specs.Board.{Board, Record, record_of}
 use Rattle.qo_model.specs.Depth.{among}
 use Rattle.qo_model.specs.FinalNotesRuns.{Change, added, changed, deleted, severed, wrote}
 use Rattle.qo_model.specs.Objects.{Given, added_as, added_by, barred, object_add, refusal_of}
@@ -130,10 +129,15 @@ abbrev is_machine : TypeId → Bool
 is_machine Machine = true
 is_machine t = false
 
+abbrev on_shelf : Record → Bool
+on_shelf r = not (is_container r.kind) || among containers r.birth
+
+abbrev is_lone : Record → Bool
+is_lone r = not (is_machine r.kind) || r.birth == MACHINE_BIRTH
+
 abbrev fits : Record → Bool
 fits r =
-    not (is_some r.kept_path)
-    && ((not (is_container r.kind) || among containers r.birth) && (not (is_machine r.kind) || r.birth == MACHINE_BIRTH))
+    not (is_some r.kept_path) && (on_shelf r && is_lone r)
 
 all-fit : AllByRecursion (λ (r : Record). fits r ≡ true) opening_board.records
 unfolding opening_board types
@@ -141,8 +145,8 @@ all-fit = search rules
 
 apt-fits : (r : Record) → fits r ≡ true → Apt r
 apt-fits r f =
-    let (none, rest) = and_parts (not (is_some r.kept_path)) ((not (is_container r.kind) || among containers r.birth) && (not (is_machine r.kind) || r.birth == MACHINE_BIRTH)) f in
-    let (shelf, lone) = and_parts (not (is_container r.kind) || among containers r.birth) (not (is_machine r.kind) || r.birth == MACHINE_BIRTH) rest in (
+    let (none, rest) = and_parts (not (is_some r.kept_path)) (on_shelf r && is_lone r) f in
+    let (shelf, lone) = and_parts (on_shelf r) (is_lone r) rest in (
       λ path e. absurd (let its : is_some r.kept_path ≡ true = ap is_some e in let clash : false ≡ true = rw its at none in cc),
       (
         λ k. let its : is_container r.kind ≡ true = ap is_container k in rw its at shelf,
@@ -217,7 +221,8 @@ apt-with_plugged b a t bus devices k h =
         record {
           apt = drawn x r e;
           device = λ own.
-              let there : record_of (drafted b t) (b.born + 1) ≡ Some r = ap (record_of (drafted b t)) (sym own ∙ found-birth x (drafted b t).records r e) ∙ e in
+              let there : record_of (drafted b t) (b.born + 1) ≡ Some r =
+              ap (record_of (drafted b t)) (sym own ∙ found-birth x (drafted b t).records r e) ∙ e in
               let kind : r.kind ≡ t = same_Some r.kind t (sym (ap (option_map (λ (y : Record). y.kind)) there) ∙ made.kind) in
               ap (λ (y : TypeId). is_a y (codes "device")) kind ∙ k.device;
         }

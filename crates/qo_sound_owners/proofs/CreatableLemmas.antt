@@ -1,10 +1,9 @@
 -- What stands in `/objects` is of a type of objects that a user creates: what keeps it so.
-use Rattle.std.proofs.Common.{◌≡◌, refl, ap, sym, subst, ◌∙◌, rules, nat_eq, ℕ, zero, suc, ◌+◌, ◌≤◌, ◌==◌, Bool, true, false, not, List, [], ◌∷◌, ◌++◌, filter_map, map, length, codes, arith, Option, Some, None, is_some, option_map}
+use Rattle.std.proofs.Common.{◌≡◌, refl, ap, sym, subst, ◌∙◌, rules, ℕ, zero, suc, ◌+◌, ◌==◌, Bool, true, false, List, [], ◌∷◌, ◌++◌, filter_map, map, length, codes, arith, Option, Some, None, is_some, option_map}
 use Rattle.std.specs.Bool.{⊤}
-use Rattle.std.specs.List.{AllByRecursion, list_any}
+use Rattle.std.specs.List.{AllByRecursion}
 use Rattle.std.specs.Option.{option_map_or, option_or}
-use Rattle.std.proofs.lemmas.Bool.{eq-eqb, eqb-true}
-use Rattle.std.proofs.lemmas.Option.{same_Some}
+use Rattle.std.proofs.lemmas.Bool.{eq-eqb}
 use Rattle.std.specs.Str.{bytes_eq}
 use Rattle.qo_values.specs.Registers.{Registers, fresh_registers}
 use Rattle.qo_values.specs.declared.births.TheConstants.{OBJECTS_BIRTH}
@@ -209,7 +208,8 @@ module _ (b : Board) (d : ℕ) where
 
   pub creatable-detach : Firm (detach b d) → Creatable b → Creatable (detach b d)
   creatable-detach firm h =
-      creatable-thin (unrealize (pin b d) d) (detach b d) firm (thin-walked (Keeps (pin b d) (unrealize (pin b d) d) dims d) (unrealize (pin b d) d) (detach b d) walked)
+      creatable-thin (unrealize (pin b d) d) (detach b d) firm
+      (thin-walked (Keeps (pin b d) (unrealize (pin b d) d) dims d) (unrealize (pin b d) d) (detach b d) walked)
       (creatable-same b (unrealize (pin b d) d) (λ x. kind-alike (pin b d) (unrealize (pin b d) d) x (dims.body x) ∙ pin-kind x)
       (dims.children OBJECTS_BIRTH ∙ pin-children) h)
 
@@ -265,7 +265,8 @@ module _ (b : Board) (t : TypeId) (id : List ℕ) (props : List Given) where
 
   kind-new : record_of b (b.born + 1) ≡ None → kind_of (with_object b t id props) (b.born + 1) ≡ Some t
   kind-new e =
-      let its : found_at (b.born + 1) (new ∷ []) ≡ Some new = (let own : (new.birth == b.born + 1) ≡ true = eq-eqb (b.born + 1) (b.born + 1) refl in rw own refl) in
+      let own : (new.birth == b.born + 1) ≡ true = eq-eqb (b.born + 1) (b.born + 1) refl in
+      let its : found_at (b.born + 1) (new ∷ []) ≡ Some new = rw own refl in
       ap (option_map (λ (r : Record). r.kind)) (none-old (b.born + 1) e ∙ its)
 
   absent : Firm b → record_of b (b.born + 1) ≡ None
@@ -310,7 +311,8 @@ pub creatable-changed : (b : Board) (change : Change) → SoundDevices b → Cre
 creatable-changed b (deleted id) devices h =
     creatable-deleted b id (firm-devices (object_del b id).board (devices_kept_lem.change b (deleted id) devices)) h
 creatable-changed b (wrote n name v) devices h =
-    creatable-wrote b n name v (firm-devices b devices) (firm-devices (behind_write b (write b n name v)) (devices_kept_lem.change b (wrote n name v) devices)) h
+    creatable-wrote b n name v (firm-devices b devices)
+    (firm-devices (behind_write b (write b n name v)) (devices_kept_lem.change b (wrote n name v) devices)) h
 creatable-changed b (severed n) devices h =
     creatable-severed b n (firm-devices (sever b n).board (devices_kept_lem.change b (severed n) devices)) h
 creatable-changed b (added driver id props) devices h = go (row_named driver) refl

@@ -87,7 +87,8 @@ module _ (Q : Record → Type 0) (slots : (r s : Record) → without_slots s ≡
   pub fact-detach : (b : Board) (d : ℕ) → AllOf Q b → AllOf Q (detach b d)
   fact-detach b d h =
       step-detach (AllOf Q) fact-edits fact-pins fact-ends b d
-      (step-unrealize (λ n. ⊤) (AllOf Q) fact-edits fact-acted fact-lists (pin b d) (λ x. all-any (buses_of (pin b d) x)) (λ m. all-any (kids_of (pin b d) m)) d tt
+      (step-unrealize (λ n. ⊤) (AllOf Q) fact-edits fact-acted fact-lists (pin b d)
+      (λ x. all-any (buses_of (pin b d) x)) (λ m. all-any (kids_of (pin b d) m)) d tt
       (step-pin (AllOf Q) fact-edits fact-pins fact-ends d b h))
 
   -- a device that was made is added
@@ -95,7 +96,8 @@ module _ (Q : Record → Type 0) (slots : (r s : Record) → without_slots s ≡
   fact-counted None c h = h
   fact-counted (Some id) c h = h
 
-  pub fact-plugged : (b : Board) (t : TypeId) (a : Wanted) (spot : Spot) → ((path : Option (List ℕ)) (r : Record) → r.birth ≡ b.born + 1 → Q r → Q (with_path path r))
+  pub fact-plugged : (b : Board) (t : TypeId) (a : Wanted) (spot : Spot)
+      → ((path : Option (List ℕ)) (r : Record) → r.birth ≡ b.born + 1 → Q r → Q (with_path path r))
       → AllOf Q (drafted b t) → AllOf Q (with_plugged b t a spot)
   fact-plugged b t a spot told h =
       all-edit Q n (with_path (canonical c n)) (λ r. refl) c (λ r e own k. told (canonical c n) r own k)
@@ -103,7 +105,8 @@ module _ (Q : Record → Type 0) (slots : (r s : Record) → without_slots s ≡
       (step-acted_all (λ n. ⊤) (AllOf Q) fact-acted Realize refl (n ∷ bus_births n t) (all-any (n ∷ bus_births n t)) (with_device b t a spot)
       (fact-counted a.id (clocked (source_for b spot.bus) n (stood b n a spot (drafted b t)))
       (step-stood (AllOf Q) fact-edits b n a spot
-      (λ e k. all-edit Q n (with_body_of a.id spot.range) (λ r. refl) e (λ r q own w. body (registers_on spot.range r.registers) a.id r w) k) (drafted b t) h))))
+      (λ e k.
+      all-edit Q n (with_body_of a.id spot.range) (λ r. refl) e (λ r q own w. body (registers_on spot.range r.registers) a.id r w) k) (drafted b t) h))))
     where
       n : ℕ
       n = b.born + 1

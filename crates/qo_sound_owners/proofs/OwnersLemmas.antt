@@ -1,5 +1,5 @@
 -- The owners of a board, from what each object is by its type, and back; what keeps them.
-use Rattle.std.proofs.Common.{◌≡◌, refl, ap, sym, ◌∙◌, ℕ, Bool, true, false, eqb, List, codes, Option, Some, None, option_map, option_and_then, is_some, Result, Ok, Err}
+use Rattle.std.proofs.Common.{◌≡◌, refl, ap, sym, ◌∙◌, ℕ, Bool, true, false, eqb, List, codes, Option, Some, None, option_map, option_and_then, is_some, Ok, Err}
 use Rattle.std.specs.Option.{option_map_or}
 use Rattle.std.specs.Str.{bytes_eq}
 use Rattle.std.proofs.lemmas.Option.{same_Some}
@@ -82,15 +82,19 @@ pub same-owners : (b c : Board) → c.records ≡ b.records → SoundOwners b �
 same-owners b c e h = all-owners c (creatable-beside b c e h.objects) (all-same Apt b c e (owners-all b h))
 
 pub acted-owners : (act : Act) (n period : ℕ) (b : Board) → SoundOwners b → SoundOwners (acted act n period b)
-acted-owners act n period b h = all-owners (acted act n period b) (creatable-acted act n period b h.objects) (fact-act Apt apt-slots apt-body act n period b (owners-all b h))
+acted-owners act n period b h =
+    all-owners (acted act n period b) (creatable-acted act n period b h.objects) (fact-act Apt apt-slots apt-body act n period b (owners-all b h))
 
 pub registers-owners : (b : Board) (n : ℕ) (registers : Registers) → SoundOwners b → SoundOwners (registers_set b n registers)
-registers-owners b n registers h = all-owners (registers_set b n registers) (creatable-registers b n registers h.objects) (fact-registers Apt apt-slots apt-body b n registers (owners-all b h))
+registers-owners b n registers h =
+    all-owners (registers_set b n registers) (creatable-registers b n registers h.objects)
+    (fact-registers Apt apt-slots apt-body b n registers (owners-all b h))
 
 -- values of clocks
 set-owners : (n : ℕ) (name : List ℕ) (v : Val) → bytes_eq name (codes "slot") ≡ false → bytes_eq name (codes "realized") ≡ false → (b : Board)
     → SoundOwners b → SoundOwners (set_named n name v b)
-set-owners n name v slot mark b h = all-owners (set_named n name v b) (creatable-set n name v slot mark b h.objects) (fact-set Apt apt-slots apt-body n name v b (owners-all b h))
+set-owners n name v slot mark b h =
+    all-owners (set_named n name v b) (creatable-set n name v slot mark b h.objects) (fact-set Apt apt-slots apt-body n name v b (owners-all b h))
 
 pub clock_set-owners : (b d : Board) (c period : ℕ) → clock_set b c period ≡ Ok d → SoundOwners b → SoundOwners d
 clock_set-owners b d c period e h = go (is_some (source_of b c)) refl
@@ -126,4 +130,6 @@ plug-owners b a devices h = all-owners (plug b a).board (creatable-plug b a devi
 
 pub detach-owners : (b : Board) (d : ℕ) → SoundDevices b → stands b d ≡ true → SoundOwners b → SoundOwners (detach b d)
 detach-owners b d devices e h =
-    all-owners (detach b d) (creatable-detach b d (firm-devices (detach b d) (devices_kept_lem.detached b d devices e)) h.objects) (fact-detach Apt apt-slots apt-body b d (owners-all b h))
+    all-owners (detach b d)
+    (creatable-detach b d (firm-devices (detach b d) (devices_kept_lem.detached b d devices e)) h.objects)
+    (fact-detach Apt apt-slots apt-body b d (owners-all b h))

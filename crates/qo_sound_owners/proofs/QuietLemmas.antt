@@ -1,4 +1,4 @@
--- What acts keep, and what changes none of the objects: holds keep it, and so does a removal that is asked for. What devices that go keep too, the reset of the whole board keeps.
+-- What acts keep, and what changes none of the objects, holds keep. What devices that go keep too, the reset of the whole board keeps.
 use Rattle.std.proofs.Common.{◌≡◌, refl, ℕ, zero, suc, Bool, true, false, List, [], ◌∷◌, ◌++◌, filter, length, Option, Some, None, is_some}
 use Rattle.qo_values.specs.declared.births.TheConstants.{MACHINE_BIRTH}
 use Rattle.qo_values.specs.declared.kinds.Act.{Act}

@@ -9,16 +9,17 @@ use Rattle.qo_model.specs.Paths.{is_of}
 use Rattle.qo_sound_devices.specs.SoundPlaces.{child_entries, path_of}
 use Rattle.qo_sound_phases.specs.SoundPhases.{LoneMachine}
 
--- the containers of the machine
+-- the containers of the machine: `/`, the containers of devices with an id and without, and `/objects`
 abbrev pub containers : List ℕ
 containers = ROOT_BIRTH ∷ PERIPHERAL_BIRTH ∷ ANONYMOUS_BIRTH ∷ OBJECTS_BIRTH ∷ []
 
 -- the owners are sound
 pub record SoundOwners (b : Board) : Type 0 where
-  -- what stands in `/objects` is of a type of objects that a user creates
+  -- what stands in `/objects` is of the interface of objects that a user creates
   pub objects : AllByRecursion (λ (e : List ℕ × ℕ). is_of b (codes "user-creatable") e.1 ≡ true) (child_entries b OBJECTS_BIRTH)
   -- only a device has a path that is kept for its end
   pub paths : (d : ℕ) (path : List ℕ) → path_of b d ≡ Some path → is_of b (codes "device") d ≡ true
-  -- there are no containers but those of the machine, and there is one machine
+  -- an object of the type of containers is one of the machine's
   pub shelves : (n : ℕ) → kind_of b n ≡ Some Container → among containers n ≡ true
+  -- there is one machine
   pub lone : LoneMachine b
