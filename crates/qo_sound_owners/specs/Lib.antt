@@ -1,0 +1,2 @@
+pub mod OwnersKept
+pub mod SoundOwners
