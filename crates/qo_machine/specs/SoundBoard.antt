@@ -5,6 +5,7 @@ use Rattle.qo_sound_bounds.specs.SoundSegments.{SoundSegments}
 use Rattle.qo_sound_bounds.specs.SoundSources.{SoundSources}
 use Rattle.qo_sound_claims.specs.SoundBackends.{SoundBackends}
 use Rattle.qo_sound_clocks.specs.ClockRuns.{SoundRun}
+use Rattle.qo_sound_owners.specs.SoundOwners.{SoundOwners}
 use Rattle.qo_sound_shapes.specs.SoundShape.{SoundShape}
 
 -- all groups of facts but those on the events, none of which waits, and on the notes of phases
@@ -13,6 +14,8 @@ pub record SoundBoard (b : Board) : Type 0 where
   pub run : SoundRun b
   -- each object is shaped as its type says
   pub shape : SoundShape b
+  -- what stands in `/objects` may be made by a user, and only devices have a path that is kept for their end
+  pub owners : SoundOwners b
   -- the clock of each device goes by the one for its bus, and no other clock goes by one
   pub sources : SoundSources b
   -- the segments of timers are sound: what a timer has counted, and the one that is open

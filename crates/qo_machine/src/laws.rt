@@ -27,8 +27,9 @@ pub fn law_final_once()
 /// of timers. So all these are sound over every run from the opening: what
 /// `qo_sound_devices::law_devices_say` says of devices, and `qo_sound_clocks::law_clocks_say` of clocks,
 /// is so of each board of it. With all these the whole of what a sound board is (`SoundBoard`): each object
-/// is shaped as its type says, each clock goes by the one for it, rings and what devices claim of rings,
-/// memory and addresses are sound, and the limits on objects and time are kept.
+/// is shaped as its type says, what stands in `/objects` may be made by a user, each clock goes by the one
+/// for it, the segments of timers are sound, and so are rings and what devices claim of rings, memory and
+/// addresses, and the limits on objects and time are kept.
 pub fn law_sound()
     ensures { SoundInRuns }
 {}

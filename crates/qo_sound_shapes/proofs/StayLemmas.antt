@@ -38,12 +38,11 @@ pub stays : (b : Board) (d : ℕ) → SoundDevices b → stands b d ≡ true →
 stays b d s e x k =
     let f : Frame b (detach b d) = frame b d s e in
     let t : SoundDevices (detach b d) = devices_kept_lem.detached b d s e in
-    let before : stands b x ≡ true = f.stood x k in
-    (
+    let before : stands b x ≡ true = f.stood x k in (
       before,
       (
         f.kind x (stands-live b (rest-from_sound b s.tree).used.firm x before)
-        (stands-live (detach b d) (rest-from_sound (detach b d) t.tree).used.firm x k),
+            (stands-live (detach b d) (rest-from_sound (detach b d) t.tree).used.firm x k),
         f.children x k,
       ),
     )
