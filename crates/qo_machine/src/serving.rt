@@ -79,7 +79,12 @@ impl Sending {
     }
 
     /// One session is told of an event, if it commands.
-    fn tell_one<E: Told>(&mut self, machine: &Machine, session: u8, event: &E) -> Result<(), AllocError>
+    fn tell_one<E: Told>(
+        &mut self,
+        machine: &Machine,
+        session: u8,
+        event: &E,
+    ) -> Result<(), AllocError>
         requires { session < SESSIONS }
         ensures moment { self.new.at ≡ self.old.at }
         ensures told { OnOk result (self.new.outs ≡ self.old.outs ++ told_of (E.event event.now) self.old.at (those_commanding (beside machine.now) (session ∷ []))) }
