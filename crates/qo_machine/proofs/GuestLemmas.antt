@@ -1,5 +1,5 @@
 -- Lines of the guest, as the machine serves them.
-use Rattle.std.proofs.Common.{◌≡◌, ℕ, Bool, false, List, [], ◌∷◌, ◌++◌, map, option_to_list, refl, sym, subst, ◌∙◌, ap, Result, Ok, IfOk}
+use Rattle.std.proofs.Common.{◌≡◌, ℕ, Bool, false, List, [], ◌∷◌, ◌++◌, map, option_to_list, refl, sym, subst, ◌∙◌, ap, Result, IfOk}
 use Rattle.qo_causes.specs.declared.hubs.Lane.TheVariants.{Guest as guest}
 use Rattle.qo_causes.specs.declared.inputs.Moment.{Moment}
 use Rattle.qo_causes.specs.declared.inputs.What.TheVariants.{Guest}

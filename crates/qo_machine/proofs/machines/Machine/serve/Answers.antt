@@ -1,5 +1,5 @@
 -- An input does what it does by itself, while the run goes on.
-use Rattle.std.proofs.Common.{[], ◌∙◌, ap, sym, refl, subst, List, OnErr}
+use Rattle.std.proofs.Common.{[], ◌∙◌, ap, sym, subst, List, OnErr}
 use Rattle.qo_causes.specs.declared.inputs.What.TheVariants.{Bytes, Guest}
 use Rattle.qo_causes.specs.declared.inputs.What.{What}
 use Rattle.qo_machine.specs.Machine.{BreaksOff, Message, State, state_at, unchanged}

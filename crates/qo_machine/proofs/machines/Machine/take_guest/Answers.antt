@@ -1,5 +1,5 @@
 -- The lines that end in the bytes are served.
-use Rattle.std.proofs.Common.{[], ◌∙◌}
+use Rattle.std.proofs.Common.{◌∙◌}
 use Rattle.qo_causes.specs.declared.inputs.What.TheVariants.{Guest}
 use Rattle.qo_machine.proofs.GuestLemmas.{served_lines}
 use Rattle.qo_machine.proofs.LeftLemmas.{breaks_before, breaks_in_lines, err_more}
