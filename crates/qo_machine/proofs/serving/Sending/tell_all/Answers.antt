@@ -8,5 +8,8 @@ pub loop-event-preserved : goal.loop-event-preserved
 loop-event-preserved c =
     record {
       moment = c.tell.ensures.moment ∙ c.loop-event.invariant.moment;
-      told = events_more c.args.self.now.at (beside c.args.machine.now) c.args.events.now c.loop-event.event-index c.event-item.result c.args.self.now.outs c.loop-event.self.outs c.tell.new.self.outs (omega arith) c.event-item.is c.loop-event.invariant.told (rw c.loop-event.invariant.moment at c.in_ok-tell.ensures.told);
+      told =
+          events_more c.args.self.now.at (beside c.args.machine.now) c.args.events.now c.loop-event.event-index c.event-item.result c.args.self.now.outs
+          c.loop-event.self.outs c.tell.new.self.outs (omega arith) c.event-item.is c.loop-event.invariant.told
+          (rw c.loop-event.invariant.moment at c.in_ok-tell.ensures.told);
     }
