@@ -62,11 +62,13 @@ item_same : (c : Choice) (at : Moment) (n : ℕ) (s : State) (item : Item) → N
 unfolding item_step
 item_same c at n s item h = made_same c at n s (act (mode_of s n) item) h
 
-line_made_same : (c : Choice) (at : Moment) (s : State) (line : List ℕ) → NoneRefused (line_made c at s line).outs → line_made c at s line ≡ line_made defined at s line
+line_made_same : (c : Choice) (at : Moment) (s : State) (line : List ℕ) → NoneRefused (line_made c at s line).outs
+    → line_made c at s line ≡ line_made defined at s line
 line_made_same defined at s line h = refl
 line_made_same (refused i joined) at s line h = absurd (h.0.1 refl)
 
-line_same : (c : Choice) (at : Moment) (s : State) (line : List ℕ) → NoneRefused (line_step c at s line).outs → line_step c at s line ≡ line_step defined at s line
+line_same : (c : Choice) (at : Moment) (s : State) (line : List ℕ) → NoneRefused (line_step c at s line).outs
+    → line_step c at s line ≡ line_step defined at s line
 unfolding line_step
 line_same c at s line h = line_made_same c at s (without_return line) h
 
@@ -85,7 +87,8 @@ next_same f xs made plain cs same h goes =
     subst (λ (m : Made). Same (behind made.outs (serve_by f xs made.state cs)) (behind m.outs (serve_by f xs m.state []))) same
     (record { outs = ap (λ (l : List Message). made.outs ++ l) (goes made.state cs h).outs; state = (goes made.state cs h).state })
 
-serve_at : {X : Type 0} (f : Choice → State → X → Made) → SameStep f → (x : X) (xs : List X) (s : State) (c : Choice) (cs : List Choice) (ended : Bool) → Goes f xs →
+serve_at : {X : Type 0} (f : Choice → State → X → Made) → SameStep f → (x : X) (xs : List X) (s : State) (c : Choice) (cs : List Choice) (ended : Bool)
+    → Goes f xs →
     NoneRefused (serve_unless ended (unchanged s (c ∷ cs)) (behind (f c s x).outs (serve_by f xs (f c s x).state cs))).outs →
     Same (serve_unless ended (unchanged s (c ∷ cs)) (behind (f c s x).outs (serve_by f xs (f c s x).state cs)))
     (serve_unless ended (unchanged s []) (behind (f defined s x).outs (serve_by f xs (f defined s x).state [])))

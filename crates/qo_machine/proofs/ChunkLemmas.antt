@@ -78,7 +78,8 @@ framing_there (s ∷ ss) (suc n) f h = framing_there ss n f h
 
 -- a negotiation keeps it
 negotiated_list : (ss : List sessions.State) (n : ℕ) (f : Framing)
-    → slice_set (framed ss n f) n (in_mode Commanding (slice_index_or (framed ss n f) n closed)) ≡ framed (slice_set ss n (in_mode Commanding (slice_index_or ss n closed))) n f
+    → slice_set (framed ss n f) n (in_mode Commanding (slice_index_or (framed ss n f) n closed))
+    ≡ framed (slice_set ss n (in_mode Commanding (slice_index_or ss n closed))) n f
 negotiated_list [] n f = refl
 negotiated_list (s ∷ ss) zero f = refl
 negotiated_list (s ∷ ss) (suc n) f = ap (λ (rest : List sessions.State). s ∷ rest) (negotiated_list ss n f)
@@ -389,7 +390,8 @@ bytes_two n s at a b cs = by_end s.ended refl
     by_mode : (t : Bool) → s.ended ≡ false → nat_lt n SESSIONS ≡ true → is_open (mode_of s n) ≡ t → InTwo (Bytes n) s at a b cs
     by_mode true going below takes = open_two s at n a b cs going below takes
     by_mode false going below shut =
-        nothing_two s _ _ _ cs (step_closed s at n (a ++ b) cs going below shut) (step_closed s at n a cs going below shut) (step_closed s at n b cs going below shut)
+        nothing_two s _ _ _ cs (step_closed s at n (a ++ b) cs going below shut) (step_closed s at n a cs going below shut)
+        (step_closed s at n b cs going below shut)
 
     by_number : (t : Bool) → s.ended ≡ false → nat_lt n SESSIONS ≡ t → InTwo (Bytes n) s at a b cs
     by_number true going below = by_mode (is_open (mode_of s n)) going below refl
@@ -463,11 +465,13 @@ guest_on s at bytes cs going = step_on s (input at (Guest bytes)) (Guest bytes) 
 
 -- the lines of the first of two pieces are served from the state before them, and of the second from there
 guest_still : (s : State) (at : Moment) (line bytes : List ℕ) (cs : List Choice)
-    → step (still_by (lined line) s) (input at (Guest bytes)) cs ≡ step_by_put (lined (lines_of line bytes).rest) (serve_lines at (lines_of line bytes).lines s cs)
+    → step (still_by (lined line) s) (input at (Guest bytes)) cs
+    ≡ step_by_put (lined (lines_of line bytes).rest) (serve_lines at (lines_of line bytes).lines s cs)
 guest_still s at line bytes cs = go s.ended refl
   where
     go : (e : Bool) → s.ended ≡ e
-        → step (still_by (lined line) s) (input at (Guest bytes)) cs ≡ step_by_put (lined (lines_of line bytes).rest) (serve_lines at (lines_of line bytes).lines s cs)
+        → step (still_by (lined line) s) (input at (Guest bytes)) cs
+        ≡ step_by_put (lined (lines_of line bytes).rest) (serve_lines at (lines_of line bytes).lines s cs)
     go true over =
         ap (λ (t : State). step t (input at (Guest bytes)) cs) (still_on_by (lined line) s true over) ∙ step_ended s (input at (Guest bytes)) cs over
         ∙ sym (stopped_still (by_line at) (lined (lines_of line bytes).rest) (lines_of line bytes).lines s cs over)
@@ -510,7 +514,8 @@ guest_uses s at bytes cs = by_end s.ended refl
 -- one step, by its choices, comes to what two come to
 abbrev AsTwo : (List ℕ → What) → State → Moment → List ℕ → List ℕ → List Choice → List Choice → List Choice → Type 0
 AsTwo piece s at a b choices one two =
-    step s (input at (piece (a ++ b))) choices ≡ behind (step s (input at (piece a)) one).outs (step (step s (input at (piece a)) one).state (input at (piece b)) two)
+    step s (input at (piece (a ++ b))) choices ≡ behind (step s (input at (piece a)) one).outs
+    (step (step s (input at (piece a)) one).state (input at (piece b)) two)
 
 outs_same : (piece : List ℕ → What) (s : State) (at : Moment) (a b : List ℕ) (choices one two : List Choice) (later : List Turn)
     → AsTwo piece s at a b choices one two
@@ -548,8 +553,11 @@ cut_anywhere piece two uses before later at a b = (
       (cs, left, run_same piece before later at a b cs cs left (two s at a b cs)),
   λ one other.
       let s = state_after opening before in
-      let u = uses s at a one in
-      (u.0 ++ other, run_same piece before later at a b (u.0 ++ other) one other (two s at a b (u.0 ++ other) ∙ ap (then_step (input at (piece b))) (u.1 other))),
+      let u = uses s at a one in (
+        u.0 ++ other,
+        run_same piece before later at a b (u.0 ++ other) one other
+            (two s at a b (u.0 ++ other) ∙ ap (then_step (input at (piece b))) (u.1 other)),
+      ),
 )
 
 pub chunks_are_free : ChunksAreFree

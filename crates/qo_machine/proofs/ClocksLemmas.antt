@@ -68,7 +68,8 @@ registers_run b d reg value registers e is h =
       numbers = registers_kept_lem.numbers b d registers h.numbers;
       times =
           registers_kept_lem.times b d registers
-          (times_kept_lem.wrote (registers_at b d) registers e reg value (is_some (claimed_ring b d)) b.now (device_period b d) is (registers-timely b d h.times)) h.times;
+          (times_kept_lem.wrote (registers_at b d) registers e reg value (is_some (claimed_ring b d)) b.now (device_period b d) is
+          (registers-timely b d h.times)) h.times;
     }
 
 pub pulsed_run : (b : Board) (m : ℕ) → SoundRun b → SoundRun (pulse b m)

@@ -1,5 +1,5 @@
 -- Lines of the guest, as the machine serves them.
-use Rattle.std.proofs.Common.{◌≡◌, ℕ, Bool, false, List, [], ◌∷◌, ◌++◌, map, option_to_list, refl, sym, subst, ◌∙◌, ap, Result, Ok, IfOk}
+use Rattle.std.proofs.Common.{◌≡◌, ℕ, Bool, false, List, [], ◌∷◌, ◌++◌, map, option_to_list, refl, sym, subst, ◌∙◌, ap, Result, IfOk}
 use Rattle.qo_causes.specs.declared.hubs.Lane.TheVariants.{Guest as guest}
 use Rattle.qo_causes.specs.declared.inputs.Moment.{Moment}
 use Rattle.qo_causes.specs.declared.inputs.What.TheVariants.{Guest}
@@ -36,7 +36,8 @@ line_in m mid drained to line r came still empties stays move same b stands =
 
 -- what a line makes by what is done of it
 line_is : (at : Moment) (s : State) (line : List ℕ) (outs : List Message)
-    → (event_outs at s (map event_of (heard s.board (without_return line)).board.events ++ (heard s.board (without_return line)).events) ++ (guest, answer_line (heard s.board (without_return line)).answer) ∷ []) ≡ outs
+    → (event_outs at s (map event_of (heard s.board (without_return line)).board.events ++ (heard s.board (without_return line)).events)
+    ++ (guest, answer_line (heard s.board (without_return line)).answer) ∷ []) ≡ outs
     → line_step defined at s line ≡ record { outs = outs; state = behind_line s (heard s.board (without_return line)) }
 unfolding line_step
 line_is at s line outs is =

@@ -400,7 +400,8 @@ serve_board_by : {X : Type 0} (P : Board → Type 0) (f : Choice → State → X
     → P (serve_by f xs s cs).state.board
 serve_board_by P f keeps [] s cs p = p
 serve_board_by P f keeps (x ∷ xs) s cs p =
-    unless_board P s.ended (unchanged s cs) (behind (f (first cs) s x).outs (serve_by f xs (f (first cs) s x).state (others cs))) p (serve_board_by P f keeps xs (f (first cs) s x).state (others cs) (keeps (first cs) s x p))
+    unless_board P s.ended (unchanged s cs) (behind (f (first cs) s x).outs (serve_by f xs (f (first cs) s x).state (others cs))) p
+    (serve_board_by P f keeps xs (f (first cs) s x).state (others cs) (keeps (first cs) s x p))
 
 serve_board : (P : Board → Type 0) → KeepsCommands P → (items : List Item) (at : Moment) (n : ℕ) (s : State) (cs : List Choice) → P s.board
     → P (serve at n items s cs).state.board

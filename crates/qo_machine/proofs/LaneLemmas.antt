@@ -4,7 +4,6 @@ use Rattle.std.proofs.lemmas.Bool.{ltb-true}
 use Rattle.std.proofs.lemmas.Grind.{flat_map-append}
 use Rattle.qo_values.specs.declared.limits.TheConstants.{SESSIONS}
 use Rattle.qo_causes.specs.declared.hubs.Lane.{Lane}
-use Rattle.qo_causes.specs.declared.hubs.Lane.TheVariants.{Session}
 use Rattle.qo_causes.specs.declared.inputs.Moment.{Moment}
 use Rattle.qo_causes.specs.declared.inputs.What.{What}
 use Rattle.qo_causes.specs.declared.inputs.What.TheVariants.{Open, Bytes, Shut, Guest as GuestLine, Step, End}
@@ -41,7 +40,8 @@ all_told : (k : ℕ) (s : State) (e : Event) (at : Moment) → k ≤ SESSIONS �
 all_told zero s e at few = tt
 all_told (suc k) s e at few =
     subst AreToLanes (sym (told_more s e at (numbers_below k) (k ∷ [])))
-    (lanes_more (told_of e at (those_commanding s (numbers_below k))) (told_of e at (those_commanding s (k ∷ []))) (all_told k s e at (omega arith)) (one_told s e at k (is_commanding (mode_of s k)) (omega arith) refl))
+    (lanes_more (told_of e at (those_commanding s (numbers_below k))) (told_of e at (those_commanding s (k ∷ []))) (all_told k s e at (omega arith))
+    (one_told s e at k (is_commanding (mode_of s k)) (omega arith) refl))
 
 events_told : (es : List Event) (s : State) (at : Moment) → AreToLanes (event_outs at s es)
 events_told [] s at = tt
@@ -70,7 +70,8 @@ serve_lanes_by : {X : Type 0} (f : Choice → State → X → Made) → ((choice
 serve_lanes_by f each [] s cs = tt
 serve_lanes_by f each (x ∷ xs) s cs =
     unless_lanes s.ended (unchanged s cs) (behind (f (first cs) s x).outs (serve_by f xs (f (first cs) s x).state (others cs))) tt
-    (lanes_more (f (first cs) s x).outs (serve_by f xs (f (first cs) s x).state (others cs)).outs (each (first cs) s x) (serve_lanes_by f each xs (f (first cs) s x).state (others cs)))
+    (lanes_more (f (first cs) s x).outs (serve_by f xs (f (first cs) s x).state (others cs)).outs (each (first cs) s x)
+    (serve_lanes_by f each xs (f (first cs) s x).state (others cs)))
 
 items_lanes : (items : List Item) (at : Moment) (n : ℕ) (s : State) (cs : List Choice) → n < SESSIONS → AreToLanes (serve at n items s cs).outs
 items_lanes items at n s cs below = serve_lanes_by (by_item at n) (λ choice t item. item_lanes choice at n t item below) items s cs

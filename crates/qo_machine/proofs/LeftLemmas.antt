@@ -56,7 +56,8 @@ pub front_unheeded : (at : Moment) (n : ℕ) (m to : Seen) (items : List Item) �
     → IsIn s m → ServesFront at n s items to
 front_unheeded at n m to items move same s here =
     by_board (λ (x : State). ServesFront at n x items to) m
-    (λ b stands. front_none_by (by_item at n) (state_at b m) items to (subst (λ (x : State). IsIn x to) (move b) (in_at b to (subst (Stands b) (sym same) stands)))) s here
+    (λ b stands. front_none_by (by_item at n) (state_at b m) items to
+    (subst (λ (x : State). IsIn x to) (move b) (in_at b to (subst (Stands b) (sym same) stands)))) s here
 
 -- a refused item, and a negotiation, whose reply is lost
 pub front_answer : (at : Moment) (n : ℕ) (m to : Seen) (items : List Item) (code : Code) (id : Option (List ℕ))
@@ -70,7 +71,8 @@ front_negotiation at n m to item id going is move same s here =
     by_board (λ (x : State). ServesFront at n x (item ∷ []) to) m
     (λ b stands.
     front_one_by (by_item at n) (state_at b m) item defined to going
-    (item_by at n (state_at b m) item defined (Negotiated id) to (is b) (subst (λ (x : State). IsIn x to) (move b) (in_at b to (subst (Stands b) (sym same) stands))))) s here
+    (item_by at n (state_at b m) item defined (Negotiated id) to (is b)
+    (subst (λ (x : State). IsIn x to) (move b) (in_at b to (subst (Stands b) (sym same) stands))))) s here
 
 -- a command, whose reply is lost
 pub front_command : (at : Moment) (n : ℕ) (m mid to : Seen) (item : Item) (request : Request) (id : Option (List ℕ)) → m.ended ≡ false

@@ -132,7 +132,8 @@ pub serves_more_by : {X : Type 0} (f : Choice → State → X → Made) (s t u :
 serves_more_by f s t u xs ys a b p q = (
   p.0 ++ q.0,
   λ further rest.
-      rw (append_assoc xs ys further, append_assoc p.0 q.0 rest) (p.1 (ys ++ further) (q.0 ++ rest) ∙ ap (behind a) (q.1 further rest) ∙ behind_twice a b (serve_by f further u rest)),
+      rw (append_assoc xs ys further, append_assoc p.0 q.0 rest)
+      (p.1 (ys ++ further) (q.0 ++ rest) ∙ ap (behind a) (q.1 further rest) ∙ behind_twice a b (serve_by f further u rest)),
 )
 
 -- one
@@ -252,7 +253,8 @@ answers_moved i w outs m to going what is same s at =
 
 -- a step of the time
 pub answers_timed : (i : Input) (outs : List Message) (ns : ℕ) (m to : Seen) → m.ended ≡ false → i.what ≡ Step ns → outs ≡ []
-    → ((b : Board) → Stands b m.board → Stands (advanced b ns).board to.board) → ((b : Board) → state_at b to ≡ state_at b m) → (s : State) → IsIn s m → Answers s i outs to
+    → ((b : Board) → Stands b m.board → Stands (advanced b ns).board to.board) → ((b : Board) → state_at b to ≡ state_at b m) → (s : State) → IsIn s m
+    → Answers s i outs to
 answers_timed i outs ns m to going what none keeps same s at =
     by_board (λ (x : State). Answers x i outs to) m
     (λ b stands.
@@ -382,7 +384,8 @@ pub served_beside : {E : Type 0} (r : Result (List Message) E) (i : Input) (w : 
     → to.board ≡ m.board → (s : State) → IsIn s m → IfOk r (λ outs. Answers s i outs to)
 served_beside r i w m to going what is same s here =
     by_board (λ (x : State). IfOk r (λ outs. Answers x i outs to)) m
-    (λ b stands. if_ok r (λ outs h. answers_on (state_at b m) (state_at b to) i w outs to [] [] going what h (in_at b to (subst (Stands b) (sym same) stands))) (is b i.at)) s here
+    (λ b stands. if_ok r (λ outs h. answers_on (state_at b m) (state_at b to) i w outs to [] [] going what h (in_at b to (subst (Stands b) (sym same) stands)))
+    (is b i.at)) s here
 
 -- bytes of a session
 pub served_bytes : {E : Type 0} (r : Result (List Message) E) (i : Input) (w : What) (m to : Seen) → m.ended ≡ false → i.what ≡ w

@@ -104,7 +104,8 @@ turns_more s a b c ts us p q =
           sent_twice a.sent b.sent c.sent (transcript (outs_of s ts)) (transcript (outs_of (state_after s ts) us)) (transcript (outs_of s (ts ++ us)))
           (ap transcript (outs_more ts us s) ∙ flat_map-append (λ (m : Message). line m.0 m.1) (outs_of s ts) (outs_of (state_after s ts) us)) p.sent q.sent;
       lanes = λ l.
-          sent_twice (a.got l) (b.got l) (c.got l) (lane_of l s ts) (lane_of l (state_after s ts) us) (lane_of l s (ts ++ us)) (lane_more ts us l s) (p.lanes l) (q.lanes l);
+          sent_twice (a.got l) (b.got l) (c.got l) (lane_of l s ts) (lane_of l (state_after s ts) us) (lane_of l s (ts ++ us)) (lane_more ts us l s) (p.lanes l)
+          (q.lanes l);
       losses = λ n.
           rw (risen_more ts us n (a.losses n)) (omega (arith, q.losses n, risen_by_le us n (risen_by n (a.losses n) ts) (b.losses n) (p.losses n)));
       had = had_more ts us s p.had q.had;
@@ -170,7 +171,8 @@ took_one old new bad (Some i) h = h
 abbrev pub taken_turn : Input → Turn
 taken_turn i = record { input = i; choices = []; lost = []; cut = λ l. 0 }
 
-pub cut_taken : (s : State) (oi ni : Option (List Input)) (os ns : Option (List ℕ)) (og ng : Lane → Option (List ℕ)) (ol nl : ℕ → ℕ) (bad : Option (Option ℕ)) (i : Input)
+pub cut_taken : (s : State) (oi ni : Option (List Input)) (os ns : Option (List ℕ)) (og ng : Lane → Option (List ℕ)) (ol nl : ℕ → ℕ) (bad : Option (Option ℕ))
+    (i : Input)
     → Gives oi ni bad (given_by i) → ns ≡ os → ((l : Lane) → ng l ≡ og l) → ((n : ℕ) → nl n ≡ ol n)
     → Cut s (told oi os og ol) (told ni ns ng nl) (Some (taken_turn i))
 cut_taken s oi ni os ns og ng ol nl bad i given sent got losses =
@@ -182,7 +184,8 @@ cut_taken s oi ni os ns og ng ol nl bad i given sent got losses =
     }
 
 -- an input was taken, and its messages were cut short
-pub cut_sent : (s : State) (i : Input) (cs : List Choice) (slice outs : List Message) (oi mi ni : Option (List Input)) (os ms ns : Option (List ℕ)) (og mg ng : Lane → Option (List ℕ)) (ol ml nl : ℕ → ℕ) (bad : Option (Option ℕ))
+pub cut_sent : (s : State) (i : Input) (cs : List Choice) (slice outs : List Message) (oi mi ni : Option (List Input)) (os ms ns : Option (List ℕ))
+    (og mg ng : Lane → Option (List ℕ)) (ol ml nl : ℕ → ℕ) (bad : Option (Option ℕ))
     → (step s i cs).outs ≡ outs → slice ≡ outs → Gives oi mi bad (given_by i) → ms ≡ os → ((l : Lane) → mg l ≡ og l) → ((n : ℕ) → ml n ≡ ol n)
     → SentFront (told mi ms mg ml) (told ni ns ng nl) slice
     → Cut s (told oi os og ol) (told ni ns ng nl) (Some (record { input = i; choices = cs; lost = []; cut = λ l. 0 }))
@@ -205,7 +208,8 @@ at_end oi mi ni bad i same given over = subst (λ (x : Option (List Input)). AtE
     ended = rw over at given
 
 -- an input was taken, and what it makes was sent
-pub one_turn : (s : State) (to : Seen) (i : Input) (cs : List Choice) (slice outs : List Message) (lost : List Bool) (oi mi ni : Option (List Input)) (os ms ns : Option (List ℕ)) (og mg ng : Lane → Option (List ℕ)) (ol ml nl : ℕ → ℕ) (bad : Option (Option ℕ))
+pub one_turn : (s : State) (to : Seen) (i : Input) (cs : List Choice) (slice outs : List Message) (lost : List Bool) (oi mi ni : Option (List Input))
+    (os ms ns : Option (List ℕ)) (og mg ng : Lane → Option (List ℕ)) (ol ml nl : ℕ → ℕ) (bad : Option (Option ℕ))
     → (step s i cs).outs ≡ outs → slice ≡ outs → Gives oi mi bad (given_by i) → ms ≡ os → ((l : Lane) → mg l ≡ og l) → ((n : ℕ) → ml n ≡ ol n)
     → Sent (told mi ms mg ml) (told ni ns ng nl) slice lost → IsIn (close_lost lost (step s i cs).state) to
     → TurnMeets s to (told oi os og ol) (told ni ns ng nl) bad (Ok tt)

@@ -108,7 +108,8 @@ none_stays None a b h = refl
 none_stays (Some xs) a b h = cc
 
 -- a message for a lost session is left out
-pub sent_skip : (start : Told) (mi : Option (List Input)) (ms : Option (List ℕ)) (mg : Lane → Option (List ℕ)) (ml : ℕ → ℕ) (outs : List Message) (m : Message) (lost : List Bool)
+pub sent_skip : (start : Told) (mi : Option (List Input)) (ms : Option (List ℕ)) (mg : Lane → Option (List ℕ)) (ml : ℕ → ℕ) (outs : List Message) (m : Message)
+    (lost : List Bool)
     → is_lost lost m.0 ≡ true → Sent start (told mi ms mg ml) outs lost → Sent start (told mi ms mg ml) (outs ++ m ∷ []) lost
 sent_skip start mi ms mg ml outs m lost flag h =
     record {
@@ -120,7 +121,9 @@ sent_skip start mi ms mg ml outs m lost flag h =
         h.lanes.0,
         record {
           within = λ l. rw (lane_bytes_more l outs m) (omega (arith, h.lanes.1.within l, length-append (lane_bytes l outs) (part l m.0 m.1)));
-          lanes = λ l. rw (lane_bytes_more l outs m) (skip_at (is_lost lost l) (same_lane l m.0) (h.lanes.0 l) (start.got l) (mg l) (lane_bytes l outs) m.1 (λ s. same_lost l m.0 lost s ∙ flag) (h.lanes.1.within l) (h.lanes.1.lanes l));
+          lanes =
+              λ l. rw (lane_bytes_more l outs m) (skip_at (is_lost lost l) (same_lane l m.0) (h.lanes.0 l) (start.got l) (mg l) (lane_bytes l outs) m.1
+              (λ s. same_lost l m.0 lost s ∙ flag) (h.lanes.1.within l) (h.lanes.1.lanes l));
         },
       );
       losses = h.losses;
@@ -130,7 +133,8 @@ sent_skip start mi ms mg ml outs m lost flag h =
     }
 
 -- a message was sent
-pub sent_ok : (start : Told) (mi ni : Option (List Input)) (ms ns : Option (List ℕ)) (mg ng : Lane → Option (List ℕ)) (ml nl : ℕ → ℕ) (outs : List Message) (m : Message) (lost : List Bool)
+pub sent_ok : (start : Told) (mi ni : Option (List Input)) (ms ns : Option (List ℕ)) (mg ng : Lane → Option (List ℕ)) (ml nl : ℕ → ℕ) (outs : List Message)
+    (m : Message) (lost : List Bool)
     → is_lost lost m.0 ≡ false → ni ≡ mi → ns ≡ append_known ms (line m.0 m.1) → ((l : Lane) → ng l ≡ append_known (mg l) (part l m.0 m.1))
     → ((n : ℕ) → nl n ≡ ml n) → Sent start (told mi ms mg ml) outs lost → Sent start (told ni ns ng nl) (outs ++ m ∷ []) lost
 sent_ok start mi ni ms ns mg ng ml nl outs m lost flag inputs sent got losses h =
@@ -143,7 +147,9 @@ sent_ok start mi ni ms ns mg ng ml nl outs m lost flag inputs sent got losses h 
         h.lanes.0,
         record {
           within = λ l. rw (lane_bytes_more l outs m) (omega (arith, h.lanes.1.within l, length-append (lane_bytes l outs) (part l m.0 m.1)));
-          lanes = λ l. rw (lane_bytes_more l outs m) (ok_at (is_lost lost l) (same_lane l m.0) (h.lanes.0 l) (start.got l) (mg l) (ng l) (lane_bytes l outs) m.1 (λ s. same_lost l m.0 lost s ∙ flag) (h.lanes.1.within l) (h.lanes.1.lanes l) (got l));
+          lanes =
+              λ l. rw (lane_bytes_more l outs m) (ok_at (is_lost lost l) (same_lane l m.0) (h.lanes.0 l) (start.got l) (mg l) (ng l) (lane_bytes l outs) m.1
+              (λ s. same_lost l m.0 lost s ∙ flag) (h.lanes.1.within l) (h.lanes.1.lanes l) (got l));
         },
       );
       losses = λ n. omega (arith, h.losses n, losses n);
@@ -175,7 +181,8 @@ gone_within true cut n bytes more within few = omega (arith, length-append bytes
 gone_within false cut n bytes more within few = omega (arith, length-append bytes [])
 
 -- its session is gone
-pub sent_gone : (start : Told) (mi ni : Option (List Input)) (ms ns : Option (List ℕ)) (mg ng : Lane → Option (List ℕ)) (ml nl : ℕ → ℕ) (outs : List Message) (m : Message) (k : ℕ) (lost : List Bool)
+pub sent_gone : (start : Told) (mi ni : Option (List Input)) (ms ns : Option (List ℕ)) (mg ng : Lane → Option (List ℕ)) (ml nl : ℕ → ℕ) (outs : List Message)
+    (m : Message) (k : ℕ) (lost : List Bool)
     → is_lost lost m.0 ≡ false → m.0 ≡ Session k → k < SESSIONS → ni ≡ mi → (ms ≡ None) × (ns ≡ None)
     → ((l : Lane) → AppendsPrefix (mg l) (ng l) (part l m.0 m.1)) → ((n : ℕ) → Loses (n == k) (ml n) (nl n)) → Sent start (told mi ms mg ml) outs lost
     → Sent start (told ni ns ng nl) (outs ++ m ∷ []) (slice_set lost k true)
@@ -186,13 +193,19 @@ sent_gone start mi ni ms ns mg ng ml nl outs m k lost flag lane below inputs sen
       lanes = (
         (λ l. if same_lane l m.0 then length (lane_bytes l outs) + (got l).0 else h.lanes.0 l),
         record {
-          within = λ l. rw (lane_bytes_more l outs m) (gone_within (same_lane l m.0) (h.lanes.0 l) ((got l).0) (lane_bytes l outs) m.1 (h.lanes.1.within l) ((got l).1));
+          within =
+              λ l. rw (lane_bytes_more l outs m) (gone_within (same_lane l m.0) (h.lanes.0 l) ((got l).0) (lane_bytes l outs) m.1 (h.lanes.1.within l)
+              ((got l).1));
           lanes = λ l.
               rw (lane_bytes_more l outs m, set_flag lost k l (rw h.size below), ← lane)
-              (gone_at (is_lost lost l) (same_lane l m.0) (h.lanes.0 l) ((got l).0) (start.got l) (mg l) (ng l) (lane_bytes l outs) m.1 (λ s. same_lost l m.0 lost s ∙ flag) (h.lanes.1.within l) (h.lanes.1.lanes l) ((got l).2));
+              (gone_at (is_lost lost l) (same_lane l m.0) (h.lanes.0 l) ((got l).0) (start.got l) (mg l) (ng l) (lane_bytes l outs) m.1
+              (λ s. same_lost l m.0 lost s ∙ flag) (h.lanes.1.within l) (h.lanes.1.lanes l) ((got l).2));
         },
       );
-      losses = λ n. rw (set_flag lost k (Session n) (rw h.size below)) (loss_at (is_lost lost (Session n)) (n == k) (start.losses n) (ml n) (nl n) (λ e. same_lost (Session n) (Session k) lost e ∙ (rw lane at flag)) (h.losses n) (losses n));
+      losses =
+          λ n. rw (set_flag lost k (Session n) (rw h.size below))
+          (loss_at (is_lost lost (Session n)) (n == k) (start.losses n) (ml n) (nl n) (λ e. same_lost (Session n) (Session k) lost e ∙ (rw lane at flag))
+          (h.losses n) (losses n));
       untold = λ l f. sent.1;
       had = λ l f. gone_had l outs m (is_lost lost l) (h.had l) (rw (set_flag lost k l (rw h.size below), ← lane) at f);
       size = length-set lost k true ∙ h.size;
@@ -212,7 +225,8 @@ risen_up true start now h = omega arith
 risen_up false start now h = h
 
 -- a message failed
-pub front_failed : (start : Told) (mi ni : Option (List Input)) (ms ns : Option (List ℕ)) (mg ng : Lane → Option (List ℕ)) (ml nl : ℕ → ℕ) (outs : List Message) (m : Message) (lost : List Bool)
+pub front_failed : (start : Told) (mi ni : Option (List Input)) (ms ns : Option (List ℕ)) (mg ng : Lane → Option (List ℕ)) (ml nl : ℕ → ℕ) (outs : List Message)
+    (m : Message) (lost : List Bool)
     → is_lost lost m.0 ≡ false → ni ≡ mi → AppendsPrefix ms ns (line m.0 m.1) → ((l : Lane) → AppendsPrefix (mg l) (ng l) (part l m.0 m.1))
     → ((n : ℕ) → nl n ≡ ml n) → Sent start (told mi ms mg ml) outs lost → SentFront start (told ni ns ng nl) (outs ++ m ∷ [])
 front_failed start mi ni ms ns mg ng ml nl outs m lost flag inputs sent got losses h =
@@ -221,13 +235,15 @@ front_failed start mi ni ms ns mg ng ml nl outs m lost flag inputs sent got loss
       sent = rw (transcript_more outs m) (front_behind start.sent ms ns (transcript outs) (line m.0 m.1) h.sent sent);
       lanes = λ l.
           rw (lane_bytes_more l outs m)
-          (failed_at (is_lost lost l) (same_lane l m.0) (h.lanes.0 l) ((got l).0) (start.got l) (mg l) (ng l) (lane_bytes l outs) m.1 (λ s. same_lost l m.0 lost s ∙ flag) (h.lanes.1.within l) ((got l).1) (h.lanes.1.lanes l) ((got l).2));
+          (failed_at (is_lost lost l) (same_lane l m.0) (h.lanes.0 l) ((got l).0) (start.got l) (mg l) (ng l) (lane_bytes l outs) m.1
+          (λ s. same_lost l m.0 lost s ∙ flag) (h.lanes.1.within l) ((got l).1) (h.lanes.1.lanes l) ((got l).2));
       losses = λ n. rw (losses n) (risen_up (slice_index_or lost n false) (start.losses n) (ml n) (h.losses n));
     }
 
 -- What `send` answers, by its error.
 
-pub err_gone : (start : Told) (mi ni : Option (List Input)) (ms ns : Option (List ℕ)) (mg ng : Lane → Option (List ℕ)) (ml nl : ℕ → ℕ) (outs : List Message) (lane : Lane) (bytes text : List ℕ) (r : SendError) (s k : ℕ) (lost : List Bool)
+pub err_gone : (start : Told) (mi ni : Option (List Input)) (ms ns : Option (List ℕ)) (mg ng : Lane → Option (List ℕ)) (ml nl : ℕ → ℕ) (outs : List Message)
+    (lane : Lane) (bytes text : List ℕ) (r : SendError) (s k : ℕ) (lost : List Bool)
     → r ≡ Gone s → k ≡ s → bytes ≡ text → is_lost lost lane ≡ false → IsLane lane → ni ≡ mi → Sends ms ns (line lane bytes) (Err r)
     → ((l : Lane) → PutsAll {T = Unit {0}} {E = SendError} (mg l) (ng l) (Err r) (part l lane bytes)) → GoneOnly lane (Err r)
     → ((t : ℕ) → Loses (is_gone (Err r) t) (ml t) (nl t)) → Sent start (told mi ms mg ml) outs lost
@@ -240,7 +256,8 @@ err_gone start mi ni ms ns mg ng ml nl outs lane bytes text (Gone j) s k lost is
     sent_gone start mi ni ms ns mg ng ml nl outs (lane, text) k lost flag to k_below inputs sent (λ l. rw same at (got l)) (λ n. rw j_is at (losses n)) h
 err_gone start mi ni ms ns mg ng ml nl outs lane bytes text Failed s k lost is from same flag wide inputs sent got gone losses h = cc
 
-pub err_failed : (start : Told) (mi ni : Option (List Input)) (ms ns : Option (List ℕ)) (mg ng : Lane → Option (List ℕ)) (ml nl : ℕ → ℕ) (outs : List Message) (lane : Lane) (bytes text : List ℕ) (r : SendError) (lost : List Bool)
+pub err_failed : (start : Told) (mi ni : Option (List Input)) (ms ns : Option (List ℕ)) (mg ng : Lane → Option (List ℕ)) (ml nl : ℕ → ℕ) (outs : List Message)
+    (lane : Lane) (bytes text : List ℕ) (r : SendError) (lost : List Bool)
     → r ≡ Failed → bytes ≡ text → is_lost lost lane ≡ false → ni ≡ mi → Sends ms ns (line lane bytes) (Err r)
     → ((l : Lane) → PutsAll {T = Unit {0}} {E = SendError} (mg l) (ng l) (Err r) (part l lane bytes)) → ((t : ℕ) → Loses (is_gone (Err r) t) (ml t) (nl t))
     → Sent start (told mi ms mg ml) outs lost → SentFront start (told ni ns ng nl) (outs ++ (lane, text) ∷ [])
@@ -304,4 +321,5 @@ one_further outs i m below is = rw add-one (take-suc outs i m below ∙ ap (λ (
 pub front_at : (start new : Told) (outs : List Message) (i : ℕ) (m : Message) → i < length outs → m ≡ slice_index_or outs i m
     → SentFront start new (take i outs ++ m ∷ []) → SentFront start new outs
 front_at start new outs i m below is h =
-    subst (SentFront start new) (take-append-drop (i + 1) outs) (front_all start new (take (i + 1) outs) (drop (i + 1) outs) (subst (SentFront start new) (sym (one_further outs i m below is)) h))
+    subst (SentFront start new) (take-append-drop (i + 1) outs)
+    (front_all start new (take (i + 1) outs) (drop (i + 1) outs) (subst (SentFront start new) (sym (one_further outs i m below is)) h))

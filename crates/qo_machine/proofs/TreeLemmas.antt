@@ -122,7 +122,8 @@ pub stepped_sound : (old new : Seen) (i : Input) (outs : List Message) → ((s :
 stepped_sound old new i outs answered s at sound t there =
     let p = answered s at in
     sound_by (step s i p.0).state t new p.2 there
-    (sound_of (step s i p.0).state.board (step_keeps SoundTree tree_commands s i p.0 (sound.graph, sound.aliases)) (step_keeps IsDrained drained_commands s i p.0 sound.events.none))
+    (sound_of (step s i p.0).state.board (step_keeps SoundTree tree_commands s i p.0 (sound.graph, sound.aliases))
+    (step_keeps IsDrained drained_commands s i p.0 sound.events.none))
 
 -- a step that was broken off
 abbrev IsWhole : Board → Type 0

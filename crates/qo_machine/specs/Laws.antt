@@ -75,7 +75,8 @@ in_two piece before behind at a b first second = before ++ quiet at (piece a) fi
 -- whichever way such a piece comes, there is a run of the other way that sends the same
 abbrev pub CutAnywhere : (List ℕ → What) → Type 0
 CutAnywhere piece = (before behind : List Turn) (at : Moment) (a b : List ℕ) →
-    ((choices : List Choice) → (first second : List Choice) × Matches (in_one piece before behind at (a ++ b) choices) (in_two piece before behind at a b first second))
+    ((choices : List Choice) → (first second : List Choice) × Matches (in_one piece before behind at (a ++ b) choices)
+    (in_two piece before behind at a b first second))
     × ((first second : List Choice) → (choices : List Choice) × Matches (in_one piece before behind at (a ++ b) choices) (in_two piece before behind at a b first second))
 
 -- bytes of a session, and of the guest, may be cut anywhere

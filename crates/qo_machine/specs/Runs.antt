@@ -142,7 +142,8 @@ OpenRun old new turns = Turns opening old new turns × ((state_after opening tur
 -- a run that has ended with its last turn, and not before
 abbrev pub EndsAtLast : List Turn → Type 0
 EndsAtLast turns =
-    (before : List Turn) × (last : Turn) × (turns ≡ before ++ last ∷ []) × ((state_after opening before).ended ≡ false) × ((state_after opening turns).ended ≡ true)
+    (before : List Turn) × (last : Turn) × (turns ≡ before ++ last ∷ []) × ((state_after opening before).ended ≡ false)
+    × ((state_after opening turns).ended ≡ true)
 
 -- whole turns, behind which the run has not ended, and then one that was cut, if any; at most so many
 abbrev pub CutRun : ℕ → Told → Told → Type 0

@@ -30,91 +30,122 @@ use qo_values::{Chars, Code, SESSIONS, Text};
 use std::alloc::{AllocError, Global};
 use std::sync::ledger::Ledger;
 
-/// One session is told of an event, if it commands.
-fn tell_one<E: Told>(
-    machine: &Machine,
+/// What is sent in one step: the moment that stamps its events, and the messages so far.
+#[derive(Drop)]
+struct Sending {
     alloc: Global,
     at: Moment,
-    session: u8,
-    event: &E,
-    outs: &mut Outs,
-) -> Result<(), AllocError>
-    requires { session < SESSIONS }
-    ensures { OnOk result (outs.new ≡ outs.old ++ told_of (E.event event.now) at (those_commanding (beside machine.now) (session ∷ []))) }
-{
-    if machine.mode(session) == Mode::Commanding {
-        outs.push(Lane::Session(session), event.line(alloc, at)?)?;
+    outs: Outs,
+}
+
+impl Sending {
+    /// Nothing is sent so far. It takes no memory.
+    fn new(alloc: Global, at: Moment) -> Sending
+        ensures moment { result.at ≡ at }
+        ensures none { result.outs ≡ [] }
+    {
+        Sending {
+            alloc,
+            at,
+            outs: Outs::none(alloc),
+        }
     }
-    Ok(())
-}
 
-/// Each session that commands is told of an event.
-fn tell<E: Told>(
-    machine: &Machine,
-    alloc: Global,
-    at: Moment,
-    event: &E,
-    outs: &mut Outs,
-) -> Result<(), AllocError>
-    ensures { OnOk result (outs.new ≡ outs.old ++ told_of (E.event event.now) at (commanding (beside machine.now))) }
-{
-    for session in 0..SESSIONS {
-        tell_one(machine, alloc, at, session, event, outs)?;
+    /// Nothing is sent so far, and there is room for so many messages. The error is want of memory.
+    fn with_room(alloc: Global, at: Moment, count: usize) -> Result<Sending, AllocError>
+        ensures moment { IfOk result (λ sending. sending.at ≡ at) }
+        ensures none { IfOk result (λ sending. sending.outs ≡ []) }
+    {
+        Ok(Sending {
+            alloc,
+            at,
+            outs: Outs::with_room(alloc, count)?,
+        })
     }
-    Ok(())
-}
 
-/// Each session that commands is told of each event on a device, in their order.
-fn tell_all(
-    machine: &Machine,
-    alloc: Global,
-    at: Moment,
-    events: &[DeviceEvent],
-    outs: &mut Outs,
-) -> Result<(), AllocError>
-    ensures { OnOk result (outs.new ≡ outs.old ++ event_outs at (beside machine.now) (map event_of events.now)) }
-{
-    for event in events {
-        tell(machine, alloc, at, event, outs)?;
+    /// The messages. It takes no memory.
+    fn into_outs(self) -> Outs
+        ensures { result ≡ self.outs }
+    {
+        self.outs
     }
-    Ok(())
-}
 
-/// Each session that commands is told of the event of a command, if it has one.
-fn tell_own(
-    machine: &Machine,
-    alloc: Global,
-    at: Moment,
-    event: Option<&Event>,
-    outs: &mut Outs,
-) -> Result<(), AllocError>
-    ensures { OnOk result (outs.new ≡ outs.old ++ event_outs at (beside machine.now) (option_to_list (option_map (λ e. e.now) event.entry))) }
-{
-    if let Some(event) = event {
-        tell(machine, alloc, at, event, outs)?;
+    /// One message more, to a lane.
+    fn push(&mut self, lane: Lane, text: Chars) -> Result<(), AllocError>
+        ensures moment { self.new.at ≡ self.old.at }
+        ensures sent { OnOk result (self.new.outs ≡ self.old.outs ++ (lane, text) ∷ []) }
+    {
+        self.outs.push(lane, text)
     }
-    Ok(())
-}
 
-/// A session is told that memory ran out for its command.
-fn tell_want(
-    alloc: Global,
-    session: u8,
-    id: Option<&Text>,
-    outs: &mut Outs,
-) -> Result<(), AllocError>
-    ensures { OnOk result (outs.new ≡ outs.old ++ (LaneView.Session session, error_reply (option_map (λ id. id.now) id.entry) E99) ∷ []) }
-{
-    outs.push(Lane::Session(session), error_text(alloc, id, Code::E99)?)?;
-    Ok(())
-}
+    /// One session is told of an event, if it commands.
+    fn tell_one<E: Told>(
+        &mut self,
+        machine: &Machine,
+        session: u8,
+        event: &E,
+    ) -> Result<(), AllocError>
+        requires { session < SESSIONS }
+        ensures moment { self.new.at ≡ self.old.at }
+        ensures told { OnOk result (self.new.outs ≡ self.old.outs ++ told_of (E.event event.now) self.old.at (those_commanding (beside machine.now) (session ∷ []))) }
+    {
+        if machine.mode(session) == Mode::Commanding {
+            let line = event.line(self.alloc, self.at)?;
+            self.push(Lane::Session(session), line)?;
+        }
+        Ok(())
+    }
 
-/// The guest is told that memory ran out for its line.
-fn tell_guest_want(alloc: Global, outs: &mut Outs) -> Result<(), AllocError>
-    ensures { OnOk result (outs.new ≡ outs.old ++ (LaneView.Guest, answer_line NoMemory) ∷ []) }
-{
-    outs.push(Lane::Guest, guest_text(alloc, &GuestAnswer::NoMemory)?)?;
-    Ok(())
+    /// Each session that commands is told of an event.
+    fn tell<E: Told>(&mut self, machine: &Machine, event: &E) -> Result<(), AllocError>
+        ensures moment { self.new.at ≡ self.old.at }
+        ensures told { OnOk result (self.new.outs ≡ self.old.outs ++ told_of (E.event event.now) self.old.at (commanding (beside machine.now))) }
+    {
+        for session in 0..SESSIONS {
+            self.tell_one(machine, session, event)?;
+        }
+        Ok(())
+    }
+
+    /// Each session that commands is told of each event on a device, in their order.
+    fn tell_all(&mut self, machine: &Machine, events: &[DeviceEvent]) -> Result<(), AllocError>
+        ensures moment { self.new.at ≡ self.old.at }
+        ensures told { OnOk result (self.new.outs ≡ self.old.outs ++ event_outs self.old.at (beside machine.now) (map event_of events.now)) }
+    {
+        for event in events {
+            self.tell(machine, event)?;
+        }
+        Ok(())
+    }
+
+    /// Each session that commands is told of the event of a command, if it has one.
+    fn tell_own(&mut self, machine: &Machine, event: Option<&Event>) -> Result<(), AllocError>
+        ensures moment { self.new.at ≡ self.old.at }
+        ensures told { OnOk result (self.new.outs ≡ self.old.outs ++ event_outs self.old.at (beside machine.now) (option_to_list (option_map (λ e. e.now) event.entry))) }
+    {
+        if let Some(event) = event {
+            self.tell(machine, event)?;
+        }
+        Ok(())
+    }
+
+    /// A session is told that memory ran out for its command.
+    fn tell_want(&mut self, session: u8, id: Option<&Text>) -> Result<(), AllocError>
+        ensures moment { self.new.at ≡ self.old.at }
+        ensures told { OnOk result (self.new.outs ≡ self.old.outs ++ (LaneView.Session session, error_reply (option_map (λ id. id.now) id.entry) E99) ∷ []) }
+    {
+        let text = error_text(self.alloc, id, Code::E99)?;
+        self.push(Lane::Session(session), text)
+    }
+
+    /// The guest is told that memory ran out for its line.
+    fn tell_guest_want(&mut self) -> Result<(), AllocError>
+        ensures moment { self.new.at ≡ self.old.at }
+        ensures told { OnOk result (self.new.outs ≡ self.old.outs ++ (LaneView.Guest, answer_line NoMemory) ∷ []) }
+    {
+        let text = guest_text(self.alloc, &GuestAnswer::NoMemory)?;
+        self.push(Lane::Guest, text)
+    }
 }
 
 /// Each session that commands is told of the events that wait on the board, which no longer wait then,
@@ -122,95 +153,78 @@ fn tell_guest_want(alloc: Global, outs: &mut Outs) -> Result<(), AllocError>
 #[inline(always)]
 fn send_reply(
     machine: &mut Machine,
-    alloc: Global,
-    at: Moment,
     lane: Lane,
     reply: Replied,
-    outs: &mut Outs,
+    sending: &mut Sending,
 ) -> Result<(), AllocError>
     requires { IsLane lane }
-    ensures sent { OnOk result ((front : List Message) × (outs.new ≡ outs.old ++ front) × AreToLanes front × Tells at lane machine.old reply front) }
+    ensures sent { OnOk result ((front : List Message) × (sending.new.outs ≡ sending.old.outs ++ front) × AreToLanes front × Tells sending.old.at lane machine.old reply front) }
     ensures board { (b : Tree) → Stands b machine.old.board → Stands (without_events b) machine.new.board }
     ensures rest { (b : Tree) → state_at b machine.new ≡ state_at b machine.old }
     ensures lasts { machine.new.spent ≡ machine.old.spent }
+    ensures moment { sending.new.at ≡ sending.old.at }
 {
-    let told = tell_all(machine, alloc, at, machine.waiting(), outs);
+    let told = sending.tell_all(machine, machine.waiting());
     machine.forget_waiting();
     told?;
-    tell_own(machine, alloc, at, reply.event.as_ref(), outs)?;
-    outs.push(lane, reply.text?)?;
-    Ok(())
+    sending.tell_own(machine, reply.event.as_ref())?;
+    sending.push(lane, reply.text?)
 }
 
 /// A command is done, or refused for want of memory.
 fn serve_command<L: Ledger>(
     machine: &mut Machine,
-    alloc: Global,
-    at: Moment,
     session: u8,
     request: &Request,
     id: Option<&Text>,
-    outs: &mut Outs,
+    sending: &mut Sending,
     steps: &mut Steps<L>,
 ) -> Result<(), AllocError>
     requires { session < SESSIONS }
-    ensures served { OnOk result ((front : List Message) × (outs.new ≡ outs.old ++ front) × AreToLanes front × ((s : State) → IsIn s machine.old → CommandServed at session s request.now (option_map (λ id. id.now) id.entry) front machine.new)) }
-    ensures left { OnErr result ((s : State) → IsIn s machine.old → CommandLeft at session s request.now (option_map (λ id. id.now) id.entry) machine.new) }
+    ensures served { OnOk result ((front : List Message) × (sending.new.outs ≡ sending.old.outs ++ front) × AreToLanes front × ((s : State) → IsIn s machine.old → CommandServed sending.old.at session s request.now (option_map (λ id. id.now) id.entry) front machine.new)) }
+    ensures left { OnErr result ((s : State) → IsIn s machine.old → CommandLeft sending.old.at session s request.now (option_map (λ id. id.now) id.entry) machine.new) }
     ensures lasts { machine.new.spent ≡ machine.old.spent }
+    ensures moment { sending.new.at ≡ sending.old.at }
 {
-    match machine.perform(alloc, request, id, steps) {
+    match machine.perform(sending.alloc, request, id, steps) {
         Ok(reply) => {
             let ends = reply.ends;
-            let sent = send_reply(machine, alloc, at, Lane::Session(session), reply, outs);
+            let sent = send_reply(machine, Lane::Session(session), reply, sending);
             machine.conclude(ends);
             sent
         }
-        Err(AllocError) => tell_want(alloc, session, id, outs),
+        Err(AllocError) => sending.tell_want(session, id),
     }
 }
 
 /// An item of a session is served, unless the run has ended.
 fn serve_item<L: Ledger>(
     machine: &mut Machine,
-    alloc: Global,
-    at: Moment,
     session: u8,
     item: &Item,
-    outs: &mut Outs,
+    sending: &mut Sending,
     steps: &mut Steps<L>,
 ) -> Result<(), AllocError>
     requires { session < SESSIONS }
-    ensures served { OnOk result ((front : List Message) × (outs.new ≡ outs.old ++ front) × AreToLanes front × ((s : State) → IsIn s machine.old → ServesTo at session s (item.now ∷ []) front machine.new)) }
-    ensures left { OnErr result ((s : State) → IsIn s machine.old → ServesFront at session s (item.now ∷ []) machine.new) }
+    ensures served { OnOk result ((front : List Message) × (sending.new.outs ≡ sending.old.outs ++ front) × AreToLanes front × ((s : State) → IsIn s machine.old → ServesTo sending.old.at session s (item.now ∷ []) front machine.new)) }
+    ensures left { OnErr result ((s : State) → IsIn s machine.old → ServesFront sending.old.at session s (item.now ∷ []) machine.new) }
     ensures lasts { machine.new.spent ≡ machine.old.spent }
+    ensures moment { sending.new.at ≡ sending.old.at }
 {
     if machine.ended() {
         return Ok(());
     }
-    match machine.heed(alloc, session, item)? {
+    match machine.heed(sending.alloc, session, item)? {
         SessionAct::Answer(code, id) => {
-            outs.push(
-                Lane::Session(session),
-                error_text(alloc, id.as_ref(), code)?,
-            )?;
+            let text = error_text(sending.alloc, id.as_ref(), code)?;
+            sending.push(Lane::Session(session), text)?;
         }
         SessionAct::Negotiated(id) => {
-            outs.push(
-                Lane::Session(session),
-                return_written(alloc, id.as_ref(), EMPTY)?,
-            )?;
+            let text = return_written(sending.alloc, id.as_ref(), EMPTY)?;
+            sending.push(Lane::Session(session), text)?;
         }
         SessionAct::Do(request, id) => {
-            serve_command(
-                machine,
-                alloc,
-                at,
-                session,
-                &request,
-                id.as_ref(),
-                outs,
-                steps,
-            )?;
+            serve_command(machine, session, &request, id.as_ref(), sending, steps)?;
         }
     }
     Ok(())
@@ -231,37 +245,36 @@ pub(crate) fn serve_items<L: Ledger>(
     ensures lanes { IfOk result AreToLanes }
     ensures lasts { machine.new.spent ≡ machine.old.spent }
 {
-    let mut outs = Outs::with_room(alloc, items.len())?;
+    let mut sending = Sending::with_room(alloc, at, items.len())?;
     for item in items {
-        serve_item(machine, alloc, at, session, item, &mut outs, steps)?;
+        serve_item(machine, session, item, &mut sending, steps)?;
     }
-    Ok(outs)
+    Ok(sending.into_outs())
 }
 
 /// A line of the guest is served, unless the run has ended.
 fn serve_line<L: Ledger>(
     machine: &mut Machine,
-    alloc: Global,
-    at: Moment,
     line: &Chars,
-    outs: &mut Outs,
+    sending: &mut Sending,
     steps: &mut Steps<L>,
 ) -> Result<(), AllocError>
-    ensures served { OnOk result ((front : List Message) × (outs.new ≡ outs.old ++ front) × AreToLanes front × ((s : State) → IsIn s machine.old → LinesTo at s (line.now ∷ []) front machine.new)) }
-    ensures left { OnErr result ((s : State) → IsIn s machine.old → LinesFront at s (line.now ∷ []) machine.new) }
+    ensures served { OnOk result ((front : List Message) × (sending.new.outs ≡ sending.old.outs ++ front) × AreToLanes front × ((s : State) → IsIn s machine.old → LinesTo sending.old.at s (line.now ∷ []) front machine.new)) }
+    ensures left { OnErr result ((s : State) → IsIn s machine.old → LinesFront sending.old.at s (line.now ∷ []) machine.new) }
     ensures lasts { machine.new.spent ≡ machine.old.spent }
+    ensures moment { sending.new.at ≡ sending.old.at }
 {
     if machine.ended() {
         return Ok(());
     }
-    match machine.hear(alloc, without_return(line.as_slice()), steps) {
+    match machine.hear(sending.alloc, without_return(line.as_slice()), steps) {
         Ok(reply) => {
             let ends = reply.ends;
-            let sent = send_reply(machine, alloc, at, Lane::Guest, reply, outs);
+            let sent = send_reply(machine, Lane::Guest, reply, sending);
             machine.conclude(ends);
             sent
         }
-        Err(AllocError) => tell_guest_want(alloc, outs),
+        Err(AllocError) => sending.tell_guest_want(),
     }
 }
 
@@ -278,9 +291,9 @@ pub(crate) fn serve_lines<L: Ledger>(
     ensures lanes { IfOk result AreToLanes }
     ensures lasts { machine.new.spent ≡ machine.old.spent }
 {
-    let mut outs = Outs::none(alloc);
+    let mut sending = Sending::new(alloc, at);
     for line in lines {
-        serve_line(machine, alloc, at, line, &mut outs, steps)?;
+        serve_line(machine, line, &mut sending, steps)?;
     }
-    Ok(outs)
+    Ok(sending.into_outs())
 }

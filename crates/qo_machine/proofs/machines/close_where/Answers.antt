@@ -14,11 +14,14 @@ loop-session-preserved c =
     elim c.if-lost-session.branch [
       | then-lost-session w ↦
           let set = ap (λ v. v.items) w.sessions-is in (
-            closed_then c.loop-session.session c.args.lost.now c.args.sessions.now.items c.loop-session.sessions.items c.if-lost-session.sessions.items below within w.if-lost-session.true c.loop-session.invariant.0 (closed_one c.loop-session.sessions.items c.if-lost-session.sessions.items c.loop-session.session w.close.new.self set w.close.ensures),
+            closed_then c.loop-session.session c.args.lost.now c.args.sessions.now.items c.loop-session.sessions.items c.if-lost-session.sessions.items below
+                within w.if-lost-session.true c.loop-session.invariant.0
+                (closed_one c.loop-session.sessions.items c.if-lost-session.sessions.items c.loop-session.session w.close.new.self set w.close.ensures),
             still_sixteen c.loop-session.sessions.items c.if-lost-session.sessions.items c.loop-session.session w.close.new.self set c.loop-session.invariant.1,
           )
       | else-lost-session w ↦ (
-        closed_else c.loop-session.session c.args.lost.now c.args.sessions.now.items c.loop-session.sessions.items c.if-lost-session.sessions.items below within w.if-lost-session.false c.loop-session.invariant.0 (ap (λ v. v.items) w.sessions-is),
+        closed_else c.loop-session.session c.args.lost.now c.args.sessions.now.items c.loop-session.sessions.items c.if-lost-session.sessions.items below within
+            w.if-lost-session.false c.loop-session.invariant.0 (ap (λ v. v.items) w.sessions-is),
         ap (λ v. length v.items) w.sessions-is ∙ c.loop-session.invariant.1,
       )
     ]

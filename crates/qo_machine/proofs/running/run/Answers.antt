@@ -19,11 +19,13 @@ loop-init g c =
 
 pub returns-then-ended-clause-meets : goal.returns-then-ended-clause-meets
 returns-then-ended-clause-meets g c =
-    done _ _ _ c.loop.machine c.turn.new.machine c.loop.counter c.args.limit (g.H.Hub.bad c.loop.hub) (g.H.Hub.bad c.args.hub.now) c.loop.invariant.bad (omega arith) c.loop.invariant.gone c.in_default-turn.ensures.meets (sym c.if-ended.ensures)
+    done _ _ _ c.loop.machine c.turn.new.machine c.loop.counter c.args.limit (g.H.Hub.bad c.loop.hub) (g.H.Hub.bad c.args.hub.now) c.loop.invariant.bad
+    (omega arith) c.loop.invariant.gone c.in_default-turn.ensures.meets (sym c.if-ended.ensures)
 
 pub returns-in-Err-clause-meets : goal.returns-in-Err-clause-meets
 returns-in-Err-clause-meets g c =
-    rw (← c.loop.invariant.bad) (stopped_by _ _ _ c.loop.machine c.turn.new.machine c.loop.counter c.args.limit (g.H.Hub.bad c.loop.hub) c.in-Err.ending (omega arith) c.loop.invariant.gone c.in-Err.ensures.meets)
+    rw (← c.loop.invariant.bad) (stopped_by _ _ _ c.loop.machine c.turn.new.machine c.loop.counter c.args.limit (g.H.Hub.bad c.loop.hub) c.in-Err.ending
+    (omega arith) c.loop.invariant.gone c.in-Err.ensures.meets)
 
 pub returns-in-Err-clause-later : goal.returns-in-Err-clause-later
 returns-in-Err-clause-later g c = g.met.H.Hub.after _ _ _ c.loop.invariant.later c.turn.ensures.later

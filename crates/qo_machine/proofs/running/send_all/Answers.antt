@@ -29,8 +29,11 @@ loop-out-preserved g c =
     record {
       sent =
           subst
-          (λ (outs : _). Sent (told (hub.inputs c.args.hub.now) (hub.sent c.args.hub.now) (hub.got c.args.hub.now) (hub.losses c.args.hub.now)) (told (hub.inputs c.send_one.new.hub) (hub.sent c.send_one.new.hub) (hub.got c.send_one.new.hub) (hub.losses c.send_one.new.hub)) outs c.send_one.new.lost)
-          (sym (one_further c.args.outs.now c.loop-out.out-index c.out-item.result (omega arith) c.out-item.is)) (c.in_default.ensures.ok _ _ c.loop-out.invariant.sent);
+          (λ (outs : _). Sent (told (hub.inputs c.args.hub.now) (hub.sent c.args.hub.now) (hub.got c.args.hub.now) (hub.losses c.args.hub.now))
+          (told (hub.inputs c.send_one.new.hub) (hub.sent c.send_one.new.hub) (hub.got c.send_one.new.hub) (hub.losses c.send_one.new.hub)) outs
+          c.send_one.new.lost)
+          (sym (one_further c.args.outs.now c.loop-out.out-index c.out-item.result (omega arith) c.out-item.is))
+          (c.in_default.ensures.ok _ _ c.loop-out.invariant.sent);
       bad = c.send_one.ensures.bad ∙ c.loop-out.invariant.bad;
       asked = c.send_one.ensures.asked ∙ c.loop-out.invariant.asked;
       send_count = c.in_default.ensures.quiet ∙ c.loop-out.invariant.send_count;

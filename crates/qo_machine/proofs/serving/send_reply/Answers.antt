@@ -2,10 +2,16 @@
 use Rattle.std.proofs.Common.{ap, map, option_map, option_to_list, rules}
 use Rattle.qo_commands.specs.Commands.{event_of}
 use Rattle.qo_machine.proofs.LaneLemmas.{reply_sent}
+use Rattle.qo_machine.proofs.MachineLemmas.{on_ok}
 use Rattle.qo_machine.proofs.serving.send_reply.Goals as goal
 
 pub returns-clause-sent : goal.returns-clause-sent
 returns-clause-sent c =
-    reply_sent c.args.at c.args.lane c.args.machine.now c.forget_waiting.new.self c.args.reply c.args.outs.now c.tell_all-told.new.outs c.tell_own.new.outs c.push.new.self
-    (map event_of c.waiting.result.now) (option_to_list (option_map (λ e. e.now) c.as_ref.result)) c.in_ok-reply.field-0 c.requires c.forget_waiting.ensures.rest (λ b stands. ap (map event_of) (c.waiting.ensures b stands))
-    c.in_ok-told.ensures c.in_ok-tell_own.ensures (ap option_to_list (search rules)) c.in_ok-reply.was c.in_ok-push.ensures
+    on_ok c.push.result
+    (λ more.
+    reply_sent c.args.sending.now.at c.args.lane c.args.machine.now c.forget_waiting.new.self c.args.reply c.args.sending.now.outs c.tell_all-told.new.self.outs
+    c.tell_own.new.self.outs c.push.new.self.outs
+    (map event_of c.waiting.result.now) (option_to_list (option_map (λ e. e.now) c.as_ref.result)) c.in_ok-reply.field-0 c.requires
+    c.forget_waiting.ensures.rest (λ b stands. ap (map event_of) (c.waiting.ensures b stands))
+    c.in_ok-told.ensures.told (rw c.tell_all-told.ensures.moment at c.in_ok-tell_own.ensures.told) (ap option_to_list (search rules)) c.in_ok-reply.was more)
+    c.push.ensures.sent

@@ -1,10 +1,12 @@
 -- One item more.
 use Rattle.std.proofs.Common.{refl, sym, ◌∙◌, subst, List, [], ◌∷◌, ◌++◌, ◌+◌, take, arith}
 use Rattle.qo_framing.specs.declared.items.Item.{Item}
+use Rattle.qo_causes.specs.declared.inputs.Moment.{Moment}
 use Rattle.qo_machine.proofs.LaneLemmas.{more_lanes}
 use Rattle.qo_machine.proofs.LeftLemmas.{front_of_all_by, front_on_by}
 use Rattle.qo_machine.proofs.MachineLemmas.{on_err, serves_on_by, take_one}
-use Rattle.qo_machine.specs.Machine.{Message, by_item}
+use Rattle.qo_machine.specs.Machine.{IsIn, Message, State, by_item}
+use Rattle.qo_machine.specs.Sending.{AreToLanes}
 use Rattle.qo_machine.specs.Serving.{ServesFront, ServesTo}
 use Rattle.qo_machine.proofs.serving.serve_items.Goals as goal
 
@@ -12,26 +14,35 @@ pub loop-item-preserved : goal.loop-item-preserved
 loop-item-preserved g c =
     let one = c.in_ok-serve_item.ensures.served in
     record {
+      moment = c.serve_item.ensures.moment ∙ c.loop-item.invariant.moment;
       served = λ s here.
           subst (λ (outs : List Message). ServesTo c.args.at c.args.session s (take (c.loop-item.item-index + 1) c.args.items.now) outs c.serve_item.new.machine) (sym one.1)
-          (subst (λ (items : List Item). ServesTo c.args.at c.args.session s items (c.loop-item.outs ++ one.0) c.serve_item.new.machine) (sym (take_one c.args.items.now c.loop-item.item-index c.item-item.result (omega arith) c.item-item.is))
-          (serves_on_by (by_item c.args.at c.args.session) s c.loop-item.machine c.serve_item.new.machine (take c.loop-item.item-index c.args.items.now) (c.item-item.result ∷ []) c.loop-item.outs one.0 (c.loop-item.invariant.served s here) one.3));
-      lanes = more_lanes c.loop-item.outs one.0 _ one.1 c.loop-item.invariant.lanes one.2;
+          (subst (λ (items : List Item). ServesTo c.args.at c.args.session s items (c.loop-item.sending.outs ++ one.0) c.serve_item.new.machine)
+          (sym (take_one c.args.items.now c.loop-item.item-index c.item-item.result (omega arith) c.item-item.is))
+          (serves_on_by (by_item c.args.at c.args.session) s c.loop-item.machine c.serve_item.new.machine (take c.loop-item.item-index c.args.items.now)
+          (c.item-item.result ∷ []) c.loop-item.sending.outs one.0 (c.loop-item.invariant.served s here)
+          (subst (λ (at : Moment). (t : State) → IsIn t c.loop-item.machine
+          → ServesTo at c.args.session t (c.item-item.result ∷ []) one.0 c.serve_item.new.machine) c.loop-item.invariant.moment one.3)));
+      lanes = more_lanes c.loop-item.sending.outs one.0 _ one.1 c.loop-item.invariant.lanes one.2;
       lasts = c.in_ok-serve_item.ensures.lasts ∙ c.loop-item.invariant.lasts;
     }
 
 pub returns-clause-lanes : goal.returns-clause-lanes
-returns-clause-lanes g c = c.loop-item.invariant.lanes
+returns-clause-lanes g c = subst AreToLanes (sym c.into_outs.ensures) c.loop-item.invariant.lanes
 
 pub returns-in_err-serve_item-clause-left : goal.returns-in_err-serve_item-clause-left
 returns-in_err-serve_item-clause-left g c =
     on_err c.from_residual-in_err-serve_item.result
     (λ s here.
     front_of_all_by (by_item c.args.at c.args.session) s c.serve_item.new.machine c.args.items.now (c.loop-item.item-index + 1)
-    (subst (λ (items : List Item). ServesFront c.args.at c.args.session s items c.serve_item.new.machine) (sym (take_one c.args.items.now c.loop-item.item-index c.item-item.result (omega arith) c.item-item.is))
-    (front_on_by (by_item c.args.at c.args.session) s c.loop-item.machine c.serve_item.new.machine (take c.loop-item.item-index c.args.items.now) (c.item-item.result ∷ []) c.loop-item.outs (c.loop-item.invariant.served s here) c.in_err-serve_item.ensures.left)))
+    (subst (λ (items : List Item). ServesFront c.args.at c.args.session s items c.serve_item.new.machine)
+    (sym (take_one c.args.items.now c.loop-item.item-index c.item-item.result (omega arith) c.item-item.is))
+    (front_on_by (by_item c.args.at c.args.session) s c.loop-item.machine c.serve_item.new.machine (take c.loop-item.item-index c.args.items.now)
+    (c.item-item.result ∷ []) c.loop-item.sending.outs (c.loop-item.invariant.served s here)
+    (subst (λ (at : Moment). (t : State) → IsIn t c.loop-item.machine → ServesFront at c.args.session t (c.item-item.result ∷ []) c.serve_item.new.machine)
+    c.loop-item.invariant.moment c.in_err-serve_item.ensures.left))))
 
 -- where there is no room for the messages nothing is served
 
-pub returns-in_err-outs-clause-left : goal.returns-in_err-outs-clause-left
-returns-in_err-outs-clause-left g c = on_err c.from_residual.result (λ s here. ([], c.args.items.now, [], refl, here))
+pub returns-in_err-sending-clause-left : goal.returns-in_err-sending-clause-left
+returns-in_err-sending-clause-left g c = on_err c.from_residual.result (λ s here. ([], c.args.items.now, [], refl, here))

@@ -8,7 +8,8 @@ use Rattle.qo_machine.proofs.serving.serve_items.Given as goal
 abbrev pub invariant-loop-item : goal.invariant-loop-item
 invariant-loop-item g l =
     record {
-      served : (s : State) → IsIn s l.fn.machine → ServesTo l.at l.session s (take l.item-index l.items) l.outs l.machine;
-      lanes : AreToLanes l.outs;
+      moment : l.sending.at ≡ l.fn.at;
+      served : (s : State) → IsIn s l.fn.machine → ServesTo l.fn.at l.session s (take l.item-index l.items) l.sending.outs l.machine;
+      lanes : AreToLanes l.sending.outs;
       lasts : l.machine.spent ≡ l.fn.machine.spent;
     }

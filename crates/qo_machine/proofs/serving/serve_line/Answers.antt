@@ -1,8 +1,7 @@
 -- A line is heard, its events are told, and it is answered.
-use Rattle.std.proofs.Common.{◌≡◌, ℕ, List, [], ◌∷◌, refl, sym, ap, subst, ◌∙◌, append-nil, IfOk}
+use Rattle.std.proofs.Common.{ℕ, List, [], refl, sym, ap, subst, ◌∙◌, append-nil}
 use Rattle.qo_lane.specs.Hearing.{heard}
 use Rattle.qo_lane.specs.Lines.{without_return}
-use Rattle.qo_model.specs.Board.{Board}
 use Rattle.qo_machine.proofs.GuestLemmas.{line_left, line_refused, line_refused_left, line_served}
 use Rattle.qo_machine.proofs.MachineLemmas.{on_err, on_ok, serves_over_by}
 use Rattle.qo_machine.specs.Machine.{by_line}
@@ -10,8 +9,13 @@ use Rattle.qo_machine.specs.Serving.{CameTo}
 use Rattle.qo_machine.proofs.serving.serve_line.Goals as goal
 
 pub returns-then-ended-clause-served : goal.returns-then-ended-clause-served
-returns-then-ended-clause-served g c =
-    ([], sym (append-nil _), tt, serves_over_by (by_line c.args.at) c.args.machine.now c.args.machine.now c.args.line.now (sym c.if-ended.ensures) refl)
+returns-then-ended-clause-served g c = (
+  [],
+  sym (append-nil _),
+  tt,
+  serves_over_by (by_line c.args.sending.now.at) c.args.machine.now c.args.machine.now c.args.line.now (sym c.if-ended.ensures)
+      refl,
+)
 
 pub returns-in-Ok-clause-served : goal.returns-in-Ok-clause-served
 returns-in-Ok-clause-served g c =
@@ -20,17 +24,20 @@ returns-in-Ok-clause-served g c =
       p.0,
       p.1,
       p.2,
-      line_served c.args.at c.args.machine.now c.hear.new.self c.send_reply-sent.new.machine c.conclude.new.self c.args.line.now
+      line_served c.args.sending.now.at c.args.machine.now c.hear.new.self c.send_reply-sent.new.machine c.conclude.new.self c.args.line.now
           c.in-Ok.reply p.0 (sym c.if-ended.ensures)
-          (λ b s. subst (λ (line : List ℕ). CameTo (heard b line) c.in-Ok.reply c.hear.new.self.board) (c.without_return.ensures ∙ ap without_return c.as_slice.ensures) (c.in-Ok.ensures.came b s))
+          (λ b s. subst (λ (line : List ℕ). CameTo (heard b line) c.in-Ok.reply c.hear.new.self.board)
+          (c.without_return.ensures ∙ ap without_return c.as_slice.ensures) (c.in-Ok.ensures.came b s))
           c.in-Ok.ensures.rest p.3 c.send_reply-sent.ensures.board c.send_reply-sent.ensures.rest c.conclude.ensures.state c.conclude.ensures.board,
     )) c.send_reply-sent.ensures.sent
 
 pub returns-in-Ok-clause-left : goal.returns-in-Ok-clause-left
 returns-in-Ok-clause-left g c =
     on_err c.send_reply-sent.result
-    (line_left c.args.at c.args.machine.now c.hear.new.self c.send_reply-sent.new.machine c.conclude.new.self c.args.line.now c.in-Ok.reply (sym c.if-ended.ensures)
-    (λ b s. subst (λ (line : List ℕ). CameTo (heard b line) c.in-Ok.reply c.hear.new.self.board) (c.without_return.ensures ∙ ap without_return c.as_slice.ensures) (c.in-Ok.ensures.came b s))
+    (line_left c.args.sending.now.at c.args.machine.now c.hear.new.self c.send_reply-sent.new.machine c.conclude.new.self c.args.line.now c.in-Ok.reply
+    (sym c.if-ended.ensures)
+    (λ b s. subst (λ (line : List ℕ). CameTo (heard b line) c.in-Ok.reply c.hear.new.self.board)
+    (c.without_return.ensures ∙ ap without_return c.as_slice.ensures) (c.in-Ok.ensures.came b s))
     c.in-Ok.ensures.rest c.send_reply-sent.ensures.board c.send_reply-sent.ensures.rest c.conclude.ensures.state c.conclude.ensures.board)
 
 pub returns-in-Err-clause-served : goal.returns-in-Err-clause-served
@@ -40,10 +47,12 @@ returns-in-Err-clause-served g c =
       _,
       more,
       (tt, tt),
-      line_refused c.args.at c.args.machine.now c.hear.new.self c.args.line.now _ (sym c.if-ended.ensures) refl c.in-Err.ensures.kept c.in-Err.ensures.rest,
-    )) c.tell_guest_want.ensures
+      line_refused c.args.sending.now.at c.args.machine.now c.hear.new.self c.args.line.now _ (sym c.if-ended.ensures) refl c.in-Err.ensures.kept
+          c.in-Err.ensures.rest,
+    )) c.tell_guest_want.ensures.told
 
 pub returns-in-Err-clause-left : goal.returns-in-Err-clause-left
 returns-in-Err-clause-left g c =
     on_err c.tell_guest_want.result
-    (line_refused_left c.args.at c.args.machine.now c.hear.new.self c.args.line.now (sym c.if-ended.ensures) c.in-Err.ensures.kept c.in-Err.ensures.rest)
+    (line_refused_left c.args.sending.now.at c.args.machine.now c.hear.new.self c.args.line.now (sym c.if-ended.ensures) c.in-Err.ensures.kept
+    c.in-Err.ensures.rest)

@@ -1,5 +1,5 @@
 -- An input does what it does by itself, while the run goes on.
-use Rattle.std.proofs.Common.{[], ◌∙◌, ap, sym, refl, subst, List, OnErr}
+use Rattle.std.proofs.Common.{[], ◌∙◌, ap, sym, subst, List, OnErr}
 use Rattle.qo_causes.specs.declared.inputs.What.TheVariants.{Bytes, Guest}
 use Rattle.qo_causes.specs.declared.inputs.What.{What}
 use Rattle.qo_machine.specs.Machine.{BreaksOff, Message, State, state_at, unchanged}
@@ -13,11 +13,13 @@ returns-then-self-clause-answered g c = λ s here.
 
 pub returns-in-Open-clause-answered : goal.returns-in-Open-clause-answered
 returns-in-Open-clause-answered g c =
-    served_beside c.open.result c.args.input.now _ c.args.self.now c.open.new.self (sym (seen_ended c.self.view_is) ∙ c.if-self.false) c.in-Open.is c.open.ensures.answered c.open.ensures.board
+    served_beside c.open.result c.args.input.now _ c.args.self.now c.open.new.self (sym (seen_ended c.self.view_is) ∙ c.if-self.false) c.in-Open.is
+    c.open.ensures.answered c.open.ensures.board
 
 pub returns-in-Bytes-clause-answered : goal.returns-in-Bytes-clause-answered
 returns-in-Bytes-clause-answered g c =
-    served_bytes c.take.result c.args.input.now _ c.args.self.now c.take.new.self (sym (seen_ended c.self.view_is) ∙ c.if-self.false) (c.in-Bytes.is ∙ ap (Bytes c.in-Bytes.session) (sym c.as_slice.ensures.value)) c.take.ensures.answered
+    served_bytes c.take.result c.args.input.now _ c.args.self.now c.take.new.self (sym (seen_ended c.self.view_is) ∙ c.if-self.false)
+    (c.in-Bytes.is ∙ ap (Bytes c.in-Bytes.session) (sym c.as_slice.ensures.value)) c.take.ensures.answered
 
 pub returns-in-Shut-clause-answered : goal.returns-in-Shut-clause-answered
 returns-in-Shut-clause-answered g c =
@@ -27,15 +29,18 @@ returns-in-Shut-clause-answered g c =
 pub returns-in-End-clause-answered : goal.returns-in-End-clause-answered
 returns-in-End-clause-answered g c =
     answers_moved c.args.input.now _ _ c.args.self.now c.finish.new.self (sym (seen_ended c.self.view_is) ∙ c.if-self.false) c.in-End.is
-    (λ b. ap (λ (s : State). unchanged s []) (sym (c.finish.ensures.done b)) ∙ leaves (state_at b c.finish.new.self) _ c.none-in-End.ensures) c.finish.ensures.board
+    (λ b. ap (λ (s : State). unchanged s []) (sym (c.finish.ensures.done b)) ∙ leaves (state_at b c.finish.new.self) _ c.none-in-End.ensures)
+    c.finish.ensures.board
 
 pub returns-in-Guest-clause-answered : goal.returns-in-Guest-clause-answered
 returns-in-Guest-clause-answered g c =
-    served_bytes c.take_guest.result c.args.input.now _ c.args.self.now c.take_guest.new.self (sym (seen_ended c.self.view_is) ∙ c.if-self.false) (c.in-Guest.is ∙ ap Guest (sym c.as_slice-in-Guest.ensures.value)) c.take_guest.ensures.answered
+    served_bytes c.take_guest.result c.args.input.now _ c.args.self.now c.take_guest.new.self (sym (seen_ended c.self.view_is) ∙ c.if-self.false)
+    (c.in-Guest.is ∙ ap Guest (sym c.as_slice-in-Guest.ensures.value)) c.take_guest.ensures.answered
 
 pub returns-in-Step-clause-answered : goal.returns-in-Step-clause-answered
 returns-in-Step-clause-answered g c =
-    answers_timed c.args.input.now _ c.in-Step.ns c.args.self.now c.go_on.new.self (sym (seen_ended c.self.view_is) ∙ c.if-self.false) c.in-Step.is c.none-in-Step.ensures
+    answers_timed c.args.input.now _ c.in-Step.ns c.args.self.now c.go_on.new.self (sym (seen_ended c.self.view_is) ∙ c.if-self.false) c.in-Step.is
+    c.none-in-Step.ensures
     c.go_on.ensures.board c.go_on.ensures.rest
 
 pub returns-in-Open-clause-breaks : goal.returns-in-Open-clause-breaks

@@ -21,15 +21,19 @@ returns-then-self-clause-sound c = λ s here sound.
 
 pub returns-in-Err-clause-breaks : goal.returns-in-Err-clause-breaks
 returns-in-Err-clause-breaks c = λ s here.
-    breaks_kept s c.args.input.now c.step_counting.new.self c.finish-in-Err.new.self (c.finish-in-Err.ensures.board ∙ seen_board c.self-in-Err.view_is) (c.in-Err.ensures.breaks s here)
+    breaks_kept s c.args.input.now c.step_counting.new.self c.finish-in-Err.new.self (c.finish-in-Err.ensures.board ∙ seen_board c.self-in-Err.view_is)
+    (c.in-Err.ensures.breaks s here)
 
 pub returns-in-Err-clause-sound : goal.returns-in-Err-clause-sound
 returns-in-Err-clause-sound c = λ s here sound.
-    broken_sound s c.args.input.now c.finish-in-Err.new.self sound (breaks_kept s c.args.input.now c.step_counting.new.self c.finish-in-Err.new.self (c.finish-in-Err.ensures.board ∙ seen_board c.self-in-Err.view_is) (c.in-Err.ensures.breaks s here))
+    broken_sound s c.args.input.now c.finish-in-Err.new.self sound
+    (breaks_kept s c.args.input.now c.step_counting.new.self c.finish-in-Err.new.self (c.finish-in-Err.ensures.board ∙ seen_board c.self-in-Err.view_is)
+    (c.in-Err.ensures.breaks s here))
 
 pub returns-in-Ok-clause-kept : goal.returns-in-Ok-clause-kept
 returns-in-Ok-clause-kept c =
-    stepped_run c.args.self.now c.step_counting.new.self c.args.input.now c.in-Ok.outs (subst StandsForGood (seen_board c.self.view_is) c.shown.ensures) c.in-Ok.ensures.answered
+    stepped_run c.args.self.now c.step_counting.new.self c.args.input.now c.in-Ok.outs (subst StandsForGood (seen_board c.self.view_is) c.shown.ensures)
+    c.in-Ok.ensures.answered
 
 pub returns-then-self-clause-kept : goal.returns-then-self-clause-kept
 returns-then-self-clause-kept c =
@@ -40,7 +44,8 @@ pub returns-in-Err-clause-kept : goal.returns-in-Err-clause-kept
 returns-in-Err-clause-kept c =
     broken_run c.args.self.now c.finish-in-Err.new.self c.args.input.now (subst StandsForGood (seen_board c.self.view_is) c.shown.ensures)
     (λ s here.
-    breaks_kept s c.args.input.now c.step_counting.new.self c.finish-in-Err.new.self (c.finish-in-Err.ensures.board ∙ seen_board c.self-in-Err.view_is) (c.in-Err.ensures.breaks s here))
+    breaks_kept s c.args.input.now c.step_counting.new.self c.finish-in-Err.new.self (c.finish-in-Err.ensures.board ∙ seen_board c.self-in-Err.view_is)
+    (c.in-Err.ensures.breaks s here))
 
 pub returns-in-Ok-clause-whole : goal.returns-in-Ok-clause-whole
 returns-in-Ok-clause-whole c =
@@ -53,4 +58,5 @@ returns-then-self-clause-whole c = λ s here sound.
 pub returns-in-Err-clause-whole : goal.returns-in-Err-clause-whole
 returns-in-Err-clause-whole c = λ s here sound.
     broken_board s c.args.input.now c.finish-in-Err.new.self sound
-    (breaks_kept s c.args.input.now c.step_counting.new.self c.finish-in-Err.new.self (c.finish-in-Err.ensures.board ∙ seen_board c.self-in-Err.view_is) (c.in-Err.ensures.breaks s here))
+    (breaks_kept s c.args.input.now c.step_counting.new.self c.finish-in-Err.new.self (c.finish-in-Err.ensures.board ∙ seen_board c.self-in-Err.view_is)
+    (c.in-Err.ensures.breaks s here))

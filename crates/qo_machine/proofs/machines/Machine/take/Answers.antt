@@ -7,7 +7,8 @@ use Rattle.qo_machine.proofs.machines.Machine.take.Goals as goal
 
 pub returns-clause-answered : goal.returns-clause-answered
 returns-clause-answered g c =
-    served_items c.serve_items.result c.args.at c.args.session c.args.self.now c.feed.new.self c.serve_items.new.machine c.args.bytes.now c.deref.result.now (omega arith) (λ b. c.deref.ensures.value ∙ c.in_ok-items.ensures.items b) c.in_ok-items.ensures.state c.feed.ensures.board c.serve_items.ensures.served
+    served_items c.serve_items.result c.args.at c.args.session c.args.self.now c.feed.new.self c.serve_items.new.machine c.args.bytes.now c.deref.result.now
+    (omega arith) (λ b. c.deref.ensures.value ∙ c.in_ok-items.ensures.items b) c.in_ok-items.ensures.state c.feed.ensures.board c.serve_items.ensures.served
 
 pub returns-then-session-ge-SESSIONS-clause-answered : goal.returns-then-session-ge-SESSIONS-clause-answered
 returns-then-session-ge-SESSIONS-clause-answered g c = λ s here.
@@ -21,4 +22,5 @@ pub returns-clause-breaks : goal.returns-clause-breaks
 returns-clause-breaks g c = λ s here.
     err_more c.serve_items.result
     (λ left.
-    breaks_in c.args.at c.args.session c.args.self.now c.feed.new.self c.serve_items.new.machine c.args.bytes.now c.deref.result.now (omega arith) (λ b. c.deref.ensures.value ∙ c.in_ok-items.ensures.items b) c.in_ok-items.ensures.state c.feed.ensures.board left s here) c.serve_items.ensures.left
+    breaks_in c.args.at c.args.session c.args.self.now c.feed.new.self c.serve_items.new.machine c.args.bytes.now c.deref.result.now (omega arith)
+    (λ b. c.deref.ensures.value ∙ c.in_ok-items.ensures.items b) c.in_ok-items.ensures.state c.feed.ensures.board left s here) c.serve_items.ensures.left

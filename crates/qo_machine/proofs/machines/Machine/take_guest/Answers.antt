@@ -1,5 +1,5 @@
 -- The lines that end in the bytes are served.
-use Rattle.std.proofs.Common.{[], ◌∙◌}
+use Rattle.std.proofs.Common.{◌∙◌}
 use Rattle.qo_causes.specs.declared.inputs.What.TheVariants.{Guest}
 use Rattle.qo_machine.proofs.GuestLemmas.{served_lines}
 use Rattle.qo_machine.proofs.LeftLemmas.{breaks_before, breaks_in_lines, err_more}
@@ -8,7 +8,8 @@ use Rattle.qo_machine.proofs.machines.Machine.take_guest.Goals as goal
 
 pub returns-clause-answered : goal.returns-clause-answered
 returns-clause-answered g c =
-    served_lines c.serve_lines.result c.args.at c.args.self.now c.cut.new.self c.serve_lines.new.machine c.args.bytes.now c.deref.result.now (c.deref.ensures.value ∙ c.in_ok-lines.ensures.lines) c.in_ok-lines.ensures.state c.cut.ensures.board c.serve_lines.ensures.served
+    served_lines c.serve_lines.result c.args.at c.args.self.now c.cut.new.self c.serve_lines.new.machine c.args.bytes.now c.deref.result.now
+    (c.deref.ensures.value ∙ c.in_ok-lines.ensures.lines) c.in_ok-lines.ensures.state c.cut.ensures.board c.serve_lines.ensures.served
 
 pub returns-in_err-lines-clause-breaks : goal.returns-in_err-lines-clause-breaks
 returns-in_err-lines-clause-breaks g c = λ s here.
@@ -18,4 +19,5 @@ pub returns-clause-breaks : goal.returns-clause-breaks
 returns-clause-breaks g c = λ s here.
     err_more c.serve_lines.result
     (λ left.
-    breaks_in_lines c.args.at c.args.self.now c.cut.new.self c.serve_lines.new.machine c.args.bytes.now c.deref.result.now (c.deref.ensures.value ∙ c.in_ok-lines.ensures.lines) c.in_ok-lines.ensures.state c.cut.ensures.board left s here) c.serve_lines.ensures.left
+    breaks_in_lines c.args.at c.args.self.now c.cut.new.self c.serve_lines.new.machine c.args.bytes.now c.deref.result.now
+    (c.deref.ensures.value ∙ c.in_ok-lines.ensures.lines) c.in_ok-lines.ensures.state c.cut.ensures.board left s here) c.serve_lines.ensures.left

@@ -1,8 +1,0 @@
--- The sessions passed over are told.
-use Rattle.std.proofs.Common.{◌≡◌, ◌++◌}
-use Rattle.qo_machine.specs.Machine.{beside, numbers_below, those_commanding, told_of}
-use Rattle.qo_machine.proofs.serving.tell.Given as goal
-
-abbrev pub invariant-loop-session : goal.invariant-loop-session
-invariant-loop-session g l =
-    l.outs ≡ l.fn.outs ++ told_of (g.E.Told.event l.event) l.at (those_commanding (beside l.machine) (numbers_below l.session))
