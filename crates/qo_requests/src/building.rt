@@ -7,6 +7,7 @@ ghost use Rattle.qo_requests.specs.Building.{ring_on, request_of};
 ghost use Rattle.qo_requests.specs.Commands.{arguments};
 ghost use Rattle.qo_requests.specs.Given.{AreGiven};
 
+use crate::calls::{Addition, Alteration, Query};
 use crate::commands::{Command, backend_members, payload_members};
 use crate::fields::Field;
 use crate::given::Given;
@@ -28,11 +29,11 @@ fn ring_on(alloc: Global, args: &Given<'_>, backend: &Value) -> Result<Request, 
         Some(payload) => number_at(&Given::of(payload_members(), payload), Field::Size),
         None => None,
     };
-    Ok(Request::ChardevAdd {
+    Ok(Request::alters(Alteration::ChardevAdd {
         id: text_in(alloc, args, Field::Id)?,
         kind: text_in(alloc, &backend, Field::Kind)?,
         size,
-    })
+    }))
 }
 
 /// `chardev-add`.
@@ -52,11 +53,11 @@ fn object_adding(alloc: Global, args: &Given<'_>) -> Result<Request, AllocError>
     requires rows { args.now.rows.now ≡ arguments command.ObjectAdd }
     ensures { IfOk result (λ request. request ≡ request_of command.ObjectAdd (view args.now.place.now)) }
 {
-    Ok(Request::ObjectAdd {
+    Ok(Request::adds(Addition::ObjectAdd {
         driver: text_in(alloc, args, Field::QomType)?,
         id: text_in(alloc, args, Field::Id)?,
         props: properties_beside(alloc, args)?,
-    })
+    }))
 }
 
 /// `device_add`.
@@ -65,12 +66,12 @@ fn device_adding(alloc: Global, args: &Given<'_>) -> Result<Request, AllocError>
     requires rows { args.now.rows.now ≡ arguments command.DeviceAdd }
     ensures { IfOk result (λ request. request ≡ request_of command.DeviceAdd (view args.now.place.now)) }
 {
-    Ok(Request::DeviceAdd {
+    Ok(Request::adds(Addition::DeviceAdd {
         driver: text_in(alloc, args, Field::Driver)?,
         id: text_at(alloc, args, Field::Id)?,
         bus: text_at(alloc, args, Field::Bus)?,
         props: properties_beside(alloc, args)?,
-    })
+    }))
 }
 
 /// The request of a command with these arguments.
@@ -85,74 +86,74 @@ pub(crate) fn request_of(
 {
     Ok(match command {
         Command::ChardevAdd => ring_adding(alloc, args)?,
-        Command::ChardevRemove => Request::ChardevRemove {
+        Command::ChardevRemove => Request::alters(Alteration::ChardevRemove {
             id: text_in(alloc, args, Field::Id)?,
-        },
-        Command::Cont => Request::Cont,
-        Command::DeviceListProperties => Request::DeviceListProperties {
+        }),
+        Command::Cont => Request::alters(Alteration::Cont),
+        Command::DeviceListProperties => Request::queries(Query::DeviceListProperties {
             typename: text_in(alloc, args, Field::Typename)?,
-        },
+        }),
         Command::DeviceAdd => device_adding(alloc, args)?,
-        Command::DeviceDel => Request::DeviceDel {
+        Command::DeviceDel => Request::alters(Alteration::DeviceDel {
             id: text_in(alloc, args, Field::Id)?,
-        },
+        }),
         Command::ObjectAdd => object_adding(alloc, args)?,
-        Command::ObjectDel => Request::ObjectDel {
+        Command::ObjectDel => Request::alters(Alteration::ObjectDel {
             id: text_in(alloc, args, Field::Id)?,
-        },
+        }),
         Command::QmpCapabilities => Request::QmpCapabilities {
             enable: texts_at(alloc, args, Field::Enable)?,
         },
-        Command::QomGet => Request::QomGet {
+        Command::QomGet => Request::queries(Query::QomGet {
             path: text_in(alloc, args, Field::Path)?,
             property: text_in(alloc, args, Field::Property)?,
-        },
-        Command::QomList => Request::QomList {
+        }),
+        Command::QomList => Request::queries(Query::QomList {
             path: text_in(alloc, args, Field::Path)?,
-        },
-        Command::QomListTypes => Request::QomListTypes {
+        }),
+        Command::QomListTypes => Request::queries(Query::QomListTypes {
             implements: text_at(alloc, args, Field::Implements)?,
             with_abstract: truth_at(args, Field::Abstract),
-        },
-        Command::QomSet => Request::QomSet {
+        }),
+        Command::QomSet => Request::alters(Alteration::QomSet {
             path: text_in(alloc, args, Field::Path)?,
             property: text_in(alloc, args, Field::Property)?,
             value: value_in(alloc, args, Field::Value)?,
-        },
-        Command::QueryCommands => Request::QueryCommands,
-        Command::QueryStatus => Request::QueryStatus,
-        Command::QueryVersion => Request::QueryVersion,
-        Command::Quit => Request::Quit,
-        Command::RingbufRead => Request::RingbufRead {
+        }),
+        Command::QueryCommands => Request::queries(Query::QueryCommands),
+        Command::QueryStatus => Request::queries(Query::QueryStatus),
+        Command::QueryVersion => Request::queries(Query::QueryVersion),
+        Command::Quit => Request::queries(Query::Quit),
+        Command::RingbufRead => Request::alters(Alteration::RingbufRead {
             device: text_in(alloc, args, Field::Device)?,
             size: number_in(args, Field::Size),
             format: form_at(args, Field::Format),
-        },
-        Command::RingbufWrite => Request::RingbufWrite {
+        }),
+        Command::RingbufWrite => Request::alters(Alteration::RingbufWrite {
             device: text_in(alloc, args, Field::Device)?,
             payload: text_in(alloc, args, Field::Payload)?,
             format: form_at(args, Field::Format),
-        },
-        Command::Stop => Request::Stop,
-        Command::SystemReset => Request::SystemReset,
-        Command::XGuest => Request::XGuest {
+        }),
+        Command::Stop => Request::alters(Alteration::Stop),
+        Command::SystemReset => Request::alters(Alteration::SystemReset),
+        Command::XGuest => Request::alters(Alteration::XGuest {
             line: text_in(alloc, args, Field::Line)?,
-        },
-        Command::XQueryDetached => Request::XQueryDetached,
-        Command::XQueryNotes => Request::XQueryNotes {
+        }),
+        Command::XQueryDetached => Request::queries(Query::XQueryDetached),
+        Command::XQueryNotes => Request::queries(Query::XQueryNotes {
             from: number_in(args, Field::From),
-        },
-        Command::XResetHold => Request::XResetHold {
+        }),
+        Command::XResetHold => Request::alters(Alteration::XResetHold {
             path: text_in(alloc, args, Field::Path)?,
-        },
-        Command::XResetRelease => Request::XResetRelease {
+        }),
+        Command::XResetRelease => Request::alters(Alteration::XResetRelease {
             path: text_in(alloc, args, Field::Path)?,
-        },
-        Command::XSever => Request::XSever {
+        }),
+        Command::XSever => Request::alters(Alteration::XSever {
             birth: number_in(args, Field::Birth),
-        },
-        Command::XStep => Request::XStep {
+        }),
+        Command::XStep => Request::alters(Alteration::XStep {
             ns: number_in(args, Field::Ns),
-        },
+        }),
     })
 }

@@ -4,6 +4,7 @@
 
 mod arguments;
 mod building;
+mod calls;
 mod commands;
 mod fields;
 mod given;
@@ -12,6 +13,7 @@ mod messages;
 mod requests;
 mod values;
 
+pub use calls::{Addition, Alteration, Call, Change, Query};
 pub use commands::Command;
 pub use fields::Field;
 pub use messages::read;
