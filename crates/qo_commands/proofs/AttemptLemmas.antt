@@ -9,43 +9,21 @@ use Rattle.qo_model.specs.Plug.{Wanted, barred_early, cut_attempt, objects_in, t
 use Rattle.qo_model.specs.Types.{TypeRow, row_named}
 use Rattle.qo_plug.specs.Added.{wanted}
 use Rattle.qo_plug.specs.Cuts.{cut_as, cut_of, cut_open}
-use Rattle.qo_requests.specs.declared.requests.Request.{Request}
-use Rattle.qo_requests.specs.declared.requests.Request.TheVariants.{QmpCapabilities, QueryVersion, QueryCommands, QueryStatus, Stop, Cont, SystemReset, Quit, QomList, QomGet, QomSet, QomListTypes, DeviceListProperties, ObjectAdd, ObjectDel, DeviceAdd, DeviceDel, ChardevAdd, ChardevRemove, RingbufRead, RingbufWrite, XResetHold, XResetRelease, XSever, XQueryNotes, XQueryDetached, XGuest, XStep}
+use Rattle.qo_requests.specs.declared.calls.Addition.TheVariants.{ObjectAdd, DeviceAdd}
+use Rattle.qo_requests.specs.declared.calls.Call.{Call}
+use Rattle.qo_requests.specs.declared.calls.Call.TheVariants as call
+use Rattle.qo_requests.specs.declared.calls.Change.TheVariants.{Add, Alter}
 use Rattle.qo_commands.specs.Changes.{attempted}
 
--- only two commands make attempts
-attempted-by : (P : Board → Type 0) (b : Board) (r : Request) (i : ℕ) (joined : Bool) → P b
-    → ((driver id : List ℕ) (props : List Given) → P (attempted b (ObjectAdd driver id props) i joined))
-    → ((driver : List ℕ) (id bus : Option (List ℕ)) (props : List Given) → P (attempted b (DeviceAdd driver id bus props) i joined))
-    → P (attempted b r i joined)
-attempted-by P b (ObjectAdd driver id props) i joined none object plug = object driver id props
-attempted-by P b (DeviceAdd driver id bus props) i joined none object plug = plug driver id bus props
-attempted-by P b (QmpCapabilities enable) i joined none object plug = none
-attempted-by P b QueryVersion i joined none object plug = none
-attempted-by P b QueryCommands i joined none object plug = none
-attempted-by P b QueryStatus i joined none object plug = none
-attempted-by P b Stop i joined none object plug = none
-attempted-by P b Cont i joined none object plug = none
-attempted-by P b SystemReset i joined none object plug = none
-attempted-by P b Quit i joined none object plug = none
-attempted-by P b (QomList path) i joined none object plug = none
-attempted-by P b (QomGet path property) i joined none object plug = none
-attempted-by P b (QomSet path property value) i joined none object plug = none
-attempted-by P b (QomListTypes implements with_abstract) i joined none object plug = none
-attempted-by P b (DeviceListProperties typename) i joined none object plug = none
-attempted-by P b (ObjectDel id) i joined none object plug = none
-attempted-by P b (DeviceDel id) i joined none object plug = none
-attempted-by P b (ChardevAdd id kind size) i joined none object plug = none
-attempted-by P b (ChardevRemove id) i joined none object plug = none
-attempted-by P b (RingbufRead device size format) i joined none object plug = none
-attempted-by P b (RingbufWrite device payload format) i joined none object plug = none
-attempted-by P b (XResetHold path) i joined none object plug = none
-attempted-by P b (XResetRelease path) i joined none object plug = none
-attempted-by P b (XSever birth) i joined none object plug = none
-attempted-by P b (XQueryNotes start) i joined none object plug = none
-attempted-by P b XQueryDetached i joined none object plug = none
-attempted-by P b (XGuest line) i joined none object plug = none
-attempted-by P b (XStep ns) i joined none object plug = none
+-- only additions make attempts
+attempted-by : (P : Board → Type 0) (b : Board) (command : Call) (i : ℕ) (joined : Bool) → P b
+    → ((driver id : List ℕ) (props : List Given) → P (attempted b (call.Change (Add (ObjectAdd driver id props))) i joined))
+    → ((driver : List ℕ) (id bus : Option (List ℕ)) (props : List Given) → P (attempted b (call.Change (Add (DeviceAdd driver id bus props))) i joined))
+    → P (attempted b command i joined)
+attempted-by P b (call.Query query) i joined none object plug = none
+attempted-by P b (call.Change (Alter alteration)) i joined none object plug = none
+attempted-by P b (call.Change (Add (ObjectAdd driver id props))) i joined none object plug = object driver id props
+attempted-by P b (call.Change (Add (DeviceAdd driver id bus props))) i joined none object plug = plug driver id bus props
 
 -- a device's attempt that was cut
 cut-by : (P : Board → Type 0) (b : Board) (a : Wanted) (i : ℕ) (joined : Bool) → P b → ((t : TypeId) → P (cut_of b t i joined)) → P (cut_as b a i joined)
@@ -70,8 +48,9 @@ object-by P b driver id none made = by (barred_by b driver id) (row_named driver
     by None None = none
     by None (Some row) = made row.id
 
--- what holds of a board, and behind each attempt, holds behind a command that was cut
-pub attempted-all : (P : Board → Type 0) (b : Board) (r : Request) (i : ℕ) (joined : Bool) → P b → ((t : TypeId) → P (with_attempt b t)) → ((t : TypeId) → P (cut_attempt b t i joined)) → P (attempted b r i joined)
+-- what holds of a board, and after each attempt, holds after a command that was cut
+pub attempted-all : (P : Board → Type 0) (b : Board) (r : Call) (i : ℕ) (joined : Bool) → P b → ((t : TypeId) → P (with_attempt b t))
+    → ((t : TypeId) → P (cut_attempt b t i joined)) → P (attempted b r i joined)
 attempted-all P b r i joined none made cut =
     attempted-by P b r i joined none (λ driver id props. one driver id (i == 1)) (λ driver id bus props. cut-by P b (wanted driver id bus props) i joined none some)
   where
@@ -87,7 +66,7 @@ attempted-all P b r i joined none made cut =
         choose false = none
 
 -- an attempt without objects leaves the board
-pub attempted-none : (b : Board) (r : Request) → attempted b r 0 false ≡ b
+pub attempted-none : (b : Board) (r : Call) → attempted b r 0 false ≡ b
 attempted-none b r =
     attempted-by (λ (c : Board). c ≡ b) b r 0 false refl (λ driver id props. refl)
     (λ driver id bus props. cut-by (λ (c : Board). c ≡ b) b (wanted driver id bus props) 0 false refl (λ t. refl))

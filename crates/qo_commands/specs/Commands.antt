@@ -3,7 +3,7 @@ use Rattle.std.specs.Prelude.{ℕ, Bool, true, false, if◌then◌else◌, List,
 use Rattle.serde_json.specs.Data.{Data, Members, array, boolean, member, no_members, number, object, string, unsigned}
 use Rattle.serde_json.specs.View.{items_of}
 use Rattle.qo_values.specs.declared.codes.Code.{Code}
-use Rattle.qo_values.specs.declared.codes.Code.TheVariants.{E10, E20, E22, E54}
+use Rattle.qo_values.specs.declared.codes.Code.TheVariants.{E20, E22, E54}
 use Rattle.qo_values.specs.Kinds.{type_name}
 use Rattle.qo_values.specs.declared.kinds.TypeId.{TypeId}
 use Rattle.qo_guest.specs.Answers.{text_of}
@@ -37,10 +37,20 @@ use Rattle.qo_realize.specs.Time.{advanced, switches, with_running}
 use Rattle.qo_replies.specs.Replies.{version_data}
 use Rattle.qo_replies.specs.declared.events.Event.{Event}
 use Rattle.qo_replies.specs.declared.events.Event.TheVariants.{DeviceDeleted, DeviceUnplugGuestError, Reset, Resume, Shutdown, Stop as Stopped}
-use Rattle.qo_requests.specs.declared.requests.Request.{Request}
-use Rattle.qo_requests.specs.declared.requests.Request.TheVariants.{ChardevAdd, ChardevRemove, Cont, DeviceAdd, DeviceDel, DeviceListProperties, ObjectAdd, ObjectDel, QomGet, QomList, QomListTypes, QomSet, QueryCommands, QueryStatus, QueryVersion, Quit, RingbufRead, RingbufWrite, Stop, SystemReset, XGuest, XQueryDetached, XQueryNotes, XResetHold, XResetRelease, XSever, XStep}
+use Rattle.qo_requests.specs.Commands.{command_name, commands}
+use Rattle.qo_requests.specs.declared.commands.Command.{Command}
+use Rattle.qo_requests.specs.declared.calls.Addition.{Addition}
+use Rattle.qo_requests.specs.declared.calls.Addition.TheVariants.{ObjectAdd, DeviceAdd}
+use Rattle.qo_requests.specs.declared.calls.Alteration.{Alteration}
+use Rattle.qo_requests.specs.declared.calls.Alteration.TheVariants.{ChardevAdd, ChardevRemove, Cont, DeviceDel, ObjectDel, QomSet, RingbufRead, RingbufWrite, Stop, SystemReset, XGuest, XResetHold, XResetRelease, XSever, XStep}
+use Rattle.qo_requests.specs.declared.calls.Call.{Call}
+use Rattle.qo_requests.specs.declared.calls.Call.TheVariants as call
+use Rattle.qo_requests.specs.declared.calls.Change.{Change}
+use Rattle.qo_requests.specs.declared.calls.Change.TheVariants.{Add, Alter}
+use Rattle.qo_requests.specs.declared.calls.Query.{Query}
+use Rattle.qo_requests.specs.declared.calls.Query.TheVariants.{DeviceListProperties, QomGet, QomList, QomListTypes, QueryCommands, QueryStatus, QueryVersion, Quit, XQueryDetached, XQueryNotes}
 
--- what a command comes to: what it returns or the code that refuses it, the board behind it, its events, and whether it ends the run
+-- what a command comes to: what it returns or the code that refuses it, the board after it, its events, and whether it ends the run
 pub record Done : Type 0 where
   pub result : Result Data Code
   pub board : Board
@@ -130,41 +140,8 @@ detached_data d =
     (member (codes "type") (string (type_name d.kind)) no_members)))
 
 -- a command by its name
-abbrev pub command_data : List ℕ → Data
-command_data name = object (member (codes "name") (string name) no_members)
-
--- the commands that are built, in byte order of their names
-abbrev pub built : List (List ℕ)
-built =
-    codes "chardev-add"
-    ∷ codes "chardev-remove"
-    ∷ codes "cont"
-    ∷ codes "device-list-properties"
-    ∷ codes "device_add"
-    ∷ codes "device_del"
-    ∷ codes "object-add"
-    ∷ codes "object-del"
-    ∷ codes "qmp_capabilities"
-    ∷ codes "qom-get"
-    ∷ codes "qom-list"
-    ∷ codes "qom-list-types"
-    ∷ codes "qom-set"
-    ∷ codes "query-commands"
-    ∷ codes "query-status"
-    ∷ codes "query-version"
-    ∷ codes "quit"
-    ∷ codes "ringbuf-read"
-    ∷ codes "ringbuf-write"
-    ∷ codes "stop"
-    ∷ codes "system_reset"
-    ∷ codes "x-guest"
-    ∷ codes "x-query-detached"
-    ∷ codes "x-query-notes"
-    ∷ codes "x-reset-hold"
-    ∷ codes "x-reset-release"
-    ∷ codes "x-sever"
-    ∷ codes "x-step"
-    ∷ []
+abbrev pub command_data : Command → Data
+command_data command = object (member (codes "name") (string (command_name command)) no_members)
 
 -- a type: that it is abstract is said only where it is, and its parent only where it has one
 abbrev pub with_parent : Option TypeId → Members
@@ -221,37 +198,51 @@ abbrev pub status_data : Bool → Data
 status_data running =
     object (member (codes "running") (boolean running) (member (codes "status") (string (status_word running)) no_members))
 
--- what a command of a session that has negotiated comes to by itself; those that are not built are unknown
-unfoldable pub performed : Board → Request → Done
-performed b (QomList path) = answered b properties_data (listing_at b path)
-performed b (QomGet path property) = answered b data_of (read b path property)
-performed b (QomSet path property value) = wrote b (write_at b path property value)
-performed b (QomListTypes implements with_abstract) =
+-- what a command comes to that leaves the board
+unfoldable pub queried : Board → Query → Done
+queried b (QomList path) = answered b properties_data (listing_at b path)
+queried b (QomGet path property) = answered b data_of (read b path property)
+queried b (QomListTypes implements with_abstract) =
     returned b (array (items_of (map type_data (types_of (unwrap_or implements (codes "object")) (unwrap_or with_abstract false)))))
-performed b (DeviceListProperties typename) = device_properties b (row_named typename)
-performed b (ObjectAdd driver id props) = changed (object_add b driver id props)
-performed b (ObjectDel id) = changed (object_removed b id)
-performed b (XSever birth) = changed (sever b birth)
-performed b (DeviceAdd driver id bus props) = plugged (plug b (wanted driver id bus props))
-performed b (DeviceDel id) = changed (asked b id)
-performed b (ChardevAdd id kind size) = changed (chardev_added b id kind size)
-performed b (ChardevRemove id) = changed (chardev_removed b id)
-performed b (RingbufRead device size format) = ring_told (ringbuf_read b device size format)
-performed b (RingbufWrite device payload format) = changed (ringbuf_written b device payload format)
-performed b (XGuest line) = told (heard b line)
-performed b Stop = switched b false Stopped
-performed b Cont = switched b true Resume
-performed b (XStep ns) = timed (advanced b ns)
-performed b SystemReset = reset_by b
-performed b (XResetHold path) = changed (held_at b path)
-performed b (XResetRelease path) = changed (released_at b path)
-performed b (XQueryNotes from) = returned b (notes_data from b.notes)
-performed b XQueryDetached = returned b (array (items_of (map detached_data (detached_told b))))
-performed b QueryVersion = returned b version_data
-performed b QueryCommands = returned b (array (items_of (map command_data built)))
-performed b QueryStatus = returned b (status_data b.running)
-performed b Quit = record { result = Ok empty; board = b; events = Shutdown false ∷ []; ends = true }
-performed b request = refused_with b E10
+queried b (DeviceListProperties typename) = device_properties b (row_named typename)
+queried b (XQueryNotes from) = returned b (notes_data from b.notes)
+queried b XQueryDetached = returned b (array (items_of (map detached_data (detached_told b))))
+queried b QueryVersion = returned b version_data
+queried b QueryCommands = returned b (array (items_of (map command_data commands)))
+queried b QueryStatus = returned b (status_data b.running)
+queried b Quit = record { result = Ok empty; board = b; events = Shutdown false ∷ []; ends = true }
+
+-- one that makes objects
+unfoldable pub added : Board → Addition → Done
+added b (ObjectAdd driver id props) = changed (object_add b driver id props)
+added b (DeviceAdd driver id bus props) = plugged (plug b (wanted driver id bus props))
+
+-- and one that changes the board otherwise
+unfoldable pub altered : Board → Alteration → Done
+altered b (QomSet path property value) = wrote b (write_at b path property value)
+altered b (ObjectDel id) = changed (object_removed b id)
+altered b (XSever birth) = changed (sever b birth)
+altered b (DeviceDel id) = changed (asked b id)
+altered b (ChardevAdd id kind size) = changed (chardev_added b id kind size)
+altered b (ChardevRemove id) = changed (chardev_removed b id)
+altered b (RingbufRead device size format) = ring_told (ringbuf_read b device size format)
+altered b (RingbufWrite device payload format) = changed (ringbuf_written b device payload format)
+altered b (XGuest line) = told (heard b line)
+altered b Stop = switched b false Stopped
+altered b Cont = switched b true Resume
+altered b (XStep ns) = timed (advanced b ns)
+altered b SystemReset = reset_by b
+altered b (XResetHold path) = changed (held_at b path)
+altered b (XResetRelease path) = changed (released_at b path)
+
+abbrev pub made : Board → Change → Done
+made b (Add addition) = added b addition
+made b (Alter alteration) = altered b alteration
+
+-- what a command of a session that has negotiated comes to by itself; a query leaves the board
+abbrev pub performed : Board → Call → Done
+performed b (call.Query query) = record (queried b query) { board = b }
+performed b (call.Change change) = made b change
 
 -- an event on a device, as sessions are told of it (qapi/qdev.json, DEVICE_DELETED and DEVICE_UNPLUG_GUEST_ERROR)
 abbrev pub event_of : DeviceEvent → Event
@@ -264,6 +255,6 @@ without_events b = record b { events = [] }
 abbrev pub drained : Done → Done
 drained d = record d { board = without_events d.board; events = map event_of d.board.events ++ d.events }
 
--- a command, and the events that wait behind it
-abbrev pub perform : Board → Request → Done
-perform b request = drained (performed b request)
+-- a command, and the events that wait after it
+abbrev pub perform : Board → Call → Done
+perform b command = drained (performed b command)

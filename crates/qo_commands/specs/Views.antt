@@ -22,7 +22,7 @@ body_data b (Listing n) = properties_data (listing b n)
 body_data b (Answer answer) = defined.answer_data answer
 body_data b (Time now) = defined.time_data now
 body_data b (Told text) = string text
-body_data b (Value value) = view value
+body_data b (Value whole) = view whole.value
 
 abbrev pub data_of : Board → Result Body Code → Result Data Code
 data_of b (Ok body) = Ok (body_data b body)

@@ -2,51 +2,27 @@
 
 ghost use Rattle.std.specs.Prelude.{◌≡◌, [], ◌∷◌, false, true, if◌then◌else◌, Ok, option_map};
 ghost use Rattle.qo_model.specs.Board.{Board as Tree};
-ghost use Rattle.qo_requests.specs.declared.requests.Request.TheVariants as request;
-ghost use Rattle.qo_commands.specs.Changes.{Came, Changes, is_change};
-ghost use Rattle.qo_commands.specs.Commands.{empty, told};
+ghost use Rattle.qo_requests.specs.declared.calls.Addition.TheVariants as addition;
+ghost use Rattle.qo_requests.specs.declared.calls.Alteration.TheVariants as alteration;
+ghost use Rattle.qo_requests.specs.declared.calls.Change.TheVariants as change;
+ghost use Rattle.qo_commands.specs.Changes.{Alters, Came, Changes};
+ghost use Rattle.qo_commands.specs.Commands.{altered, empty, told};
 ghost use Rattle.qo_commands.specs.Views.{done_of};
 ghost use Rattle.qo_lane.specs.Hearing.{outcome_of};
 ghost use Rattle.qo_realize.specs.Stands.{Stands};
 
-use crate::commands::{Body, Done, outcome_of, refused, returned};
-use crate::rings::change_ring;
+use crate::commands::{Body, Done, done_by, outcome_of, refused, returned};
+use crate::rings::{add_ring, read_ring, remove_ring, write_ring};
 use qo_guest::GuestAnswer;
 use qo_heap::Steps;
 use qo_lane::{Heard, hear};
 use qo_plug::AddRefusal;
 use qo_realize::Board;
 use qo_replies::Event;
-use qo_requests::Request;
+use qo_requests::{Addition, Alteration, Change};
 use qo_values::{Code, PropList, Text, Val};
 use std::alloc::{AllocError, Global};
 use std::sync::ledger::Ledger;
-
-/// Whether a command changes the board where it is not refused.
-pub fn is_change(request: &Request) -> bool
-    ensures { result ≡ is_change request.now }
-{
-    match request {
-        Request::QomSet { .. } => true,
-        Request::ObjectAdd { .. } => true,
-        Request::ObjectDel { .. } => true,
-        Request::XSever { .. } => true,
-        Request::DeviceAdd { .. } => true,
-        Request::DeviceDel { .. } => true,
-        Request::ChardevAdd { .. } => true,
-        Request::ChardevRemove { .. } => true,
-        Request::RingbufRead { .. } => true,
-        Request::RingbufWrite { .. } => true,
-        Request::XGuest { .. } => true,
-        Request::Stop => true,
-        Request::Cont => true,
-        Request::XStep { .. } => true,
-        Request::SystemReset => true,
-        Request::XResetHold { .. } => true,
-        Request::XResetRelease { .. } => true,
-        _ => false,
-    }
-}
 
 /// Writes the property of a name of the object at a path.
 fn set<L: Ledger>(
@@ -57,19 +33,16 @@ fn set<L: Ledger>(
     val: &Val,
     steps: &mut Steps<L>,
 ) -> Result<Done, AllocError>
-    ensures { (b : Tree) → Stands b board.old → Changes b (request.QomSet path.now name.now val.now) result board.new }
+    ensures { (b : Tree) → Stands b board.old → Alters b (altered b (alteration.QomSet path.now name.now val.now)) result board.new }
 {
     outcome_of(board.qom_set(path, name, val, alloc, steps))
 }
 
 /// Removes the object of an id.
 fn remove<L: Ledger>(board: &mut Board, id: &str, steps: &mut Steps<L>) -> Done
-    ensures { (b : Tree) → Stands b board.old → Came b (request.ObjectDel id.now) result board.new }
+    ensures { (b : Tree) → Stands b board.old → Came (altered b (alteration.ObjectDel id.now)) result board.new }
 {
-    match board.object_del(id, steps) {
-        Ok(()) => returned(Body::Empty),
-        Err(code) => refused(code),
-    }
+    done_by(board.object_del(id, steps))
 }
 
 /// Adds an object of a type's name under an id, with properties.
@@ -81,19 +54,16 @@ fn add<L: Ledger>(
     props: &PropList,
     steps: &mut Steps<L>,
 ) -> Result<Done, AllocError>
-    ensures { (b : Tree) → Stands b board.old → Changes b (request.ObjectAdd driver.now id.now props.now) result board.new }
+    ensures { (b : Tree) → Stands b board.old → Changes b (change.Add (addition.ObjectAdd driver.now id.now props.now)) result board.new }
 {
     outcome_of(board.object_add(driver, id, props, alloc, steps))
 }
 
 /// Cuts the strong links of the detached object of a birth.
 fn sever<L: Ledger>(board: &mut Board, birth: u64, steps: &mut Steps<L>) -> Done
-    ensures { (b : Tree) → Stands b board.old → Came b (request.XSever birth) result board.new }
+    ensures { (b : Tree) → Stands b board.old → Came (altered b (alteration.XSever birth)) result board.new }
 {
-    match board.sever(birth, steps) {
-        Ok(()) => returned(Body::Empty),
-        Err(code) => refused(code),
-    }
+    done_by(board.sever(birth, steps))
 }
 
 /// The words of a text, if there is one.
@@ -117,7 +87,7 @@ fn plug<L: Ledger>(
     props: &PropList,
     steps: &mut Steps<L>,
 ) -> Result<Done, AllocError>
-    ensures { (b : Tree) → Stands b board.old → Changes b (request.DeviceAdd driver.now (option_map (λ t. t.now) id.entry) (option_map (λ t. t.now) bus.entry) props.now) result board.new }
+    ensures { (b : Tree) → Stands b board.old → Changes b (change.Add (addition.DeviceAdd driver.now (option_map (λ t. t.now) id.entry) (option_map (λ t. t.now) bus.entry) props.now)) result board.new }
 {
     let id = words_of(id);
     let bus = words_of(bus);
@@ -130,7 +100,7 @@ fn plug<L: Ledger>(
 
 /// Asks for the removal of the device that a text is of.
 fn unplug<L: Ledger>(board: &mut Board, id: &str, steps: &mut Steps<L>) -> Result<Done, AllocError>
-    ensures { (b : Tree) → Stands b board.old → Changes b (request.DeviceDel id.now) result board.new }
+    ensures { (b : Tree) → Stands b board.old → Alters b (altered b (alteration.DeviceDel id.now)) result board.new }
 {
     outcome_of(board.ask_removal(id, steps))
 }
@@ -157,7 +127,7 @@ fn guest<L: Ledger>(
     line: &str,
     steps: &mut Steps<L>,
 ) -> Result<Done, AllocError>
-    ensures { (b : Tree) → Stands b board.old → Changes b (request.XGuest line.now) result board.new }
+    ensures { (b : Tree) → Stands b board.old → Alters b (altered b (alteration.XGuest line.now)) result board.new }
 {
     let heard = hear(board, line.as_bytes(), alloc, steps)?;
     Ok(told(heard))
@@ -176,21 +146,21 @@ fn switched(changes: bool, event: Event) -> Done
 
 /// The machine stops.
 fn stop(board: &mut Board) -> Done
-    ensures { (b : Tree) → Stands b board.old → Came b request.Stop result board.new }
+    ensures { (b : Tree) → Stands b board.old → Came (altered b alteration.Stop) result board.new }
 {
     switched(board.set_running(false), Event::Stop)
 }
 
 /// The machine runs again.
 fn cont(board: &mut Board) -> Done
-    ensures { (b : Tree) → Stands b board.old → Came b request.Cont result board.new }
+    ensures { (b : Tree) → Stands b board.old → Came (altered b alteration.Cont) result board.new }
 {
     switched(board.set_running(true), Event::Resume)
 }
 
 /// The virtual time goes on by so many ns, where the machine runs.
 fn step(board: &mut Board, ns: u64) -> Done
-    ensures { (b : Tree) → Stands b board.old → Came b (request.XStep ns) result board.new }
+    ensures { (b : Tree) → Stands b board.old → Came (altered b (alteration.XStep ns)) result board.new }
 {
     match board.advance(ns) {
         Ok(now) => returned(Body::Time(now)),
@@ -200,7 +170,7 @@ fn step(board: &mut Board, ns: u64) -> Done
 
 /// The whole board is reset, and sessions are told so.
 fn reset<L: Ledger>(board: &mut Board, steps: &mut Steps<L>) -> Done
-    ensures { (b : Tree) → Stands b board.old → Came b request.SystemReset result board.new }
+    ensures { (b : Tree) → Stands b board.old → Came (altered b alteration.SystemReset) result board.new }
 {
     board.system_reset(steps);
     Done {
@@ -212,46 +182,34 @@ fn reset<L: Ledger>(board: &mut Board, steps: &mut Steps<L>) -> Done
 
 /// Holds the object at a path in reset.
 fn hold<L: Ledger>(board: &mut Board, path: &str, steps: &mut Steps<L>) -> Result<Done, AllocError>
-    ensures { (b : Tree) → Stands b board.old → Changes b (request.XResetHold path.now) result board.new }
+    ensures { (b : Tree) → Stands b board.old → Alters b (altered b (alteration.XResetHold path.now)) result board.new }
 {
     outcome_of(board.hold(path, steps))
 }
 
 /// Releases a hold on the object at a path.
 fn release<L: Ledger>(board: &mut Board, path: &str, steps: &mut Steps<L>) -> Done
-    ensures { (b : Tree) → Stands b board.old → Came b (request.XResetRelease path.now) result board.new }
+    ensures { (b : Tree) → Stands b board.old → Came (altered b (alteration.XResetRelease path.now)) result board.new }
 {
-    match board.release(path, steps) {
-        Ok(()) => returned(Body::Empty),
-        Err(code) => refused(code),
-    }
+    done_by(board.release(path, steps))
 }
 
-/// A command that changes the board, or is refused. Events on devices wait on the board behind it.
-/// Where it is refused the board is as it was, but for an attempt of `object-add` or `device_add` that
-/// was given up. The error is want of memory; the board is then as it was, or behind an attempt that
+/// A command that makes objects. Where it is refused the board is as it was, but for an attempt that
+/// was given up. The error is want of memory; the board is then as it was, or after an attempt that
 /// was cut.
-pub fn change<L: Ledger>(
+fn extend<L: Ledger>(
     alloc: Global,
     board: &mut Board,
-    request: &Request,
+    addition: &Addition,
     steps: &mut Steps<L>,
 ) -> Result<Done, AllocError>
-    requires { is_change request.now ≡ true }
-    ensures { (b : Tree) → Stands b board.old → Changes b request.now result board.new }
+    ensures { (b : Tree) → Stands b board.old → Changes b (change.Add addition.now) result board.new }
 {
-    match request {
-        Request::QomSet {
-            path,
-            property,
-            value,
-        } => set(alloc, board, path.as_str(), property.as_str(), value, steps),
-        Request::ObjectAdd { driver, id, props } => {
+    match addition {
+        Addition::ObjectAdd { driver, id, props } => {
             add(alloc, board, driver.as_str(), id.as_str(), props, steps)
         }
-        Request::ObjectDel { id } => Ok(remove(board, id.as_str(), steps)),
-        Request::XSever { birth } => Ok(sever(board, *birth, steps)),
-        Request::DeviceAdd {
+        Addition::DeviceAdd {
             driver,
             id,
             bus,
@@ -265,14 +223,66 @@ pub fn change<L: Ledger>(
             props,
             steps,
         ),
-        Request::DeviceDel { id } => unplug(board, id.as_str(), steps),
-        Request::XGuest { line } => guest(alloc, board, line.as_str(), steps),
-        Request::Stop => Ok(stop(board)),
-        Request::Cont => Ok(cont(board)),
-        Request::XStep { ns } => Ok(step(board, *ns)),
-        Request::SystemReset => Ok(reset(board, steps)),
-        Request::XResetHold { path } => hold(board, path.as_str(), steps),
-        Request::XResetRelease { path } => Ok(release(board, path.as_str(), steps)),
-        _ => change_ring(alloc, board, request, steps),
+    }
+}
+
+/// A command that changes the board and makes no object. Where it is refused the board is as it was.
+/// The error is want of memory; the board is then as it was too.
+fn alter<L: Ledger>(
+    alloc: Global,
+    board: &mut Board,
+    alteration: &Alteration,
+    steps: &mut Steps<L>,
+) -> Result<Done, AllocError>
+    ensures { (b : Tree) → Stands b board.old → Alters b (altered b alteration.now) result board.new }
+{
+    match alteration {
+        Alteration::QomSet {
+            path,
+            property,
+            value,
+        } => set(alloc, board, path.as_str(), property.as_str(), value, steps),
+        Alteration::ObjectDel { id } => Ok(remove(board, id.as_str(), steps)),
+        Alteration::XSever { birth } => Ok(sever(board, *birth, steps)),
+        Alteration::DeviceDel { id } => unplug(board, id.as_str(), steps),
+        Alteration::ChardevAdd { id, kind, size } => {
+            add_ring(alloc, board, id.as_str(), kind.as_str(), *size)
+        }
+        Alteration::ChardevRemove { id } => Ok(remove_ring(board, id.as_str(), steps)),
+        Alteration::RingbufRead {
+            device,
+            size,
+            format,
+        } => read_ring(board, device.as_str(), *size, *format),
+        Alteration::RingbufWrite {
+            device,
+            payload,
+            format,
+        } => write_ring(board, device.as_str(), payload.as_str(), *format),
+        Alteration::XGuest { line } => guest(alloc, board, line.as_str(), steps),
+        Alteration::Stop => Ok(stop(board)),
+        Alteration::Cont => Ok(cont(board)),
+        Alteration::XStep { ns } => Ok(step(board, *ns)),
+        Alteration::SystemReset => Ok(reset(board, steps)),
+        Alteration::XResetHold { path } => hold(board, path.as_str(), steps),
+        Alteration::XResetRelease { path } => Ok(release(board, path.as_str(), steps)),
+    }
+}
+
+/// A command that changes the board, or is refused. Events on devices wait on the board after it.
+/// Where it is refused the board is as it was, but for an attempt of one that makes objects, which was
+/// given up. The error is want of memory; the board is then as it was, or after an attempt that was
+/// cut.
+pub fn change<L: Ledger>(
+    alloc: Global,
+    board: &mut Board,
+    change: &Change,
+    steps: &mut Steps<L>,
+) -> Result<Done, AllocError>
+    ensures { (b : Tree) → Stands b board.old → Changes b change.now result board.new }
+{
+    match change {
+        Change::Add(addition) => extend(alloc, board, addition, steps),
+        Change::Alter(alteration) => alter(alloc, board, alteration, steps),
     }
 }

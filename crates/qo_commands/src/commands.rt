@@ -2,9 +2,12 @@
 
 ghost use Rattle.std.specs.Prelude.{◌≡◌, [], ◌∷◌, false, true, Ok, IfOk};
 ghost use Rattle.qo_model.specs.Board.{Board as Tree};
+ghost use Rattle.serde_json.specs.View.{view};
+ghost use Rattle.serde_json.specs.Written.{has_float};
 ghost use Rattle.qo_replies.specs.declared.events.Event.TheVariants as event;
-ghost use Rattle.qo_commands.specs.Changes.{ComesTo, is_change};
-ghost use Rattle.qo_commands.specs.Commands.{empty, performed, refused_with, returned};
+ghost use Rattle.qo_values.specs.declared.codes.Code.{Code};
+ghost use Rattle.qo_commands.specs.Changes.{ComesTo, by_answer};
+ghost use Rattle.qo_commands.specs.Commands.{empty, queried, refused_with, returned};
 ghost use Rattle.qo_realize.specs.Stands.{Stands};
 ghost use Rattle.qo_commands.specs.Views.{body_data, done_of};
 
@@ -14,12 +17,13 @@ use crate::listings::list;
 use crate::notes::query_notes;
 use crate::types::{list_properties, list_types};
 use crate::values::get;
+use crate::whole::Whole;
 use qo_guest::GuestAnswer;
 use qo_heap::Steps;
 use qo_properties::Refusal;
 use qo_realize::Board;
 use qo_replies::{Event, version};
-use qo_requests::Request;
+use qo_requests::Query;
 use qo_values::{Code, Text};
 use serde_json::Value;
 use std::alloc::{AllocError, Global};
@@ -41,7 +45,7 @@ pub enum Body {
     /// The bytes that were taken of a ring, as they are told.
     Told(Text),
     /// A value of its own.
-    Value(Value),
+    Value(Whole),
 }
 
 /// What a command comes to.
@@ -66,6 +70,14 @@ pub(crate) fn returned(body: Body) -> Done
     }
 }
 
+/// A command that returns a value of its own.
+pub(crate) fn returned_value(value: Value) -> Done
+    requires { has_float (view value) ≡ false }
+    ensures { (b : Tree) → done_of b result ≡ returned b (view value) }
+{
+    returned(Body::Value(Whole::new(value)))
+}
+
 /// A command that is refused.
 pub(crate) fn refused(code: Code) -> Done
     ensures { (b : Tree) → done_of b result ≡ refused_with b code }
@@ -88,6 +100,16 @@ pub(crate) fn outcome_of(answer: Result<(), Refusal>) -> Result<Done, AllocError
     }
 }
 
+/// What a change comes to that returns nothing and takes no memory.
+pub(crate) fn done_by(answer: Result<(), Code>) -> Done
+    ensures { (b : Tree) → done_of b result ≡ by_answer b answer }
+{
+    match answer {
+        Ok(()) => returned(Body::Empty),
+        Err(code) => refused(code),
+    }
+}
+
 /// The run ends, and each session that commands is told so.
 fn quit() -> Done
     ensures { (b : Tree) → done_of b result ≡ record { result = Ok empty; board = b; events = event.Shutdown false ∷ []; ends = true } }
@@ -100,35 +122,33 @@ fn quit() -> Done
 }
 
 /// A command that leaves the board. The error is want of memory.
-#[tactic(auto, unfolding(crate::specs::Commands::performed))]
+#[tactic(auto, unfolding(crate::specs::Commands::queried))]
 pub fn ask<L: Ledger>(
     alloc: Global,
     board: &Board,
-    request: &Request,
+    query: &Query,
     steps: &mut Steps<L>,
 ) -> Result<Done, AllocError>
-    requires { is_change request.now ≡ false }
-    ensures { (b : Tree) → Stands b board.now → IfOk result (λ d. done_of b d ≡ performed b request.now) }
+    ensures { (b : Tree) → Stands b board.now → IfOk result (λ d. done_of b d ≡ queried b query.now) }
 {
-    match request {
-        Request::QomList { path } => Ok(list(board, path.as_str(), steps)),
-        Request::QomGet { path, property } => {
+    match query {
+        Query::QomList { path } => Ok(list(board, path.as_str(), steps)),
+        Query::QomGet { path, property } => {
             get(alloc, board, path.as_str(), property.as_str(), steps)
         }
-        Request::QomListTypes {
+        Query::QomListTypes {
             implements,
             with_abstract,
         } => {
             let types = list_types(alloc, implements.as_ref(), with_abstract.unwrap_or(false))?;
-            Ok(returned(Body::Value(types)))
+            Ok(returned_value(types))
         }
-        Request::DeviceListProperties { typename } => list_properties(alloc, typename.as_str()),
-        Request::XQueryNotes { from } => query_notes(alloc, board, *from),
-        Request::XQueryDetached => query_detached(alloc, board, steps),
-        Request::QueryVersion => Ok(returned(Body::Value(version(alloc)?))),
-        Request::QueryCommands => Ok(returned(Body::Value(commands(alloc)?))),
-        Request::QueryStatus => Ok(returned(Body::Status(board.running()))),
-        Request::Quit => Ok(quit()),
-        _ => Ok(refused(Code::E10)),
+        Query::DeviceListProperties { typename } => list_properties(alloc, typename.as_str()),
+        Query::XQueryNotes { from } => query_notes(alloc, board, *from),
+        Query::XQueryDetached => query_detached(alloc, board, steps),
+        Query::QueryVersion => Ok(returned_value(version(alloc)?)),
+        Query::QueryCommands => Ok(returned_value(commands(alloc)?)),
+        Query::QueryStatus => Ok(returned(Body::Status(board.running()))),
+        Query::Quit => Ok(quit()),
     }
 }

@@ -9,7 +9,7 @@ ghost use Rattle.qo_realize.specs.Stands.{Stands};
 ghost use Rattle.qo_commands.specs.Commands.{detached_data, returned};
 ghost use Rattle.qo_commands.specs.Views.{done_of};
 
-use crate::commands::{Body, Done, returned};
+use crate::commands::{Done, returned_value};
 use qo_heap::Steps;
 use qo_model::Detached;
 use qo_realize::Board;
@@ -54,5 +54,5 @@ pub(crate) fn query_detached<L: Ledger>(
 {
     let objects = board.detached(alloc, steps)?;
     let value = detached_list(alloc, &objects)?;
-    Ok(returned(Body::Value(value)))
+    Ok(returned_value(value))
 }

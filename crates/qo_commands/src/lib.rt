@@ -11,8 +11,10 @@ mod notes;
 mod rings;
 mod types;
 mod values;
+mod whole;
 
 pub use answers::{answer_written, time_written};
-pub use changes::{change, is_change};
+pub use changes::change;
 pub use commands::{Body, Done, ask};
 pub use listings::listing_text;
+pub use whole::Whole;

@@ -8,7 +8,7 @@ ghost use Rattle.qo_realize.specs.Stands.{Stands};
 ghost use Rattle.qo_commands.specs.Commands.{note_data, notes_data, notes_told, returned};
 ghost use Rattle.qo_commands.specs.Views.{done_of};
 
-use crate::commands::{Body, Done, returned};
+use crate::commands::{Done, returned_value};
 use qo_model::Note;
 use qo_realize::Board;
 use serde_json::{Value, json};
@@ -55,5 +55,5 @@ pub(crate) fn query_notes(alloc: Global, board: &Board, from: u64) -> Result<Don
 {
     let notes = board.notes(from, alloc)?;
     let value = told(alloc, board.notes_first(from), &notes, board.notes_total())?;
-    Ok(returned(Body::Value(value)))
+    Ok(returned_value(value))
 }

@@ -11,7 +11,7 @@ ghost use Rattle.qo_model.specs.Types.{row_named, row_of};
 ghost use Rattle.qo_commands.specs.Commands.{adding_properties, device_properties, kind_word, property_data, returned, type_data, types_of};
 ghost use Rattle.qo_commands.specs.Views.{done_of, row_data, words_for_adding};
 
-use crate::commands::{Body, Done, refused, returned};
+use crate::commands::{Done, refused, returned_value};
 use qo_model::{Mark, Property, RowKind};
 use qo_types::TypeTable;
 use qo_values::{Code, Text, TypeId};
@@ -169,5 +169,5 @@ pub(crate) fn list_properties(alloc: Global, typename: &str) -> Result<Done, All
         return Ok(refused(Code::E22));
     }
     let listing = row_listing(alloc, t)?;
-    Ok(returned(Body::Value(listing)))
+    Ok(returned_value(listing))
 }

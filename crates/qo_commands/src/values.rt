@@ -8,7 +8,7 @@ ghost use Rattle.qo_realize.specs.Stands.{Stands};
 ghost use Rattle.qo_commands.specs.Commands.{answered};
 ghost use Rattle.qo_commands.specs.Views.{done_of};
 
-use crate::commands::{Body, Done, refused, returned};
+use crate::commands::{Done, refused, returned_value};
 use qo_heap::Steps;
 use qo_properties::Refusal;
 use qo_realize::Board;
@@ -29,7 +29,7 @@ pub(crate) fn get<L: Ledger>(
     match board.qom_get(path, name, alloc, steps) {
         Ok(val) => {
             let value = to_json(alloc, &val)?;
-            Ok(returned(Body::Value(value)))
+            Ok(returned_value(value))
         }
         Err(Refusal::Refused(code)) => Ok(refused(code)),
         Err(Refusal::Memory) => Err(AllocError),

@@ -154,14 +154,14 @@ made_still (refused i joined) at n f s (Answer code id) going =
     ap (λ (t : State). answered t n (error_reply id code)) (sym (still_on n f s false going))
 made_still (refused i joined) at n f s (Negotiated id) going =
     ap (λ (t : State). answered t n (return_reply id empty)) (negotiated_same n f s ∙ sym (still_on n f (negotiated n s) false going))
-made_still (refused i joined) at n f s (Do request id) going =
-    ap (λ (t : State). answered t n (error_reply id E99)) (sym (still_on n f (with_board s (attempted s.board request i joined)) false going))
+made_still (refused i joined) at n f s (Do command id) going =
+    ap (λ (t : State). answered t n (error_reply id E99)) (sym (still_on n f (with_board s (attempted s.board command i joined)) false going))
 made_still defined at n f s (Answer code id) going =
     ap (λ (t : State). answered t n (error_reply id code)) (sym (still_on n f s false going))
 made_still defined at n f s (Negotiated id) going =
     ap (λ (t : State). answered t n (return_reply id empty)) (negotiated_same n f s ∙ sym (still_on n f (negotiated n s) false going))
-made_still defined at n f s (Do request id) going =
-    let d = perform s.board request in
+made_still defined at n f s (Do command id) going =
+    let d = perform s.board command in
     ap
     (λ (outs : List Message). record { outs = outs ++ (to_session n, reply id d.result) ∷ []; state = behind_command d.ends (with_board (reframed n f s) d.board) })
     (events_same at n f s d.events)
@@ -277,12 +277,12 @@ made_lives : (choice : Choice) (at : Moment) (n : ℕ) (s : State) (what : Sessi
 made_lives (refused i joined) at n s (Answer code id) h = h
 made_lives (refused i joined) at n s (Negotiated id) h =
     or_more s.ended (is_open (mode_of s n)) (is_open (mode_of (negotiated n s) n)) (negotiated_open s.sessions n) h
-made_lives (refused i joined) at n s (Do request id) h = h
+made_lives (refused i joined) at n s (Do command id) h = h
 made_lives defined at n s (Answer code id) h = h
 made_lives defined at n s (Negotiated id) h =
     or_more s.ended (is_open (mode_of s n)) (is_open (mode_of (negotiated n s) n)) (negotiated_open s.sessions n) h
-made_lives defined at n s (Do request id) h =
-    command_lives (perform s.board request).ends n s (perform s.board request).board h
+made_lives defined at n s (Do command id) h =
+    command_lives (perform s.board command).ends n s (perform s.board command).board h
 
 item_lives : (choice : Choice) (at : Moment) (n : ℕ) (s : State) (item : Item) → lives n s ≡ true → lives n (item_step choice at n s item).state ≡ true
 unfolding item_step

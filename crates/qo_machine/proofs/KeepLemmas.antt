@@ -48,8 +48,13 @@ use Rattle.qo_realize.specs.Stands.{Stands}
 use Rattle.qo_realize.specs.Time.{advanced, at_time, with_running}
 use Rattle.qo_realize.specs.Users.{is_used, object_removed}
 use Rattle.qo_model.specs.Access.{listing_at, read, write_at}
-use Rattle.qo_requests.specs.declared.requests.Request.{Request}
-use Rattle.qo_requests.specs.declared.requests.Request.TheVariants.{QmpCapabilities, QueryVersion, QueryCommands, QueryStatus, Stop, Cont, SystemReset, Quit, QomList, QomGet, QomSet, QomListTypes, DeviceListProperties, ObjectAdd, ObjectDel, DeviceAdd, DeviceDel, ChardevAdd, ChardevRemove, RingbufRead, RingbufWrite, XResetHold, XResetRelease, XSever, XQueryNotes, XQueryDetached, XGuest, XStep}
+use Rattle.qo_requests.specs.declared.calls.Addition.{Addition}
+use Rattle.qo_requests.specs.declared.calls.Addition.TheVariants.{DeviceAdd, ObjectAdd}
+use Rattle.qo_requests.specs.declared.calls.Alteration.{Alteration}
+use Rattle.qo_requests.specs.declared.calls.Alteration.TheVariants.{Stop, Cont, SystemReset, QomSet, ObjectDel, DeviceDel, ChardevAdd, ChardevRemove, RingbufRead, RingbufWrite, XResetHold, XResetRelease, XSever, XGuest, XStep}
+use Rattle.qo_requests.specs.declared.calls.Call.{Call}
+use Rattle.qo_requests.specs.declared.calls.Call.TheVariants as call
+use Rattle.qo_requests.specs.declared.calls.Change.TheVariants.{Add, Alter}
 use Rattle.qo_rings.specs.Rings.{bytes_in, given_bytes, new_ring, ring_changed, ring_named, without_ring}
 use Rattle.qo_rings.specs.declared.rings.TheConstants.{RING_SIZE_DEFAULT}
 use Rattle.qo_sessions.specs.Acts.{act}
@@ -60,7 +65,7 @@ use Rattle.qo_sessions.specs.declared.modes.Mode.{Mode}
 use Rattle.qo_sessions.specs.declared.modes.Mode.TheVariants.{Closed, Negotiating, Commanding}
 use Rattle.qo_commands.proofs.AttemptLemmas.{attempted-all}
 use Rattle.qo_commands.specs.Changes.{attempted}
-use Rattle.qo_commands.specs.Commands.{answered, device_properties, perform, performed, without_events}
+use Rattle.qo_commands.specs.Commands.{added, altered, answered, perform, performed, without_events}
 use Rattle.qo_commands.specs.Commands as commands
 use Rattle.qo_sound.proofs.TargetLemmas.{resolved-of}
 use Rattle.qo_machine.specs.Machine.{BreaksOff, BreaksOffAt, Choice, Made, Seen, State, Stepped, behind, behind_command, by_item, by_line, defined, fed_at, first, input_step, item_step, line_step, made_by, mode_of, opened, others, refused, serve, serve_by, serve_lines, serve_unless, session_of, step, taken, unchanged, with_board, with_line, with_session}
@@ -114,8 +119,8 @@ pub record KeepsBoard (P : Board → Type 0) : Type 0 where
 
 -- what each command keeps of the board, and each attempt
 pub record KeepsCommands (P : Board → Type 0) : Type 0 where
-  pub command : (b : Board) (r : Request) → P b → P (perform b r).board
-  pub attempt : (b : Board) (r : Request) (i : ℕ) (joined : Bool) → P b → P (attempted b r i joined)
+  pub command : (b : Board) (r : Call) → P b → P (perform b r).board
+  pub attempt : (b : Board) (r : Call) (i : ℕ) (joined : Bool) → P b → P (attempted b r i joined)
   -- a step of the time
   pub advance : (b : Board) (ns : ℕ) → P b → P (advanced b ns).board
 
@@ -124,15 +129,6 @@ pub record KeepsCommands (P : Board → Type 0) : Type 0 where
 answered_board : {T : Type 0} (P : Board → Type 0) (b : Board) (f : T → Data) (r : Result T Code) → P b → P (answered b f r).board
 answered_board P b f (Ok x) p = p
 answered_board P b f (Err code) p = p
-
-device_board : (P : Board → Type 0) (b : Board) (row : Option TypeRow) → P b → P (device_properties b row).board
-device_board P b None p = p
-device_board P b (Some row) p = by (is_a row.id (codes "device"))
-  where
-    by : (d : Bool)
-        → P (if d then commands.returned b (array (items_of (map commands.property_data (commands.adding_properties row.id)))) else commands.refused_with b E22).board
-    by true = p
-    by false = p
 
 changed_board : (P : Board → Type 0) (c : Changed) → P c.board → P (commands.changed c).board
 changed_board P c p = by c.refusal
@@ -309,47 +305,44 @@ removed-keeps P k b id p = by (is_used b id)
     by true = p
     by false = k.change b (deleted id) p
 
-performed_keeps : (P : Board → Type 0) → KeepsBoard P → (b : Board) (r : Request) → P b → P (performed b r).board
-unfolding performed
-performed_keeps P k b (QmpCapabilities enable) p = p
-performed_keeps P k b QueryVersion p = p
-performed_keeps P k b QueryCommands p = p
-performed_keeps P k b QueryStatus p = p
-performed_keeps P k b Stop p = k.switched b false p
-performed_keeps P k b Cont p = k.switched b true p
-performed_keeps P k b SystemReset p = k.reset b p
-performed_keeps P k b Quit p = p
-performed_keeps P k b (QomList path) p = answered_board P b commands.properties_data (listing_at b path) p
-performed_keeps P k b (QomGet path property) p = answered_board P b data_of (read b path property) p
-performed_keeps P k b (QomSet path property value) p = set_board P k b path property value p
-performed_keeps P k b (QomListTypes implements with_abstract) p = p
-performed_keeps P k b (DeviceListProperties typename) p = device_board P b (row_named typename) p
-performed_keeps P k b (ObjectAdd driver id props) p = changed_board P (object_add b driver id props) (k.change b (object_added driver id props) p)
-performed_keeps P k b (ObjectDel id) p = changed_board P (object_removed b id) (removed-keeps P k b id p)
-performed_keeps P k b (DeviceAdd driver id bus props) p = plugged_board P (plug b (wanted driver id bus props)) (k.plugged b (wanted driver id bus props) p)
-performed_keeps P k b (DeviceDel id) p = changed_board P (asked b id) (k.asked b id p)
-performed_keeps P k b (ChardevAdd id kind size) p =
+added_keeps : (P : Board → Type 0) → KeepsBoard P → (b : Board) (a : Addition) → P b → P (added b a).board
+unfolding added
+added_keeps P k b (ObjectAdd driver id props) p = changed_board P (object_add b driver id props) (k.change b (object_added driver id props) p)
+added_keeps P k b (DeviceAdd driver id bus props) p = plugged_board P (plug b (wanted driver id bus props)) (k.plugged b (wanted driver id bus props) p)
+
+altered_keeps : (P : Board → Type 0) → KeepsBoard P → (b : Board) (a : Alteration) → P b → P (altered b a).board
+unfolding altered
+altered_keeps P k b Stop p = k.switched b false p
+altered_keeps P k b Cont p = k.switched b true p
+altered_keeps P k b SystemReset p = k.reset b p
+altered_keeps P k b (QomSet path property value) p = set_board P k b path property value p
+altered_keeps P k b (ObjectDel id) p = changed_board P (object_removed b id) (removed-keeps P k b id p)
+altered_keeps P k b (DeviceDel id) p = changed_board P (asked b id) (k.asked b id p)
+altered_keeps P k b (ChardevAdd id kind size) p =
     let more : List Ring = b.rings ++ new_ring id (unwrap_or size RING_SIZE_DEFAULT) ∷ [] in
     changed_board P (chardev_added b id kind size)
     (by_code-keeps P b (with_rings more b) (chardev_barred b id kind (unwrap_or size RING_SIZE_DEFAULT)) p
     (λ free. k.rings.added b id kind (unwrap_or size RING_SIZE_DEFAULT) free p))
-performed_keeps P k b (ChardevRemove id) p =
+altered_keeps P k b (ChardevRemove id) p =
     let fewer : List Ring = without_ring id b.rings in
     changed_board P (chardev_removed b id) (by_code-keeps P b (with_rings fewer b) (removal_barred b id) p (λ free. k.rings.removed b id free p))
-performed_keeps P k b (RingbufRead device size format) p =
+altered_keeps P k b (RingbufRead device size format) p =
     let reading : Reading = ringbuf_read b device size format in
     answered_board P reading.board string reading.text (taken-keeps P k b device size (unwrap_or format Utf8) (ring_named device b.rings) p)
-performed_keeps P k b (RingbufWrite device payload format) p =
+altered_keeps P k b (RingbufWrite device payload format) p =
     changed_board P (ringbuf_written b device payload format)
     (gained-keeps P k b device (given_bytes (unwrap_or format Utf8) payload) (ring_named device b.rings) p)
-performed_keeps P k b (XResetHold path) p = changed_board P (held_at b path) (at_path-keeps P b path (held_of b) p (λ n is. held_of-keeps P k b n is p))
-performed_keeps P k b (XResetRelease path) p =
+altered_keeps P k b (XResetHold path) p = changed_board P (held_at b path) (at_path-keeps P b path (held_of b) p (λ n is. held_of-keeps P k b n is p))
+altered_keeps P k b (XResetRelease path) p =
     changed_board P (released_at b path) (at_path-keeps P b path (released_of b) p (λ n is. released_of-keeps P k b n is p))
-performed_keeps P k b (XSever birth) p = changed_board P (sever b birth) (k.change b (severed birth) p)
-performed_keeps P k b (XQueryNotes start) p = p
-performed_keeps P k b XQueryDetached p = p
-performed_keeps P k b (XGuest line) p = heard_keeps P k b line p
-performed_keeps P k b (XStep ns) p = timed_board P (advanced b ns) (advanced-all P b ns p (λ low. k.timed b (b.now + ns) (omega arith) low p))
+altered_keeps P k b (XSever birth) p = changed_board P (sever b birth) (k.change b (severed birth) p)
+altered_keeps P k b (XGuest line) p = heard_keeps P k b line p
+altered_keeps P k b (XStep ns) p = timed_board P (advanced b ns) (advanced-all P b ns p (λ low. k.timed b (b.now + ns) (omega arith) low p))
+
+performed_keeps : (P : Board → Type 0) → KeepsBoard P → (b : Board) (r : Call) → P b → P (performed b r).board
+performed_keeps P k b (call.Query query) p = p
+performed_keeps P k b (call.Change (Add addition)) p = added_keeps P k b addition p
+performed_keeps P k b (call.Change (Alter alteration)) p = altered_keeps P k b alteration p
 
 -- so does each command, where the events that wait are no matter
 pub keeps_commands : (P : Board → Type 0) → KeepsBoard P → ((b : Board) → P b → P (without_events b)) → KeepsCommands P
@@ -370,11 +363,11 @@ made_board : (P : Board → Type 0) → KeepsCommands P → (choice : Choice) (a
     → P (made_by choice at n s what).state.board
 made_board P k (refused i joined) at n s (Answer code id) p = p
 made_board P k (refused i joined) at n s (Negotiated id) p = p
-made_board P k (refused i joined) at n s (Do request id) p = k.attempt s.board request i joined p
+made_board P k (refused i joined) at n s (Do command id) p = k.attempt s.board command i joined p
 made_board P k defined at n s (Answer code id) p = p
 made_board P k defined at n s (Negotiated id) p = p
-made_board P k defined at n s (Do request id) p =
-    ends_board P (perform s.board request).ends (with_board s (perform s.board request).board) (k.command s.board request p)
+made_board P k defined at n s (Do command id) p =
+    ends_board P (perform s.board command).ends (with_board s (perform s.board command).board) (k.command s.board command p)
 
 item_board : (P : Board → Type 0) → KeepsCommands P → (choice : Choice) (at : Moment) (n : ℕ) (s : State) (item : Item) → P s.board
     → P (item_step choice at n s item).state.board
@@ -388,11 +381,11 @@ unless_board P false a b p q = q
 -- a line of the guest keeps what it does as a command
 line_board : (P : Board → Type 0) → KeepsCommands P → (choice : Choice) (at : Moment) (s : State) (line : List ℕ) → P s.board
     → P (line_step choice at s line).state.board
-unfolding line_step performed
+unfolding line_step altered
 line_board P k (refused i joined) at s line p = p
 line_board P k defined at s line p =
     let o = heard s.board (without_return line) in
-    ends_board P o.ends (with_board s (without_events o.board)) (k.command s.board (XGuest (without_return line)) p)
+    ends_board P o.ends (with_board s (without_events o.board)) (k.command s.board (call.Change (Alter (XGuest (without_return line)))) p)
 
 -- what is served in turn keeps what each keeps
 serve_board_by : {X : Type 0} (P : Board → Type 0) (f : Choice → State → X → Made)

@@ -51,11 +51,11 @@ events_told (e ∷ es) s at =
 made_lanes : (choice : Choice) (at : Moment) (n : ℕ) (s : State) (what : SessionAct) → n < SESSIONS → AreToLanes (made_by choice at n s what).outs
 made_lanes defined at n s (Answer code id) below = (below, tt)
 made_lanes defined at n s (Negotiated id) below = (below, tt)
-made_lanes defined at n s (Do request id) below =
-    lanes_more (event_outs at s (perform s.board request).events) _ (events_told (perform s.board request).events s at) (below, tt)
+made_lanes defined at n s (Do command id) below =
+    lanes_more (event_outs at s (perform s.board command).events) _ (events_told (perform s.board command).events s at) (below, tt)
 made_lanes (refused i joined) at n s (Answer code id) below = (below, tt)
 made_lanes (refused i joined) at n s (Negotiated id) below = (below, tt)
-made_lanes (refused i joined) at n s (Do request id) below = (below, tt)
+made_lanes (refused i joined) at n s (Do command id) below = (below, tt)
 
 item_lanes : (choice : Choice) (at : Moment) (n : ℕ) (s : State) (item : Item) → n < SESSIONS → AreToLanes (item_step choice at n s item).outs
 unfolding item_step

@@ -77,10 +77,10 @@ made_alone : (choice : Choice) (at : Moment) (n : ℕ) (s : State) (what : Sessi
     → Alone n s (made_by choice at n s what).outs (made_by choice at n s what).state
 made_alone (refused i joined) at n s (Answer code id) own = alone_told n s _
 made_alone (refused i joined) at n s (Negotiated id) own = alone_both n s (in_mode Commanding (session_of s n)) _
-made_alone (refused i joined) at n s (Do request id) own = absurd own
+made_alone (refused i joined) at n s (Do command id) own = absurd own
 made_alone defined at n s (Answer code id) own = alone_told n s _
 made_alone defined at n s (Negotiated id) own = alone_both n s (in_mode Commanding (session_of s n)) _
-made_alone defined at n s (Do request id) own = absurd own
+made_alone defined at n s (Do command id) own = absurd own
 
 item_alone : ItemAlone
 unfolding item_step

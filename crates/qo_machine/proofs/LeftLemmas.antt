@@ -7,7 +7,7 @@ use Rattle.qo_causes.specs.declared.inputs.Moment.{Moment}
 use Rattle.qo_causes.specs.declared.inputs.What.{What}
 use Rattle.qo_causes.specs.declared.inputs.What.TheVariants.{Open, Bytes, Shut, Guest, Step, End}
 use Rattle.qo_framing.specs.declared.items.Item.{Item}
-use Rattle.qo_requests.specs.declared.requests.Request.{Request}
+use Rattle.qo_requests.specs.declared.calls.Call.{Call}
 use Rattle.qo_sessions.specs.Acts.{act}
 use Rattle.qo_sessions.specs.Sessions.{fed}
 use Rattle.qo_sessions.specs.declared.acts.SessionAct.{SessionAct}
@@ -29,9 +29,9 @@ err_more (Err e) f p = f p
 -- A command.
 
 -- one that was served, whose messages are lost
-pub left_served : (at : Moment) (n : ℕ) (s : State) (request : Request) (id : Option (List ℕ)) (outs : List Message) (m : Seen)
-    → CommandServed at n s request id outs m → CommandLeft at n s request id m
-left_served at n s request id outs m p = inr (p.0, p.2)
+pub left_served : (at : Moment) (n : ℕ) (s : State) (command : Call) (id : Option (List ℕ)) (outs : List Message) (m : Seen)
+    → CommandServed at n s command id outs m → CommandLeft at n s command id m
+left_served at n s command id outs m p = inr (p.0, p.2)
 
 -- Items, and whatever else is served in turn.
 
@@ -75,18 +75,18 @@ front_negotiation at n m to item id going is move same s here =
     (subst (λ (x : State). IsIn x to) (move b) (in_at b to (subst (Stands b) (sym same) stands))))) s here
 
 -- a command, whose reply is lost
-pub front_command : (at : Moment) (n : ℕ) (m mid to : Seen) (item : Item) (request : Request) (id : Option (List ℕ)) → m.ended ≡ false
-    → ((b : Board) → Do request id ≡ act (mode_of (state_at b m) n) item) → ((b : Board) → state_at b mid ≡ moved (state_at b m) n (Do request id))
-    → mid.board ≡ m.board → ((s : State) → IsIn s mid → CommandLeft at n s request id to) → (s : State) → IsIn s m → ServesFront at n s (item ∷ []) to
-front_command at n m mid to item request id going is move same left s here =
+pub front_command : (at : Moment) (n : ℕ) (m mid to : Seen) (item : Item) (command : Call) (id : Option (List ℕ)) → m.ended ≡ false
+    → ((b : Board) → Do command id ≡ act (mode_of (state_at b m) n) item) → ((b : Board) → state_at b mid ≡ moved (state_at b m) n (Do command id))
+    → mid.board ≡ m.board → ((s : State) → IsIn s mid → CommandLeft at n s command id to) → (s : State) → IsIn s m → ServesFront at n s (item ∷ []) to
+front_command at n m mid to item command id going is move same left s here =
     by_board (λ (x : State). ServesFront at n x (item ∷ []) to) m
     (λ b stands.
     by b (left (state_at b m) (subst (λ (x : State). IsIn x mid) (move b) (in_at b mid (subst (Stands b) (sym same) stands))))) s here
   where
-    by : (b : Board) → CommandLeft at n (state_at b m) request id to → ServesFront at n (state_at b m) (item ∷ []) to
+    by : (b : Board) → CommandLeft at n (state_at b m) command id to → ServesFront at n (state_at b m) (item ∷ []) to
     by b (inl there) = front_none_by (by_item at n) (state_at b m) (item ∷ []) to there
     by b (inr p) =
-        front_one_by (by_item at n) (state_at b m) item p.0 to going (item_by at n (state_at b m) item p.0 (Do request id) to (is b) p.1)
+        front_one_by (by_item at n) (state_at b m) item p.0 to going (item_by at n (state_at b m) item p.0 (Do command id) to (is b) p.1)
 
 -- some were served, and of the others a front
 pub front_on_by : {X : Type 0} (f : Choice → State → X → Made) (s : State) (mid to : Seen) (xs ys : List X) (outs : List Message) → ServesToBy f s xs outs mid

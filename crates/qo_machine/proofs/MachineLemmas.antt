@@ -12,7 +12,7 @@ use Rattle.qo_causes.specs.declared.inputs.What.TheVariants.{Bytes, Step}
 use Rattle.qo_framing.specs.declared.items.Item.{Item}
 use Rattle.qo_replies.specs.Replies.{error_reply, return_reply}
 use Rattle.qo_replies.specs.declared.events.Event.{Event}
-use Rattle.qo_requests.specs.declared.requests.Request.{Request}
+use Rattle.qo_requests.specs.declared.calls.Call.{Call}
 use Rattle.qo_sessions.specs.Acts.{act}
 use Rattle.qo_sessions.specs.Sessions.{closed, fed}
 use Rattle.qo_sessions.specs.Sessions as sessions
@@ -188,31 +188,31 @@ item_negotiated at n s t item id text going is to written =
     (item_made at n s t item defined (Negotiated id) ((to_session n, text) ∷ []) is (rw (to, written) refl))
 
 -- a command
-pub item_done : (at : Moment) (n : ℕ) (s : State) (m : Seen) (item : Item) (request : Request) (id : Option (List ℕ)) (outs : List Message) → s.ended ≡ false
-    → Do request id ≡ act (mode_of s n) item → CommandServed at n s request id outs m → ServesTo at n s (item ∷ []) outs m
-item_done at n s m item request id outs going is p =
-    let t = (made_by p.0 at n s (Do request id)).state in (
+pub item_done : (at : Moment) (n : ℕ) (s : State) (m : Seen) (item : Item) (command : Call) (id : Option (List ℕ)) (outs : List Message) → s.ended ≡ false
+    → Do command id ≡ act (mode_of s n) item → CommandServed at n s command id outs m → ServesTo at n s (item ∷ []) outs m
+item_done at n s m item command id outs going is p =
+    let t = (made_by p.0 at n s (Do command id)).state in (
       t,
       p.2,
-      serves_one at n s t item p.0 outs going (item_made at n s t item p.0 (Do request id) outs is (ap (λ (o : List Message). record { outs = o; state = t }) p.1)),
+      serves_one at n s t item p.0 outs going (item_made at n s t item p.0 (Do command id) outs is (ap (λ (o : List Message). record { outs = o; state = t }) p.1)),
     )
 
 -- a command was done as it is defined
-pub command_done : (at : Moment) (n : ℕ) (s : State) (request : Request) (id : Option (List ℕ)) (outs : List Message) (m : Seen)
-    → event_outs at s (perform s.board request).events ++ (to_session n, reply id (perform s.board request).result) ∷ [] ≡ outs
-    → IsIn (behind_command (perform s.board request).ends (with_board s (perform s.board request).board)) m → CommandServed at n s request id outs m
-command_done at n s request id outs m sent to = (defined, sent, to)
+pub command_done : (at : Moment) (n : ℕ) (s : State) (command : Call) (id : Option (List ℕ)) (outs : List Message) (m : Seen)
+    → event_outs at s (perform s.board command).events ++ (to_session n, reply id (perform s.board command).result) ∷ [] ≡ outs
+    → IsIn (behind_command (perform s.board command).ends (with_board s (perform s.board command).board)) m → CommandServed at n s command id outs m
+command_done at n s command id outs m sent to = (defined, sent, to)
 
 -- a command was refused for want of memory
-pub command_refused : (at : Moment) (n : ℕ) (s : State) (request : Request) (id : Option (List ℕ)) (text : List ℕ) (m : Seen) → text ≡ error_reply id E99
-    → IsIn s m → CommandServed at n s request id ((to_session n, text) ∷ []) m
-command_refused at n s request id text m written to =
-    (refused 0 false, rw written refl, subst (λ (b : Board). IsIn (with_board s b) m) (sym (attempted-none s.board request)) to)
+pub command_refused : (at : Moment) (n : ℕ) (s : State) (command : Call) (id : Option (List ℕ)) (text : List ℕ) (m : Seen) → text ≡ error_reply id E99
+    → IsIn s m → CommandServed at n s command id ((to_session n, text) ∷ []) m
+command_refused at n s command id text m written to =
+    (refused 0 false, rw written refl, subst (λ (b : Board). IsIn (with_board s b) m) (sym (attempted-none s.board command)) to)
 
 -- a command was refused for want of memory, behind an attempt
-pub command_given_up : (at : Moment) (n : ℕ) (s : State) (request : Request) (id : Option (List ℕ)) (text : List ℕ) (m : Seen) (i : ℕ) (joined : Bool)
-    → text ≡ error_reply id E99 → IsIn (with_board s (attempted s.board request i joined)) m → CommandServed at n s request id ((to_session n, text) ∷ []) m
-command_given_up at n s request id text m i joined written to = (refused i joined, rw written refl, to)
+pub command_given_up : (at : Moment) (n : ℕ) (s : State) (command : Call) (id : Option (List ℕ)) (text : List ℕ) (m : Seen) (i : ℕ) (joined : Bool)
+    → text ≡ error_reply id E99 → IsIn (with_board s (attempted s.board command i joined)) m → CommandServed at n s command id ((to_session n, text) ∷ []) m
+command_given_up at n s command id text m i joined written to = (refused i joined, rw written refl, to)
 
 -- all of them
 pub serve_all_by : {X : Type 0} (f : Choice → State → X → Made) (s t : State) (xs : List X) (outs : List Message) → (p : ServesBy f s xs outs t)
@@ -301,13 +301,13 @@ serves_negotiation at n m to item id text going is move same written s here =
     )) s here
 
 -- a command, as the machine serves it
-pub serves_command : (at : Moment) (n : ℕ) (m mid to : Seen) (item : Item) (request : Request) (id : Option (List ℕ)) (outs : List Message) → m.ended ≡ false
-    → ((b : Board) → Do request id ≡ act (mode_of (state_at b m) n) item) → ((b : Board) → state_at b mid ≡ moved (state_at b m) n (Do request id))
-    → mid.board ≡ m.board → ((s : State) → IsIn s mid → CommandServed at n s request id outs to) → (s : State) → IsIn s m → ServesTo at n s (item ∷ []) outs to
-serves_command at n m mid to item request id outs going is move same served s here =
+pub serves_command : (at : Moment) (n : ℕ) (m mid to : Seen) (item : Item) (command : Call) (id : Option (List ℕ)) (outs : List Message) → m.ended ≡ false
+    → ((b : Board) → Do command id ≡ act (mode_of (state_at b m) n) item) → ((b : Board) → state_at b mid ≡ moved (state_at b m) n (Do command id))
+    → mid.board ≡ m.board → ((s : State) → IsIn s mid → CommandServed at n s command id outs to) → (s : State) → IsIn s m → ServesTo at n s (item ∷ []) outs to
+serves_command at n m mid to item command id outs going is move same served s here =
     by_board (λ (x : State). ServesTo at n x (item ∷ []) outs to) m
     (λ b stands.
-    item_done at n (state_at b m) to item request id outs going (is b)
+    item_done at n (state_at b m) to item command id outs going (is b)
     (served (state_at b m) (subst (λ (x : State). IsIn x mid) (move b) (in_at b mid (subst (Stands b) (sym same) stands))))) s here
 
 -- one behind the end
@@ -319,62 +319,62 @@ serves_over_by f m to x over same s here =
 -- Commands.
 
 -- one that was done, and then nothing waits: the state that the machine is in
-done_in : (n : ℕ) (m mid drained to : Seen) (request : Request) (id : Option (List ℕ)) (r : Replied)
-    → ((b : Board) → Stands b m.board → Came b request id r mid.board) → ((b : Board) → state_at b mid ≡ state_at b m)
+done_in : (n : ℕ) (m mid drained to : Seen) (command : Call) (id : Option (List ℕ)) (r : Replied)
+    → ((b : Board) → Stands b m.board → Came b command id r mid.board) → ((b : Board) → state_at b mid ≡ state_at b m)
     → ((b : Board) → Stands b mid.board → Stands (without_events b) drained.board) → ((b : Board) → state_at b drained ≡ state_at b mid)
     → ((b : Board) → state_at b to ≡ behind_command r.ends (state_at b drained)) → to.board ≡ drained.board
-    → (b : Board) → Stands b m.board → IsIn (behind_command (perform b request).ends (with_board (state_at b m) (perform b request).board)) to
-done_in n m mid drained to request id r came still empties stays move same b stands =
+    → (b : Board) → Stands b m.board → IsIn (behind_command (perform b command).ends (with_board (state_at b m) (perform b command).board)) to
+done_in n m mid drained to command id r came still empties stays move same b stands =
     let p = came b stands in
-    let x : Board = (perform b request).board in
+    let x : Board = (perform b command).board in
     subst (λ (y : State). IsIn y to)
     (move x ∙ ap (behind_command r.ends) (stays x ∙ still x)
     ∙ ap (λ (e : Bool). behind_command e (with_board (state_at b m) x)) p.ends)
-    (in_at x to (subst (Stands x) (sym same) (empties (performed b request).board p.stands)))
+    (in_at x to (subst (Stands x) (sym same) (empties (performed b command).board p.stands)))
 
-pub served_command : (at : Moment) (n : ℕ) (m mid drained to : Seen) (request : Request) (id : Option (List ℕ)) (r : Replied) (front : List Message)
-    → ((b : Board) → Stands b m.board → Came b request id r mid.board) → ((b : Board) → state_at b mid ≡ state_at b m)
+pub served_command : (at : Moment) (n : ℕ) (m mid drained to : Seen) (command : Call) (id : Option (List ℕ)) (r : Replied) (front : List Message)
+    → ((b : Board) → Stands b m.board → Came b command id r mid.board) → ((b : Board) → state_at b mid ≡ state_at b m)
     → Tells at (to_session n) mid r front
     → ((b : Board) → Stands b mid.board → Stands (without_events b) drained.board) → ((b : Board) → state_at b drained ≡ state_at b mid)
     → ((b : Board) → state_at b to ≡ behind_command r.ends (state_at b drained)) → to.board ≡ drained.board
-    → (s : State) → IsIn s m → CommandServed at n s request id front to
-served_command at n m mid drained to request id r front came still tells empties stays move same s here =
-    by_board (λ (x : State). CommandServed at n x request id front to) m
+    → (s : State) → IsIn s m → CommandServed at n s command id front to
+served_command at n m mid drained to command id r front came still tells empties stays move same s here =
+    by_board (λ (x : State). CommandServed at n x command id front to) m
     (λ b stands.
     let p = came b stands in
-    let d : Done = performed b request in
+    let d : Done = performed b command in
     let waited : List Event = map event_of d.board.events in
     let is : tells.0 ≡ reply id d.result = rw tells.1 at p.replied in
-    command_done at n (state_at b m) request id front to
+    command_done at n (state_at b m) command id front to
     (ap (λ (es : List Event). event_outs at (state_at b m) (waited ++ es) ++ (to_session n, reply id d.result) ∷ []) (sym p.events)
     ∙ ap (λ (x : State). event_outs at x (waited ++ option_to_list r.event) ++ (to_session n, reply id d.result) ∷ []) (sym (still b))
     ∙ ap (λ (bytes : List ℕ). event_outs at (state_at b mid) (waited ++ option_to_list r.event) ++ (to_session n, bytes) ∷ []) (sym is)
     ∙ sym (tells.2 d.board p.stands))
-    (done_in n m mid drained to request id r came still empties stays move same b stands)) s here
+    (done_in n m mid drained to command id r came still empties stays move same b stands)) s here
 
 -- the same where memory ran out for its messages
-pub left_done : (at : Moment) (n : ℕ) (m mid drained to : Seen) (request : Request) (id : Option (List ℕ)) (r : Replied)
-    → ((b : Board) → Stands b m.board → Came b request id r mid.board) → ((b : Board) → state_at b mid ≡ state_at b m)
+pub left_done : (at : Moment) (n : ℕ) (m mid drained to : Seen) (command : Call) (id : Option (List ℕ)) (r : Replied)
+    → ((b : Board) → Stands b m.board → Came b command id r mid.board) → ((b : Board) → state_at b mid ≡ state_at b m)
     → ((b : Board) → Stands b mid.board → Stands (without_events b) drained.board) → ((b : Board) → state_at b drained ≡ state_at b mid)
     → ((b : Board) → state_at b to ≡ behind_command r.ends (state_at b drained)) → to.board ≡ drained.board
-    → (s : State) → IsIn s m → CommandLeft at n s request id to
-left_done at n m mid drained to request id r came still empties stays move same s here =
-    by_board (λ (x : State). CommandLeft at n x request id to) m
-    (λ b stands. inr (defined, done_in n m mid drained to request id r came still empties stays move same b stands)) s here
+    → (s : State) → IsIn s m → CommandLeft at n s command id to
+left_done at n m mid drained to command id r came still empties stays move same s here =
+    by_board (λ (x : State). CommandLeft at n x command id to) m
+    (λ b stands. inr (defined, done_in n m mid drained to command id r came still empties stays move same b stands)) s here
 
 -- one that was refused for want of memory
-pub served_want : (at : Moment) (n : ℕ) (m to : Seen) (request : Request) (id : Option (List ℕ)) (text : List ℕ) → text ≡ error_reply id E99
-    → ((b : Board) → Stands b m.board → Left b request to.board) → ((b : Board) → state_at b to ≡ state_at b m) → (s : State) → IsIn s m
-    → CommandServed at n s request id ((to_session n, text) ∷ []) to
-served_want at n m to request id text written kept move s here =
-    by_board (λ (x : State). CommandServed at n x request id ((to_session n, text) ∷ []) to) m
+pub served_want : (at : Moment) (n : ℕ) (m to : Seen) (command : Call) (id : Option (List ℕ)) (text : List ℕ) → text ≡ error_reply id E99
+    → ((b : Board) → Stands b m.board → Left b command to.board) → ((b : Board) → state_at b to ≡ state_at b m) → (s : State) → IsIn s m
+    → CommandServed at n s command id ((to_session n, text) ∷ []) to
+served_want at n m to command id text written kept move s here =
+    by_board (λ (x : State). CommandServed at n x command id ((to_session n, text) ∷ []) to) m
     (λ b stands. by b (kept b stands)) s here
   where
-    by : (b : Board) → Left b request to.board → CommandServed at n (state_at b m) request id ((to_session n, text) ∷ []) to
+    by : (b : Board) → Left b command to.board → CommandServed at n (state_at b m) command id ((to_session n, text) ∷ []) to
     by b (inl stands) =
-        command_refused at n (state_at b m) request id text to written (subst (λ (x : State). IsIn x to) (move b) (in_at b to stands))
+        command_refused at n (state_at b m) command id text to written (subst (λ (x : State). IsIn x to) (move b) (in_at b to stands))
     by b (inr (i, joined, stands)) =
-        command_given_up at n (state_at b m) request id text to i joined written (subst (λ (x : State). IsIn x to) (move (attempted b request i joined)) (in_at (attempted b request i joined) to stands))
+        command_given_up at n (state_at b m) command id text to i joined written (subst (λ (x : State). IsIn x to) (move (attempted b command i joined)) (in_at (attempted b command i joined) to stands))
 
 -- The answers of the machine's own calls.
 

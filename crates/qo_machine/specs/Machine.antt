@@ -149,11 +149,11 @@ done at n s id d =
 abbrev pub made : Moment → ℕ → State → SessionAct → Made
 made at n s (Answer code id) = answered s n (error_reply id code)
 made at n s (Negotiated id) = answered (with_session s n (in_mode Commanding (session_of s n))) n (return_reply id empty)
-made at n s (Do request id) = done at n s id (perform s.board request)
+made at n s (Do command id) = done at n s id (perform s.board command)
 
 -- a command that is refused for want of memory: E99 with its id, and nothing changes but what an attempt leaves; all else is as it is defined
 abbrev pub made_by : Choice → Moment → ℕ → State → SessionAct → Made
-made_by (refused i joined) at n s (Do request id) = answered (with_board s (attempted s.board request i joined)) n (error_reply id E99)
+made_by (refused i joined) at n s (Do command id) = answered (with_board s (attempted s.board command i joined)) n (error_reply id E99)
 made_by choice at n s what = made at n s what
 
 -- each item of a session makes exactly one reply

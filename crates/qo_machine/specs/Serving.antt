@@ -3,7 +3,7 @@ use Rattle.std.specs.Prelude.{◌≡◌, ℕ, List, [], ◌∷◌, ◌++◌, map
 use Rattle.qo_causes.specs.declared.hubs.Lane.{Lane}
 use Rattle.qo_causes.specs.declared.inputs.Moment.{Moment}
 use Rattle.qo_framing.specs.declared.items.Item.{Item}
-use Rattle.qo_requests.specs.declared.requests.Request.{Request}
+use Rattle.qo_requests.specs.declared.calls.Call.{Call}
 use Rattle.qo_sessions.specs.Sessions.{in_mode}
 use Rattle.qo_sessions.specs.declared.acts.SessionAct.{SessionAct}
 use Rattle.qo_sessions.specs.declared.acts.SessionAct.TheVariants.{Answer, Negotiated, Do}
@@ -20,12 +20,12 @@ use Rattle.qo_machine.specs.declared.machines.Replied.{Replied}
 abbrev pub moved : State → ℕ → SessionAct → State
 moved s n (Answer code id) = s
 moved s n (Negotiated id) = with_session s n (in_mode Commanding (session_of s n))
-moved s n (Do request id) = s
+moved s n (Do command id) = s
 
 -- by some choice this command sends this, and a machine is then in the state that it leads to
-abbrev pub CommandServed : Moment → ℕ → State → Request → Option (List ℕ) → List Message → Seen → Type 0
-CommandServed at n s request id outs m =
-    (choice : Choice) × ((made_by choice at n s (Do request id)).outs ≡ outs) × IsIn (made_by choice at n s (Do request id)).state m
+abbrev pub CommandServed : Moment → ℕ → State → Call → Option (List ℕ) → List Message → Seen → Type 0
+CommandServed at n s command id outs m =
+    (choice : Choice) × ((made_by choice at n s (Do command id)).outs ≡ outs) × IsIn (made_by choice at n s (Do command id)).state m
 
 -- by some choices these things, each by its step, send this and lead there, and then further ones go on from there
 abbrev pub ServesBy : {X : Type 0} → (Choice → State → X → Made) → State → List X → List Message → State → Type 0
@@ -60,15 +60,15 @@ abbrev pub LinesFront : Moment → State → List (List ℕ) → Seen → Type 0
 LinesFront at s lines m = ServesFrontBy (by_line at) s lines m
 
 -- where memory ran out for a command, a machine is in the state that the command found, or in one that it leads to by some choice
-abbrev pub CommandLeft : Moment → ℕ → State → Request → Option (List ℕ) → Seen → Type 0
-CommandLeft at n s request id m = IsIn s m ⊎ ((choice : Choice) × IsIn (made_by choice at n s (Do request id)).state m)
+abbrev pub CommandLeft : Moment → ℕ → State → Call → Option (List ℕ) → Seen → Type 0
+CommandLeft at n s command id m = IsIn s m ⊎ ((choice : Choice) × IsIn (made_by choice at n s (Do command id)).state m)
 
 -- a command came to what is defined, but for the events that wait: this is its reply, if there was memory for it, and its board stands
-pub record Came (b : Board) (request : Request) (id : Option (List ℕ)) (r : Replied) (v : Parts) : Type 0 where
-  pub stands : Stands (performed b request).board v
-  pub events : option_to_list r.event ≡ (performed b request).events
-  pub ends : r.ends ≡ (performed b request).ends
-  pub replied : IfOk r.text (λ text. text ≡ reply id (performed b request).result)
+pub record Came (b : Board) (command : Call) (id : Option (List ℕ)) (r : Replied) (v : Parts) : Type 0 where
+  pub stands : Stands (performed b command).board v
+  pub events : option_to_list r.event ≡ (performed b command).events
+  pub ends : r.ends ≡ (performed b command).ends
+  pub replied : IfOk r.text (λ text. text ≡ reply id (performed b command).result)
 
 -- a line of the guest came to its outcome, but for the events that wait: this is its answer, if there was memory for it, and its board stands
 pub record CameTo (o : Outcome) (r : Replied) (v : Parts) : Type 0 where

@@ -12,14 +12,14 @@ use crate::outs::Outs;
 use crate::replying::{EMPTY, changed_text, guest_text, reply_text};
 use crate::serving::{serve_items, serve_lines};
 use qo_causes::{Input, Lane, Moment, What};
-use qo_commands::{ask, change, is_change};
+use qo_commands::ask;
 use qo_events::DeviceEvent;
 use qo_framing::Item;
 use qo_heap::Steps;
 use qo_lane::{cut_lines, hear};
 use qo_realize::Board;
 use qo_replies::{Event, return_written};
-use qo_requests::Request;
+use qo_requests::{Call, Change, Query};
 use qo_sessions::{Mode, Session, SessionAct};
 use qo_values::{Chars, SESSIONS, Text};
 use std::alloc::{AllocError, Global};
@@ -96,7 +96,8 @@ impl Machine {
     ghost use Rattle.qo_sound_clocks.specs.ClockRuns.{SoundRun};
     ghost use Rattle.qo_sessions.specs.Acts.{act};
     ghost use Rattle.qo_sessions.specs.Sessions.{fed};
-    ghost use Rattle.qo_commands.specs.Changes.{Left, is_change};
+    ghost use Rattle.qo_commands.specs.Changes.{Left};
+    ghost use Rattle.qo_requests.specs.declared.calls.Call.TheVariants as call;
     ghost use Rattle.qo_commands.specs.Commands.{without_events};
     ghost use Rattle.qo_realize.specs.Stands.{Stands};
     ghost use Rattle.qo_realize.specs.Time.{advanced};
@@ -388,14 +389,13 @@ impl Machine {
     fn answer<L: Ledger>(
         &self,
         alloc: Global,
-        request: &Request,
+        query: &Query,
         id: Option<&Text>,
         steps: &mut Steps<L>,
     ) -> Result<Replied, AllocError>
-        requires { is_change request.now ≡ false }
-        ensures came { (b : Tree) → Stands b self.now.board → IfOk result (λ r. Came b request.now (option_map (λ id. id.now) id.entry) r self.now.board) }
+        ensures came { (b : Tree) → Stands b self.now.board → IfOk result (λ r. Came b (call.Query query.now) (option_map (λ id. id.now) id.entry) r self.now.board) }
     {
-        let done = ask(alloc, &self.board, request, steps)?;
+        let done = ask(alloc, &self.board, query, steps)?;
         let text = reply_text(alloc, &self.board, id, &done.result, steps)?;
         Ok(Replied {
             text: Ok(text),
@@ -410,18 +410,17 @@ impl Machine {
     fn change<L: Ledger>(
         &mut self,
         alloc: Global,
-        request: &Request,
+        change: &Change,
         id: Option<&Text>,
         steps: &mut Steps<L>,
     ) -> Result<Replied, AllocError>
-        requires { is_change request.now ≡ true }
-        ensures came { (b : Tree) → Stands b self.old.board → IfOk result (λ r. Came b request.now (option_map (λ id. id.now) id.entry) r self.new.board) }
-        ensures kept { (b : Tree) → Stands b self.old.board → OnErr result (Left b request.now self.new.board) }
+        ensures came { (b : Tree) → Stands b self.old.board → IfOk result (λ r. Came b (call.Change change.now) (option_map (λ id. id.now) id.entry) r self.new.board) }
+        ensures kept { (b : Tree) → Stands b self.old.board → OnErr result (Left b (call.Change change.now) self.new.board) }
         ensures rest { (b : Tree) → state_at b self.new ≡ state_at b self.old }
         ensures lasts { self.new.spent ≡ self.old.spent }
     {
         let empty = return_written(alloc, id, EMPTY)?;
-        let done = change(alloc, &mut self.board, request, steps)?;
+        let done = qo_commands::change(alloc, &mut self.board, change, steps)?;
         let text = changed_text(alloc, &self.board, id, empty, &done.result, steps);
         Ok(Replied {
             text,
@@ -436,19 +435,18 @@ impl Machine {
     pub(crate) fn perform<L: Ledger>(
         &mut self,
         alloc: Global,
-        request: &Request,
+        command: &Call,
         id: Option<&Text>,
         steps: &mut Steps<L>,
     ) -> Result<Replied, AllocError>
-        ensures came { (b : Tree) → Stands b self.old.board → IfOk result (λ r. Came b request.now (option_map (λ id. id.now) id.entry) r self.new.board) }
-        ensures kept { (b : Tree) → Stands b self.old.board → OnErr result (Left b request.now self.new.board) }
+        ensures came { (b : Tree) → Stands b self.old.board → IfOk result (λ r. Came b command.now (option_map (λ id. id.now) id.entry) r self.new.board) }
+        ensures kept { (b : Tree) → Stands b self.old.board → OnErr result (Left b command.now self.new.board) }
         ensures rest { (b : Tree) → state_at b self.new ≡ state_at b self.old }
         ensures lasts { self.new.spent ≡ self.old.spent }
     {
-        if is_change(request) {
-            self.change(alloc, request, id, steps)
-        } else {
-            self.answer(alloc, request, id, steps)
+        match command {
+            Call::Query(query) => self.answer(alloc, query, id, steps),
+            Call::Change(change) => self.change(alloc, change, id, steps),
         }
     }
 

@@ -57,7 +57,7 @@ fn done_text<L: Ledger>(
             let value = Value::try_from_str(alloc, text.as_str())?;
             return_text(alloc, id, &value)
         }
-        Body::Value(value) => return_text(alloc, id, value),
+        Body::Value(whole) => return_text(alloc, id, whole.value()),
     }
 }
 

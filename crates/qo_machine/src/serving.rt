@@ -24,7 +24,7 @@ use qo_guest::GuestAnswer;
 use qo_heap::Steps;
 use qo_lane::without_return;
 use qo_replies::{Event, error_text, return_written};
-use qo_requests::Request;
+use qo_requests::Call;
 use qo_sessions::{Mode, SessionAct};
 use qo_values::{Chars, Code, SESSIONS, Text};
 use std::alloc::{AllocError, Global};
@@ -175,18 +175,18 @@ fn send_reply(
 fn serve_command<L: Ledger>(
     machine: &mut Machine,
     session: u8,
-    request: &Request,
+    command: &Call,
     id: Option<&Text>,
     sending: &mut Sending,
     steps: &mut Steps<L>,
 ) -> Result<(), AllocError>
     requires { session < SESSIONS }
-    ensures served { OnOk result ((front : List Message) × (sending.new.outs ≡ sending.old.outs ++ front) × AreToLanes front × ((s : State) → IsIn s machine.old → CommandServed sending.old.at session s request.now (option_map (λ id. id.now) id.entry) front machine.new)) }
-    ensures left { OnErr result ((s : State) → IsIn s machine.old → CommandLeft sending.old.at session s request.now (option_map (λ id. id.now) id.entry) machine.new) }
+    ensures served { OnOk result ((front : List Message) × (sending.new.outs ≡ sending.old.outs ++ front) × AreToLanes front × ((s : State) → IsIn s machine.old → CommandServed sending.old.at session s command.now (option_map (λ id. id.now) id.entry) front machine.new)) }
+    ensures left { OnErr result ((s : State) → IsIn s machine.old → CommandLeft sending.old.at session s command.now (option_map (λ id. id.now) id.entry) machine.new) }
     ensures lasts { machine.new.spent ≡ machine.old.spent }
     ensures moment { sending.new.at ≡ sending.old.at }
 {
-    match machine.perform(sending.alloc, request, id, steps) {
+    match machine.perform(sending.alloc, command, id, steps) {
         Ok(reply) => {
             let ends = reply.ends;
             let sent = send_reply(machine, Lane::Session(session), reply, sending);
@@ -223,8 +223,8 @@ fn serve_item<L: Ledger>(
             let text = return_written(sending.alloc, id.as_ref(), EMPTY)?;
             sending.push(Lane::Session(session), text)?;
         }
-        SessionAct::Do(request, id) => {
-            serve_command(machine, session, &request, id.as_ref(), sending, steps)?;
+        SessionAct::Do(command, id) => {
+            serve_command(machine, session, &command, id.as_ref(), sending, steps)?;
         }
     }
     Ok(())

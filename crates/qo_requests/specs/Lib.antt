@@ -1,5 +1,4 @@
 pub mod Arguments
-pub mod Building
 pub mod Commands
 pub mod Fields
 pub mod Given

@@ -10,8 +10,7 @@ use Rattle.serde_json.specs.Written.{has_float}
 use Rattle.qo_values.specs.declared.codes.Code.{Code}
 use Rattle.qo_values.specs.declared.codes.Code.TheVariants.{E1, E6, E7, E10, E12, E13, E14}
 use Rattle.qo_requests.specs.Arguments.{all_stand, has_only, all_fit, plain_beside}
-use Rattle.qo_requests.specs.Building.{request_of}
-use Rattle.qo_requests.specs.Commands.{command_of, arguments, is_open}
+use Rattle.qo_requests.specs.Commands.{command_of, arguments, is_open, request_of}
 use Rattle.qo_requests.specs.Fields.{argument, part_of}
 use Rattle.qo_requests.specs.Values.{text_at}
 use Rattle.qo_replies.specs.Json.{json}

@@ -3,8 +3,7 @@
 ghost use Rattle.std.specs.Prelude.{◌≡◌, IfOk};
 ghost use Rattle.serde_json.specs.View.{view};
 ghost use Rattle.qo_requests.specs.declared.commands.Command.TheVariants as command;
-ghost use Rattle.qo_requests.specs.Building.{ring_on, request_of};
-ghost use Rattle.qo_requests.specs.Commands.{arguments};
+ghost use Rattle.qo_requests.specs.Commands.{arguments, request_of, ring_on};
 ghost use Rattle.qo_requests.specs.Given.{AreGiven};
 
 use crate::calls::{Addition, Alteration, Query};

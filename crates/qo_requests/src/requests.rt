@@ -19,7 +19,7 @@ pub enum Request {
 
 impl Request {
     ghost use Rattle.std.specs.Prelude.{◌≡◌};
-    ghost use Rattle.qo_requests.specs.Building.{queries, adds, alters};
+    ghost use Rattle.qo_requests.specs.Commands.{queries, adds, alters};
 
     /// A command that leaves the board.
     pub(crate) fn queries(query: Query) -> Request

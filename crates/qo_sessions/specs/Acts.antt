@@ -9,7 +9,7 @@ use Rattle.qo_requests.specs.declared.requests.Parsed.{Parsed}
 use Rattle.qo_requests.specs.declared.requests.ReadError.{ReadError}
 use Rattle.qo_requests.specs.declared.requests.ReadError.TheVariants.{Refused, Memory}
 use Rattle.qo_requests.specs.declared.requests.Request.{Request}
-use Rattle.qo_requests.specs.declared.requests.Request.TheVariants.{QmpCapabilities}
+use Rattle.qo_requests.specs.declared.requests.Request.TheVariants.{Call, QmpCapabilities}
 use Rattle.qo_sessions.specs.declared.acts.SessionAct.{SessionAct}
 use Rattle.qo_sessions.specs.declared.acts.SessionAct.TheVariants.{Answer, Negotiated, Do}
 use Rattle.qo_sessions.specs.declared.modes.Mode.{Mode}
@@ -24,12 +24,12 @@ offered (Some (name ∷ names)) id = Answer E11 id
 -- a request before the negotiation
 abbrev pub negotiate : Request → Option (List ℕ) → SessionAct
 negotiate (QmpCapabilities enable) id = offered enable id
-negotiate request id = Answer E8 id
+negotiate (Call call) id = Answer E8 id
 
--- a request behind it
+-- a request after it
 abbrev pub demand : Request → Option (List ℕ) → SessionAct
 demand (QmpCapabilities enable) id = Answer E9 id
-demand request id = Do request id
+demand (Call call) id = Do call id
 
 -- a request that was read
 abbrev pub asked : Mode → Request → Option (List ℕ) → SessionAct

@@ -4,7 +4,7 @@ ghost use Rattle.std.specs.Prelude.{◌≡◌, option_map};
 ghost use Rattle.qo_sessions.specs.Acts.{asked, demand, is_no_command, judged, negotiate, offered, refusal_code};
 
 use crate::modes::Mode;
-use qo_requests::{Parsed, Request};
+use qo_requests::{Call, Parsed, Request};
 use qo_values::{Code, Text, TextList};
 
 /// What an item comes to. The id is the member `id` of the message, as its text in a reply.
@@ -15,7 +15,7 @@ pub enum SessionAct {
     /// The session has negotiated.
     Negotiated(Option<Text>),
     /// A command is to be done.
-    Do(Request, Option<Text>),
+    Do(Call, Option<Text>),
 }
 
 /// What a negotiation with these capabilities comes to: none is offered.
@@ -34,17 +34,17 @@ fn negotiate(request: Request, id: Option<Text>) -> SessionAct
 {
     match request {
         Request::QmpCapabilities { enable } => offered(enable, id),
-        _ => SessionAct::Answer(Code::E8, id),
+        Request::Call(_) => SessionAct::Answer(Code::E8, id),
     }
 }
 
-/// What a request comes to behind the negotiation.
+/// What a request comes to after the negotiation.
 fn demand(request: Request, id: Option<Text>) -> SessionAct
     ensures { result ≡ demand request id }
 {
     match request {
         Request::QmpCapabilities { enable: _ } => SessionAct::Answer(Code::E9, id),
-        request => SessionAct::Do(request, id),
+        Request::Call(call) => SessionAct::Do(call, id),
     }
 }
 

@@ -1,12 +1,11 @@
 //! What no clause says: that commands are answered where there is enough memory. What they tell is
 //! compared with texts written by hand.
-ghost use Rattle.std.specs.Prelude.{◌≡◌, ◌<◌, false, true};
-ghost use Rattle.qo_commands.specs.Changes.{is_change};
+ghost use Rattle.std.specs.Prelude.{◌≡◌, ◌<◌};
 
 use qo_commands::{Body, Done, ask, change, listing_text};
 use qo_heap::Steps;
 use qo_realize::Board;
-use qo_requests::Request;
+use qo_requests::{Addition, Alteration, Change, Query};
 use qo_values::{Code, PropList, Text, Val};
 use std::alloc::{AllocError, Global};
 use std::marker::Brand;
@@ -22,19 +21,17 @@ fn text(alloc: Global, of: &str) -> Result<Text, AllocError> {
 fn tells<L: Ledger>(
     alloc: Global,
     board: &Board,
-    request: &Request,
+    query: &Query,
     want: &str,
     steps: &mut Steps<L>,
-) -> Result<bool, AllocError>
-    requires { is_change request.now ≡ false }
-{
+) -> Result<bool, AllocError> {
     let Done {
         result,
         event: _,
         ends: _,
-    } = ask(alloc, board, request, steps)?;
+    } = ask(alloc, board, query, steps)?;
     match result {
-        Ok(Body::Value(value)) => Ok(value.to_string(alloc)?.as_str() == want),
+        Ok(Body::Value(whole)) => Ok(whole.value().to_string(alloc)?.as_str() == want),
         _ => Ok(false),
     }
 }
@@ -43,16 +40,14 @@ fn tells<L: Ledger>(
 fn lists_type<L: Ledger>(
     alloc: Global,
     board: &Board,
-    request: &Request,
+    query: &Query,
     steps: &mut Steps<L>,
-) -> Result<bool, AllocError>
-    requires { is_change request.now ≡ false }
-{
+) -> Result<bool, AllocError> {
     let Done {
         result,
         event: _,
         ends: _,
-    } = ask(alloc, board, request, steps)?;
+    } = ask(alloc, board, query, steps)?;
     let Ok(Body::Listing(birth)) = result else {
         return Ok(false);
     };
@@ -69,11 +64,11 @@ fn reads<L: Ledger>(alloc: Global, blank: Blank) -> Result<bool, AllocError>
     let mut steps = Steps::<L>::from_blank(blank);
     let board = Board::start(alloc, &mut steps)?;
     let path = text(alloc, "/objects")?;
-    let listed = Request::QomList { path };
+    let listed = Query::QomList { path };
     let path = text(alloc, "sysclk")?;
     let property = text(alloc, "period")?;
-    let period = Request::QomGet { path, property };
-    let noted = Request::XQueryNotes { from: 7 };
+    let period = Query::QomGet { path, property };
+    let noted = Query::XQueryNotes { from: 7 };
     Ok(
         lists_type(alloc, &board, &listed, &mut steps)?
             && tells(alloc, &board, &period, "42949672960", &mut steps)?
@@ -84,7 +79,7 @@ fn reads<L: Ledger>(alloc: Global, blank: Blank) -> Result<bool, AllocError>
                 "{\"first\":0,\"notes\":[],\"total\":0}",
                 &mut steps,
             )?
-            && tells(alloc, &board, &Request::XQueryDetached, "[]", &mut steps)?,
+            && tells(alloc, &board, &Query::XQueryDetached, "[]", &mut steps)?,
     )
 }
 
@@ -98,16 +93,14 @@ fn the_opening_board_is_read(rt: HostRuntime) -> Result<(), Fail> {
 fn answer<L: Ledger>(
     alloc: Global,
     board: &mut Board,
-    request: &Request,
+    wanted: &Change,
     steps: &mut Steps<L>,
-) -> Result<Option<Code>, AllocError>
-    requires { is_change request.now ≡ true }
-{
+) -> Result<Option<Code>, AllocError> {
     let Done {
         result,
         event: _,
         ends: _,
-    } = change(alloc, board, request, steps)?;
+    } = change(alloc, board, wanted, steps)?;
     Ok(result.err())
 }
 
@@ -123,7 +116,7 @@ fn adds<L: Ledger>(
     answer(
         alloc,
         board,
-        &Request::ObjectAdd { driver, id, props },
+        &Change::Add(Addition::ObjectAdd { driver, id, props }),
         steps,
     )
 }
@@ -137,11 +130,11 @@ fn writes<L: Ledger>(
     let path = text(alloc, "/objects/t")?;
     let property = text(alloc, "text")?;
     let value = Val::Text(text(alloc, "seen")?);
-    let written = Request::QomSet {
+    let written = Change::Alter(Alteration::QomSet {
         path,
         property,
         value,
-    };
+    });
     answer(alloc, board, &written, steps)
 }
 
@@ -153,7 +146,7 @@ fn reads_text<L: Ledger>(
 ) -> Result<bool, AllocError> {
     let path = text(alloc, "t")?;
     let property = text(alloc, "text")?;
-    let read = Request::QomGet { path, property };
+    let read = Query::QomGet { path, property };
     tells(alloc, board, &read, "\"seen\"", steps)
 }
 
@@ -164,7 +157,12 @@ fn removes<L: Ledger>(
     steps: &mut Steps<L>,
 ) -> Result<Option<Code>, AllocError> {
     let id = text(alloc, "t")?;
-    answer(alloc, board, &Request::ObjectDel { id }, steps)
+    answer(
+        alloc,
+        board,
+        &Change::Alter(Alteration::ObjectDel { id }),
+        steps,
+    )
 }
 
 /// Whether the last note on the tag is told.
@@ -176,7 +174,7 @@ fn tells_end<L: Ledger>(
     tells(
         alloc,
         board,
-        &Request::XQueryNotes { from: 1 },
+        &Query::XQueryNotes { from: 1 },
         "{\"first\":1,\"notes\":[\"final 9 tag\"],\"total\":2}",
         steps,
     )
@@ -195,7 +193,7 @@ fn changes<L: Ledger>(alloc: Global, blank: Blank) -> Result<bool, AllocError>
     let is_read = reads_text(alloc, &board, &mut steps)?;
     let is_removed = removes(alloc, &mut board, &mut steps)?.is_none();
     let is_noted = tells_end(alloc, &board, &mut steps)?;
-    let severed = Request::XSever { birth: 9 };
+    let severed = Change::Alter(Alteration::XSever { birth: 9 });
     let is_gone = answer(alloc, &mut board, &severed, &mut steps)? == Some(Code::E33);
     Ok(is_added && is_written && is_read && is_removed && is_noted && is_gone)
 }

@@ -1,16 +1,29 @@
 //! What no clause says: messages written by hand, read where there is enough memory.
-use qo_requests::{Command, Parsed, ReadError, Request, read};
+use qo_requests::{Call, Change, Command, Parsed, ReadError, Request, read};
 use qo_values::Code;
 use std::alloc::Global;
 use std::process::Abort;
 use std::test::Fail;
 
+/// A request, without what it is one of.
+fn short(alloc: Global, request: &Request) -> Result<String, Fail> {
+    let text = match request {
+        Request::QmpCapabilities { .. } => format!(in alloc; "{request:?}")?,
+        Request::Call(Call::Query(query)) => format!(in alloc; "{query:?}")?,
+        Request::Call(Call::Change(Change::Add(addition))) => format!(in alloc; "{addition:?}")?,
+        Request::Call(Call::Change(Change::Alter(alteration))) => {
+            format!(in alloc; "{alteration:?}")?
+        }
+    };
+    Ok(text)
+}
+
 /// What a message is read into, in short: the request, or the code, each with the id.
 fn told(alloc: Global, message: &str) -> Result<String, Fail> {
     let text = match read(alloc, message.as_bytes()) {
         Ok(Parsed { id, request }) => match id {
-            Some(id) => format!(in alloc; "{} {request:?}", id.as_str())?,
-            None => format!(in alloc; "{request:?}")?,
+            Some(id) => format!(in alloc; "{} {}", id.as_str(), short(alloc, &request)?.as_str())?,
+            None => short(alloc, &request)?,
         },
         Err(
             ReadError::Refused {

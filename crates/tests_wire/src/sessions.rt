@@ -1,7 +1,7 @@
 //! Sessions with ample memory.
 
 use qo_framing::Item;
-use qo_requests::Request;
+use qo_requests::{Call, Query};
 use qo_sessions::{Mode, Session, SessionAct};
 use qo_values::Code;
 use std::alloc::Global;
@@ -14,7 +14,7 @@ fn word(act: &SessionAct) -> &'static str {
         SessionAct::Answer(Code::E8, Some(_)) => "E8+ ",
         SessionAct::Answer(code, _) => code_word(*code),
         SessionAct::Negotiated(_) => "negotiated ",
-        SessionAct::Do(Request::QueryStatus, _) => "status ",
+        SessionAct::Do(Call::Query(Query::QueryStatus), _) => "status ",
         SessionAct::Do(_, _) => "other ",
     }
 }

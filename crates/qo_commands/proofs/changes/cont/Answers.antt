@@ -1,7 +1,12 @@
 -- The machine runs again.
-use Rattle.qo_commands.proofs.ChangeLemmas.{cont-came}
+use Rattle.std.proofs.Common.{true}
+use Rattle.qo_replies.specs.declared.events.Event.TheVariants.{Resume}
+use Rattle.qo_commands.specs.Commands.{altered}
+use Rattle.qo_commands.proofs.ChangeLemmas.{switched-came}
 use Rattle.qo_commands.proofs.changes.cont.Goals as goal
 
 pub returns : goal.returns
+unfolding altered
 returns c = λ b s.
-    cont-came b c.set_running.result c.switched.result c.set_running.new.self (c.set_running.ensures.stands b s) (c.set_running.ensures.changes b s) c.switched.ensures
+    switched-came b true Resume c.set_running.result c.switched.result c.set_running.new.self (c.set_running.ensures.stands b s)
+    (c.set_running.ensures.changes b s) c.switched.ensures

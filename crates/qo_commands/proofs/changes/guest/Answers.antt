@@ -1,10 +1,12 @@
 -- What the line comes to.
 use Rattle.std.proofs.Common.{subst, sym, ℕ, List}
 use Rattle.qo_lane.specs.Hearing.{Came, heard}
+use Rattle.qo_commands.specs.Commands.{altered}
 use Rattle.qo_commands.proofs.ChangeLemmas.{told-came}
 use Rattle.qo_commands.proofs.changes.guest.Goals as goal
 
 pub returns : goal.returns
+unfolding altered
 returns g c = λ b s.
     let came = subst (λ (line : List ℕ). Came (heard b line) c.in_ok-heard.heard c.hear.new.board) c.as_bytes.ensures.value (c.in_ok-heard.ensures.came b s) in
-    told-came b c.args.line.now c.in_ok-heard.heard c.told.result c.hear.new.board came c.told.ensures
+    told-came (heard b c.args.line.now) c.in_ok-heard.heard c.told.result c.hear.new.board came c.told.ensures

@@ -1,9 +1,10 @@
 -- The hold is released, or what refuses it is told.
-use Rattle.qo_commands.proofs.ChangeLemmas.{release-err, release-ok}
+use Rattle.qo_realize.specs.Resets.{released_at}
+use Rattle.qo_commands.specs.Commands.{altered}
+use Rattle.qo_commands.proofs.ChangeLemmas.{answered-came}
 use Rattle.qo_commands.proofs.changes.release.Goals as goal
 
-pub returns-in-Ok : goal.returns-in-Ok
-returns-in-Ok g c = λ b s. release-ok b c.release.new.self c.args.path.now c.returned.result (c.in-Ok.ensures.released b s) c.returned.ensures
-
-pub returns-in-Err : goal.returns-in-Err
-returns-in-Err g c = λ b s. release-err b c.release.new.self c.args.path.now c.in-Err.code c.refused.result (c.in-Err.ensures.released b s) c.refused.ensures
+pub returns : goal.returns
+unfolding altered
+returns g c = λ b s.
+    answered-came (released_at b c.args.path.now) c.release.result c.done_by.result c.release.new.self (c.release.ensures.released b s) c.done_by.ensures

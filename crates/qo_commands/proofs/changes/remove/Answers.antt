@@ -1,9 +1,10 @@
 -- The object is removed, or what refuses it is told.
-use Rattle.qo_commands.proofs.ChangeLemmas.{del-err, del-ok}
+use Rattle.qo_realize.specs.Users.{object_removed}
+use Rattle.qo_commands.specs.Commands.{altered}
+use Rattle.qo_commands.proofs.ChangeLemmas.{answered-came}
 use Rattle.qo_commands.proofs.changes.remove.Goals as goal
 
-pub returns-in-Ok : goal.returns-in-Ok
-returns-in-Ok g c = λ b s. del-ok b c.object_del.new.self c.args.id.now c.returned.result (c.in-Ok.ensures.change b s) c.returned.ensures
-
-pub returns-in-Err : goal.returns-in-Err
-returns-in-Err g c = λ b s. del-err b c.object_del.new.self c.args.id.now _ c.refused.result (c.in-Err.ensures.change b s) c.refused.ensures
+pub returns : goal.returns
+unfolding altered
+returns g c = λ b s.
+    answered-came (object_removed b c.args.id.now) c.object_del.result c.done_by.result c.object_del.new.self (c.object_del.ensures.change b s) c.done_by.ensures

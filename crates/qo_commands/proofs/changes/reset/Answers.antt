@@ -2,9 +2,11 @@
 use Rattle.std.proofs.Common.{false, refl, Ok, Some}
 use Rattle.qo_commands.specs.declared.commands.Body.TheVariants.{Empty}
 use Rattle.qo_replies.specs.declared.events.Event.TheVariants.{Reset}
+use Rattle.qo_commands.specs.Commands.{altered}
 use Rattle.qo_commands.proofs.ChangeLemmas.{reset-came}
 use Rattle.qo_commands.proofs.changes.reset.Goals as goal
 
 pub returns : goal.returns
+unfolding altered
 returns g c = λ b s.
     reset-came b (record { result = Ok Empty; event = Some (Reset false); ends = false }) c.system_reset.new.self (c.system_reset.ensures b s) (λ x. refl)

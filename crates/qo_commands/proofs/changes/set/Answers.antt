@@ -1,7 +1,11 @@
-use Rattle.qo_commands.proofs.ChangeLemmas.{set-changes}
+-- The property is written, or what refuses that is told.
+use Rattle.qo_model.specs.Access.{write_at}
+use Rattle.qo_commands.specs.Commands.{altered}
+use Rattle.qo_commands.proofs.ChangeLemmas.{set-alters}
 use Rattle.qo_commands.proofs.changes.set.Goals as goal
 
 pub returns : goal.returns
+unfolding altered
 returns g c = λ b s.
-    set-changes b c.args.board.now c.qom_set.new.self c.args.path.now c.args.name.now c.args.val.now c.qom_set.result c.outcome_of.result s
+    set-alters b c.args.board.now c.qom_set.new.self (write_at b c.args.path.now c.args.name.now c.args.val.now) c.qom_set.result c.outcome_of.result s
     (c.qom_set.ensures.written b s) c.qom_set.ensures.err c.outcome_of.ensures

@@ -1,9 +1,10 @@
 -- The links are cut, or what refuses it is told.
-use Rattle.qo_commands.proofs.ChangeLemmas.{sever-err, sever-ok}
+use Rattle.qo_model.specs.Objects.{sever}
+use Rattle.qo_commands.specs.Commands.{altered}
+use Rattle.qo_commands.proofs.ChangeLemmas.{answered-came}
 use Rattle.qo_commands.proofs.changes.sever.Goals as goal
 
-pub returns-in-Ok : goal.returns-in-Ok
-returns-in-Ok g c = λ b s. sever-ok b c.sever.new.self c.args.birth c.returned.result (c.in-Ok.ensures.change b s) c.returned.ensures
-
-pub returns-in-Err : goal.returns-in-Err
-returns-in-Err g c = λ b s. sever-err b c.sever.new.self c.args.birth _ c.refused.result (c.in-Err.ensures.change b s) c.refused.ensures
+pub returns : goal.returns
+unfolding altered
+returns g c = λ b s.
+    answered-came (sever b c.args.birth) c.sever.result c.done_by.result c.sever.new.self (c.sever.ensures.change b s) c.done_by.ensures

@@ -1,7 +1,12 @@
 -- The machine stands still.
-use Rattle.qo_commands.proofs.ChangeLemmas.{stop-came}
+use Rattle.std.proofs.Common.{false}
+use Rattle.qo_replies.specs.declared.events.Event.TheVariants.{Stop}
+use Rattle.qo_commands.specs.Commands.{altered}
+use Rattle.qo_commands.proofs.ChangeLemmas.{switched-came}
 use Rattle.qo_commands.proofs.changes.stop.Goals as goal
 
 pub returns : goal.returns
+unfolding altered
 returns c = λ b s.
-    stop-came b c.set_running.result c.switched.result c.set_running.new.self (c.set_running.ensures.stands b s) (c.set_running.ensures.changes b s) c.switched.ensures
+    switched-came b false Stop c.set_running.result c.switched.result c.set_running.new.self (c.set_running.ensures.stands b s)
+    (c.set_running.ensures.changes b s) c.switched.ensures

@@ -8,5 +8,5 @@ use Rattle.qo_commands.proofs.detached.query_detached.Goals as goal
 
 pub returns : goal.returns
 returns g c = λ b s.
-    c.returned.ensures b
+    c.returned_value.ensures b
     ∙ ap (λ (d : Data). returned b d) (c.in_ok-value.ensures ∙ ap (λ (l : List Detached). array (items_of (map detached_data l))) (c.deref.ensures.value ∙ c.in_ok-objects.ensures b s))

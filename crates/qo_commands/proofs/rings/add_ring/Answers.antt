@@ -1,8 +1,10 @@
 -- The ring is added, or what refuses it is told.
-use Rattle.qo_commands.proofs.ChangeLemmas.{ring_add-changes}
+use Rattle.qo_realize.specs.Chardevs.{chardev_added}
+use Rattle.qo_commands.specs.Commands.{altered}
+use Rattle.qo_commands.proofs.ChangeLemmas.{made-alters}
 use Rattle.qo_commands.proofs.rings.add_ring.Goals as goal
 
 pub returns : goal.returns
+unfolding altered
 returns c = λ b s.
-    ring_add-changes b c.chardev_add.new.self c.args.id.now c.args.kind.now c.args.size c.chardev_add.result c.outcome_of.result
-    (c.chardev_add.ensures.change b s) c.outcome_of.ensures
+    made-alters b c.chardev_add.new.self (chardev_added b c.args.id.now c.args.kind.now c.args.size) c.chardev_add.result c.outcome_of.result (c.chardev_add.ensures.change b s) c.outcome_of.ensures

@@ -1,21 +1,25 @@
 -- The bytes are taken and told, or what refuses that is.
-use Rattle.std.proofs.Common.{inl, subst, sym, Err}
+use Rattle.std.proofs.Common.{subst, sym, Err}
 use Rattle.qo_properties.specs.declared.refusals.Refusal.{Refusal}
 use Rattle.qo_realize.specs.Chardevs.{ReadsRing, ringbuf_read}
 use Rattle.qo_realize.specs.Parts.{Parts}
 use Rattle.qo_realize.specs.Stands.{Stands}
-use Rattle.qo_commands.proofs.ChangeLemmas.{ring_read-err, ring_read-ok}
+use Rattle.qo_commands.specs.Commands.{altered}
+use Rattle.qo_commands.proofs.ChangeLemmas.{read-err, read-ok}
 use Rattle.qo_commands.proofs.rings.read_ring.Goals as goal
 
 pub returns-in-Ok : goal.returns-in-Ok
+unfolding altered
 returns-in-Ok c = λ b s.
-    ring_read-ok b c.ringbuf_read.new.self c.args.id.now c.args.most c.args.form c.in-Ok.text c.returned.result (c.in-Ok.ensures.read b s) c.returned.ensures
+    read-ok (ringbuf_read b c.args.id.now c.args.most c.args.form) c.in-Ok.text c.returned.result c.ringbuf_read.new.self
+    (c.in-Ok.ensures.read b s) c.returned.ensures
 
 pub returns-in-Err-Refused : goal.returns-in-Err-Refused
+unfolding altered
 returns-in-Err-Refused c = λ b s.
     let told = subst (λ (r : Refusal). ReadsRing (ringbuf_read b c.args.id.now c.args.most c.args.form) (Err r) c.ringbuf_read.new.self)
     c.in-Err-Refused.field-0-is (c.in-Err-Refused.ensures.read b s) in
-    ring_read-err b c.ringbuf_read.new.self c.args.id.now c.args.most c.args.form c.in-Err-Refused.code c.refused.result told c.refused.ensures
+    read-err (ringbuf_read b c.args.id.now c.args.most c.args.form) c.in-Err-Refused.code c.refused.result c.ringbuf_read.new.self told c.refused.ensures
 
 pub returns-in-Err-Memory : goal.returns-in-Err-Memory
-returns-in-Err-Memory c = λ b s. inl (subst (λ (p : Parts). Stands b p) (sym c.in-Err-Memory.ensures.err) s)
+returns-in-Err-Memory c = λ b s. subst (λ (p : Parts). Stands b p) (sym c.in-Err-Memory.ensures.err) s

@@ -15,4 +15,4 @@ returns-then-not-is_a c = λ b.
 
 pub returns : goal.returns
 returns c = λ b.
-    c.returned.ensures b ∙ ap (λ (d : Data). returned b d) c.in_ok-listing.ensures ∙ device-listed b (row_named c.args.typename.now) c.in-Some.t (sym c.in-Some.is ∙ c.find.ensures) (sym c.is_a.ensures ∙ c.if-not-is_a.false)
+    c.returned_value.ensures b ∙ ap (λ (d : Data). returned b d) c.in_ok-listing.ensures ∙ device-listed b (row_named c.args.typename.now) c.in-Some.t (sym c.in-Some.is ∙ c.find.ensures) (sym c.is_a.ensures ∙ c.if-not-is_a.false)

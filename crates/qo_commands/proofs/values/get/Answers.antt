@@ -8,7 +8,7 @@ use Rattle.qo_commands.proofs.values.get.Goals as goal
 
 pub returns-in_ok-value-in-Ok : goal.returns-in_ok-value-in-Ok
 returns-in_ok-value-in-Ok g c = λ b s.
-    c.returned.ensures b ∙ ap (λ (d : Data). returned b d) c.in_ok-value-in-Ok.ensures ∙ sym (ap (answered b data_of) (c.in-Ok.ensures b s))
+    c.returned_value.ensures b ∙ ap (λ (d : Data). returned b d) c.in_ok-value-in-Ok.ensures ∙ sym (ap (answered b data_of) (c.in-Ok.ensures b s))
 
 pub returns-in-Err-Refused : goal.returns-in-Err-Refused
 returns-in-Err-Refused g c = λ b s.

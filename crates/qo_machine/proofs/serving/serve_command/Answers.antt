@@ -12,7 +12,7 @@ returns-in-Ok-clause-served g c =
       p.1,
       p.2,
       served_command c.args.sending.now.at c.args.session c.args.machine.now c.perform.new.self c.send_reply-sent.new.machine c.conclude.new.self
-          c.args.request.now _
+          c.args.command.now _
           c.in-Ok.reply p.0 c.in-Ok.ensures.came c.in-Ok.ensures.rest p.3 c.send_reply-sent.ensures.board c.send_reply-sent.ensures.rest
           c.conclude.ensures.state c.conclude.ensures.board,
     )) c.send_reply-sent.ensures.sent
@@ -20,7 +20,7 @@ returns-in-Ok-clause-served g c =
 pub returns-in-Ok-clause-left : goal.returns-in-Ok-clause-left
 returns-in-Ok-clause-left g c =
     on_err c.send_reply-sent.result
-    (left_done c.args.sending.now.at c.args.session c.args.machine.now c.perform.new.self c.send_reply-sent.new.machine c.conclude.new.self c.args.request.now _
+    (left_done c.args.sending.now.at c.args.session c.args.machine.now c.perform.new.self c.send_reply-sent.new.machine c.conclude.new.self c.args.command.now _
     c.in-Ok.reply c.in-Ok.ensures.came c.in-Ok.ensures.rest c.send_reply-sent.ensures.board c.send_reply-sent.ensures.rest
     c.conclude.ensures.state c.conclude.ensures.board)
 
@@ -31,7 +31,7 @@ returns-in-Err-clause-served g c =
       _,
       more,
       (c.requires, tt),
-      served_want c.args.sending.now.at c.args.session c.args.machine.now c.perform.new.self c.args.request.now _ _ refl c.in-Err.ensures.kept
+      served_want c.args.sending.now.at c.args.session c.args.machine.now c.perform.new.self c.args.command.now _ _ refl c.in-Err.ensures.kept
           c.in-Err.ensures.rest,
     )) c.tell_want.ensures.told
 
@@ -39,6 +39,6 @@ pub returns-in-Err-clause-left : goal.returns-in-Err-clause-left
 returns-in-Err-clause-left g c =
     on_err c.tell_want.result
     (λ s here.
-    left_served c.args.sending.now.at c.args.session s c.args.request.now _ _ c.perform.new.self
-    (served_want c.args.sending.now.at c.args.session c.args.machine.now c.perform.new.self c.args.request.now _ _ refl c.in-Err.ensures.kept
+    left_served c.args.sending.now.at c.args.session s c.args.command.now _ _ c.perform.new.self
+    (served_want c.args.sending.now.at c.args.session c.args.machine.now c.perform.new.self c.args.command.now _ _ refl c.in-Err.ensures.kept
     c.in-Err.ensures.rest s here))

@@ -45,10 +45,10 @@ returns-in_ok-serve_command-in-Do-clause-served g c =
       served.0,
       served.1,
       served.2,
-      serves_command c.args.sending.now.at c.args.session c.args.machine.now c.heed.new.self c.serve_command.new.machine c.args.item.now c.in-Do.request
+      serves_command c.args.sending.now.at c.args.session c.args.machine.now c.heed.new.self c.serve_command.new.machine c.args.item.now c.in-Do.command
           c.in-Do.id served.0 (sym c.if-ended.ensures) (λ b. sym c.in-Do.is ∙ c.in_ok-code.ensures.act b)
           (λ b. c.in_ok-code.ensures.state b ∙ ap (moved (state_at b c.args.machine.now) c.args.session) c.in-Do.is) c.heed.ensures.board
-          (λ s here. subst (λ (id : Option (List ℕ)). CommandServed c.args.sending.now.at c.args.session s c.in-Do.request id served.0
+          (λ s here. subst (λ (id : Option (List ℕ)). CommandServed c.args.sending.now.at c.args.session s c.in-Do.command id served.0
           c.serve_command.new.machine) c.as_ref-in-Do.ensures.value (served.3 s here)),
     )
 
@@ -88,8 +88,8 @@ returns-in_err-push-in-Negotiated-clause-left g c =
 pub returns-in_err-serve_command-in-Do-clause-left : goal.returns-in_err-serve_command-in-Do-clause-left
 returns-in_err-serve_command-in-Do-clause-left g c =
     on_err c.from_residual-in_err-serve_command-in-Do.result
-    (front_command c.args.sending.now.at c.args.session c.args.machine.now c.heed.new.self c.serve_command.new.machine c.args.item.now c.in-Do.request
+    (front_command c.args.sending.now.at c.args.session c.args.machine.now c.heed.new.self c.serve_command.new.machine c.args.item.now c.in-Do.command
     c.in-Do.id (sym c.if-ended.ensures) (λ b. sym c.in-Do.is ∙ c.in_ok-code.ensures.act b)
     (λ b. c.in_ok-code.ensures.state b ∙ ap (moved (state_at b c.args.machine.now) c.args.session) c.in-Do.is) c.heed.ensures.board
-    (λ s here. subst (λ (id : Option (List ℕ)). CommandLeft c.args.sending.now.at c.args.session s c.in-Do.request id c.serve_command.new.machine)
+    (λ s here. subst (λ (id : Option (List ℕ)). CommandLeft c.args.sending.now.at c.args.session s c.in-Do.command id c.serve_command.new.machine)
     c.as_ref-in-Do.ensures.value (c.in_err-serve_command-in-Do.ensures.left s here)))

@@ -2,7 +2,6 @@
 use Rattle.std.proofs.Common.{ap, ◌∙◌, option_map, subst}
 use Rattle.qo_commands.proofs.CommandLemmas.{no_float}
 use Rattle.qo_commands.specs.Commands.{Done}
-use Rattle.qo_commands.specs.Views.{has_float_in}
 use Rattle.qo_model.specs.Board.{Board}
 use Rattle.qo_realize.specs.Stands.{Stands}
 use Rattle.qo_machine.proofs.MachineLemmas.{seen_board, stands_in}
@@ -16,11 +15,11 @@ returns g c =
           let here = stands_in b c.self.inside.board c.args.self.now (seen_board c.self.view_is) stands in
           let does = c.in_ok-done.ensures b here in
           record {
-            stands = subst (λ (x : Board). Stands x c.args.self.now.board) (ap (λ (d : Done). d.board) does) stands;
+            stands = stands;
             events = ap (λ (d : Done). d.events) does;
             ends = ap (λ (d : Done). d.ends) does;
             replied =
-                c.in_ok-text.ensures b here (ap (λ (d : Done). has_float_in d.result) does ∙ no_float b c.args.request.now)
+                c.in_ok-text.ensures b here (no_float b c.in_ok-done.done.result)
                 ∙ ap (λ (d : Done). reply (option_map (λ id. id.now) c.args.id) d.result) does;
           };
     }

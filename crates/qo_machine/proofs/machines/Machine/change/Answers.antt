@@ -1,8 +1,7 @@
 -- What a command that changes the board does, and the text of its reply.
 use Rattle.std.proofs.Common.{ap, ◌∙◌, option_map}
 use Rattle.qo_commands.proofs.CommandLemmas.{empty_written, no_float}
-use Rattle.qo_commands.specs.Commands.{Done, empty}
-use Rattle.qo_commands.specs.Views.{has_float_in}
+use Rattle.qo_commands.specs.Commands.{Done, empty, made}
 use Rattle.qo_machine.proofs.MachineLemmas.{if_ok, seen_board, stands_in}
 use Rattle.qo_machine.specs.Machine.{reply}
 use Rattle.qo_machine.proofs.machines.Machine.change.Goals as goal
@@ -20,6 +19,6 @@ returns-clause-came g c = λ b stands.
       replied =
           if_ok c.changed_text-text.result
           (λ text written.
-          written (ap (λ (d : Done). has_float_in d.result) did.1 ∙ no_float b c.args.request.now)
+          written (no_float (made b c.args.change.now).board c.in_ok-done.done.result)
           ∙ ap (λ (d : Done). reply (option_map (λ id. id.now) c.args.id) d.result) did.1) (c.changed_text-text.ensures _ did.0);
     }
