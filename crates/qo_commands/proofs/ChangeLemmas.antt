@@ -1,5 +1,5 @@
 -- What the board's calls leave is what the commands define.
-use Rattle.std.proofs.Common.{◌≡◌, ap, sym, subst, ◌∙◌, ℕ, Bool, if◌then◌else◌, List, [], ◌∷◌, false, Some, None, Option, Result, Ok, Err, OnErr, inl, inr}
+use Rattle.std.proofs.Common.{◌≡◌, refl, ap, sym, subst, ◌∙◌, ℕ, Bool, if◌then◌else◌, List, [], ◌∷◌, false, Some, None, Option, Result, Ok, Err, OnErr, inl, inr}
 use Rattle.serde_json.specs.Data.{Data, string}
 use Rattle.qo_values.specs.declared.codes.Code.{Code}
 use Rattle.qo_model.specs.Board.{Board}

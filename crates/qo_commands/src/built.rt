@@ -23,8 +23,9 @@ fn push_command(alloc: Global, values: &mut Vec<Value>, command: Command) -> Res
 pub(crate) fn commands(alloc: Global) -> Result<Value, AllocError>
     ensures { IfOk result (λ v. view v ≡ array (items_of (map command_data commands))) }
 {
+    let all = Command::all();
     let mut values = Vec::new(alloc);
-    for command in Command::all() {
+    for command in all {
         push_command(alloc, &mut values, *command)?;
     }
     Ok(Value::Array(values))

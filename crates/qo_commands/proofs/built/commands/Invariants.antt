@@ -4,5 +4,5 @@ use Rattle.serde_json.specs.View.{view}
 use Rattle.qo_commands.specs.Commands.{command_data}
 use Rattle.qo_commands.proofs.built.commands.Given as goal
 
-abbrev pub invariant-loop-name : goal.invariant-loop-name
-invariant-loop-name l = map view l.values.items ≡ map command_data (take l.command-index l.all)
+abbrev pub invariant-loop-command : goal.invariant-loop-command
+invariant-loop-command l = map view l.values.items ≡ map command_data (take l.command-index l.all)

@@ -1,8 +1,17 @@
 -- Each command tells what is defined.
 use Rattle.std.proofs.Common.{◌∙◌, ap, sym, rules, Bool}
 use Rattle.serde_json.specs.Data.{Data}
-use Rattle.qo_commands.specs.Commands.{queried, returned, status_data}
+use Rattle.qo_commands.specs.Commands.{queried, returned, status_data, types_of}
+use Rattle.std.specs.Option.{option_map_or}
+use Rattle.std.specs.Prelude.{codes}
+use Rattle.serde_json.specs.Written.{has_float}
+use Rattle.qo_commands.proofs.CommandLemmas.{types_no_float}
 use Rattle.qo_commands.proofs.commands.ask.Goals as goal
+
+pub returned_value-requires : goal.returned_value-requires
+returned_value-requires g c = 
+    ap has_float c.in_ok-types-in-QomListTypes.ensures
+    ∙ types_no_float (types_of (option_map_or (λ name. name.now) c.as_ref.result (codes "object")) c.unwrap_or.result)
 
 pub returns-in_ok-types-in-QomListTypes : goal.returns-in_ok-types-in-QomListTypes
 unfolding queried
@@ -22,4 +31,4 @@ returns-in_ok-commands-in-QueryCommands g c = λ b s.
 pub returns-in-QueryStatus : goal.returns-in-QueryStatus
 unfolding queried
 returns-in-QueryStatus g c = λ b s.
-    c.returned-in-QueryStatus.ensures b ∙ ap (λ (running : Bool). returned b (status_data running)) (c.running.ensures b s) ∙ ap (queried b) (sym c.in-QueryStatus.is)
+    c.returned.ensures b ∙ ap (λ (running : Bool). returned b (status_data running)) (c.running.ensures b s) ∙ ap (queried b) (sym c.in-QueryStatus.is)

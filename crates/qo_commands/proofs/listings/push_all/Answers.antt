@@ -1,5 +1,5 @@
 -- Each slot is listed in its turn.
-use Rattle.std.proofs.Common.{◌≡◌, ◌-◌, ◌+◌, Fits, w64, ℕ, List, sym, subst, arith}
+use Rattle.std.proofs.Common.{ℕ, List, sym, subst}
 use Rattle.qo_model.specs.Listing.{listing}
 use Rattle.qo_values.specs.TypeTexts.{text_of}
 use Rattle.qo_replies.specs.Properties.{HasWritten}

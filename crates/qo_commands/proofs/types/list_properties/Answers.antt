@@ -4,7 +4,13 @@ use Rattle.serde_json.specs.Data.{Data}
 use Rattle.qo_model.specs.Types.{row_named}
 use Rattle.qo_commands.specs.Commands.{returned}
 use Rattle.qo_commands.proofs.ListingLemmas.{device-listed, device-none, device-other}
+use Rattle.serde_json.specs.Written.{has_float}
+use Rattle.qo_commands.specs.Commands.{adding_properties}
+use Rattle.qo_commands.proofs.CommandLemmas.{rows_no_float}
 use Rattle.qo_commands.proofs.types.list_properties.Goals as goal
+
+pub returned_value-requires : goal.returned_value-requires
+returned_value-requires c = ap has_float c.in_ok-listing.ensures ∙ rows_no_float (adding_properties c.in-Some.t)
 
 pub returns-in_default : goal.returns-in_default
 returns-in_default c = λ b. c.refused.ensures b ∙ device-none b (row_named c.args.typename.now) (sym c.in_default.is ∙ c.find.ensures)
