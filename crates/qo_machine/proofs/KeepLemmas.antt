@@ -1,17 +1,15 @@
 -- What each command keeps of the board, and each attempt that is given up, a step and a run keep.
-use Rattle.std.proofs.Common.{◌^◌, ◌<◌, ◌≤◌, ap, arith, ◌≡◌, ℕ, ◌+◌, nat_lt, not, Bool, true, false, if◌then◌else◌, List, [], ◌∷◌, map, refl, subst, sym, Option, None, Some, Result, Ok, Err, codes, unwrap_or, ◌++◌}
+use Rattle.std.proofs.Common.{◌^◌, ◌<◌, ◌≤◌, ap, arith, ◌≡◌, ℕ, ◌+◌, nat_lt, not, Bool, true, false, if◌then◌else◌, List, [], ◌∷◌, refl, subst, sym, Option, None, Some, Result, Ok, Err, codes, unwrap_or, ◌++◌}
 use Rattle.qo_causes.specs.declared.inputs.Input.{Input}
 use Rattle.qo_causes.specs.declared.inputs.Moment.{Moment}
 use Rattle.qo_causes.specs.declared.inputs.What.{What}
 use Rattle.qo_causes.specs.declared.inputs.What.TheVariants.{Open, Bytes, Shut, Guest as GuestLine, Step, End}
 use Rattle.qo_framing.specs.declared.items.Item.{Item}
-use Rattle.serde_json.specs.Data.{Data, array, string}
-use Rattle.serde_json.specs.View.{items_of}
+use Rattle.serde_json.specs.Data.{Data, string}
 use Rattle.qo_chardev.specs.Texts.{told}
-use Rattle.qo_values.specs.Plain.{data_of}
 use Rattle.qo_values.specs.Rings.{ring_add, ring_drop, ring_oldest}
 use Rattle.qo_values.specs.declared.codes.Code.{Code}
-use Rattle.qo_values.specs.declared.codes.Code.TheVariants.{E15, E22, E32, E36, E48, E49, E53}
+use Rattle.qo_values.specs.declared.codes.Code.TheVariants.{E15, E32, E36, E48, E49, E53}
 use Rattle.qo_values.specs.declared.forms.Form.{Form}
 use Rattle.qo_values.specs.declared.forms.Form.TheVariants.{Utf8}
 use Rattle.qo_values.specs.declared.kinds.TypeId.{TypeId}
@@ -29,7 +27,6 @@ use Rattle.qo_model.specs.Hotplug.{refused as refused_removal}
 use Rattle.qo_model.specs.Paths.{Place, attached, found, is_of, missing, resolve, several}
 use Rattle.qo_model.specs.Plug.{Plugged, Wanted, cut_attempt, plug}
 use Rattle.qo_model.specs.Reset.{held, is_deep, released}
-use Rattle.qo_model.specs.Types.{TypeRow, is_a, row_named}
 use Rattle.qo_buses.specs.Addresses.{addressed}
 use Rattle.qo_guest.specs.Lines.{guest_line}
 use Rattle.qo_guest.specs.declared.addresses.Addr.{Addr}
@@ -47,7 +44,7 @@ use Rattle.qo_realize.specs.Resets.{at_path, held_at, held_of, released_at, rele
 use Rattle.qo_realize.specs.Stands.{Stands}
 use Rattle.qo_realize.specs.Time.{advanced, at_time, with_running}
 use Rattle.qo_realize.specs.Users.{is_used, object_removed}
-use Rattle.qo_model.specs.Access.{listing_at, read, write_at}
+use Rattle.qo_model.specs.Access.{write_at}
 use Rattle.qo_requests.specs.declared.calls.Addition.{Addition}
 use Rattle.qo_requests.specs.declared.calls.Addition.TheVariants.{DeviceAdd, ObjectAdd}
 use Rattle.qo_requests.specs.declared.calls.Alteration.{Alteration}

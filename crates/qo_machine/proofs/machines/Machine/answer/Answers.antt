@@ -1,9 +1,7 @@
 -- What a command comes to has a text.
-use Rattle.std.proofs.Common.{ap, ◌∙◌, option_map, subst}
+use Rattle.std.proofs.Common.{ap, ◌∙◌, option_map}
 use Rattle.qo_commands.proofs.CommandLemmas.{no_float}
 use Rattle.qo_commands.specs.Commands.{Done}
-use Rattle.qo_model.specs.Board.{Board}
-use Rattle.qo_realize.specs.Stands.{Stands}
 use Rattle.qo_machine.proofs.MachineLemmas.{seen_board, stands_in}
 use Rattle.qo_machine.specs.Machine.{reply}
 use Rattle.qo_machine.proofs.machines.Machine.answer.Goals as goal
