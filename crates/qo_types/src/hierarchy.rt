@@ -1,11 +1,11 @@
 //! The sixteen types: what each derives from, what it adds, and which of them are abstract.
 
-ghost use Rattle.std.specs.Prelude.{◌≡◌, ◌∷◌, ℕ, List, find};
+ghost use Rattle.std.specs.Prelude.{◌≡◌, ◌∷◌, ℕ, List, codes, find};
 ghost use Rattle.std.specs.List.{list_any};
 ghost use Rattle.std.specs.Str.{bytes_eq};
 ghost use Rattle.qo_values.specs.Kinds.{type_name};
 ghost use Rattle.qo_model.specs.RowNames.{interface_name};
-ghost use Rattle.qo_model.specs.Types.{answers_to, chain, interfaces_of};
+ghost use Rattle.qo_model.specs.Types.{answers_to, chain, interfaces_of, is_a};
 ghost use Rattle.qo_types.specs.Rows.{is_abstract, type_ids};
 
 use qo_model::Interface;
@@ -122,6 +122,33 @@ pub(crate) fn is_abstract(t: TypeId) -> bool
     matches!(
         t,
         TypeId::Object | TypeId::Device | TypeId::SlotDevice | TypeId::Bus | TypeId::MemoryBackend
+    )
+}
+
+/// Whether a type is one of buses.
+#[tactic(auto, unfolding(qo_model::specs::Types::types))]
+pub(crate) fn is_bus(t: TypeId) -> bool
+    ensures { result ≡ is_a t (codes "bus") }
+{
+    matches!(t, TypeId::Bus | TypeId::SlotBus | TypeId::MemBus)
+}
+
+/// Whether a type is one of devices.
+#[tactic(auto, unfolding(qo_model::specs::Types::types))]
+pub(crate) fn is_device(t: TypeId) -> bool
+    ensures { result ≡ is_a t (codes "device") }
+{
+    matches!(t, TypeId::Device | TypeId::MemDimm) || is_slot_device(t)
+}
+
+/// Whether a type is one of devices that go into a slot.
+#[tactic(auto, unfolding(qo_model::specs::Types::types))]
+pub(crate) fn is_slot_device(t: TypeId) -> bool
+    ensures { result ≡ is_a t (codes "slot-device") }
+{
+    matches!(
+        t,
+        TypeId::SlotDevice | TypeId::SlotUart | TypeId::SlotTimer | TypeId::SlotBridge
     )
 }
 

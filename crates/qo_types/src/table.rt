@@ -7,7 +7,8 @@ ghost use Rattle.qo_model.specs.Types.{chain, has_finaliser, interfaces_of, is_a
 ghost use Rattle.qo_types.specs.Rows.{is_abstract, listed};
 
 use crate::hierarchy::{
-    all_types, ancestry, answers_to, first_named, interfaces, is_abstract, types_with,
+    all_types, ancestry, answers_to, first_named, interfaces, is_abstract, is_bus, is_device,
+    is_slot_device, types_with,
 };
 use crate::slots::{self, slots};
 use qo_model::{Interface, Property};
@@ -35,11 +36,16 @@ impl TypeTable {
     }
 
     /// Whether a type is of a name: its own, an ancestor's, or an interface of itself or of an
-    /// ancestor.
+    /// ancestor. The names that are asked most are known without a look at the ancestors.
     pub fn is_a(&self, t: TypeId, name: &str) -> bool
         ensures { result ≡ is_a t name.now }
     {
-        ancestry(t).iter().any(|a| answers_to(*a, name))
+        match name {
+            "bus" => is_bus(t),
+            "device" => is_device(t),
+            "slot-device" => is_slot_device(t),
+            _ => ancestry(t).iter().any(|a| answers_to(*a, name)),
+        }
     }
 
     /// A type, its parent and so on to `object`.
