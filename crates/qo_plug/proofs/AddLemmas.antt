@@ -50,13 +50,13 @@ module _ (b : Board) (a : Wanted) where
   module _ (site : Site) (at : Chosen) (o : IsOpen b a site at) where
     pub open-place : is_a site.kind (codes "device") ≡ true → IsPlace b site.kind a (spot_in site.bus.birth at)
     open-place device =
-        subst (IsPlace b site.kind a) o.spot (place-of b site.kind site.bus.birth a device o.admitted.bus o.admitted.early o.late)
+        subst (IsPlace b site.kind a) o.chosen.spot (place-of b site.kind site.bus.birth a device o.admitted.bus o.admitted.early o.late)
 
     added-plugged : plug b a ≡ record { refusal = None; board = with_plugged b site.kind a (spot_in site.bus.birth at) }
     added-plugged =
         added-late b a site.kind o.admitted.kind o.admitted.driver site.bus.birth o.admitted.early o.admitted.bus
         ∙ ap (plug_late b site.kind site.bus.birth a) o.late
-        ∙ ap (λ (spot : Spot). late_as spot) o.spot
+        ∙ ap (λ (spot : Spot). late_as spot) o.chosen.spot
       where
         late_as : Spot → Plugged
         late_as spot = record { refusal = None; board = with_plugged b site.kind a spot }
@@ -78,7 +78,7 @@ module _ (b : Board) (a : Wanted) where
             let goes_as : bus_for b site.kind a.bus ≡ Some bus = ap (λ (k : TypeId). bus_for b k a.bus) type_is ∙ goes in
             let bus_is : site.bus.birth ≡ bus = same_Some site.bus.birth bus (sym o.admitted.bus ∙ goes_as) in
             ap (λ (y : Added). y.slot) is
-            ∙ ap (λ (s : Spot). s.slot) (sym o.spot)
+            ∙ ap (λ (s : Spot). s.slot) (sym o.chosen.spot)
             ∙ ap (λ (k : TypeId). (spot_of b k site.bus.birth a.props).slot) type_is
             ∙ ap (λ (m : ℕ). (spot_of b t m a.props).slot) bus_is
 

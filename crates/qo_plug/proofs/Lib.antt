@@ -6,6 +6,7 @@ pub mod CutLemmas
 pub mod DraftLemmas
 pub mod GrowsLemmas
 pub mod JudgeLemmas
+pub mod KeptLemmas
 pub mod PassLemmas
 pub mod PlugSteps
 pub mod RangeLemmas

@@ -22,10 +22,12 @@ use Rattle.qo_heap.specs.Book.{IsBook, kept_times, one, owned}
 use Rattle.qo_heap.specs.Objects.{IsHeap, Objects, content_of, with_edit}
 use Rattle.qo_heap.proofs.BookLemmas.{sum-edit}
 use Rattle.qo_heap.proofs.ShowsLive.{live-content}
+use Rattle.qo_buses.proofs.LinkLemmas.{read-content}
 use Rattle.qo_properties.proofs.FillingLemmas.{edit-twice}
 use Rattle.qo_plug.specs.declared.spots.Memory.{Memory}
 use Rattle.qo_plug.specs.Standing.{Alike, IsDimm, named, range_in, ranged}
-use Rattle.qo_plug.proofs.StandSteps.{alike-edit, read-content, shows-at}
+use Rattle.qo_plug.specs.Taking.{SameKept, kept_by}
+use Rattle.qo_plug.proofs.StandSteps.{alike-edit, shows-at}
 
 -- a DIMM stands on its range
 
@@ -88,7 +90,16 @@ ranged-book out v w n range is h = subst (IsBook out) (sym is) (λ x. let sums =
         sum-edit (owned x) n (ranged range)
         (λ row. ap (λ (k : KeptSet). kept_times x k + one x (option_map on.Device row.1.device_id)) (ranged-kept range row.1.body)) v.rows
 
--- and has its id: the board shows both
+-- and has its id: its body keeps what it kept
+pub body-kept : (v u w : Objects) (n : ℕ) (id : Option (List ℕ)) (range : Option Range) → u ≡ with_edit n (ranged range) v → w ≡ with_edit n (named id) u
+    → SameKept v w
+body-kept v u w n id range first second m =
+    ap (λ (x : Objects). kept_by x m) second
+    ∙ read-content (λ (c : Content). kept_of c.body) n (named id) (λ c. refl) u m
+    ∙ ap (λ (x : Objects). kept_by x m) first
+    ∙ read-content (λ (c : Content). kept_of c.body) n (ranged range) (λ c. ranged-kept range c.body) v m
+
+-- the board shows both
 pub body-shown : (b : board.Board) (v u w : Objects) (o : Key) (id : Option (List ℕ)) (memory : Option Memory) → IsHeap v → IsLive v.rows o
     → IfSome memory (λ m. IfSome (content_of v o.birth) (λ c. IsDimm c.body)) → u ≡ with_edit o.birth (ranged (range_in memory)) v
     → w ≡ with_edit o.birth (named id) u → Shows b v

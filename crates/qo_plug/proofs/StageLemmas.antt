@@ -36,7 +36,7 @@ module _ (b : Board) (a : Wanted) (d : Begun) (v : Objects) (is : IsBegun b a d 
     by-notices full = late-notices b d.site.bus.birth d.site.kind a.props full (sym is.given) (ap (λ (r : Result Chosen Barred). barred_in r) (sym has) ∙ is.barred)
 
     pub opened : nat_le NOTICES_MAX (length b.notices) ≡ false → IsOpen b a d.site at
-    opened room = record { admitted = is.admitted; late = by-notices false room; spot = rw has at is.spot }
+    opened room = record { admitted = is.admitted; late = by-notices false room; chosen = rw has at is.spot }
 
     pub full-barred : nat_le NOTICES_MAX (length b.notices) ≡ true → barred_late b d.site.kind d.site.bus.birth a.props ≡ Some (8, E44)
     full-barred full = by-notices true full

@@ -30,13 +30,16 @@ use Rattle.qo_heap.proofs.HeapLemmas.{live-edit}
 use Rattle.qo_heap.proofs.HeapLemmas.{edit-same as heap-same}
 use Rattle.qo_heap.proofs.ShowsChanges.{shows-added}
 use Rattle.qo_heap.proofs.ShowsLive.{content-edited, content-other, live-content}
+use Rattle.qo_buses.proofs.LinkLemmas.{read-content}
 use Rattle.qo_properties.proofs.FillingLemmas.{edit-twice}
 use Rattle.qo_plug.specs.Drafts.{bare, is_own, own_slots, own_slots_of}
 use Rattle.qo_plug.specs.Standing.{Alike, IsSeat, Stood, joined_on, kept_in, named, with_book}
+use Rattle.qo_plug.specs.Taking.{SameKept, kept_by}
 use Rattle.qo_plug.proofs.GrowsLemmas.{live-low}
+use Rattle.qo_plug.proofs.KeptLemmas.{SameBodies, kept-given}
 use Rattle.qo_plug.proofs.StandBoards.{kinds-stood, seated-path, source-missing}
 use Rattle.qo_plug.proofs.StandFills.{edit-on}
-use Rattle.qo_plug.proofs.StandSteps.{alike-edit, alike-kept, alike-then, read-content, registers-kept, shows-book, shows-kept}
+use Rattle.qo_plug.proofs.StandSteps.{alike-edit, alike-kept, alike-then, registers-kept, shows-book, shows-kept}
 
 -- the last slot
 
@@ -121,6 +124,11 @@ reserved-shows b v w e is s =
 pub reserved-book : (out : List Claimed) (v w : Objects) (e : ℕ) → w ≡ record v { events = record v.events { spare = e } } → IsBook out v → IsBook out w
 reserved-book out v w e is h = subst (IsBook out) (sym is) (λ x. h x)
 
+-- what bodies keep, where the claims that were taken are given back
+pub returned-kept : (v u w x : Objects) (e : ℕ) → u ≡ record v { events = record v.events { spare = e } } → w ≡ with_book w.claims u → x ≡ with_book x.claims w
+    → SameKept v x
+returned-kept v u w x e first second third n = ap (λ (y : Objects). kept_by y n) third ∙ ap (λ (y : Objects). kept_by y n) second ∙ ap (λ (y : Objects). kept_by y n) first
+
 -- the objects once the device has joined
 pub rows-joined : (h0 h1 h2 h3 : Objects) (e : ℕ) (container bus o : Key) (name : List ℕ) (slot : ℕ) → h1 ≡ record h0 { events = record h0.events { spare = e } } → h2 ≡ with_book h2.claims h1
     → h3 ≡ joined_on container name bus slot o h2 → h3.rows ≡ (joined_on container name bus slot o h0).rows
@@ -168,8 +176,11 @@ module _ (v w : Objects) (container bus o : Key) (name : List ℕ) (slot : ℕ) 
       → option_map (λ (c : Content). registers_of c.body) (content_of w n) ≡ option_map (λ (c : Content). registers_of c.body) (content_of v n)
   joined-registers = read-joined (λ (c : Content). registers_of c.body) (λ x s c. refl)
 
+  pub joined-bodies : SameBodies v w
+  joined-bodies = read-joined (λ (c : Content). c.body) (λ x s c. refl)
+
   pub joined-bare : (n : ℕ) → IfSome (content_of v n) HasNoClaim → IfSome (content_of w n) (λ c. IsBare c.body)
-  joined-bare n new = go (content_of v n) (content_of w n) (read-joined (λ (c : Content). c.body) (λ x s c. refl) n) new
+  joined-bare n new = go (content_of v n) (content_of w n) (joined-bodies n) new
     where
       go : (x y : Option Content) → option_map (λ (c : Content). c.body) y ≡ option_map (λ (c : Content). c.body) x → IfSome x HasNoClaim → IfSome y (λ c. IsBare c.body)
       go x None same h = tt
@@ -268,6 +279,9 @@ module _ (h0 h1 h2 h3 h4 : Objects) (e : ℕ) (o container bus : Key) (name : Li
       ap (λ (l : List (Key × Content)). option_map (λ (c : Content). registers_of c.body) (object_at l n)) (ap (λ (x : Objects). x.rows) fourth)
       ∙ read-content (λ (c : Content). registers_of c.body) o.birth (kept_in k) (λ c. registers-kept k c.body) h3 n
       ∙ joined-registers h0 h3 container bus o name slot joined-rows n
+
+  pub placed-claims : SameKept (with_edit o.birth (kept_in k) h0) h4
+  placed-claims n = ap (λ (x : Objects). kept_by x n) fourth ∙ kept-given h0 h3 o.birth k (joined-bodies h0 h3 container bus o name slot joined-rows) n
 
   pub placed-book : (kept labels out : List Claimed) → ((out : List Claimed) → IsBook (kept ++ out) h3 → IsBook out h4)
       → IsBook ((kept ++ labels) ++ out) h2 → IsBook (labels ++ out) h4

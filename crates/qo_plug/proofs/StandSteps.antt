@@ -31,8 +31,9 @@ use Rattle.qo_heap.specs.Book.{IsBook}
 use Rattle.qo_heap.specs.Objects.{IsHeap, Objects, content_of, pins_of, slots_of, with_edit}
 use Rattle.qo_heap.proofs.BookLemmas.{book-edit}
 use Rattle.qo_heap.proofs.HeapLemmas.{live-edit}
-use Rattle.qo_heap.proofs.ShowsLive.{content-edited, content-other, live-content}
+use Rattle.qo_heap.proofs.ShowsLive.{live-content}
 use Rattle.qo_heap.proofs.ShowsReads.{records_of, shows-kind, shows-pinned, shows-record}
+use Rattle.qo_buses.proofs.LinkLemmas.{read-content}
 use Rattle.qo_life.proofs.TreeLemmas.{heap-with_log, tree, tree-shows}
 use Rattle.qo_life.specs.Life.{Goes, with_log}
 use Rattle.qo_notes.specs.Log.{empty_log}
@@ -42,6 +43,7 @@ use Rattle.qo_properties.specs.declared.adding.filling.Fill.{Fill}
 use Rattle.qo_clocks.specs.Links.{changed_named, place_on, with_slot_changed}
 use Rattle.qo_plug.specs.Drafts.{own_slots, own_slots_of}
 use Rattle.qo_plug.specs.Standing.{Alike, Stays, kept_in, with_book, with_own}
+use Rattle.qo_plug.proofs.KeptLemmas.{SameBodies}
 use Rattle.qo_plug.proofs.StartLemmas.{pins-edited}
 use Rattle.qo_plug.proofs.StandBoards.{read-link, read-set}
 use Rattle.qo_plug.proofs.StandFills.{own-given}
@@ -69,7 +71,7 @@ stays-same v w same =
     record {
       alike = alike-same v w same;
       ids = λ n. ap (λ (x : Objects). option_map (λ (c : Content). c.device_id) (content_of x n)) same;
-      registers = λ n. ap (λ (x : Objects). option_map (λ (c : Content). registers_of c.body) (content_of x n)) same;
+      bodies = λ n. ap (λ (x : Objects). option_map (λ (c : Content). c.body) (content_of x n)) same;
       spare = ap (λ (x : Objects). x.events.spare) same;
       book = λ out h. subst (λ (x : Objects). IsBook out x) (sym same) h;
     }
@@ -79,25 +81,10 @@ stays-then v u w a b =
     record {
       alike = alike-then v u w a.alike b.alike;
       ids = λ n. b.ids n ∙ a.ids n;
-      registers = λ n. b.registers n ∙ a.registers n;
+      bodies = λ n. b.bodies n ∙ a.bodies n;
       spare = b.spare ∙ a.spare;
       book = λ out h. b.book out (a.book out h);
     }
-
--- what is read of an object, over an edit of one
-module _ {A : Type 0} (g : Content → A) (n : ℕ) (f : Content → Content) (same : (c : Content) → g (f c) ≡ g c) where
-  pub read-content : (v : Objects) (m : ℕ) → option_map g (content_of (with_edit n f v) m) ≡ option_map g (content_of v m)
-  read-content v m = go (eqb m n) refl
-    where
-      two : (o : Option Content) → option_map g (option_map f o) ≡ option_map g o
-      two None = refl
-      two (Some c) = ap Some (same c)
-
-      go : (t : Bool) → eqb m n ≡ t → option_map g (content_of (with_edit n f v) m) ≡ option_map g (content_of v m)
-      go true p =
-          subst (λ (k : ℕ). option_map g (content_of (with_edit n f v) k) ≡ option_map g (content_of v k)) (sym (eqb-true m n p))
-          (ap (option_map g) (content-edited v n f) ∙ two (content_of v n))
-      go false p = ap (option_map g) (content-other v n m f p)
 
 -- an edit that keeps paths and pins
 pub alike-edit : (v w : Objects) (n : ℕ) (f : Content → Content) → ((c : Content) → (f c).kept_path ≡ c.kept_path) → ((c : Content) → (f c).pins ≡ c.pins)
@@ -116,9 +103,9 @@ stays-edit v w n f slots is =
       alike = alike-edit v w n f (λ c. ap (λ (d : Content). d.kept_path) (slots c)) (λ c. ap (λ (d : Content). d.pins) (slots c)) (ap (λ (x : Objects). x.rows) is);
       spare = ap (λ (x : Objects). x.events.spare) is;
       ids = λ m. ap (λ (x : Objects). option_map (λ (c : Content). c.device_id) (content_of x m)) is ∙ read-content (λ (c : Content). c.device_id) n f (λ c. ap (λ (d : Content). d.device_id) (slots c)) v m;
-      registers = λ m.
-          ap (λ (x : Objects). option_map (λ (c : Content). registers_of c.body) (content_of x m)) is
-          ∙ read-content (λ (c : Content). registers_of c.body) n f (λ c. ap (λ (d : Content). registers_of d.body) (slots c)) v m;
+      bodies = λ m.
+          ap (λ (x : Objects). option_map (λ (c : Content). c.body) (content_of x m)) is
+          ∙ read-content (λ (c : Content). c.body) n f (λ c. ap (λ (d : Content). d.body) (slots c)) v m;
       book = λ out h. subst (λ (x : Objects). IsBook out x) (sym is) (book-edit out v n f (λ c. ap (λ (d : Content). (d.body, d.device_id)) (slots c)) h);
     }
 
@@ -242,8 +229,8 @@ module _ {A : Type 0} (g : Content → A) (h : board.Record → A) (same : (m : 
         ∙ sym (board-read b v s m)
 
 pub stays-set : (b : board.Board) (v w : Objects) (n : ℕ) (name : List ℕ) (val : Val) → Shows b v → Shows (set_named n name val b) w → Goes (set_named n name val) v w → KeepsNames v w
-    → pins_in w.rows ≡ pins_in v.rows → Stays v w
-stays-set b v w n name val s t goes names pins =
+    → pins_in w.rows ≡ pins_in v.rows → SameBodies v w → Stays v w
+stays-set b v w n name val s t goes names pins bodies =
     record {
       alike = record {
         names = names;
@@ -252,13 +239,13 @@ stays-set b v w n name val s t goes names pins =
       };
       spare = goes.spare;
       ids = set-reads (λ c. c.device_id) (λ r. r.device_id) (λ m c. refl) (λ f i r. refl) b v w n name val s t;
-      registers = set-reads (λ c. registers_of c.body) (λ r. r.registers) (λ m c. refl) (λ f i r. refl) b v w n name val s t;
+      bodies = bodies;
       book = goes.book;
     }
 
 pub stays-linked : (b : board.Board) (v w : Objects) (n : ℕ) (name : List ℕ) (to : ℕ) → Shows b v → Shows (link_named n name to b) w → Goes (link_named n name to) v w → KeepsNames v w
-    → pins_in w.rows ≡ pins_in v.rows → Stays v w
-stays-linked b v w n name to s t goes names pins =
+    → pins_in w.rows ≡ pins_in v.rows → SameBodies v w → Stays v w
+stays-linked b v w n name to s t goes names pins bodies =
     record {
       alike = record {
         names = names;
@@ -267,7 +254,7 @@ stays-linked b v w n name to s t goes names pins =
       };
       spare = goes.spare;
       ids = link-reads (λ c. c.device_id) (λ r. r.device_id) (λ m c. refl) (λ f i r. refl) b v w n name to s t;
-      registers = link-reads (λ c. registers_of c.body) (λ r. r.registers) (λ m c. refl) (λ f i r. refl) b v w n name to s t;
+      bodies = bodies;
       book = goes.book;
     }
 

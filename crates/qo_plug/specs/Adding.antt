@@ -15,9 +15,9 @@ use Rattle.qo_plug.specs.declared.refusals.AddRefusal.{AddRefusal}
 use Rattle.qo_plug.specs.declared.refusals.AddRefusal.TheVariants.{Refused, Memory}
 use Rattle.qo_plug.specs.declared.refusals.Barred.{Barred}
 use Rattle.qo_plug.specs.Added.{IsAdmitted}
+use Rattle.qo_plug.specs.Chosen.{IsChosen}
 use Rattle.qo_plug.specs.declared.spots.Spot.{Spot as Chosen}
 use Rattle.qo_plug.specs.Drafts.{CutShort}
-use Rattle.qo_plug.specs.Standing.{spot_in}
 
 -- a sound board has the objects of a heap, and beside them so many devices without an id, these holds, these rings, and what is asked for
 pub record IsShown (b : Board) (anonymous : ℕ) (holds : List ℕ) (rings : List Ring) (h : Asked) (v : Objects) : Type 0 where
@@ -33,7 +33,7 @@ pub record IsShown (b : Board) (anonymous : ℕ) (holds : List ℕ) (rings : Lis
 pub record IsOpen (b : Board) (a : Wanted) (s : Site) (c : Chosen) : Type 0 where
   pub admitted : IsAdmitted b a s
   pub late : barred_late b s.kind s.bus.birth a.props ≡ None
-  pub spot : spot_of b s.kind s.bus.birth a.props ≡ spot_in s.bus.birth c
+  pub chosen : IsChosen b s.kind s.bus.birth a.props c
 
 -- the heap, and what is asked for, behind a device that was plugged in
 pub record IsPlugged (b : Board) (t : TypeId) (a : Wanted) (spot : Spot) (h : Asked) (w : Objects) : Type 0 where

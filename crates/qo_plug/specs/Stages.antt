@@ -9,7 +9,7 @@ use Rattle.qo_values.specs.declared.kinds.TypeId.TheVariants.{MemDimm}
 use Rattle.qo_model.specs.Board.{Board, Ring}
 use Rattle.qo_values.specs.declared.codes.Code.{Code}
 use Rattle.qo_model.specs.Objects.{Given, refusal_of}
-use Rattle.qo_model.specs.Plug.{Wanted, at_stage, barred_late, place_barred, realize_barred, spot_of}
+use Rattle.qo_model.specs.Plug.{Wanted, at_stage, barred_late, place_barred, realize_barred}
 use Rattle.qo_model.specs.Types.{is_a}
 use Rattle.qo_model.specs.Reset.{count}
 use Rattle.qo_sound.specs.Kept.{SoundTree}
@@ -28,6 +28,7 @@ use Rattle.qo_plug.specs.declared.refusals.Barred.{Barred}
 use Rattle.qo_plug.specs.declared.spots.Spot.{Spot}
 use Rattle.qo_plug.specs.Added.{IsAdmitted, barred_in}
 use Rattle.qo_plug.specs.Adding.{IsOpen}
+use Rattle.qo_plug.specs.Chosen.{IsChosen}
 use Rattle.qo_plug.specs.Drafts.{IsQuiet, bare, held_draft, own_slots_of}
 use Rattle.qo_plug.specs.Standing.{Stood, spot_in}
 
@@ -46,7 +47,7 @@ pub record IsJudged (s : Site) (rings : List Ring) (found : Result Spot Barred) 
   pub dimm : IfOk found (λ c. is_some c.memory ≡ true → s.kind ≡ MemDimm)
   pub stages : IfBarred found (λ bar. (5 ≤ bar.stage) × (bar.stage ≤ 6))
   pub refused : (b : Board) → Shows b v → b.rings ≡ rings → barred_in found ≡ spot_barred b s.kind s.bus.birth props
-  pub spot : (b : Board) → Shows b v → IfOk found (λ c. spot_of b s.kind s.bus.birth props ≡ spot_in s.bus.birth c)
+  pub spot : (b : Board) → Shows b v → IfOk found (λ c. IsChosen b s.kind s.bus.birth props c)
 
 -- a heap has a device that was begun, as it was made and held once, with its container, its older bus, and what its plan names
 pub record IsHeld (d : Begun) (v : Objects) : Type 0 where
@@ -72,7 +73,7 @@ pub record IsBegun (b : Board) (a : Wanted) (d : Begun) (v : Objects) : Type 0 w
   pub given : refusal_of b d.site.kind a.props ≡ None
   pub birth : d.device.birth ≡ b.born + 1
   pub barred : barred_in d.spot ≡ spot_barred b d.site.kind d.site.bus.birth a.props
-  pub spot : IfOk d.spot (λ c. spot_of b d.site.kind d.site.bus.birth a.props ≡ spot_in d.site.bus.birth c)
+  pub spot : IfOk d.spot (λ c. IsChosen b d.site.kind d.site.bus.birth a.props c)
   pub out : d.out ≡ (count b d.site.bus.birth == 0)
   pub plan : AllZip (IsGiven b a.props) d.plan.items (own_slots_of v d.device.birth)
 

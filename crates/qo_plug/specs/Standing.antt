@@ -64,11 +64,11 @@ pub record Alike (v w : Objects) : Type 0 where
   pub paths : (n : ℕ) → option_map (λ (c : Content). c.kept_path) (content_of w n) ≡ option_map (λ (c : Content). c.kept_path) (content_of v n)
   pub pins : pins_in w.rows ≡ pins_in v.rows
 
--- and the ids of devices, registers, the room for events and the book of claims stay too
+-- and the ids of devices, bodies, the room for events and the book of claims stay too
 pub record Stays (v w : Objects) : Type 0 where
   pub alike : Alike v w
   pub ids : (n : ℕ) → option_map (λ (c : Content). c.device_id) (content_of w n) ≡ option_map (λ (c : Content). c.device_id) (content_of v n)
-  pub registers : (n : ℕ) → option_map (λ (c : Content). registers_of c.body) (content_of w n) ≡ option_map (λ (c : Content). registers_of c.body) (content_of v n)
+  pub bodies : (n : ℕ) → option_map (λ (c : Content). c.body) (content_of w n) ≡ option_map (λ (c : Content). c.body) (content_of v n)
   pub spare : w.events.spare ≡ v.events.spare
   pub book : KeepsBook v w
 

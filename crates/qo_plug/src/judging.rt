@@ -7,7 +7,7 @@ ghost use Rattle.qo_values.specs.declared.limits.TheConstants.{BUS_SLOTS};
 ghost use Rattle.qo_model.specs.Board.{Board};
 ghost use Rattle.qo_model.specs.Devices.{kid_name};
 ghost use Rattle.qo_model.specs.Objects.{has_slot};
-ghost use Rattle.qo_model.specs.Plug.{kind_barred, number_for, range_of, realize_barred, ring_barred, slot_for, spot_of, target_for, text_for};
+ghost use Rattle.qo_model.specs.Plug.{kind_barred, number_for, range_of, realize_barred, ring_barred, slot_for, target_for, text_for};
 ghost use Rattle.qo_model.specs.Objects.{Given};
 ghost use Rattle.qo_model.specs.Plug as plug;
 ghost use Rattle.qo_object.specs.Shown.{birth_of};
@@ -15,8 +15,8 @@ ghost use Rattle.qo_table.specs.Rows.{IsLive};
 ghost use Rattle.qo_heap.specs.Board.{Shows};
 ghost use Rattle.qo_backends.specs.Rings.{named_ring};
 ghost use Rattle.qo_plug.specs.Added.{IfRefused};
+ghost use Rattle.qo_plug.specs.Chosen.{IsChosen, backend_given, ring_given};
 ghost use Rattle.qo_plug.specs.Stages.{spot_barred};
-ghost use Rattle.qo_plug.specs.Standing.{spot_in};
 
 use crate::refusals::AddRefusal;
 use crate::spots::{Memory, Spot};
@@ -165,6 +165,7 @@ fn memory_for<L: Ledger>(
     ensures refused { (b : Board) (bus : ℕ) → Shows b heap.now → IfRefused result (λ stage code. (stage ≡ 5) × (kind_barred b MemDimm bus props.now ≡ Some code)) }
     ensures stage { IfRefused result (λ stage code. stage ≡ 5) }
     ensures range { (b : Board) → Shows b heap.now → IfOk result (λ m. range_of b MemDimm props.now ≡ Some m.range) }
+    ensures backend { (b : Board) → Shows b heap.now → IfOk result (λ m. backend_given b MemDimm props.now ≡ Some m.backend) }
 {
     let Some(backend) = given_backend(heap, props, steps) else {
         return Err(AddRefusal::Refused {
@@ -196,6 +197,7 @@ fn check_kind<L: Ledger>(
     ensures refused { (b : Board) → Shows b heap.now → IfRefused result (λ stage code. (stage ≡ 5) × (kind_barred b kind bus.birth props.now ≡ Some code)) }
     ensures stage { IfRefused result (λ stage code. stage ≡ 5) }
     ensures range { (b : Board) → Shows b heap.now → IfOk result (λ memory. option_map (λ m. m.range) memory ≡ range_of b kind props.now) }
+    ensures backend { (b : Board) → Shows b heap.now → IfOk result (λ memory. option_map (λ m. m.backend) memory ≡ backend_given b kind props.now) }
     ensures dimm { IfOk result (λ memory. is_some memory ≡ true → kind ≡ MemDimm) }
 {
     match kind {
@@ -256,6 +258,7 @@ fn ring_for<L: Ledger>(
     ensures open { (b : Board) → Shows b heap.now → b.rings ≡ rings.now → OnOk result (realize_barred b kind props.now ≡ None) }
     ensures refused { (b : Board) → Shows b heap.now → b.rings ≡ rings.now → IfRefused result (λ stage code. (stage ≡ 6) × (realize_barred b kind props.now ≡ Some code)) }
     ensures stage { IfRefused result (λ stage code. stage ≡ 6) }
+    ensures ring { IfOk result (λ ring. ring ≡ ring_given kind props.now) }
 {
     match kind {
         TypeId::SlotUart => free_ring(heap, rings, given_text(props, "chardev"), alloc, steps),
@@ -280,7 +283,7 @@ pub(crate) fn judge<L: Ledger>(
     ensures open { (b : Board) → Shows b heap.now → b.rings ≡ rings.now → OnOk result (spot_barred b kind bus.birth props.now ≡ None) }
     ensures refused { (b : Board) → Shows b heap.now → b.rings ≡ rings.now → IfRefused result (λ stage code. spot_barred b kind bus.birth props.now ≡ Some (stage, code)) }
     ensures stages { IfRefused result (λ stage code. (5 ≤ stage) × (stage ≤ 6)) }
-    ensures spot { (b : Board) → Shows b heap.now → IfOk result (λ s. spot_of b kind bus.birth props.now ≡ spot_in bus.birth s) }
+    ensures spot { (b : Board) → Shows b heap.now → IfOk result (λ s. IsChosen b kind bus.birth props.now s) }
     ensures within { IfOk result (λ s. s.slot < BUS_SLOTS) }
     ensures dimm { IfOk result (λ s. is_some s.memory ≡ true → kind ≡ MemDimm) }
 {

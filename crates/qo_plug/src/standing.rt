@@ -30,8 +30,8 @@ ghost use Rattle.qo_properties.specs.Claims.{KeepsBook};
 ghost use Rattle.qo_properties.specs.Filling.{Fits, IsGiven, filled_at, fits_at, target_in};
 ghost use Rattle.qo_properties.specs.Start.{KeepsNames};
 ghost use Rattle.qo_plug.specs.Drafts.{is_own, own_slots_of};
-ghost use Rattle.qo_plug.specs.Standing.{Alike, IsDimm, IsSeat, Stays, Stood, joined_on, range_in, ranged, spot_in, with_own};
-ghost use Rattle.qo_plug.specs.Taking.{labels_out};
+ghost use Rattle.qo_plug.specs.Standing.{Alike, IsDimm, IsSeat, Stays, Stood, joined_on, kept_in, range_in, ranged, spot_in, with_own};
+ghost use Rattle.qo_plug.specs.Taking.{SameKept, kept_on, labels_out};
 
 use crate::claiming::{Label, Taken, give_back, keep_claims, keep_label, take_claims};
 use crate::spots::{Memory, Spot};
@@ -224,6 +224,7 @@ fn put_body<L: Ledger>(
     ensures shown { (b : Board) → Shows b heap.old → Shows (edit device.birth (with_body_of (option_map (λ l. l.id) label) (range_in memory)) b) heap.new }
     ensures alike { Alike heap.old heap.new }
     ensures spare { heap.new.events.spare ≡ heap.old.events.spare }
+    ensures kept { SameKept heap.old heap.new }
     ensures book { (out : List Claimed) → IsBook (labels_out label ++ out) heap.old → IsBook out heap.new }
 {
     heap.facts();
@@ -346,9 +347,10 @@ fn join<L: Ledger>(
 
 /// A device that was made takes its place: it joins its container and its bus, has the values that
 /// are planned for its own slots, its id if it has one, its claims, and its clock's source, and a DIMM
-/// stands on its range; answers its canonical path. A place for an event on it is kept free. The error
-/// is want of memory, or that a claim is held or its range has no bytes, which is on no sound board;
-/// it leaves all boards as they were.
+/// stands on its range; answers its canonical path. Its body keeps the claims of its seat, where it has
+/// room for claims, and each other body those that it kept. A place for an event on it is kept free. The
+/// error is want of memory, or that a claim is held or its range has no bytes, which is on no sound
+/// board; it leaves all boards as they were, and to each body its claims.
 pub fn stand<L: Ledger>(
     heap: &mut Heap,
     device: Oid,
@@ -373,6 +375,8 @@ pub fn stand<L: Ledger>(
     ensures names { KeepsNames heap.old heap.new }
     ensures paths { option_map (λ c. c.kept_path) (content_of heap.new device.birth) ≡ option_map (λ c. c.kept_path) (content_of heap.old device.birth) }
     ensures pinned { 0 < pins_of heap.old device.birth → 0 < pins_of heap.new device.birth }
+    ensures kept { OnOk result (SameKept (with_edit device.birth (kept_in (kept_on seat.bus.birth seat.spot)) heap.old) heap.new) }
+    ensures unkept { OnErr result (SameKept heap.old heap.new) }
     ensures book { KeepsBook heap.old heap.new }
 {
     heap.facts();

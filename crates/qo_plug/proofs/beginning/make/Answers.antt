@@ -3,13 +3,12 @@ use Rattle.std.proofs.Common.{◌≡◌, ◌≤◌, ◌+◌, ap, sym, subst, ◌
 use Rattle.std.specs.Prelude.{IfOk}
 use Rattle.std.specs.List.{AllZip}
 use Rattle.qo_model.specs.Objects.{Given}
-use Rattle.qo_model.specs.Plug.{spot_of}
 use Rattle.qo_model.specs.Reset.{count}
 use Rattle.qo_object.specs.Slots.{Named}
 use Rattle.qo_properties.specs.Filling.{Fits, IsGiven}
 use Rattle.qo_properties.specs.Fresh.{new_slots}
+use Rattle.qo_plug.specs.Chosen.{IsChosen}
 use Rattle.qo_plug.specs.Stages.{spot_barred}
-use Rattle.qo_plug.specs.Standing.{spot_in}
 use Rattle.qo_plug.proofs.AddLemmas.{plan-live}
 use Rattle.qo_plug.proofs.GrowsLemmas.{live-low, unborn-quiet}
 use Rattle.qo_plug.proofs.PassLemmas.{cut-none}
@@ -49,7 +48,7 @@ returns-clause-begun g c = λ b a s sound holds rings admitted props given.
       birth = made.birth ∙ sym (ap (λ (k : ℕ). k + 1) s.born);
       barred = c.requires.spot.refused b s rings ∙ ap (spot_barred b c.args.site.kind bus) (sym props);
       spot =
-          subst (λ (l : List Given). IfOk c.args.spot (λ at. spot_of b c.args.site.kind bus l ≡ spot_in bus at)) (sym props) (c.requires.spot.spot b s);
+          subst (λ (l : List Given). IfOk c.args.spot (λ at. IsChosen b c.args.site.kind bus l at)) (sym props) (c.requires.spot.spot b s);
       out = cut-none c.count-out.result (count b c.args.site.bus.birth) (c.count-out.ensures b (s, holds));
       plan = subst (λ (slots : List Named). AllZip (IsGiven b a.props) c.in_ok-plan.plan.items slots) (sym made.own)
           (subst (λ (l : List Given). AllZip (IsGiven b l) c.in_ok-plan.plan.items (new_slots c.args.site.kind)) (sym props) (c.in_ok-plan.ensures.told b s));

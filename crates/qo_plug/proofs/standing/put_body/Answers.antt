@@ -3,7 +3,7 @@ use Rattle.std.proofs.Common.{◌++◌, option_map}
 use Rattle.qo_plug.specs.declared.claiming.Label.{Label}
 use Rattle.qo_plug.specs.Standing.{range_in}
 use Rattle.qo_plug.specs.Taking.{labels_out}
-use Rattle.qo_plug.proofs.RangeLemmas.{body-shown, ranged-alike, ranged-book, ranged-unnamed}
+use Rattle.qo_plug.proofs.RangeLemmas.{body-kept, body-shown, ranged-alike, ranged-book, ranged-unnamed}
 use Rattle.qo_plug.proofs.StandSteps.{alike-then}
 use Rattle.qo_plug.proofs.StandLemmas.{named-alike}
 use Rattle.qo_plug.proofs.standing.put_body.Goals as goal
@@ -27,6 +27,11 @@ returns-clause-alike g c =
     alike-then c.args.heap.now c.set_range.new.heap c.keep_label.new.heap
     (ranged-alike c.args.heap.now c.set_range.new.heap c.args.device.birth (range_in c.args.memory) c.set_range.ensures)
     (named-alike c.set_range.new.heap c.keep_label.new.heap c.args.device.birth (option_map (λ (l : Label). l.id) c.args.label) c.keep_label.ensures.now)
+
+pub returns-clause-kept : goal.returns-clause-kept
+returns-clause-kept g c =
+    body-kept c.args.heap.now c.set_range.new.heap c.keep_label.new.heap c.args.device.birth (option_map (λ (l : Label). l.id) c.args.label)
+    (range_in c.args.memory) c.set_range.ensures c.keep_label.ensures.now
 
 pub returns-clause-book : goal.returns-clause-book
 returns-clause-book g c = λ out h.

@@ -1,6 +1,8 @@
 -- Each step keeps what the ones before it made.
-use Rattle.std.proofs.Common.{◌++◌, ℕ, List, Option, sym, subst, ◌∙◌}
+use Rattle.std.proofs.Common.{◌≡◌, ◌++◌, ℕ, List, Option, ap, sym, subst, ◌∙◌}
 use Rattle.std.specs.List.{AllZip}
+use Rattle.qo_kinds.specs.Bodies.{registers_of}
+use Rattle.qo_kinds.specs.declared.kept.KeptSet.{KeptSet}
 use Rattle.qo_table.specs.Rows.{IsLive}
 use Rattle.qo_model.specs.Board.{Board}
 use Rattle.qo_values.specs.declared.ranges.Range.{Range}
@@ -9,16 +11,18 @@ use Rattle.qo_model.specs.Release.{edit}
 use Rattle.qo_object.specs.Slots.{Named}
 use Rattle.qo_heap.specs.Board.{Shows}
 use Rattle.qo_heap.specs.Book.{IsBook}
-use Rattle.qo_heap.specs.Objects.{Objects}
+use Rattle.qo_heap.specs.Objects.{Objects, with_edit}
+use Rattle.qo_heap.proofs.HeapLemmas.{on-err}
 use Rattle.qo_properties.specs.Filling.{Fits, IsGiven}
 use Rattle.qo_properties.proofs.FillingLemmas.{all-live}
 use Rattle.qo_properties.proofs.WriteLemmas.{some-live}
 use Rattle.qo_plug.specs.Drafts.{own_slots_of}
-use Rattle.qo_plug.specs.Standing.{range_in, spot_in}
-use Rattle.qo_plug.specs.Taking.{kept_out, labels_out, taken_out}
+use Rattle.qo_plug.specs.Standing.{kept_in, range_in, spot_in, with_book}
+use Rattle.qo_plug.specs.Taking.{SameKept, kept_by, kept_out, labels_out, taken_out}
+use Rattle.qo_plug.proofs.KeptLemmas.{kept-bodies, of-bodies}
 use Rattle.qo_plug.proofs.RangeLemmas.{still-dimm}
 use Rattle.qo_plug.proofs.StandSteps.{alike-then, pinned-same}
-use Rattle.qo_plug.proofs.StandLemmas.{joined-alike, joined-bare, placed-alike, placed-book, placed-ids, placed-kept, placed-own, placed-registers, placed-shown, reserved-book, reserved-live, reserved-shows, rows-joined, stands, still-unnamed}
+use Rattle.qo_plug.proofs.StandLemmas.{joined-alike, joined-bare, placed-alike, placed-book, placed-claims, placed-ids, placed-kept, placed-own, placed-registers, placed-shown, reserved-book, reserved-live, reserved-shows, returned-kept, rows-joined, stands, still-unnamed}
 use Rattle.qo_plug.proofs.standing.stand.Goals as goal
 
 pub returns-in_err-taken-clause-book : goal.returns-in_err-taken-clause-book
@@ -77,7 +81,7 @@ put_body-requires-clause-live g c =
 
 pub put_body-requires-clause-dimm : goal.put_body-requires-clause-dimm
 put_body-requires-clause-dimm g c =
-    still-dimm c.args.seat.spot.memory _ _ (c.put_values.ensures.stays.registers c.args.device.birth
+    still-dimm c.args.seat.spot.memory _ _ (of-bodies registers_of _ _ (c.put_values.ensures.stays.bodies c.args.device.birth)
     ∙ placed-registers c.args.heap.now c.reserve_event.new.self c.take_claims.new.heap
     c.join.new.heap c.keep_claims.new.heap c.reserve_event.new.self.events.spare c.args.device c.args.seat.container
     c.args.seat.bus c.args.seat.name c.args.seat.spot.slot c.in_ok-taken.taken.kept c.reserve_event.ensures.kept
@@ -168,6 +172,18 @@ returns-in-Ok-clause-pinned g c =
     c.in_ok-taken.taken.kept c.reserve_event.ensures.kept c.in_ok-taken.ensures.rest c.in-Ok.ensures.now c.keep_claims.ensures.rest)
     c.put_values.ensures.stays.alike) c.put_body.ensures.alike) c.connect_clock.ensures.stays.alike).pins c.args.device.birth
 
+pub returns-in-Ok-clause-kept : goal.returns-in-Ok-clause-kept
+returns-in-Ok-clause-kept g c =
+    let given = placed-claims c.args.heap.now c.reserve_event.new.self c.take_claims.new.heap c.join.new.heap c.keep_claims.new.heap
+    c.reserve_event.new.self.events.spare c.args.device c.args.seat.container c.args.seat.bus c.args.seat.name c.args.seat.spot.slot
+    c.in_ok-taken.taken.kept c.reserve_event.ensures.kept c.in_ok-taken.ensures.rest c.in-Ok.ensures.now c.keep_claims.ensures.rest in
+    subst (λ (k : KeptSet). SameKept (with_edit c.args.device.birth (kept_in k) c.args.heap.now) c.connect_clock.new.heap) c.in_ok-taken.ensures.kept
+    (λ n.
+    kept-bodies c.put_body.new.heap c.connect_clock.new.heap c.connect_clock.ensures.stays.bodies n
+    ∙ c.put_body.ensures.kept n
+    ∙ kept-bodies c.keep_claims.new.heap c.put_values.new.heap c.put_values.ensures.stays.bodies n
+    ∙ given n)
+
 pub returns-in-Ok-clause-book : goal.returns-in-Ok-clause-book
 returns-in-Ok-clause-book g c = λ out h.
     c.connect_clock.ensures.stays.book out (c.put_body.ensures.book out (c.put_values.ensures.stays.book (labels_out c.in_ok-taken.taken.label ++
@@ -177,6 +193,17 @@ returns-in-Ok-clause-book g c = λ out h.
     c.in_ok-taken.ensures.rest c.in-Ok.ensures.now c.keep_claims.ensures.rest (kept_out c.in_ok-taken.taken.kept) (labels_out c.in_ok-taken.taken.label) out
     c.keep_claims.ensures.book (c.in_ok-taken.ensures.book out (reserved-book out
     c.args.heap.now c.reserve_event.new.self c.reserve_event.new.self.events.spare c.reserve_event.ensures.kept h)))))
+
+pub returns-in_err-taken-clause-unkept : goal.returns-in_err-taken-clause-unkept
+returns-in_err-taken-clause-unkept g c =
+    on-err c.from_residual-in_err-taken.result
+    (λ n. ap (λ (x : Objects). kept_by x n) c.in_err-taken.ensures.rest ∙ ap (λ (x : Objects). kept_by x n) c.reserve_event.ensures.kept)
+
+pub returns-in-Err-clause-unkept : goal.returns-in-Err-clause-unkept
+returns-in-Err-clause-unkept g c =
+    returned-kept c.args.heap.now c.reserve_event.new.self c.take_claims.new.heap c.give_back.new.heap c.reserve_event.new.self.events.spare
+    c.reserve_event.ensures.kept c.in_ok-taken.ensures.rest
+    (subst (λ (x : Objects). c.give_back.new.heap ≡ with_book c.give_back.new.heap.claims x) c.in-Err.ensures.err c.give_back.ensures.rest)
 
 pub returns-in-Err-clause-book : goal.returns-in-Err-clause-book
 returns-in-Err-clause-book g c = λ out h.

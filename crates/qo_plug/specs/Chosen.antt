@@ -1,0 +1,27 @@
+-- What a device that is given properties has in its place on a bus: its slot, the ring of a UART, and the memory backend and the range of a DIMM (docs/PROFILE.md, rings and DIMMs).
+use Rattle.std.specs.Prelude.{◌≡◌, ℕ, List, codes, Option, Some, None, option_map}
+use Rattle.qo_values.specs.declared.kinds.TypeId.{TypeId}
+use Rattle.qo_values.specs.declared.kinds.TypeId.TheVariants.{MemDimm, MemoryBackend, SlotUart}
+use Rattle.qo_model.specs.Board.{Board}
+use Rattle.qo_model.specs.Objects.{Given}
+use Rattle.qo_model.specs.Plug.{spot_of, target_for, text_for}
+use Rattle.qo_backends.specs.Rings.{named_ring}
+use Rattle.qo_plug.specs.declared.spots.Memory.{Memory}
+use Rattle.qo_plug.specs.declared.spots.Spot.{Spot}
+use Rattle.qo_plug.specs.Standing.{spot_in}
+
+-- of a UART the ring that its chardev names, if it names one
+abbrev pub ring_given : TypeId → List Given → Option (List ℕ)
+ring_given SlotUart props = named_ring (text_for props (codes "chardev"))
+ring_given t props = None
+
+-- of a DIMM the memory backend that its memdev names
+abbrev pub backend_given : Board → TypeId → List Given → Option ℕ
+backend_given b MemDimm props = target_for b MemoryBackend props (codes "memdev")
+backend_given b t props = None
+
+-- a spot is the one that a device of a type with these properties has on a bus
+pub record IsChosen (b : Board) (t : TypeId) (bus : ℕ) (props : List Given) (c : Spot) : Type 0 where
+  pub spot : spot_of b t bus props ≡ spot_in bus c
+  pub ring : c.ring ≡ ring_given t props
+  pub backend : option_map (λ (m : Memory). m.backend) c.memory ≡ backend_given b t props
