@@ -70,17 +70,21 @@ module _ (next : ℕ → List ℕ) (all : List ℕ) (tree : IsTree next all) whe
   way-length : (m : ℕ) (passed : List ℕ) → IsWay passed m → length passed + 1 ≤ length all
   unfolding IsDistinct
   way-length m passed w =
-      let short : length (m ∷ passed) ≤ length all = length-le_from_is_member nat_eq_equiv (m ∷ passed) all (apart m passed w.ahead, w.distinct) (live-among (m ∷ passed) (w.here, w.live)) in
+      let short : length (m ∷ passed) ≤ length all =
+      length-le_from_is_member nat_eq_equiv (m ∷ passed) all (apart m passed w.ahead, w.distinct) (live-among (m ∷ passed) (w.here, w.live)) in
       omega arith
 
 module _ {A : Type 0} (next : ℕ → List ℕ) (turn : (ℕ → A) → ℕ → A) (base : ℕ → A) (all : List ℕ) (local : IsLocal next turn) (tree : IsTree next all) where
   -- behind d passed objects a depth that leaves room for the others is enough
-  enough : (depth : ℕ) (m : ℕ) (passed : List ℕ) → IsWay next all tree passed m → length all ≤ length passed + depth → by_depth turn base depth m ≡ by_depth turn base (suc depth) m
+  enough : (depth : ℕ) (m : ℕ) (passed : List ℕ) → IsWay next all tree passed m → length all ≤ length passed + depth
+      → by_depth turn base depth m ≡ by_depth turn base (suc depth) m
   enough zero m passed w room = absurd (let long : length passed + 1 ≤ length all = way-length next all tree m passed w in omega arith)
   enough (suc depth) m passed w room =
-      local m (by_depth turn base depth) (by_depth turn base (suc depth)) (λ k s. enough depth k (m ∷ passed) (way-more next all tree m k passed w s) (omega arith))
+      local m (by_depth turn base depth) (by_depth turn base (suc depth))
+      (λ k s. enough depth k (m ∷ passed) (way-more next all tree m k passed w s) (omega arith))
 
   -- the answer at each object, also where none is, is a turn over the answers
   pub by_objects_is : (n : ℕ) → by_objects turn base all n ≡ turn (by_objects turn base all) n
   by_objects_is n =
-      local n (by_depth turn base (length all)) (by_depth turn base (suc (length all))) (λ m s. enough (length all) m [] (way-none next all tree m (tree.lives n m s)) (omega arith))
+      local n (by_depth turn base (length all)) (by_depth turn base (suc (length all)))
+      (λ m s. enough (length all) m [] (way-none next all tree m (tree.lives n m s)) (omega arith))

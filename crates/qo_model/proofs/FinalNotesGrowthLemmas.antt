@@ -42,20 +42,23 @@ behind-own : (m : ℕ) (deed : TypeId → Deed) (ts : List TypeId) (notes : List
 behind-own m deed ts notes =
     filter-append (λ (x : Note). x.birth == m) notes (noted m deed ts) ∙ ap (λ (xs : List Note). notes_on m notes ++ xs) (noted-own m deed ts)
 
-behind-other : (m x : ℕ) → (m == x) ≡ false → (deed : TypeId → Deed) (ts : List TypeId) (notes : List Note) → notes_on x (notes ++ noted m deed ts) ≡ notes_on x notes
+behind-other : (m x : ℕ) → (m == x) ≡ false → (deed : TypeId → Deed) (ts : List TypeId) (notes : List Note)
+    → notes_on x (notes ++ noted m deed ts) ≡ notes_on x notes
 behind-other m x e deed ts notes =
     filter-append (λ (y : Note). y.birth == x) notes (noted m deed ts)
     ∙ ap (λ (xs : List Note). notes_on x notes ++ xs) (noted-other m x e deed ts)
     ∙ append-nil (notes_on x notes)
 
 -- an act that does not begin its object belongs between
-one-noted : (n : ℕ) (act : Act) (notes : List Note) → notes_on n (notes ++ record { birth = n; deed = Did act } ∷ []) ≡ notes_on n notes ++ record { birth = n; deed = Did act } ∷ []
+one-noted : (n : ℕ) (act : Act) (notes : List Note)
+    → notes_on n (notes ++ record { birth = n; deed = Did act } ∷ []) ≡ notes_on n notes ++ record { birth = n; deed = Did act } ∷ []
 one-noted n act notes = filter-append (λ (x : Note). x.birth == n) notes (record { birth = n; deed = Did act } ∷ []) ∙ rw (eq-eqb n n refl) refl
 
 one-other : (n x : ℕ) → (n == x) ≡ false → (act : Act) (notes : List Note) → notes_on x (notes ++ record { birth = n; deed = Did act } ∷ []) ≡ notes_on x notes
 one-other n x e act notes = filter-append (λ (y : Note). y.birth == x) notes (record { birth = n; deed = Did act } ∷ []) ∙ rw e (append-nil (notes_on x notes))
 
-story-goes-on : (n : ℕ) (t : TypeId) (act : Act) (notes : List Note) → deed_type (Did act) ≡ None → Story n t false notes → Story n t false (notes ++ record { birth = n; deed = Did act } ∷ [])
+story-goes-on : (n : ℕ) (t : TypeId) (act : Act) (notes : List Note) → deed_type (Did act) ≡ None → Story n t false notes
+    → Story n t false (notes ++ record { birth = n; deed = Did act } ∷ [])
 story-goes-on n t act notes plain s =
     record {
       between = s.between ++ this;
@@ -168,7 +171,8 @@ next-begins : (b : Board) (t : TypeId) → NotesInOrder b → notes_on (b.born +
 next-begins b t o =
     let opened : 8 ≤ b.born = o.opened in
     let later : leb (b.born + 1) 8 ≡ false = grind arith in
-    rw (beginning, later) (behind-own (b.born + 1) (λ k. Did (Init k)) (inits t) b.notes ∙ ap (λ (xs : List Note). xs ++ init_notes (b.born + 1) t) (next-unnoted b o))
+    rw (beginning, later)
+    (behind-own (b.born + 1) (λ k. Did (Init k)) (inits t) b.notes ∙ ap (λ (xs : List Note). xs ++ init_notes (b.born + 1) t) (next-unnoted b o))
 
 -- an attempt that is given up
 pub attempt-grows : (b : Board) (t : TypeId) → NotesInOrder b → Grown b (with_attempt b t) t true
@@ -212,7 +216,8 @@ object-grows b t id props o =
       born = refl;
       others = λ x e. ap (option_map (λ (r : Record). r.kind)) (last-other named new x e) ∙ named-kind x;
       unnoted = λ x e. behind-other (b.born + 1) x e (λ k. Did (Init k)) (inits t) b.notes;
-      kind = ap (option_map (λ (r : Record). r.kind)) (last-own named new (unmapped (found_at (b.born + 1) named) (named-kind (b.born + 1) ∙ next-absent b o (kind_of b (b.born + 1)) refl)));
+      kind = ap (option_map (λ (r : Record). r.kind))
+          (last-own named new (unmapped (found_at (b.born + 1) named) (named-kind (b.born + 1) ∙ next-absent b o (kind_of b (b.born + 1)) refl)));
       story =
           record {
             between = [];

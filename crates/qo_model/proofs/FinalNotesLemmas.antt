@@ -120,7 +120,8 @@ unpin-keeps b n o =
     ends-keep c (unpin b n) ends (unpin-leaves b n) (pins-keep b (unpin b n).pins o)
 
 -- an edit that keeps births and types keeps them
-kind-edited : (n : ℕ) (change : Record → Record) → ((r : Record) → (change r).kind ≡ r.kind) → (o : Option Record) → option_map (λ (r : Record). r.kind) (option_map (edited n change) o) ≡ option_map (λ (r : Record). r.kind) o
+kind-edited : (n : ℕ) (change : Record → Record) → ((r : Record) → (change r).kind ≡ r.kind) → (o : Option Record)
+    → option_map (λ (r : Record). r.kind) (option_map (edited n change) o) ≡ option_map (λ (r : Record). r.kind) o
 kind-edited n change same None = refl
 kind-edited n change same (Some r) = go (r.birth == n) refl
   where
@@ -128,7 +129,8 @@ kind-edited n change same (Some r) = go (r.birth == n) refl
     go true p = rw (edited, p) (ap Some (same r))
     go false p = rw (edited, p) refl
 
-pub edit-kind : (n : ℕ) (change : Record → Record) → ((r : Record) → (change r).birth ≡ r.birth) → ((r : Record) → (change r).kind ≡ r.kind) → (b : Board) (x : ℕ) → kind_of (edit n change b) x ≡ kind_of b x
+pub edit-kind : (n : ℕ) (change : Record → Record) → ((r : Record) → (change r).birth ≡ r.birth) → ((r : Record) → (change r).kind ≡ r.kind)
+    → (b : Board) (x : ℕ) → kind_of (edit n change b) x ≡ kind_of b x
 edit-kind n change birth kind b x =
     ap (option_map (λ (r : Record). r.kind)) (found-edited n change birth x b.records) ∙ kind-edited n change kind (record_of b x)
 
@@ -148,5 +150,6 @@ same-keep b c born notes kind o =
     live : (n : ℕ) → is_live c n ≡ is_live b n
     live n = sym (kind-live c n) ∙ ap is_some (kind n) ∙ kind-live b n
 
-pub edit-keeps : (n : ℕ) (change : Record → Record) → ((r : Record) → (change r).birth ≡ r.birth) → ((r : Record) → (change r).kind ≡ r.kind) → (b : Board) → NotesInOrder b → NotesInOrder (edit n change b)
+pub edit-keeps : (n : ℕ) (change : Record → Record) → ((r : Record) → (change r).birth ≡ r.birth) → ((r : Record) → (change r).kind ≡ r.kind) → (b : Board)
+    → NotesInOrder b → NotesInOrder (edit n change b)
 edit-keeps n change birth kind b o = same-keep b (edit n change b) refl refl (edit-kind n change birth kind b) o

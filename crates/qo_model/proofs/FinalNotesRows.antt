@@ -17,11 +17,14 @@ abbrev note : ℕ → Deed → Note
 note n deed = record { birth = n; deed = deed }
 
 -- the one tag ends, and the next has another birth
-added-and-deleted : (behind opening_board (added (codes "tag") (codes "a") [] ∷ deleted (codes "a") ∷ added (codes "tag") (codes "a") [] ∷ [])).notes ≡ note 9 (Did (Init Tag)) ∷ note 9 (Final Tag) ∷ note 10 (Did (Init Tag)) ∷ []
+added-and-deleted : (behind opening_board (added (codes "tag") (codes "a") [] ∷ deleted (codes "a") ∷ added (codes "tag") (codes "a") [] ∷ [])).notes
+    ≡ note 9 (Did (Init Tag)) ∷ note 9 (Final Tag) ∷ note 10 (Did (Init Tag)) ∷ []
 unfolding types opening_board steps_to attached drop_slot finish finalise finalise_within let_go pin unpin point set
 added-and-deleted = refl
 
 -- an attempt that is given up takes a birth
-refused-and-added : (behind opening_board (added (codes "tag") (codes "a") ((codes "text", val.Bool true) ∷ []) ∷ added (codes "tag") (codes "a") [] ∷ [])).notes ≡ note 9 (Did (Init Tag)) ∷ note 9 (Final Tag) ∷ note 10 (Did (Init Tag)) ∷ []
+refused-and-added :
+    (behind opening_board (added (codes "tag") (codes "a") ((codes "text", val.Bool true) ∷ []) ∷ added (codes "tag") (codes "a") [] ∷ [])).notes
+    ≡ note 9 (Did (Init Tag)) ∷ note 9 (Final Tag) ∷ note 10 (Did (Init Tag)) ∷ []
 unfolding types opening_board steps_to attached drop_slot finish finalise finalise_within let_go pin unpin point set
 refused-and-added = refl

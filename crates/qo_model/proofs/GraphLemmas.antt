@@ -50,7 +50,8 @@ children_at-without_values : (rs : List Record) (n : ℕ) → children_at (map w
 children_at-without_values [] n = refl
 children_at-without_values (r ∷ rs) n = go (r.birth == n) refl (children_at-without_values rs n)
   where
-    go : (t : Bool) → (r.birth == n) ≡ t → children_at (map without_values rs) n ≡ children_at rs n → children_at (map without_values (r ∷ rs)) n ≡ children_at (r ∷ rs) n
+    go : (t : Bool) → (r.birth == n) ≡ t → children_at (map without_values rs) n ≡ children_at rs n
+        → children_at (map without_values (r ∷ rs)) n ≡ children_at (r ∷ rs) n
     go true p rest = rw p (children_in-without_values r.slots)
     go false p rest = rw p rest
 

@@ -33,7 +33,8 @@ wrote n name v b = elim (write b n name v) [ Ok c ↦ c | Err code ↦ b ]
 
 -- two tags, each the next of the other, both removed
 abbrev crossed : Board
-crossed = wrote 10 (codes "next") (val.Text (codes "/objects/a")) (wrote 9 (codes "next") (val.Text (codes "/objects/b")) (tagged (codes "b") (tagged (codes "a") opening_board)))
+crossed = wrote 10 (codes "next") (val.Text (codes "/objects/a"))
+    (wrote 9 (codes "next") (val.Text (codes "/objects/b")) (tagged (codes "b") (tagged (codes "a") opening_board)))
 
 abbrev removed : Board
 removed = (object_del (object_del crossed (codes "a")).board (codes "b")).board
@@ -61,7 +62,8 @@ severed-births = refl
 
 -- one tag holds the other, which sees it: removed in the order other, one, they end, and no link keeps either
 abbrev seen : Board
-seen = wrote 10 (codes "seen") (val.Text (codes "/objects/a")) (wrote 9 (codes "next") (val.Text (codes "/objects/b")) (tagged (codes "b") (tagged (codes "a") opening_board)))
+seen = wrote 10 (codes "seen") (val.Text (codes "/objects/a"))
+    (wrote 9 (codes "next") (val.Text (codes "/objects/b")) (tagged (codes "b") (tagged (codes "a") opening_board)))
 
 seen-notes : drop 2 (object_del (object_del seen (codes "b")).board (codes "a")).board.notes ≡ note 10 (Final Tag) ∷ note 9 (Final Tag) ∷ []
 unfolding types opening_board steps_to attached drop_slot finish finalise finalise_within let_go pin unpin point set
@@ -89,7 +91,8 @@ unfolding types opening_board steps_to attached
 refusals = refl
 
 -- an attempt that was given up: the births are one higher, and its notes are there
-given_up : (object_add opening_board (codes "tag") (codes "b") ((codes "flag", val.Uint 1) ∷ [])).board.notes ≡ note 9 (Did (Init Tag)) ∷ note 9 (Final Tag) ∷ []
+given_up : (object_add opening_board (codes "tag") (codes "b") ((codes "flag", val.Uint 1) ∷ [])).board.notes
+    ≡ note 9 (Did (Init Tag)) ∷ note 9 (Final Tag) ∷ []
 unfolding types opening_board
 given_up = refl
 

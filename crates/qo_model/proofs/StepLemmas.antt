@@ -25,7 +25,8 @@ found-among x (r ∷ rs) = go (r.birth == x) refl (found-among x rs)
     flip : (r.birth == x) ≡ eqb x r.birth
     flip = grind arith
 
-    go : (t : Bool) → (r.birth == x) ≡ t → is_some (found_at x rs) ≡ among (map (λ (y : Record). y.birth) rs) x → is_some (found_at x (r ∷ rs)) ≡ among (map (λ (y : Record). y.birth) (r ∷ rs)) x
+    go : (t : Bool) → (r.birth == x) ≡ t → is_some (found_at x rs) ≡ among (map (λ (y : Record). y.birth) rs) x
+        → is_some (found_at x (r ∷ rs)) ≡ among (map (λ (y : Record). y.birth) (r ∷ rs)) x
     go true p rest = rw (p, sym flip ∙ p) refl
     go false p rest = rw (p, sym flip ∙ p) rest
 
@@ -33,11 +34,13 @@ pub live-among : (b : Board) (x : ℕ) → is_live b x ≡ among (births b) x
 live-among b x = found-among x b.records
 
 -- an edit that keeps births changes what is found, and nothing else
-pub found-edited : (n : ℕ) (change : Record → Record) → ((r : Record) → (change r).birth ≡ r.birth) → (x : ℕ) (rs : List Record) → found_at x (map (edited n change) rs) ≡ option_map (edited n change) (found_at x rs)
+pub found-edited : (n : ℕ) (change : Record → Record) → ((r : Record) → (change r).birth ≡ r.birth) → (x : ℕ) (rs : List Record)
+    → found_at x (map (edited n change) rs) ≡ option_map (edited n change) (found_at x rs)
 found-edited n change same x [] = refl
 found-edited n change same x (r ∷ rs) = go (r.birth == n) refl (r.birth == x) refl (found-edited n change same x rs)
   where
-    go : (t : Bool) → (r.birth == n) ≡ t → (u : Bool) → (r.birth == x) ≡ u → found_at x (map (edited n change) rs) ≡ option_map (edited n change) (found_at x rs) → found_at x (map (edited n change) (r ∷ rs)) ≡ option_map (edited n change) (found_at x (r ∷ rs))
+    go : (t : Bool) → (r.birth == n) ≡ t → (u : Bool) → (r.birth == x) ≡ u → found_at x (map (edited n change) rs)
+        ≡ option_map (edited n change) (found_at x rs) → found_at x (map (edited n change) (r ∷ rs)) ≡ option_map (edited n change) (found_at x (r ∷ rs))
     go true p true q rest = let here : ((change r).birth == x) ≡ true = ap (λ (k : ℕ). k == x) (same r) ∙ q in rw (p, here, q, edited, p) refl
     go true p false q rest = let here : ((change r).birth == x) ≡ false = ap (λ (k : ℕ). k == x) (same r) ∙ q in rw (p, here, q) rest
     go false p true q rest = rw (p, q, edited, p) refl
@@ -71,7 +74,8 @@ found-other : (n x : ℕ) → (x == n) ≡ false → (rs : List Record) → foun
 found-other n x apart [] = refl
 found-other n x apart (r ∷ rs) = go (r.birth == n) refl (r.birth == x) refl (found-other n x apart rs)
   where
-    go : (t : Bool) → (r.birth == n) ≡ t → (u : Bool) → (r.birth == x) ≡ u → found_at x (others n rs) ≡ option_map (forgotten n) (found_at x rs) → found_at x (others n (r ∷ rs)) ≡ option_map (forgotten n) (found_at x (r ∷ rs))
+    go : (t : Bool) → (r.birth == n) ≡ t → (u : Bool) → (r.birth == x) ≡ u → found_at x (others n rs) ≡ option_map (forgotten n) (found_at x rs)
+        → found_at x (others n (r ∷ rs)) ≡ option_map (forgotten n) (found_at x (r ∷ rs))
     go true p true q rest =
         let here : r.birth ≡ n = eqb-true r.birth n p in
         let there : r.birth ≡ x = eqb-true r.birth x q in
@@ -114,7 +118,9 @@ pub finish-births : (b : Board) (n : ℕ) → births (finish b n) ≡ filter (λ
 unfolding finish
 finish-births b n = go b.records
   where
-    step : (r : Record) (rs : List Record) (t : Bool) → (r.birth == n) ≡ t → map (λ (y : Record). y.birth) (others n rs) ≡ filter (λ (x : ℕ). not (x == n)) (map (λ (y : Record). y.birth) rs) → map (λ (y : Record). y.birth) (others n (r ∷ rs)) ≡ filter (λ (x : ℕ). not (x == n)) (map (λ (y : Record). y.birth) (r ∷ rs))
+    step : (r : Record) (rs : List Record) (t : Bool) → (r.birth == n) ≡ t
+        → map (λ (y : Record). y.birth) (others n rs) ≡ filter (λ (x : ℕ). not (x == n)) (map (λ (y : Record). y.birth) rs)
+        → map (λ (y : Record). y.birth) (others n (r ∷ rs)) ≡ filter (λ (x : ℕ). not (x == n)) (map (λ (y : Record). y.birth) (r ∷ rs))
     step r rs true p rest = rw p rest
     step r rs false p rest = rw p (ap (λ (ns : List ℕ). r.birth ∷ ns) rest)
 

@@ -32,7 +32,8 @@ found-child n ((name, weak t target) ∷ slots) e = found-child n slots e
 found-child n ((name, alias m property) ∷ slots) e = found-child n slots e
 found-child n ((name, child m) ∷ slots) e = go (m == n) refl (found-child n slots)
   where
-    go : (t : Bool) → (m == n) ≡ t → (is_some (find (λ (s : List ℕ × Slot). is_child n s.1) slots) ≡ true → among (children_in slots) n ≡ true) → among (m ∷ children_in slots) n ≡ true
+    go : (t : Bool) → (m == n) ≡ t → (is_some (find (λ (s : List ℕ × Slot). is_child n s.1) slots) ≡ true → among (children_in slots) n ≡ true)
+        → among (m ∷ children_in slots) n ≡ true
     go true p rest = rw (eq-eqb n m (sym (eqb-true m n p))) refl
     go false p rest = rw (rest (rw p at e)) (or-true (eqb n m))
 
@@ -96,7 +97,8 @@ pub parents-tree : (b : Board) → SoundGraph b → IsTree (parents b) (births b
 parents-tree b sound =
     let rising : Rises (births b) = rw births-graph_of at sound.rising in
     record {
-      none_round = λ n l. sound.none_round n (Leads-back (parents b) (children_of (graph_of b)) (λ k m e. rw children_of-graph_of (parent-of b rising k m e).child_there) l);
+      none_round = λ n l.
+          sound.none_round n (Leads-back (parents b) (children_of (graph_of b)) (λ k m e. rw children_of-graph_of (parent-of b rising k m e).child_there) l);
       lives = λ n m e. (parent-of b rising n m e).there;
     }
 
@@ -160,6 +162,7 @@ frame_lem =
     record {
       graph = λ b c e h. subst GraphFacts e h;
       aliases = λ b c e h.
-          subst (λ (records : List Record). AllByRecursion (λ (r : Record). AllByRecursion (λ (s : List ℕ × Slot). PassesTo (lasting r) s.1) r.slots) records) e h;
+          subst (λ (records : List Record). AllByRecursion (λ (r : Record). AllByRecursion (λ (s : List ℕ × Slot). PassesTo (lasting r) s.1) r.slots) records) e
+          h;
       events = λ b c e h. record { none = sym e ∙ h.none };
     }
