@@ -1,5 +1,5 @@
 -- A detached object of a sound board is held from a cycle or from an attached object: its holders are followed until one is met again.
-use Rattle.std.proofs.Common.{◌≡◌, ◌≢◌, refl, ap, sym, subst, ◌∙◌, ℕ, zero, suc, ◌+◌, ◌<◌, ◌≤◌, Bool, true, false, cond, ◌==◌, eqb, List, [], ◌∷◌, map, length, filter_map, sum_by, count_by, Option, Some, None, is_some, arith}
+use Rattle.std.proofs.Common.{◌≡◌, ◌≢◌, refl, ap, sym, subst, ◌∙◌, ℕ, zero, suc, ◌+◌, ◌<◌, ◌≤◌, Bool, true, false, ◌==◌, eqb, List, [], ◌∷◌, map, length, filter_map, sum_by, count_by, Option, Some, None, is_some, arith}
 use Rattle.std.specs.List.{AllByRecursion, IsDistinct}
 use Rattle.std.specs.Cmp.{nat_eq_equiv}
 use Rattle.std.proofs.lemmas.Bool.{eqb-true, eq-eqb}
@@ -14,11 +14,8 @@ use Rattle.qo_model.specs.Paths.{births, attached, attached_turn}
 use Rattle.qo_model.specs.References.{refs, refs_in, holds_it}
 use Rattle.qo_model.specs.SoundGraph.{graph_of, without_value, without_values, Rises, SoundGraph}
 use Rattle.qo_model.proofs.EditLemmas.{sum-held, one_is}
-use Rattle.qo_model.proofs.GraphLemmas.{among-above, births-graph_of}
-use Rattle.qo_model.proofs.StepLemmas.{found_at, found-among, live-among}
-
-abbrev births_at : List Record → List ℕ
-births_at rs = map (λ (r : Record). r.birth) rs
+use Rattle.qo_model.proofs.GraphLemmas.{among-above, births-graph_of, births_at}
+use Rattle.qo_model.proofs.StepLemmas.{found_at, found-among, live-among, one_of}
 
 -- a fact of each number holds of one that is among them
 pub all-at : (P : ℕ → Type 0) (xs : List ℕ) → AllByRecursion P xs → (n : ℕ) → among xs n ≡ true → P n
@@ -28,10 +25,6 @@ all-at P (x ∷ xs) h n e = go (eqb n x) refl (all-at P xs h.1 n)
     go : (t : Bool) → eqb n x ≡ t → (among xs n ≡ true → P n) → P n
     go true p rest = subst P (sym (eqb-true n x p)) h.0
     go false p rest = rest (rw p at e)
-
--- one for a slot that holds n, else zero
-abbrev one_of : ℕ → List ℕ × Slot → ℕ
-one_of n s = cond {A = ℕ} (holds_it n s.1) 1 0
 
 -- without plain values the references stay
 refs-graph_of : (b : Board) (n : ℕ) → refs (graph_of b) n ≡ refs b n

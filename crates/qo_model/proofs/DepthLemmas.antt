@@ -1,10 +1,15 @@
 -- The law of recursion by objects: its answer is one turn over its own answers.
-use Rattle.std.proofs.Common.{◌≡◌, refl, sym, subst, ℕ, zero, suc, ◌+◌, ◌<◌, ◌≤◌, Bool, true, false, List, [], ◌∷◌, length, eqb, arith}
+use Rattle.std.proofs.Common.{◌≡◌, refl, sym, subst, ℕ, zero, suc, ◌+◌, ◌-◌, ◌<◌, ◌≤◌, Bool, true, false, List, [], ◌∷◌, length, eqb, arith}
 use Rattle.std.specs.List.{AllByRecursion, IsDistinct}
 use Rattle.std.proofs.lemmas.Bool.{eqb-true}
 use Rattle.std.proofs.lemmas.Map.Made.{length-le_from_is_member}
 use Rattle.std.specs.Cmp.{nat_eq_equiv}
 use Rattle.qo_model.specs.Depth.{by_depth, by_objects, among, leads, Leads, one, more, IsTree, IsLocal}
+
+-- one level less, where there are levels
+pub one-less : (n : ℕ) → (n ≡ 0 → ⊥) → n ≡ suc (n - 1)
+one-less zero not_zero = absurd (not_zero refl)
+one-less (suc n) not_zero = omega arith
 
 -- one step more behind others
 pub Leads-push : {next : ℕ → List ℕ} {n m k : ℕ} → Leads next n m → leads next m k ≡ true → Leads next n k

@@ -21,14 +21,12 @@ use Rattle.qo_model.specs.Release.{drop_slot, finish, finalise, finalise_within,
 use Rattle.qo_model.specs.Reset.{held, plugged, post, pulse, released}
 use Rattle.qo_model.specs.Types.{types}
 use Rattle.qo_model.specs.Unplug.{apart_within, detach, unrealize}
+use Rattle.qo_model.proofs.RowTerms.{wanted, then_set, then_scaled}
 use Rattle.qo_values.specs.Placing.{least}
 
 -- a note, as its word, its birth and its type's name
 abbrev told : Note → List ℕ × ℕ × List ℕ
 told x = (deed_word x.deed, x.birth, option_map_or type_name (deed_type x.deed) [])
-
-abbrev wanted : List ℕ → List ℕ → Wanted
-wanted driver id = record { driver = driver; id = Some id; bus = None; props = [] }
 
 abbrev on : List ℕ → Wanted → Wanted
 on bus a = record { driver = a.driver; id = a.id; bus = Some bus; props = a.props }
@@ -149,14 +147,6 @@ held-notes = refl
 -- the system clock is written: the notes behind the first eight, or the code that refuses it
 abbrev uart : Board
 uart = (plug opening_board (wanted (codes "slot-uart") (codes "u"))).board
-
-abbrev then_set : ℕ → ℕ → Result Board Code → Result Board Code
-then_set c n (Ok b) = clock_set b c n
-then_set c n (Err code) = Err code
-
-abbrev then_scaled : ℕ → ℕ → ℕ → Result Board Code → Result Board Code
-then_scaled c mul div (Ok b) = clock_scaled b c mul div
-then_scaled c mul div (Err code) = Err code
 
 abbrev notes_or_code : Result Board Code → List (List ℕ × ℕ × List ℕ) × Option Code
 notes_or_code (Ok b) = (map told (drop 8 b.notes), None)

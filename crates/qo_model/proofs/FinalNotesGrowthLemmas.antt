@@ -156,7 +156,7 @@ grown-keeps b c t over g o =
         (old.0, story-same n old.0 true c.notes b.notes (g.unnoted n p) old.1)
 
 -- the next birth is not there, and has no note
-next-absent : (b : Board) → NotesInOrder b → (o : Option TypeId) → kind_of b (b.born + 1) ≡ o → kind_of b (b.born + 1) ≡ None
+pub next-absent : (b : Board) → NotesInOrder b → (o : Option TypeId) → kind_of b (b.born + 1) ≡ o → kind_of b (b.born + 1) ≡ None
 next-absent b o None e = e
 next-absent b o (Some t) e =
     let born : IsBorn b (b.born + 1) = o.counted (b.born + 1) (live-of-kind b (b.born + 1) t e) in
@@ -167,7 +167,7 @@ next-unnoted : (b : Board) → NotesInOrder b → notes_on (b.born + 1) b.notes 
 next-unnoted b o = o.unborn (b.born + 1) (λ born. let over : b.born + 1 ≤ b.born = born.1 in absurd (omega arith))
 
 -- its init notes are the beginning of its story
-next-begins : (b : Board) (t : TypeId) → NotesInOrder b → notes_on (b.born + 1) (b.notes ++ init_notes (b.born + 1) t) ≡ beginning (b.born + 1) t
+pub next-begins : (b : Board) (t : TypeId) → NotesInOrder b → notes_on (b.born + 1) (b.notes ++ init_notes (b.born + 1) t) ≡ beginning (b.born + 1) t
 next-begins b t o =
     let opened : 8 ≤ b.born = o.opened in
     let later : leb (b.born + 1) 8 ≡ false = grind arith in
@@ -199,13 +199,13 @@ or-none : (o : Option Record) → option_or o None ≡ o
 or-none None = refl
 or-none (Some r) = refl
 
-last-other : (rs : List Record) (r : Record) (x : ℕ) → (r.birth == x) ≡ false → found_at x (rs ++ r ∷ []) ≡ found_at x rs
+pub last-other : (rs : List Record) (r : Record) (x : ℕ) → (r.birth == x) ≡ false → found_at x (rs ++ r ∷ []) ≡ found_at x rs
 last-other rs r x e = find-append (λ (y : Record). y.birth == x) rs (r ∷ []) ∙ rw e (or-none (found_at x rs))
 
-last-own : (rs : List Record) (r : Record) → found_at r.birth rs ≡ None → found_at r.birth (rs ++ r ∷ []) ≡ Some r
+pub last-own : (rs : List Record) (r : Record) → found_at r.birth rs ≡ None → found_at r.birth (rs ++ r ∷ []) ≡ Some r
 last-own rs r e = find-append (λ (y : Record). y.birth == r.birth) rs (r ∷ []) ∙ rw (e, eq-eqb r.birth r.birth refl) refl
 
-unmapped : (o : Option Record) → option_map (λ (r : Record). r.kind) o ≡ None → o ≡ None
+pub unmapped : (o : Option Record) → option_map (λ (r : Record). r.kind) o ≡ None → o ≡ None
 unmapped None e = refl
 unmapped (Some r) e = cc
 

@@ -10,8 +10,8 @@ use Rattle.qo_model.specs.Release.{after, edit, edited, final_notes, finalise, l
 use Rattle.qo_model.specs.ReleaseKeeps.{Leaves, without_slots}
 use Rattle.qo_model.specs.ReleaseNotes.{notes_on, finals_of, NotesEnds}
 use Rattle.qo_model.proofs.ReleaseLeavesLemmas.{release_leaves, let_go-leaves, unpin-leaves}
-use Rattle.qo_model.proofs.ReleaseNotesLemmas.{finals-none, found-birth, release_notes, let_go-notes, unpin-notes}
-use Rattle.qo_model.proofs.StepLemmas.{found-edited, is_some-map}
+use Rattle.qo_model.proofs.ReleaseNotesLemmas.{finals-none, release_notes, let_go-notes, unpin-notes}
+use Rattle.qo_model.proofs.StepLemmas.{found-edited, is_some-map, found-birth}
 
 -- an object is there where it has a type
 pub kind-live : (b : Board) (n : ℕ) → is_some (kind_of b n) ≡ is_live b n

@@ -1,6 +1,5 @@
 -- Worked rows of removals that are asked for: refused, let go, and all let go where the board is reset.
 use Rattle.std.proofs.Common.{◌≡◌, refl, ℕ, Bool, true, false, List, [], ◌∷◌, map, replicate, codes, Option, Some, None}
-use Rattle.qo_values.specs.declared.codes.Code.{Code}
 use Rattle.qo_values.specs.declared.codes.Code.TheVariants.{E33, E34, E35, E44}
 use Rattle.qo_model.specs.Board.{Board, DeviceEvent, Notice}
 use Rattle.qo_model.specs.Changes.{add, cut, set}

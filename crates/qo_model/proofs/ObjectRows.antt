@@ -6,9 +6,7 @@ use Rattle.qo_values.specs.declared.kinds.TypeId.TheVariants.{Tag}
 use Rattle.qo_values.specs.declared.properties.Val.{Val}
 use Rattle.qo_values.specs.declared.properties.Val.TheVariants as val
 use Rattle.qo_values.specs.declared.kinds.Act.TheVariants.{Init}
-use Rattle.qo_model.specs.declared.notes.Deed.{Deed}
 use Rattle.qo_model.specs.declared.notes.Deed.TheVariants.{Did, Final}
-use Rattle.qo_model.specs.declared.notes.Note.{Note}
 use Rattle.qo_model.specs.Board.{Board, Record}
 use Rattle.qo_model.specs.Changes.{point, set}
 use Rattle.qo_model.specs.Objects.{Given, detached, object_add, object_del, sever}
@@ -18,10 +16,7 @@ use Rattle.qo_model.specs.Properties.{value_of, write}
 use Rattle.qo_model.specs.References.{refs}
 use Rattle.qo_model.specs.Release.{drop_slot, finish, finalise, finalise_within, let_go, pin, unpin}
 use Rattle.qo_model.specs.Types.{types}
-
--- a note on an object
-abbrev note : ℕ → Deed → Note
-note n deed = record { birth = n; deed = deed }
+use Rattle.qo_model.proofs.RowTerms.{note}
 
 -- a tag of a name
 abbrev tagged : List ℕ → Board → Board

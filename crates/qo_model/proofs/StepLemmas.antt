@@ -17,6 +17,17 @@ use Rattle.qo_model.proofs.ReleaseKeepsLemmas.{release_keeps}
 abbrev pub found_at : ℕ → List Record → Option Record
 found_at x rs = find (λ (r : Record). r.birth == x) rs
 
+-- a record that is found has the birth
+pub found-birth : (n : ℕ) (rs : List Record) (x : Record) → found_at n rs ≡ Some x → x.birth ≡ n
+found-birth n [] x e = cc
+found-birth n (r ∷ rs) x e = go (r.birth == n) refl (found-birth n rs x)
+  where
+    go : (t : Bool) → (r.birth == n) ≡ t → (found_at n rs ≡ Some x → x.birth ≡ n) → x.birth ≡ n
+    go true p rest =
+        let is : r ≡ x = same_Some r x (rw p at e) in
+        ap (λ (y : Record). y.birth) (sym is) ∙ eqb-true r.birth n p
+    go false p rest = rest (rw p at e)
+
 -- an object is there exactly where its birth is among the births
 pub found-among : (x : ℕ) (rs : List Record) → is_some (found_at x rs) ≡ among (map (λ (r : Record). r.birth) rs) x
 found-among x [] = refl
@@ -129,7 +140,7 @@ finish-births b n = go b.records
     go (r ∷ rs) = step r rs (r.birth == n) refl (go rs)
 
 -- one for a slot that holds x, else zero
-abbrev one_of : ℕ → List ℕ × Slot → ℕ
+abbrev pub one_of : ℕ → List ℕ × Slot → ℕ
 one_of x s = cond {A = ℕ} (holds_it x s.1) 1 0
 
 left-of : (x : ℕ) (s : List ℕ × Slot) → left_of (one_of x) s ≤ one_of x s

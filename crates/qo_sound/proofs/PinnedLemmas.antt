@@ -52,11 +52,15 @@ module _ (q : List ℕ) where
       go None e = rw (link_named, e) refl
       go (Some i) e = rw (link_named, e) refl
 
-  valued-blind : (b : Board) (n : ℕ) (props : List Given) (spot : Spot) (c : Board) → valued b n props spot (with_pins q c) ≡ with_pins q (valued b n props spot c)
+  valued-blind : (b : Board) (n : ℕ) (props : List Given) (spot : Spot) (c : Board)
+      → valued b n props spot (with_pins q c) ≡ with_pins q (valued b n props spot c)
   valued-blind b n props spot c =
-      ap (λ (x : Board). set_named n (codes "realized") (val.Bool true) (link_named n (codes "parent_bus") spot.bus x)) (set-blind n (codes "slot") (val.Uint spot.slot) (edit n (with_given b props) c))
-      ∙ ap (set_named n (codes "realized") (val.Bool true)) (link-blind n (codes "parent_bus") spot.bus (set_named n (codes "slot") (val.Uint spot.slot) (edit n (with_given b props) c)))
-      ∙ set-blind n (codes "realized") (val.Bool true) (link_named n (codes "parent_bus") spot.bus (set_named n (codes "slot") (val.Uint spot.slot) (edit n (with_given b props) c)))
+      ap (λ (x : Board). set_named n (codes "realized") (val.Bool true) (link_named n (codes "parent_bus") spot.bus x))
+      (set-blind n (codes "slot") (val.Uint spot.slot) (edit n (with_given b props) c))
+      ∙ ap (set_named n (codes "realized") (val.Bool true))
+      (link-blind n (codes "parent_bus") spot.bus (set_named n (codes "slot") (val.Uint spot.slot) (edit n (with_given b props) c)))
+      ∙ set-blind n (codes "realized") (val.Bool true)
+      (link_named n (codes "parent_bus") spot.bus (set_named n (codes "slot") (val.Uint spot.slot) (edit n (with_given b props) c)))
 
   addressed-blind : (n : ℕ) (range : Option Range) (c : Board) → addressed_at n range (with_pins q c) ≡ with_pins q (addressed_at n range c)
   addressed-blind n None c = refl
@@ -135,14 +139,19 @@ module _ (q : List ℕ) where
       let c1 : Board = acted_all Realize (n ∷ buses) c in
       let c2 : Board = acted_all Enter last c1 in
       let c3 : Board = acted_all Hold last c2 in
-      all-pins Unrealize last (acted_all Exit exits c3) ∙ all-pins Exit exits c3 ∙ all-pins Hold last c2 ∙ all-pins Enter last c1 ∙ all-pins Realize (n ∷ buses) c
+      all-pins Unrealize last (acted_all Exit exits c3) ∙ all-pins Exit exits c3 ∙ all-pins Hold last c2 ∙ all-pins Enter last c1
+      ∙ all-pins Realize (n ∷ buses) c
 
   -- all steps but the pin
-  pub steps-blind : (b : Board) (t : TypeId) (a : Wanted) (spot : Spot) → started (b.born + 1) t (counted a.id (clocked (source_for b spot.bus) (b.born + 1) (stood b (b.born + 1) a spot (rows_made (b.born + 1) t (slots_of t) (with_pins q (with_new (fresh (b.born + 1) t) b)))))) ≡ with_pins q (with_plugged b t a spot)
+  pub steps-blind : (b : Board) (t : TypeId) (a : Wanted) (spot : Spot) → started (b.born + 1) t (counted a.id (clocked (source_for b spot.bus) (b.born + 1)
+      (stood b (b.born + 1) a spot (rows_made (b.born + 1) t (slots_of t) (with_pins q (with_new (fresh (b.born + 1) t) b))))))
+      ≡ with_pins q (with_plugged b t a spot)
   steps-blind b t a spot =
-      ap (λ (x : Board). started n t (counted a.id (clocked (source_for b spot.bus) n (stood b n a spot x)))) (rows-blind q n t (slots_of t) (with_new (fresh n t) b))
+      ap (λ (x : Board). started n t (counted a.id (clocked (source_for b spot.bus) n (stood b n a spot x))))
+      (rows-blind q n t (slots_of t) (with_new (fresh n t) b))
       ∙ ap (λ (x : Board). started n t (counted a.id (clocked (source_for b spot.bus) n x))) (stood-blind b n a spot (drafted b t))
-      ∙ ap (λ (x : Board). started n t (counted a.id x)) (source-blind (source_for b spot.bus) (clock_of (stood b n a spot (drafted b t)) n) (stood b n a spot (drafted b t)))
+      ∙ ap (λ (x : Board). started n t (counted a.id x))
+      (source-blind (source_for b spot.bus) (clock_of (stood b n a spot (drafted b t)) n) (stood b n a spot (drafted b t)))
       ∙ ap (started n t) (counted-blind a.id (clocked (source_for b spot.bus) n (stood b n a spot (drafted b t))))
       ∙ started-blind n t (with_device b t a spot)
     where
@@ -156,14 +165,16 @@ let-go c n q pinned is held =
     ap (λ (ps : List ℕ). unpin (with_pins ps c) n) (is ∙ ap (put_in_order n) (sym pinned))
     ∙ unpin-kept c n (subst IsUp (sym pinned) (tt, tt)) held
 
-pub let-free : (c : Board) (n : ℕ) (q : List ℕ) → c.pins ≡ 1 ∷ [] → q ≡ put_in_order n (1 ∷ []) → (refs c n == 0) ≡ true → unpin (with_pins q c) n ≡ finalise c n
+pub let-free : (c : Board) (n : ℕ) (q : List ℕ) → c.pins ≡ 1 ∷ [] → q ≡ put_in_order n (1 ∷ []) → (refs c n == 0) ≡ true
+    → unpin (with_pins q c) n ≡ finalise c n
 unfolding pin
 let-free c n q pinned is free =
     ap (λ (ps : List ℕ). unpin (with_pins ps c) n) (is ∙ ap (put_in_order n) (sym pinned))
     ∙ unpin-free c n (subst IsUp (sym pinned) (tt, tt)) free
 
 -- a device as it is created: made, and its initialisers noted
-pub created : (t : TypeId) (b : Board) → record (make t b) { notes = b.notes ++ init_notes (b.born + 1) t } ≡ with_pins (put_in_order (b.born + 1) b.pins) (with_new (fresh (b.born + 1) t) b)
+pub created : (t : TypeId) (b : Board)
+    → record (make t b) { notes = b.notes ++ init_notes (b.born + 1) t } ≡ with_pins (put_in_order (b.born + 1) b.pins) (with_new (fresh (b.born + 1) t) b)
 unfolding make
 created t b = refl
 

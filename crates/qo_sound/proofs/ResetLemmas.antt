@@ -84,7 +84,7 @@ holds-leaves b c holds h =
       events = h.events;
     }
 
-none-leaves : (b : Board) → ResetLeaves b b
+pub none-leaves : (b : Board) → ResetLeaves b b
 none-leaves b = record { anonymous = refl; now = refl; running = refl; pending = refl; notices = refl; rings = refl; events = refl }
 
 pub held-leaves : (b : Board) (n : ℕ) → ResetLeaves b (held b n)

@@ -16,9 +16,8 @@ use Rattle.qo_model.specs.Paths.{births, is_child, is_of}
 use Rattle.qo_model.specs.Release.{drop_slot, edit, edited, pin, with_dropped, without_hold}
 use Rattle.qo_model.specs.Types.{is_a, types}
 use Rattle.qo_model.specs.Unplug.{apart_within, detach, drained, first_of, is_bus_slot, is_child_slot, is_named, left_bus, left_parent, let_go_where, lost_bus, lost_buses, names_kid, take_slot, take_where, taken_by, unrealize}
-use Rattle.qo_model.proofs.StepLemmas.{drop-record}
+use Rattle.qo_model.proofs.StepLemmas.{drop-record, found-birth}
 use Rattle.qo_sound.specs.Kept.{SoundTree}
-use Rattle.qo_sound.proofs.RecordLemmas.{found-birth}
 use Rattle.qo_sound.proofs.UnplugLemmas.{Found, found-at}
 use Rattle.qo_sound_devices.specs.SoundPlaces.{kid_entry, listed, PlacesBut, stands}
 use Rattle.qo_sound_devices.proofs.LowLemmas.{is-bus_of, kid-of}

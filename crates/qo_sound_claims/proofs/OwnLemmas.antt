@@ -28,8 +28,7 @@ use Rattle.qo_model.specs.Unplug.{is_named, set_named}
 use Rattle.qo_model.specs.declared.properties.Property.{Property}
 use Rattle.qo_model.specs.declared.properties.RowKind.{RowKind}
 use Rattle.qo_model.specs.declared.properties.RowKind.TheVariants as row
-use Rattle.qo_model.proofs.StepLemmas.{found-edited, found_at}
-use Rattle.qo_sound.proofs.RecordLemmas.{found-birth}
+use Rattle.qo_model.proofs.StepLemmas.{found-edited, found_at, found-birth}
 use Rattle.qo_sound.proofs.UnplugLemmas.{Found, found-at}
 use Rattle.qo_sound_devices.proofs.DropLemmas.{edited-slots}
 use Rattle.qo_sound_devices.proofs.PlainLemmas.{stay-add, stay-rows}

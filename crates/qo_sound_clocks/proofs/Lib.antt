@@ -15,7 +15,6 @@ pub mod ReadLemmas
 pub mod RegisterLemmas
 pub mod RunLemmas
 pub mod SayLemmas
-pub mod SpreadLemmas
 pub mod StayLemmas
 pub mod StepsLemmas
 pub mod TimesLemmas

@@ -1,4 +1,5 @@
--- What leaves the slots of objects keeps what speaks of these alone: acts, holds, and what lies beside the objects. What is kept where objects read no more as clocks, devices that go keep.
+-- What leaves the slots of objects keeps what speaks of these alone: acts, holds, and what lies beside the objects. What is kept where objects read no more as
+-- clocks, devices that go keep.
 use Rattle.std.proofs.Common.{◌≡◌, refl, ap, ◌∙◌, ℕ, zero, suc, Bool, true, false, ◌==◌, List, [], ◌∷◌, ◌++◌, filter, length, Option, Some, None, is_some, option_map}
 use Rattle.qo_values.specs.declared.births.TheConstants.{MACHINE_BIRTH}
 use Rattle.qo_values.specs.declared.kinds.Act.{Act}

@@ -17,14 +17,13 @@ use Rattle.qo_model.specs.Objects.{place_from}
 use Rattle.qo_model.specs.Paths.{births}
 use Rattle.qo_model.specs.Release.{edited}
 use Rattle.qo_model.specs.Unplug.{is_named, set_named}
-use Rattle.qo_model.proofs.StepLemmas.{found-edited}
+use Rattle.qo_model.proofs.StepLemmas.{found-edited, found-birth}
+use Rattle.qo_model.proofs.ClockFitLemmas.{fits-new, IsWritten, written-then}
 use Rattle.qo_sound.proofs.FirmLemmas.{edited-births}
-use Rattle.qo_sound.proofs.RecordLemmas.{found-birth}
 use Rattle.qo_sound.proofs.UnplugLemmas.{Found, found-at}
 use Rattle.qo_sound_clocks.specs.SoundClocks.{SoundClocks}
 use Rattle.qo_sound_clocks.proofs.FewerLemmas.{slots_in}
 use Rattle.qo_sound_clocks.proofs.LessLemmas.{Slots}
-use Rattle.qo_sound_clocks.proofs.SpreadLemmas.{fits-new, IsWritten, written-then}
 use Rattle.qo_sound_clocks.proofs.GrownLemmas.{same-sound}
 use Rattle.qo_sound_clocks.proofs.StayLemmas.{kept-acted}
 use Rattle.qo_sound_clocks.proofs.StepsLemmas.{kept-all, same_ok}

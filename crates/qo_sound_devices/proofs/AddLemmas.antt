@@ -23,10 +23,10 @@ use Rattle.qo_model.specs.Objects.{Given, given_to, slot_given, added_as, added_
 use Rattle.qo_model.specs.Paths.{is_of}
 use Rattle.qo_model.specs.Release.{edited}
 use Rattle.qo_model.specs.Types.{TypeRow, is_a, row_named, types}
-use Rattle.qo_model.proofs.StepLemmas.{found_at, found-edited}
+use Rattle.qo_model.proofs.StepLemmas.{found_at, found-edited, found-birth}
 use Rattle.qo_sound.proofs.AddLemmas.{attempt-rest, unbarred}
 use Rattle.qo_sound.proofs.FirmLemmas.{Firm}
-use Rattle.qo_sound.proofs.RecordLemmas.{all-imply, found-birth}
+use Rattle.qo_sound.proofs.RecordLemmas.{all-imply}
 use Rattle.qo_sound.proofs.ViewLemmas.{AtRest}
 use Rattle.qo_sound_devices.specs.SoundPlaces.{child_entries, child_entry, HasOwner, machines, bridges, id_of, IsAnonymous, IsAtHome, IsHome, IsKid, IsPeripheral, kid_entries, kid_entry, listed, owns_it, PlacesBut, stands}
 use Rattle.qo_sound_devices.proofs.AlikeLemmas.{alike-record, bodiless}
@@ -113,8 +113,16 @@ module _ (depth : ℕ → ℕ) (b c : Board) (g : Grown b c) (firm : Firm b) (h 
       record {
         machine = ap (listed MACHINE_BIRTH) first ∙ h.machine;
         objects = ap (listed OBJECTS_BIRTH) first ∙ h.objects;
-        parts =
-            (ap (listed PERIPHERAL_BIRTH) second ∙ h.parts.0, (ap (listed ANONYMOUS_BIRTH) second ∙ h.parts.1.0, (ap (listed ROOT_BUS_BIRTH) second ∙ h.parts.1.1.0, (ap (listed MEMORY_BUS_BIRTH) second ∙ h.parts.1.1.1.0, (ap (listed SYSTEM_CLOCK_BIRTH) second ∙ h.parts.1.1.1.1.0, tt)))));
+        parts = (
+          ap (listed PERIPHERAL_BIRTH) second ∙ h.parts.0,
+          (
+            ap (listed ANONYMOUS_BIRTH) second ∙ h.parts.1.0,
+            (
+              ap (listed ROOT_BUS_BIRTH) second ∙ h.parts.1.1.0,
+              (ap (listed MEMORY_BUS_BIRTH) second ∙ h.parts.1.1.1.0, (ap (listed SYSTEM_CLOCK_BIRTH) second ∙ h.parts.1.1.1.1.0, tt)),
+            ),
+          ),
+        );
         rooted = rooted-same b c (g.body 1 (owner-live b 1 MACHINE_BIRTH h.machine)) first second h.rooted;
         children = children;
         aside =
@@ -132,10 +140,12 @@ module _ (depth : ℕ → ℕ) (b c : Board) (g : Grown b c) (firm : Firm b) (h 
         shallow =
             record {
               top = h.shallow.top;
-              below = λ p q m e on o. h.shallow.below p q m (sym (all-stands p) ∙ e) (sym (g.bus p (there p e)) ∙ on) (sym (ap (list_any (owns_it m)) (own-children p (sym (all-stands p) ∙ e))) ∙ o);
+              below = λ p q m e on o. h.shallow.below p q m (sym (all-stands p) ∙ e) (sym (g.bus p (there p e)) ∙ on)
+                  (sym (ap (list_any (owns_it m)) (own-children p (sym (all-stands p) ∙ e))) ∙ o);
               most = λ q o. h.shallow.most q (owner-back q o);
             };
-        only = λ d e. decide (is_live b d) (λ k. all-stands d ∙ h.only d (sym (g.realized d k) ∙ e)) (λ k. absurd (let clash : true ≡ false = sym e ∙ g.unrealized d k in cc));
+        only = λ d e. decide (is_live b d) (λ k. all-stands d ∙ h.only d (sym (g.realized d k) ∙ e))
+            (λ k. absurd (let clash : true ≡ false = sym e ∙ g.unrealized d k in cc));
         each = λ d e k. g.realized d (there d e) ∙ h.each d (sym (all-stands d) ∙ e) k;
         ids = λ d id e. of-alike b c d (codes "device") (g.body d (named d id e)) ∙ h.ids d id (sym (id-alike b c d (g.body d (named d id e))) ∙ e);
         once = λ d x id e q. h.once d x id (sym (id-alike b c d (g.body d (named d id e))) ∙ e) (sym (id-alike b c x (g.body x (named x id q))) ∙ q);
@@ -275,7 +285,8 @@ entries-added f s none [] = ap (λ (o : Option (List ℕ × ℕ)). cons_option o
 entries-added f s none (x ∷ slots) = ap (cons_option (f x)) (entries-added f s none slots)
 
 pub named-added : {A : Type 0} (f : Slot → Option A) (s : List ℕ × Slot) → f s.1 ≡ None → (name : List ℕ) (slots : List (List ℕ × Slot))
-    → option_and_then f (option_map (λ (x : List ℕ × Slot). x.1) (find (λ x. bytes_eq x.0 name) (slots ++ s ∷ []))) ≡ option_and_then f (option_map (λ (x : List ℕ × Slot). x.1) (find (λ x. bytes_eq x.0 name) slots))
+    → option_and_then f (option_map (λ (x : List ℕ × Slot). x.1) (find (λ x. bytes_eq x.0 name) (slots ++ s ∷ [])))
+    ≡ option_and_then f (option_map (λ (x : List ℕ × Slot). x.1) (find (λ x. bytes_eq x.0 name) slots))
 named-added f s none name [] = go (bytes_eq s.0 name) refl
   where
     go : (t : Bool) → bytes_eq s.0 name ≡ t → option_and_then f (option_map (λ (x : List ℕ × Slot). x.1) (find (λ x. bytes_eq x.0 name) (s ∷ []))) ≡ None
@@ -284,8 +295,10 @@ named-added f s none name [] = go (bytes_eq s.0 name) refl
 named-added f s none name (x ∷ slots) = go (bytes_eq x.0 name) refl (named-added f s none name slots)
   where
     go : (t : Bool) → bytes_eq x.0 name ≡ t
-        → option_and_then f (option_map (λ (x : List ℕ × Slot). x.1) (find (λ x. bytes_eq x.0 name) (slots ++ s ∷ []))) ≡ option_and_then f (option_map (λ (x : List ℕ × Slot). x.1) (find (λ x. bytes_eq x.0 name) slots))
-        → option_and_then f (option_map (λ (x : List ℕ × Slot). x.1) (find (λ x. bytes_eq x.0 name) (x ∷ slots ++ s ∷ []))) ≡ option_and_then f (option_map (λ (x : List ℕ × Slot). x.1) (find (λ x. bytes_eq x.0 name) (x ∷ slots)))
+        → option_and_then f (option_map (λ (x : List ℕ × Slot). x.1) (find (λ x. bytes_eq x.0 name) (slots ++ s ∷ [])))
+        ≡ option_and_then f (option_map (λ (x : List ℕ × Slot). x.1) (find (λ x. bytes_eq x.0 name) slots))
+        → option_and_then f (option_map (λ (x : List ℕ × Slot). x.1) (find (λ x. bytes_eq x.0 name) (x ∷ slots ++ s ∷ [])))
+        ≡ option_and_then f (option_map (λ (x : List ℕ × Slot). x.1) (find (λ x. bytes_eq x.0 name) (x ∷ slots)))
     go true p rest = rw p refl
     go false p rest = rw p rest
 
@@ -364,13 +377,15 @@ module _ (b : Board) (t : TypeId) (id : List ℕ) (props : List Given) (its : Is
         unrealized = read-new (λ (o : Option Record). realized_in (option_map_or (λ (y : Record). y.slots) o [])) false refl its.unrealized;
         nameless = read-new (option_and_then (λ (y : Record). y.device_id)) None refl refl;
         no_bus =
-            read-new (λ (o : Option Record). option_map_or (λ (k : TypeId). is_a k (codes "bus")) (option_map (λ (y : Record). y.kind) o) false) false refl its.no_bus;
+            read-new (λ (o : Option Record). option_map_or (λ (k : TypeId). is_a k (codes "bus")) (option_map (λ (y : Record). y.kind) o) false) false refl
+            its.no_bus;
         anonymous = refl;
         added = (id, b.born + 1);
         added_new = high-absent b firm (b.born + 1) (omega arith);
         objects = objects;
         no_device =
-            read-new (λ (o : Option Record). option_map_or (λ (k : TypeId). is_a k (codes "device")) (option_map (λ (y : Record). y.kind) o) false) false refl its.no_device;
+            read-new (λ (o : Option Record). option_map_or (λ (k : TypeId). is_a k (codes "device")) (option_map (λ (y : Record). y.kind) o) false) false refl
+            its.no_device;
         no_children = read-new (λ (o : Option Record). filter_map child_entry (option_map_or (λ (y : Record). y.slots) o [])) [] refl its.no_children;
       }
     where
@@ -412,7 +427,8 @@ pub attempt-places : (depth : ℕ → ℕ) (b : Board) (t : TypeId) → AtRest b
     → PlacesBut depth None (λ x. false) (with_attempt b t)
 attempt-places depth b t rest h =
     places-kept b (with_attempt b t)
-    (kept-alike b (with_attempt b t) (attempt-rest b t rest).used.firm (owner-live b 1 MACHINE_BIRTH h.machine) refl (λ x e. alike-record b (with_attempt b t) x refl)) depth None
+    (kept-alike b (with_attempt b t) (attempt-rest b t rest).used.firm (owner-live b 1 MACHINE_BIRTH h.machine) refl
+    (λ x e. alike-record b (with_attempt b t) x refl)) depth None
     (λ x. false) h
 
 creatable : (b : Board) (row : TypeRow) (id : List ℕ) → barred b row id ≡ None → is_a row.id (codes "user-creatable") ≡ true

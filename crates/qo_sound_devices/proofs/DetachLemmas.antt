@@ -152,7 +152,8 @@ none-owned m k ((name, child n) ∷ slots) e = go (is_bus_slot m (name, child n)
 -- the kids of an unrealized device are unrealized
 abbrev pub IsClosed : Board → Type 0
 IsClosed c =
-    (p m k : ℕ) → stands c p ≡ true → owns c p m ≡ true → is_of c (codes "bus") m ≡ true → listed k (kid_entries c m) ≡ true → is_realized c p ≡ false → is_realized c k ≡ false
+    (p m k : ℕ) → stands c p ≡ true → owns c p m ≡ true → is_of c (codes "bus") m ≡ true → listed k (kid_entries c m) ≡ true → is_realized c p ≡ false
+    → is_realized c k ≡ false
 
 pub stood-steps : (b c : Board) → Steps b c → (x : ℕ) → stands c x ≡ true → stands b x ≡ true
 stood-steps b c s x e =
@@ -221,14 +222,16 @@ lit-stay : (d : ℕ) (b c : Board) → is_realized b d ≡ false → Stay d b c 
 lit-stay d b c dim s =
     record {
       on =
-          λ x e lit. s.stands_on x (false-of (d == x) (λ k. let clash : true ≡ false = sym lit ∙ ap (is_realized b) (sym (eqb-true d x k)) ∙ dim in absurd cc)) e;
+          λ x e lit. s.stands_on x (false-of (d == x) (λ k. let clash : true ≡ false = sym lit ∙ ap (is_realized b) (sym (eqb-true d x k)) ∙ dim in
+          absurd cc)) e;
     }
 
 lit-all : (depth : ℕ → ℕ) (left : Option ℕ) (out : ℕ → Bool) (b c : Board) → PlacesBut depth left out b → Stay 1 b c → Lit b c
 lit-all depth left out b c h s =
     record {
       on =
-          λ x e lit. s.stands_on x (false-of (1 == x) (λ k. let clash : true ≡ false = sym e ∙ ap (stands b) (sym (eqb-true 1 x k)) ∙ h.aside.0 in absurd cc)) e;
+          λ x e lit. s.stands_on x (false-of (1 == x) (λ k. let clash : true ≡ false = sym e ∙ ap (stands b) (sym (eqb-true 1 x k)) ∙ h.aside.0 in
+          absurd cc)) e;
     }
 
 pub record TakenOut (depth : ℕ → ℕ) (out : ℕ → Bool) (ps : List ℕ) (d q : ℕ) (b c : Board) : Type 0 where
@@ -241,7 +244,8 @@ pub record TakenOut (depth : ℕ → ℕ) (out : ℕ → Bool) (ps : List ℕ) (
 -- what takes out an unrealized device that is deep enough, or for which the recursion is
 abbrev pub Takes : (ℕ → ℕ) → (ℕ → Bool) → ℕ → (ℕ → Board → Board) → Type 0
 Takes depth out n f =
-    (ps : List ℕ) → IsUp ps → (d q : ℕ) (b : Board) → Mid depth out None ps b → IsClosed b → stands b d ≡ true → bus_of b d ≡ Some q → is_realized b d ≡ false → 9 ≤ n + depth q → TakenOut depth out ps d q b
+    (ps : List ℕ) → IsUp ps → (d q : ℕ) (b : Board) → Mid depth out None ps b → IsClosed b → stands b d ≡ true → bus_of b d ≡ Some q → is_realized b d ≡ false
+    → 9 ≤ n + depth q → TakenOut depth out ps d q b
     (f d b)
 
 record Drained (depth : ℕ → ℕ) (out : ℕ → Bool) (ps : List ℕ) (m : ℕ) (b c : Board) : Type 0 where
@@ -287,7 +291,8 @@ module _ (depth : ℕ → ℕ) (out : ℕ → Bool) (n : ℕ) (f : ℕ → Board
   drain m deep (suc times) b h closed bus dim few = go (first_of (kids_of b m)) refl (drain m deep times)
     where
       go : (o : Option ℕ) → first_of (kids_of b m) ≡ o
-          → ((c : Board) → Mid depth out None ps c → IsClosed c → (is_live c m ≡ true → is_of c (codes "bus") m ≡ true) → ((k : ℕ) → listed k (kid_entries c m) ≡ true → is_realized c k ≡ false) → length (kid_entries c m) ≤ times → Drained depth out ps m c (drained f times m c))
+          → ((c : Board) → Mid depth out None ps c → IsClosed c → (is_live c m ≡ true → is_of c (codes "bus") m ≡ true) → ((k : ℕ) → listed k (kid_entries c m)
+          ≡ true → is_realized c k ≡ false) → length (kid_entries c m) ≤ times → Drained depth out ps m c (drained f times m c))
           → Drained depth out ps m b (drained f (suc times) m b)
       go None e rest =
           rw (drained, e)
@@ -391,7 +396,8 @@ module _ (depth : ℕ → ℕ) (out : ℕ → Bool) (n : ℕ) (f : ℕ → Board
 
           aside : among (1 ∷ MACHINE_BIRTH ∷ PERIPHERAL_BIRTH ∷ ANONYMOUS_BIRTH ∷ ROOT_BUS_BIRTH ∷ MEMORY_BUS_BIRTH ∷ OBJECTS_BIRTH ∷ []) d ≡ false
           aside =
-              aside-apart c (1 ∷ MACHINE_BIRTH ∷ PERIPHERAL_BIRTH ∷ ANONYMOUS_BIRTH ∷ ROOT_BUS_BIRTH ∷ MEMORY_BUS_BIRTH ∷ OBJECTS_BIRTH ∷ []) k.places.aside d on_here.0
+              aside-apart c (1 ∷ MACHINE_BIRTH ∷ PERIPHERAL_BIRTH ∷ ANONYMOUS_BIRTH ∷ ROOT_BUS_BIRTH ∷ MEMORY_BUS_BIRTH ∷ OBJECTS_BIRTH ∷ []) k.places.aside d
+              on_here.0
 
           shelf : (y : ℕ)
               → among (1 ∷ MACHINE_BIRTH ∷ PERIPHERAL_BIRTH ∷ ANONYMOUS_BIRTH ∷ ROOT_BUS_BIRTH ∷ MEMORY_BUS_BIRTH ∷ OBJECTS_BIRTH ∷ []) y ≡ true
@@ -399,7 +405,8 @@ module _ (depth : ℕ → ℕ) (out : ℕ → Bool) (n : ℕ) (f : ℕ → Board
           shelf =
               for-each depth out None ps c k d i r owner.1 s at
               (λ y.
-              among (1 ∷ MACHINE_BIRTH ∷ PERIPHERAL_BIRTH ∷ ANONYMOUS_BIRTH ∷ ROOT_BUS_BIRTH ∷ MEMORY_BUS_BIRTH ∷ OBJECTS_BIRTH ∷ []) y ≡ true → child_entries x y ≡ child_entries c y)
+              among (1 ∷ MACHINE_BIRTH ∷ PERIPHERAL_BIRTH ∷ ANONYMOUS_BIRTH ∷ ROOT_BUS_BIRTH ∷ MEMORY_BUS_BIRTH ∷ OBJECTS_BIRTH ∷ []) y ≡ true
+              → child_entries x y ≡ child_entries c y)
               (λ y u a z. a.children) (λ z. absurd (let clash : true ≡ false = sym z ∙ aside in cc))
 
           same-bus : (y : ℕ) → bus_of x y ≡ bus_of c y
@@ -412,7 +419,8 @@ module _ (depth : ℕ → ℕ) (out : ℕ → Bool) (n : ℕ) (f : ℕ → Board
           stay_first : Stay 1 c x
           stay_first =
               record {
-                stands_on = λ y u z. ap₂ (λ (xs ys : List (List ℕ × ℕ)). listed y xs || listed y ys) (shelf PERIPHERAL_BIRTH refl) (shelf ANONYMOUS_BIRTH refl) ∙ z;
+                stands_on =
+                    λ y u z. ap₂ (λ (xs ys : List (List ℕ × ℕ)). listed y xs || listed y ys) (shelf PERIPHERAL_BIRTH refl) (shelf ANONYMOUS_BIRTH refl) ∙ z;
                 bus_on = λ y w u z o. same-bus y ∙ o;
               }
 
@@ -453,7 +461,8 @@ module _ (depth : ℕ → ℕ) (out : ℕ → Bool) (n : ℕ) (f : ℕ → Board
   buses d q deep (suc times) b h closed e on dim few = go (first_of (buses_of b d)) refl (buses d q deep times)
     where
       go : (o : Option ℕ) → first_of (buses_of b d) ≡ o
-          → ((c : Board) → Mid depth out None ps c → IsClosed c → stands c d ≡ true → bus_of c d ≡ Some q → is_realized c d ≡ false → length (child_entries c d) ≤ times → LostAll depth out ps d q c (lost_buses f times d c))
+          → ((c : Board) → Mid depth out None ps c → IsClosed c → stands c d ≡ true → bus_of c d ≡ Some q → is_realized c d ≡ false
+          → length (child_entries c d) ≤ times → LostAll depth out ps d q c (lost_buses f times d c))
           → LostAll depth out ps d q b (lost_buses f (suc times) d b)
       go None p rest =
           rw (lost_buses, p)
@@ -547,7 +556,8 @@ steps-pin b d = steps-alike b (pin b d) refl (λ x e. alike-record b (pin b d) x
 places-pin : (depth : ℕ → ℕ) (out : ℕ → Bool) (ps : List ℕ) (b : Board) (d : ℕ) → Mid depth out None ps b → PlacesBut depth None out (pin b d)
 unfolding pin
 places-pin depth out ps b d h =
-    (goes-pins depth None out b (put_in_order d b.pins) h.sits.near.firm (put-keeps d 1 b.pins (ap (λ (qs : List ℕ). among qs 1) h.sits.pins ∙ h.one)) h.places).places
+    (goes-pins depth None out b (put_in_order d b.pins) h.sits.near.firm (put-keeps d 1 b.pins (ap (λ (qs : List ℕ). among qs 1) h.sits.pins ∙ h.one))
+    h.places).places
 
 above-pin : (depth : ℕ → ℕ) (l : ℕ) (b : Board) (d : ℕ) → Above depth l b (pin b d)
 unfolding pin
@@ -643,7 +653,8 @@ pinned-out depth out n f takes ps up d q b h closed e on dim deep = result
 
     inner : TakenOut depth out (put_in_order d ps) d q p c
     inner =
-        taken depth out n f takes (put_in_order d ps) (put-up d ps up) d q p mid (closed-steps b p mid.sits.near.firm (steps-pin b d) closed) here_on.0 here_on.1
+        taken depth out n f takes (put_in_order d ps) (put-up d ps up) d q p mid (closed-steps b p mid.sits.near.firm (steps-pin b d) closed) here_on.0
+        here_on.1
         (unrealized-steps b p d (steps-pin b d) dim) deep
 
     last : Unpinned depth out ps c (unpin c d)
@@ -772,7 +783,8 @@ module _ (depth : ℕ → ℕ) (b : Board) (d : ℕ) (rest : AtRest b) (h : Plac
       let kid : listed k (kid_entries (pin b d) m) ≡ true = sym (ap (listed k) (dims.kids m)) ∙ l in
       dark k (under-more (pin b d) d x m k under (owned-bus (pin b d) m bus (slots_at (pin b d) x) own) (listed-kid k (slots_at (pin b d) m) kid))
 
-  taken_out : TakenOut depth (faded_by (pin b d) (unrealize (pin b d) d)) (put_in_order d (1 ∷ [])) d home.bus (unrealize (pin b d) d) (taken_by (apart_within (length (births b))) d (unrealize (pin b d) d))
+  taken_out : TakenOut depth (faded_by (pin b d) (unrealize (pin b d) d)) (put_in_order d (1 ∷ [])) d home.bus (unrealize (pin b d) d)
+      (taken_by (apart_within (length (births b))) d (unrealize (pin b d) d))
   taken_out =
       taken depth (faded_by (pin b d) (unrealize (pin b d) d)) (length (births b)) (apart_within (length (births b)))
       (takes-apart depth (faded_by (pin b d) (unrealize (pin b d) d)) (length (births b))) (put_in_order d (1 ∷ [])) (put-up d (1 ∷ []) (tt, tt)) d home.bus
@@ -783,7 +795,8 @@ module _ (depth : ℕ → ℕ) (b : Board) (d : ℕ) (rest : AtRest b) (h : Plac
   abbrev x : Board
   x = taken_by (apart_within (length (births b))) d (unrealize (pin b d) d)
 
-  last : Unpinned depth (faded_by (pin b d) (unrealize (pin b d) d)) (1 ∷ []) (taken_by (apart_within (length (births b))) d (unrealize (pin b d) d)) (unpin (taken_by (apart_within (length (births b))) d (unrealize (pin b d) d)) d)
+  last : Unpinned depth (faded_by (pin b d) (unrealize (pin b d) d)) (1 ∷ []) (taken_by (apart_within (length (births b))) d (unrealize (pin b d) d))
+      (unpin (taken_by (apart_within (length (births b))) d (unrealize (pin b d) d)) d)
   last =
       unpinned depth (faded_by (pin b d) (unrealize (pin b d) d)) (1 ∷ []) (tt, tt) refl
       (taken_by (apart_within (length (births b))) d (unrealize (pin b d) d)) d taken_out.went.mid

@@ -421,7 +421,8 @@ module _ (b : Board) (firm : Firm b) (n : ℕ) (absent : is_live b n ≡ false) 
       (λ m is.
       let own : c.born + 1 ≡ m = same_Some (c.born + 1) m (ap child_of is) in
       record { kind = type; of = ap (kind_of made) (sym own) ∙ new-kind c type h; fits = fits-heir t name type k })
-      (draft-new b n t c (fresh_record (c.born + 1) type) (first-blank b type (slots_of type) (rows-blank type)) (first-childless type (slots_of type)) refl refl h)
+      (draft-new b n t c (fresh_record (c.born + 1) type) (first-blank b type (slots_of type) (rows-blank type)) (first-childless type (slots_of type)) refl
+      refl h)
   draft-row name (row.Alias owner property) c k h = draft-aliased c name (property_name property) (owned c n (property_name owner)) h
 
   draft-rows : (ps : List Property) (c : Board) → RowsBlank t ps → Draft b n t c → Draft b n t (rows_made n t ps c)

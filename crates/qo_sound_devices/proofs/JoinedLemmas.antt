@@ -159,7 +159,8 @@ never-among b d (x ∷ ns) h e = go (eqb d x) refl (never-among b d ns h.1 e)
     go true p rest = absurd (let clash : false ≡ true = sym h.0 ∙ sym (ap (stands b) (eqb-true d x p)) ∙ e in cc)
     go false p rest = rw p rest
 
-module _ (depth : ℕ → ℕ) (b : Board) (n bus slot : ℕ) (id : Option (List ℕ)) (t : TypeId) (c : Board) (j : Joined depth b n bus slot id t (done b bus slot id) c) (firm : Firm b) (h : PlacesBut depth None (λ x. false) b) where
+module _ (depth : ℕ → ℕ) (b : Board) (n bus slot : ℕ) (id : Option (List ℕ)) (t : TypeId) (c : Board)
+    (j : Joined depth b n bus slot id t (done b bus slot id) c) (firm : Firm b) (h : PlacesBut depth None (λ x. false) b) where
   live-machine : is_live b MACHINE_BIRTH ≡ true
   live-machine = child-live b firm 1 MACHINE_BIRTH h.machine
 
@@ -171,7 +172,8 @@ module _ (depth : ℕ → ℕ) (b : Board) (n bus slot : ℕ) (id : Option (List
 
   -- who stands
   stands-is : (d : ℕ)
-      → stands c d ≡ (listed d (child_entries b PERIPHERAL_BIRTH) || listed d (named_entry id n)) || (listed d (child_entries b ANONYMOUS_BIRTH) || listed d (numbered_entry b id n))
+      → stands c d ≡ (listed d (child_entries b PERIPHERAL_BIRTH) || listed d (named_entry id n))
+      || (listed d (child_entries b ANONYMOUS_BIRTH) || listed d (numbered_entry b id n))
   stands-is d =
       ap₂ (λ (xs ys : List (List ℕ × ℕ)). listed d xs || listed d ys) j.third j.fourth
       ∙ ap₂ (λ (x y : Bool). x || y) (any-append d (child_entries b PERIPHERAL_BIRTH) (named_entry id n))
@@ -271,8 +273,10 @@ module _ (depth : ℕ → ℕ) (b : Board) (n bus slot : ℕ) (id : Option (List
   shallow : IsShallow deeper c
   shallow =
       record {
-        top =
-            (deeper-old ROOT_BUS_BIRTH (child-live b firm MACHINE_BIRTH ROOT_BUS_BIRTH h.parts.1.1.0) ∙ h.shallow.top.0, (deeper-old MEMORY_BUS_BIRTH (child-live b firm MACHINE_BIRTH MEMORY_BUS_BIRTH h.parts.1.1.1.0) ∙ h.shallow.top.1.0, tt));
+        top = (
+          deeper-old ROOT_BUS_BIRTH (child-live b firm MACHINE_BIRTH ROOT_BUS_BIRTH h.parts.1.1.0) ∙ h.shallow.top.0,
+          (deeper-old MEMORY_BUS_BIRTH (child-live b firm MACHINE_BIRTH MEMORY_BUS_BIRTH h.parts.1.1.1.0) ∙ h.shallow.top.1.0, tt),
+        );
         below = below;
         most = λ q o. by-owner q o
             (λ k.
@@ -311,8 +315,10 @@ module _ (depth : ℕ → ℕ) (b : Board) (n bus slot : ℕ) (id : Option (List
 
       own : (o : Option (List ℕ)) → id_of c n ≡ o → path_of c n ≡ Some (path_behind b o) → AllByRecursion (IsPeripheral c) (named_entry o n)
       own None e p = tt
-      own (Some i) e p =
-          (record { device = ap (λ (k : Option TypeId). option_map_or (λ (x : TypeId). is_a x (codes "device")) k false) j.kind ∙ j.device; id = e; path = p }, tt)
+      own (Some i) e p = (
+        record { device = ap (λ (k : Option TypeId). option_map_or (λ (x : TypeId). is_a x (codes "device")) k false) j.kind ∙ j.device; id = e; path = p },
+        tt,
+      )
 
   anonymous : AllByRecursion (IsAnonymous c) (child_entries c ANONYMOUS_BIRTH)
   anonymous =
@@ -338,8 +344,15 @@ module _ (depth : ℕ → ℕ) (b : Board) (n bus slot : ℕ) (id : Option (List
       own : (o : Option (List ℕ)) → id_of c n ≡ o → path_of c n ≡ Some (path_behind b o) → c.anonymous ≡ count_behind o b.anonymous
           → AllByRecursion (IsAnonymous c) (numbered_entry b o n)
       own (Some i) e p k = tt
-      own None e p k =
-          (record { device = ap (λ (x : Option TypeId). option_map_or (λ (y : TypeId). is_a y (codes "device")) x false) j.kind ∙ j.device; id = e; path = p; numbered = (b.anonymous, (omega (arith, k), refl)) }, tt)
+      own None e p k = (
+        record {
+          device = ap (λ (x : Option TypeId). option_map_or (λ (y : TypeId). is_a y (codes "device")) x false) j.kind ∙ j.device;
+          id = e;
+          path = p;
+          numbered = (b.anonymous, (omega (arith, k), refl));
+        },
+        tt,
+      )
 
   -- kids
   old-kid : (q : ℕ) → is_live b q ≡ true → (x : List ℕ × ℕ) → IsKid b q x → IsKid c q x
@@ -500,8 +513,16 @@ module _ (depth : ℕ → ℕ) (b : Board) (n bus slot : ℕ) (id : Option (List
       record {
         machine = ap (listed MACHINE_BIRTH) first ∙ h.machine;
         objects = ap (listed OBJECTS_BIRTH) first ∙ h.objects;
-        parts =
-            (ap (listed PERIPHERAL_BIRTH) second ∙ h.parts.0, (ap (listed ANONYMOUS_BIRTH) second ∙ h.parts.1.0, (ap (listed ROOT_BUS_BIRTH) second ∙ h.parts.1.1.0, (ap (listed MEMORY_BUS_BIRTH) second ∙ h.parts.1.1.1.0, (ap (listed SYSTEM_CLOCK_BIRTH) second ∙ h.parts.1.1.1.1.0, tt)))));
+        parts = (
+          ap (listed PERIPHERAL_BIRTH) second ∙ h.parts.0,
+          (
+            ap (listed ANONYMOUS_BIRTH) second ∙ h.parts.1.0,
+            (
+              ap (listed ROOT_BUS_BIRTH) second ∙ h.parts.1.1.0,
+              (ap (listed MEMORY_BUS_BIRTH) second ∙ h.parts.1.1.1.0, (ap (listed SYSTEM_CLOCK_BIRTH) second ∙ h.parts.1.1.1.1.0, tt)),
+            ),
+          ),
+        );
         rooted = rooted-same b c (j.body 1 (owner-live b 1 MACHINE_BIRTH h.machine)) first second h.rooted;
         children = at_home;
         aside = (

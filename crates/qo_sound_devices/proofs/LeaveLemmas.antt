@@ -66,7 +66,8 @@ unnamed name [] k e = refl
 unnamed name (s ∷ slots) k e = go (is_named name s) refl (unnamed name slots (suc k))
   where
     go : (t : Bool) → is_named name s ≡ t
-        → (place_from (is_named name) (suc k) slots ≡ None → option_and_then strong_in (option_map (λ (s : List ℕ × Slot). s.1) (find (λ s. bytes_eq s.0 name) slots)) ≡ None)
+        → (place_from (is_named name) (suc k) slots ≡ None
+        → option_and_then strong_in (option_map (λ (s : List ℕ × Slot). s.1) (find (λ s. bytes_eq s.0 name) slots)) ≡ None)
         → option_and_then strong_in (option_map (λ (s : List ℕ × Slot). s.1) (find (λ s. bytes_eq s.0 name) (s ∷ slots))) ≡ None
     go true p rest = absurd (let clash : Some k ≡ None = rw p at e in cc)
     go false p rest = rw p (rest (rw p at e))
@@ -245,7 +246,8 @@ taken-kid depth out ps b h d m e on = go (place_from (names_kid d) 0 (slots_at b
         hold p x isb differs =
             for-each depth out None ps b h m i r owner.1 f.entry at (λ y. listed x (kid_entries b y) ≡ true → listed x (kid_entries c y) ≡ true)
             (λ y k a l. ap (listed x) a.kids ∙ l)
-            (λ l. dropped-read depth out None ps b h m i r owner.1 f.entry at (λ ss. listed x (filter_map kid_entry ss)) (any-kid_dropped (λ (z : List ℕ × ℕ). z.1 == x) i r.slots f.entry (f.entry.0, d) at entry (false-of (d == x) (λ k. differs (eqb-true d x k)))) ∙ l) p
+            (λ l. dropped-read depth out None ps b h m i r owner.1 f.entry at (λ ss. listed x (filter_map kid_entry ss)) (any-kid_dropped
+            (λ (z : List ℕ × ℕ). z.1 == x) i r.slots f.entry (f.entry.0, d) at entry (false-of (d == x) (λ k. differs (eqb-true d x k)))) ∙ l) p
 
         first : PlacesBut depth (Some d) out c
         first = link-dropped depth out None ps b h m i r owner.1 f.entry at d none (λ x. inl (λ z. cc)) (λ x k. same-bus x) (λ p x isb l. same-bus x) hold
@@ -299,7 +301,8 @@ taken-kid depth out ps b h d m e on = go (place_from (names_kid d) 0 (slots_at b
 
         second : Kept c (cut m i c) × Steps c (cut m i c)
         second =
-            cut-kept c (owner-live c 1 MACHINE_BIRTH first.machine) m i near_first.firm near_second.firm here.owner here.found here.entry here.at typed.0 here.is
+            cut-kept c (owner-live c 1 MACHINE_BIRTH first.machine) m i near_first.firm near_second.firm here.owner here.found here.entry here.at typed.0
+            here.is
 
         places_second : PlacesBut depth (Some d) out (cut m i c)
         places_second = places-kept c (cut m i c) second.0 depth (Some d) out first

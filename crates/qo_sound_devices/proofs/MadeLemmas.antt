@@ -113,7 +113,8 @@ pub record Goal (depth : ℕ → ℕ) (b : Board) (n bus slot : ℕ) (id : Optio
 abbrev pub now_at : ℕ → Board → Now
 now_at n c = record { its = id_of c n; path = path_of c n; count = c.anonymous; on = bus_of c n; at = place_on c n; realized = is_realized c n }
 
-module _ (depth : ℕ → ℕ) (b : Board) (n bus slot : ℕ) (id : Option (List ℕ)) (t : TypeId) (c : Board) (m : Made b n t c) (g : Goal depth b n bus slot id t c) (firm : Firm b) (h : PlacesBut depth None (λ x. false) b) where
+module _ (depth : ℕ → ℕ) (b : Board) (n bus slot : ℕ) (id : Option (List ℕ)) (t : TypeId) (c : Board) (m : Made b n t c) (g : Goal depth b n bus slot id t c)
+    (firm : Firm b) (h : PlacesBut depth None (λ x. false) b) where
   abbrev parent : ℕ
   parent = parent_for id
 
@@ -274,7 +275,8 @@ module _ (depth : ℕ → ℕ) (b : Board) (n bus slot : ℕ) (id : Option (List
         unrealized = λ x e apart. realized2 x ∙ m.unrealized x e;
         nameless = λ x e apart. id-alike c c2 x (body2 x) ∙ m.nameless x e;
         no_kids = λ x e is. kids-other x (apart-from x bus e bus-live) ∙ m.no_kids x e;
-        further = λ x e. further-same c c2 (λ own y. of-alike c c2 y own (body2 y)) x (children-other x (apart-from x parent e (parent-live id))) (m.further x e);
+        further =
+            λ x e. further-same c c2 (λ own y. of-alike c c2 y own (body2 y)) x (children-other x (apart-from x parent e (parent-live id))) (m.further x e);
         kind = kind-alike c c2 n (body2 n) ∙ m.kind;
         device = g.device;
         its_id = refl;

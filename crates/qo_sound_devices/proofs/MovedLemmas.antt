@@ -25,8 +25,10 @@ within-listed d (more {xs} {ys} y w) e = rw (within-listed d w e) (or-true (y.1 
 -- each entry is listed
 pub all-in : (es : List (List ℕ × ℕ)) → AllByRecursion (λ (e : List ℕ × ℕ). listed e.1 es ≡ true) es
 all-in [] = tt
-all-in (x ∷ es) =
-    (rw (eq-eqb x.1 x.1 refl) refl, all-imply (λ (e : List ℕ × ℕ). listed e.1 es ≡ true) (λ (e : List ℕ × ℕ). listed e.1 (x ∷ es) ≡ true) (λ e k. rw k (or-true (x.1 == e.1))) es (all-in es))
+all-in (x ∷ es) = (
+  rw (eq-eqb x.1 x.1 refl) refl,
+  all-imply (λ (e : List ℕ × ℕ). listed e.1 es ≡ true) (λ (e : List ℕ × ℕ). listed e.1 (x ∷ es) ≡ true) (λ e k. rw k (or-true (x.1 == e.1))) es (all-in es),
+)
 
 -- a step: fewer devices stand, on fewer buses, and what stays is as before, but that `left` may have left its bus
 pub record Moved (left : Option ℕ) (b c : Board) : Type 0 where
@@ -48,7 +50,10 @@ pub record Moved (left : Option ℕ) (b c : Board) : Type 0 where
   pub owned : (x q : ℕ) → stands c x ≡ true → bus_of c x ≡ Some q → HasOwner b q → HasOwner c q
   pub owns_back : (p q : ℕ) → stands c p ≡ true → owns c p q ≡ true → owns b p q ≡ true
 
-module _ (b c : Board) (depth : ℕ → ℕ) (left before : Option ℕ) (out out_before : ℕ → Bool) (m : Moved left b c) (h : PlacesBut depth before out_before b) (apart : (x : ℕ) → stands c x ≡ true → left ≢ Some x → before ≢ Some x) (only : (x : ℕ) → is_live c x ≡ true → is_realized c x ≡ true → stands b x ≡ true → stands c x ≡ true) (each : (x : ℕ) → stands c x ≡ true → out x ≡ false → is_realized c x ≡ true) where
+module _ (b c : Board) (depth : ℕ → ℕ) (left before : Option ℕ) (out out_before : ℕ → Bool) (m : Moved left b c) (h : PlacesBut depth before out_before b)
+    (apart : (x : ℕ) → stands c x ≡ true → left ≢ Some x → before ≢ Some x)
+    (only : (x : ℕ) → is_live c x ≡ true → is_realized c x ≡ true → stands b x ≡ true → stands c x ≡ true)
+    (each : (x : ℕ) → stands c x ≡ true → out x ≡ false → is_realized c x ≡ true) where
   machine : listed MACHINE_BIRTH (child_entries c 1) ≡ true
   machine = ap (listed MACHINE_BIRTH) (m.fixed 1 m.root refl) ∙ h.machine
 
@@ -156,8 +161,13 @@ module _ (b c : Board) (depth : ℕ → ℕ) (left before : Option ℕ) (out out
       record {
         machine = machine;
         objects = ap (listed OBJECTS_BIRTH) (m.fixed 1 m.root refl) ∙ h.objects;
-        parts =
-            (part PERIPHERAL_BIRTH h.parts.0, (part ANONYMOUS_BIRTH h.parts.1.0, (part ROOT_BUS_BIRTH h.parts.1.1.0, (part MEMORY_BUS_BIRTH h.parts.1.1.1.0, (part SYSTEM_CLOCK_BIRTH h.parts.1.1.1.1.0, tt)))));
+        parts = (
+          part PERIPHERAL_BIRTH h.parts.0,
+          (
+            part ANONYMOUS_BIRTH h.parts.1.0,
+            (part ROOT_BUS_BIRTH h.parts.1.1.0, (part MEMORY_BUS_BIRTH h.parts.1.1.1.0, (part SYSTEM_CLOCK_BIRTH h.parts.1.1.1.1.0, tt))),
+          ),
+        );
         rooted = rooted-same b c (m.body 1 m.root) (m.fixed 1 m.root refl) (m.fixed MACHINE_BIRTH machine-live refl) h.rooted;
         children = children-within b c m.firm m.body m.within h.children;
         aside =

@@ -168,7 +168,8 @@ unlinked depth out ps d m b c t = go (place_from (is_named (codes "parent_bus"))
         stay_first : Stay d c e
         stay_first =
             record {
-              stands_on = λ x p k. ap₂ (λ (xs ys : List (List ℕ × ℕ)). listed x xs || listed x ys) (link-stands depth out (Some d) ps c h d i r owner.1 s at is.no_child PERIPHERAL_BIRTH) (link-stands depth out (Some d) ps c h d i r owner.1 s at is.no_child ANONYMOUS_BIRTH) ∙ k;
+              stands_on = λ x p k. ap₂ (λ (xs ys : List (List ℕ × ℕ)). listed x xs || listed x ys) (link-stands depth out (Some d) ps c h d i r owner.1 s
+                  at is.no_child PERIPHERAL_BIRTH) (link-stands depth out (Some d) ps c h d i r owner.1 s at is.no_child ANONYMOUS_BIRTH) ∙ k;
               bus_on = λ x p u k o. same-bus x (λ z. let clash : true ≡ false = sym (eq-eqb d x z) ∙ u in absurd cc) ∙ o;
             }
 

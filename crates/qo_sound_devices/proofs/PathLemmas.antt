@@ -64,7 +64,8 @@ module _ (e : Board) (sound : SoundGraph e) (firm : Firm e) where
         steps-below ANONYMOUS_BIRTH x name (codes "/machine/peripheral-anon") apart there
         (steps-below MACHINE_BIRTH ANONYMOUS_BIRTH (codes "peripheral-anon") (codes "/machine") refl rooted.anonymous machine-steps)
 
-module _ (depth : ℕ → ℕ) (b : Board) (t : TypeId) (a : Wanted) (spot : Spot) (rest : AtRest b) (h : PlacesBut depth None (λ x. false) b) (goal : Goal depth b (b.born + 1) spot.bus spot.slot a.id t (drafted b t)) (place : IsPlace b t a spot) where
+module _ (depth : ℕ → ℕ) (b : Board) (t : TypeId) (a : Wanted) (spot : Spot) (rest : AtRest b) (h : PlacesBut depth None (λ x. false) b)
+    (goal : Goal depth b (b.born + 1) spot.bus spot.slot a.id t (drafted b t)) (place : IsPlace b t a spot) where
   abbrev n : ℕ
   n = b.born + 1
 

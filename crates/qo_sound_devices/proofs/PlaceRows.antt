@@ -33,8 +33,22 @@ opening =
       objects = refl;
       parts = (refl, (refl, (refl, (refl, (refl, tt)))));
       located = record { root = refl; machine = refl; peripheral = refl; anonymous = refl };
-      children =
-          ((record { bus = never; device = never }, (record { bus = never; device = never }, tt)), ((record { bus = never; device = never }, (record { bus = never; device = never }, (record { bus = never; device = never }, (record { bus = λ e. on_machine refl; device = never }, (record { bus = λ e. on_machine refl; device = never }, tt))))), (tt, (tt, (tt, (tt, (tt, (tt, tt))))))));
+      children = (
+        (record { bus = never; device = never }, (record { bus = never; device = never }, tt)),
+        (
+          (
+            record { bus = never; device = never },
+            (
+              record { bus = never; device = never },
+              (
+                record { bus = never; device = never },
+                (record { bus = λ e. on_machine refl; device = never }, (record { bus = λ e. on_machine refl; device = never }, tt)),
+              ),
+            ),
+          ),
+          (tt, (tt, (tt, (tt, (tt, (tt, tt)))))),
+        ),
+      );
       aside = (refl, (refl, (refl, (refl, (refl, (refl, (refl, tt)))))));
       peripheral = tt;
       anonymous = tt;
@@ -65,15 +79,51 @@ abbrev depth_two : ℕ → ℕ
 depth_two q = if q == 11 then 1 else if q == 14 then 2 else 0
 
 places-two : Checked two
-unfolding types opening_board steps_to attached drop_slot finish finalise finalise_within let_go pin unpin add set cut acted period clocks_below depth_of is_going plug plugged post held released pulse least
+unfolding types opening_board steps_to attached drop_slot finish finalise finalise_within let_go pin unpin add set cut acted period clocks_below depth_of
+    is_going plug plugged post held released pulse least
 places-two =
     record {
       machine = refl;
       objects = refl;
       parts = (refl, (refl, (refl, (refl, (refl, tt)))));
       located = record { root = refl; machine = refl; peripheral = refl; anonymous = refl };
-      children =
-          ((record { bus = never; device = never }, (record { bus = never; device = never }, tt)), ((record { bus = never; device = never }, (record { bus = never; device = never }, (record { bus = never; device = never }, (record { bus = λ e. on_machine refl; device = never }, (record { bus = λ e. on_machine refl; device = never }, tt))))), ((record { bus = never; device = λ e. refl }, tt), ((record { bus = never; device = λ e. refl }, tt), (tt, (tt, (tt, (tt, ((record { bus = never; device = never }, (record { bus = λ e. on_device refl refl; device = never }, tt)), (tt, (tt, ((record { bus = never; device = never }, (record { bus = λ e. on_device refl refl; device = never }, tt)), (tt, (tt, tt))))))))))))));
+      children = (
+        (record { bus = never; device = never }, (record { bus = never; device = never }, tt)),
+        (
+          (
+            record { bus = never; device = never },
+            (
+              record { bus = never; device = never },
+              (
+                record { bus = never; device = never },
+                (record { bus = λ e. on_machine refl; device = never }, (record { bus = λ e. on_machine refl; device = never }, tt)),
+              ),
+            ),
+          ),
+          (
+            (record { bus = never; device = λ e. refl }, tt),
+            (
+              (record { bus = never; device = λ e. refl }, tt),
+              (
+                tt,
+                (
+                  tt,
+                  (
+                    tt,
+                    (
+                      tt,
+                      (
+                        (record { bus = never; device = never }, (record { bus = λ e. on_device refl refl; device = never }, tt)),
+                        (tt, (tt, ((record { bus = never; device = never }, (record { bus = λ e. on_device refl refl; device = never }, tt)), (tt, (tt, tt))))),
+                      ),
+                    ),
+                  ),
+                ),
+              ),
+            ),
+          ),
+        ),
+      );
       aside = (refl, (refl, (refl, (refl, (refl, (refl, (refl, tt)))))));
       peripheral = (record { device = refl; id = refl; path = refl }, tt);
       anonymous = (record { device = refl; id = refl; path = refl; numbered = (0, (omega arith, refl)) }, tt);
@@ -93,7 +143,16 @@ places-two =
                     λ e. tt,
                     (
                       λ e. tt,
-                      (never, (never, (λ e. (record { there = refl; on = refl; fits = refl; slot = (0, (omega arith, (refl, refl))) }, tt), (never, (never, (λ e. tt, tt)))))),
+                      (
+                        never,
+                        (
+                          never,
+                          (
+                            λ e. (record { there = refl; on = refl; fits = refl; slot = (0, (omega arith, (refl, refl))) }, tt),
+                            (never, (never, (λ e. tt, tt))),
+                          ),
+                        ),
+                      ),
                     ),
                   ),
                 ),
@@ -104,13 +163,46 @@ places-two =
       );
       depth = depth_two;
       top = (refl, (refl, tt));
-      named =
-          (record { home = record { bus = 6; on = refl; is_bus = refl; kid = refl }; owner = machines refl; below = (differs, (λ e. refl, tt)); most = (differs, (λ e. omega arith, tt)); each = refl }, tt);
-      numbered =
-          (record { home = record { bus = 11; on = refl; is_bus = refl; kid = refl }; owner = bridges 9 refl refl; below = (differs, (λ e. refl, tt)); most = (differs, (λ e. omega arith, tt)); each = refl }, tt);
+      named = (
+        record {
+          home = record { bus = 6; on = refl; is_bus = refl; kid = refl };
+          owner = machines refl;
+          below = (differs, (λ e. refl, tt));
+          most = (differs, (λ e. omega arith, tt));
+          each = refl;
+        },
+        tt,
+      );
+      numbered = (
+        record {
+          home = record { bus = 11; on = refl; is_bus = refl; kid = refl };
+          owner = bridges 9 refl refl;
+          below = (differs, (λ e. refl, tt));
+          most = (differs, (λ e. omega arith, tt));
+          each = refl;
+        },
+        tt,
+      );
       only = (never, (never, (never, (never, (never, (never, (never, (never, (λ e. refl, (never, (never, (λ e. refl, (never, (never, tt))))))))))))));
-      ids =
-          (λ id. unnamed, (λ id. unnamed, (λ id. unnamed, (λ id. unnamed, (λ id. unnamed, (λ id. unnamed, (λ id. unnamed, (λ id. unnamed, (λ id e. refl, (λ id. unnamed, (λ id. unnamed, (λ id. unnamed, (λ id. unnamed, (λ id. unnamed, tt))))))))))))));
+      ids = (
+        λ id. unnamed,
+        (
+          λ id. unnamed,
+          (
+            λ id. unnamed,
+            (
+              λ id. unnamed,
+              (
+                λ id. unnamed,
+                (
+                  λ id. unnamed,
+                  (λ id. unnamed, (λ id. unnamed, (λ id e. refl, (λ id. unnamed, (λ id. unnamed, (λ id. unnamed, (λ id. unnamed, (λ id. unnamed, tt)))))))),
+                ),
+              ),
+            ),
+          ),
+        ),
+      );
       once = ((λ e. refl, tt), tt);
     }
 
@@ -119,15 +211,30 @@ two-places = checked-sound two places-two
 
 -- without the upper one, whose removal takes both
 places-removed : Checked (detach two 9)
-unfolding types opening_board steps_to attached drop_slot finish finalise finalise_within let_go pin unpin add set cut acted period clocks_below depth_of is_going plug plugged post held released pulse least unrealize apart_within detach
+unfolding types opening_board steps_to attached drop_slot finish finalise finalise_within let_go pin unpin add set cut acted period clocks_below depth_of
+    is_going plug plugged post held released pulse least unrealize apart_within detach
 places-removed =
     record {
       machine = refl;
       objects = refl;
       parts = (refl, (refl, (refl, (refl, (refl, tt)))));
       located = record { root = refl; machine = refl; peripheral = refl; anonymous = refl };
-      children =
-          ((record { bus = never; device = never }, (record { bus = never; device = never }, tt)), ((record { bus = never; device = never }, (record { bus = never; device = never }, (record { bus = never; device = never }, (record { bus = λ e. on_machine refl; device = never }, (record { bus = λ e. on_machine refl; device = never }, tt))))), (tt, (tt, (tt, (tt, (tt, (tt, tt))))))));
+      children = (
+        (record { bus = never; device = never }, (record { bus = never; device = never }, tt)),
+        (
+          (
+            record { bus = never; device = never },
+            (
+              record { bus = never; device = never },
+              (
+                record { bus = never; device = never },
+                (record { bus = λ e. on_machine refl; device = never }, (record { bus = λ e. on_machine refl; device = never }, tt)),
+              ),
+            ),
+          ),
+          (tt, (tt, (tt, (tt, (tt, (tt, tt)))))),
+        ),
+      );
       aside = (refl, (refl, (refl, (refl, (refl, (refl, (refl, tt)))))));
       peripheral = tt;
       anonymous = tt;

@@ -171,7 +171,8 @@ bus-listed q (s ∷ slots) e = go (bytes_eq s.0 (codes "parent_bus")) refl (bus-
     there (name, alias m property) k = k
 
     go : (t : Bool) → bytes_eq s.0 (codes "parent_bus") ≡ t
-        → (option_and_then strong_in (option_map (λ (s : List ℕ × Slot). s.1) (find (λ s. bytes_eq s.0 (codes "parent_bus")) slots)) ≡ Some q → listed q (filter_map kid_entry slots) ≡ true)
+        → (option_and_then strong_in (option_map (λ (s : List ℕ × Slot). s.1) (find (λ s. bytes_eq s.0 (codes "parent_bus")) slots)) ≡ Some q
+        → listed q (filter_map kid_entry slots) ≡ true)
         → listed q (filter_map kid_entry (s ∷ slots)) ≡ true
     go true p rest = here s (rw p at e)
     go false p rest = there s (rest (rw p at e))
@@ -440,7 +441,8 @@ module _ (b c : Board) (kept : Kept b c) (depth : ℕ → ℕ) (left : Option �
   shallow =
       record {
         top = h.shallow.top;
-        below = λ p q m e on o. h.shallow.below p q m (stood p e) (sym (kept.bus p (there p e) (stood p e)) ∙ on) (sym (ap (list_any (owns_it m)) (kept.children p (there p e) (keeps p e))) ∙ o);
+        below = λ p q m e on o. h.shallow.below p q m (stood p e) (sym (kept.bus p (there p e) (stood p e)) ∙ on)
+            (sym (ap (list_any (owns_it m)) (kept.children p (there p e) (keeps p e))) ∙ o);
         most = λ q o. h.shallow.most q (owner-back q o);
       }
 
@@ -449,8 +451,13 @@ module _ (b c : Board) (kept : Kept b c) (depth : ℕ → ℕ) (left : Option �
       record {
         machine = machine;
         objects = ap (listed OBJECTS_BIRTH) (kept.children 1 kept.root refl) ∙ h.objects;
-        parts =
-            (part PERIPHERAL_BIRTH h.parts.0, (part ANONYMOUS_BIRTH h.parts.1.0, (part ROOT_BUS_BIRTH h.parts.1.1.0, (part MEMORY_BUS_BIRTH h.parts.1.1.1.0, (part SYSTEM_CLOCK_BIRTH h.parts.1.1.1.1.0, tt)))));
+        parts = (
+          part PERIPHERAL_BIRTH h.parts.0,
+          (
+            part ANONYMOUS_BIRTH h.parts.1.0,
+            (part ROOT_BUS_BIRTH h.parts.1.1.0, (part MEMORY_BUS_BIRTH h.parts.1.1.1.0, (part SYSTEM_CLOCK_BIRTH h.parts.1.1.1.1.0, tt))),
+          ),
+        );
         rooted = rooted-same b c (kept.body 1 kept.root) (kept.children 1 kept.root refl) (kept.children MACHINE_BIRTH machine-live refl) h.rooted;
         children = children-within b c kept.firm kept.body kept.within h.children;
         aside =
@@ -467,7 +474,8 @@ module _ (b c : Board) (kept : Kept b c) (depth : ℕ → ℕ) (left : Option �
         ids = λ d id e.
             let a : SameBody b c d = kept.body d (id-live c d id e) in
             of-alike b c d (codes "device") a ∙ h.ids d id (sym (id-alike b c d a) ∙ e);
-        once = λ d x id e q. h.once d x id (sym (id-alike b c d (kept.body d (id-live c d id e))) ∙ e) (sym (id-alike b c x (kept.body x (id-live c x id q))) ∙ q);
+        once =
+            λ d x id e q. h.once d x id (sym (id-alike b c d (kept.body d (id-live c d id e))) ∙ e) (sym (id-alike b c x (kept.body x (id-live c x id q))) ∙ q);
       }
 
 -- places are kept, and the same devices stand

@@ -127,7 +127,8 @@ kept-link name n own m c e = go (place_from (is_named own) 0 (slots_at c n)) ref
         (kept-edit name n n (with_changed (fitted c m) i) (λ r. refl) (λ r h. kept-changed name (fitted c m) (fitted-plain c m) i r.slots h) c e)
 
 -- a fact of the slots of an object that stays with a slot more behind them
-module _ (P : List (List ℕ × Slot) → Type 0) (never : P [] → ⊥) (more : (y : List ℕ × Slot) (slots : List (List ℕ × Slot)) → P slots → P (slots ++ y ∷ [])) where
+module _ (P : List (List ℕ × Slot) → Type 0) (never : P [] → ⊥)
+    (more : (y : List ℕ × Slot) (slots : List (List ℕ × Slot)) → P slots → P (slots ++ y ∷ [])) where
   stay-edit : (n m : ℕ) (change : Record → Record) → ((r : Record) → (change r).birth ≡ r.birth) → ((r : Record) → P r.slots → P (change r).slots) → (c : Board)
       → P (slots_at c n) → P (slots_at (edit m change c) n)
   stay-edit n m change same_birth keeps c e =

@@ -137,9 +137,11 @@ module _ (b : Board) (h : SoundDevices b) where
   says-path : (d : ℕ) → is_realized b d ≡ true → path_of b d ≡ canonical b d
   says-path d lit =
       or-cases (listed d (child_entries b PERIPHERAL_BIRTH)) (listed d (child_entries b ANONYMOUS_BIRTH)) stood
-      (λ l. let k : Entry (IsPeripheral b) d (child_entries b PERIPHERAL_BIRTH) = entry-of (IsPeripheral b) d (child_entries b PERIPHERAL_BIRTH) h.places.1.peripheral l in
+      (λ l. let k : Entry (IsPeripheral b) d (child_entries b PERIPHERAL_BIRTH) =
+      entry-of (IsPeripheral b) d (child_entries b PERIPHERAL_BIRTH) h.places.1.peripheral l in
       k.holds.path ∙ sym (rw not_root (peripheral-steps b h.tree.0 rest.used.firm h.places.1.rooted d k.name not_root k.there)))
-      (λ l. let k : Entry (IsAnonymous b) d (child_entries b ANONYMOUS_BIRTH) = entry-of (IsAnonymous b) d (child_entries b ANONYMOUS_BIRTH) h.places.1.anonymous l in
+      (λ l. let k : Entry (IsAnonymous b) d (child_entries b ANONYMOUS_BIRTH) =
+      entry-of (IsAnonymous b) d (child_entries b ANONYMOUS_BIRTH) h.places.1.anonymous l in
       k.holds.path ∙ sym (rw not_root (anonymous-steps b h.tree.0 rest.used.firm h.places.1.rooted d k.name not_root k.there)))
     where
       stood : stands b d ≡ true

@@ -47,7 +47,8 @@ place-slot name (x ∷ slots) k j i e is s at = go (is_named name x) refl i is a
   where
     go : (t : Bool) → is_named name x ≡ t → (m : ℕ) → j ≡ m + k → slice_get (x ∷ slots) m ≡ Some s
         →
-        ((n : ℕ) → place_from (is_named name) (suc k) slots ≡ Some j → j ≡ n + suc k → (y : List ℕ × Slot) → slice_get slots n ≡ Some y → named_in name slots ≡ Some y.1)
+        ((n : ℕ) → place_from (is_named name) (suc k) slots ≡ Some j → j ≡ n + suc k → (y : List ℕ × Slot) → slice_get slots n ≡ Some y
+        → named_in name slots ≡ Some y.1)
         → named_in name (x ∷ slots) ≡ Some s.1
     go true p zero q here rest = rw p (ap (λ (y : List ℕ × Slot). Some y.1) (same_Some x s here))
     go true p (suc m) q here rest = absurd (let same : k ≡ j = same_Some k j (rw p at e) in omega (arith, same, q))
@@ -150,7 +151,8 @@ dims-source n m c e = go (place_from (is_named (codes "source")) 0 (slots_at c n
         other name apart slots q = named-other g name i slots f.entry (here slots q) (other-name (codes "source") name apart f.entry f.passes)
 
         realized : (x : ℕ)
-            → option_map_or is_true (option_and_then plain_in (named_in (codes "realized") (slots_at (edit n (with_changed g i) c) x))) false ≡ option_map_or is_true (option_and_then plain_in (named_in (codes "realized") (slots_at c x))) false
+            → option_map_or is_true (option_and_then plain_in (named_in (codes "realized") (slots_at (edit n (with_changed g i) c) x))) false
+            ≡ option_map_or is_true (option_and_then plain_in (named_in (codes "realized") (slots_at c x))) false
         realized =
             reads-at g n i c (λ slots. option_map_or is_true (option_and_then plain_in (named_in (codes "realized") slots)) false)
             (λ slots q. ap (λ (o : Option Slot). option_map_or is_true (option_and_then plain_in o) false) (other (codes "realized") refl slots q))
@@ -227,7 +229,8 @@ clock-listed m (s ∷ slots) e = go (bytes_eq s.0 (codes "clk")) refl (clock-lis
     go true p rest = here s (rw p at e)
     go false p rest = there s (rest (rw p at e))
 
-module _ (depth : ℕ → ℕ) (b : Board) (t : TypeId) (a : Wanted) (spot : Spot) (rest : AtRest b) (h : PlacesBut depth None (λ x. false) b) (goal : Goal depth b (b.born + 1) spot.bus spot.slot a.id t (drafted b t)) where
+module _ (depth : ℕ → ℕ) (b : Board) (t : TypeId) (a : Wanted) (spot : Spot) (rest : AtRest b) (h : PlacesBut depth None (λ x. false) b)
+    (goal : Goal depth b (b.born + 1) spot.bus spot.slot a.id t (drafted b t)) where
   abbrev n : ℕ
   n = b.born + 1
 

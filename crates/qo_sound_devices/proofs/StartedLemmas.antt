@@ -17,9 +17,8 @@ use Rattle.qo_model.specs.Plug.{acted_all, bus_births, counted, started, told_pl
 use Rattle.qo_model.specs.Release.{edit, edited}
 use Rattle.qo_model.specs.Reset.{is_out, phased, plugged, post}
 use Rattle.qo_model.specs.Types.{is_a}
-use Rattle.qo_model.proofs.StepLemmas.{found-edited}
+use Rattle.qo_model.proofs.StepLemmas.{found-edited, found-birth}
 use Rattle.qo_sound.proofs.FirmLemmas.{Firm}
-use Rattle.qo_sound.proofs.RecordLemmas.{found-birth}
 use Rattle.qo_sound_devices.specs.SoundPlaces.{child_entries, child_entry, id_of, kid_entries, listed, owns_it, path_of, PlacesBut}
 use Rattle.qo_sound_devices.proofs.AlikeLemmas.{Alike, alike-record, other-record}
 use Rattle.qo_sound_devices.proofs.JoinedLemmas.{choose, count_behind, device-no_bus, done, further-same, Joined, Now, path_behind}
@@ -192,7 +191,8 @@ joined-counted depth b n bus slot id t now c None j =
     }
 
 -- an edit of the device that leaves its slots
-module _ (c : Board) (n : ℕ) (change : Record → Record) (same_birth : (r : Record) → (change r).birth ≡ r.birth) (same_slots : (r : Record) → (change r).slots ≡ r.slots) (same_kind : (r : Record) → (change r).kind ≡ r.kind) where
+module _ (c : Board) (n : ℕ) (change : Record → Record) (same_birth : (r : Record) → (change r).birth ≡ r.birth)
+    (same_slots : (r : Record) → (change r).slots ≡ r.slots) (same_kind : (r : Record) → (change r).kind ≡ r.kind) where
   reads : {A : Type 0} (f : Option Record → A) → ((r : Record) → f (Some (edited n change r)) ≡ f (Some r))
       → f (record_of (edit n change c) n) ≡ f (record_of c n)
   reads f same = ap f (found-edited n change same_birth n c.records) ∙ go (record_of c n)
@@ -213,7 +213,8 @@ module _ (c : Board) (n : ℕ) (change : Record → Record) (same_birth : (r : R
   pub edit-beside : Beside n c (edit n change c)
   edit-beside =
       record {
-        others = λ x apart. alike-record c (edit n change c) x (found-edited n change same_birth x c.records ∙ other-record n x change c refl apart (record_of c x) refl);
+        others = λ x apart.
+            alike-record c (edit n change c) x (found-edited n change same_birth x c.records ∙ other-record n x change c refl apart (record_of c x) refl);
         children = ap (filter_map child_entry) edit-slots;
         kind = reads (option_map (λ (r : Record). r.kind)) (λ r. ap Some (own-kind r));
       }

@@ -84,8 +84,12 @@ steps-alike b c anonymous alike =
       realized = λ x e. (alike x e).realized;
       place = λ x e. (alike x e).place;
       bus = λ x q e. read_bus x q (record_of c x) refl e;
-      children = λ x. read (λ y. Within (child_entries c y) (child_entries b y)) x (λ e. within-same (alike x e).children) (λ e. subst (λ (xs : List (List ℕ × ℕ)). Within xs (child_entries b x)) (sym (ap (λ (o : Option Record). filter_map child_entry (option_map_or (λ (r : Record). r.slots) o [])) e)) (nothing (child_entries b x)));
-      kids = λ x. read (λ y. Within (kid_entries c y) (kid_entries b y)) x (λ e. within-same (alike x e).kids) (λ e. subst (λ (xs : List (List ℕ × ℕ)). Within xs (kid_entries b x)) (sym (ap (λ (o : Option Record). filter_map kid_entry (option_map_or (λ (r : Record). r.slots) o [])) e)) (nothing (kid_entries b x)));
+      children = λ x. read (λ y. Within (child_entries c y) (child_entries b y)) x (λ e. within-same (alike x e).children)
+          (λ e. subst (λ (xs : List (List ℕ × ℕ)). Within xs (child_entries b x))
+          (sym (ap (λ (o : Option Record). filter_map child_entry (option_map_or (λ (r : Record). r.slots) o [])) e)) (nothing (child_entries b x)));
+      kids = λ x. read (λ y. Within (kid_entries c y) (kid_entries b y)) x (λ e. within-same (alike x e).kids)
+          (λ e. subst (λ (xs : List (List ℕ × ℕ)). Within xs (kid_entries b x))
+          (sym (ap (λ (o : Option Record). filter_map kid_entry (option_map_or (λ (r : Record). r.slots) o [])) e)) (nothing (kid_entries b x)));
       anonymous = anonymous;
     }
   where
@@ -182,7 +186,8 @@ entries-removed f zero (x ∷ slots) s e none = ap (λ (o : Option (List ℕ × 
 entries-removed f (suc i) (x ∷ slots) s e none = ap (cons_option (f x)) (entries-removed f i slots s e none)
 
 -- an edit of slots
-module _ (b : Board) (n : ℕ) (change : Record → Record) (same_birth : (r : Record) → (change r).birth ≡ r.birth) (same_body : (r : Record) → bodiless (change r) ≡ bodiless r) (r : Record) (found : record_of b n ≡ Some r) where
+module _ (b : Board) (n : ℕ) (change : Record → Record) (same_birth : (r : Record) → (change r).birth ≡ r.birth)
+    (same_body : (r : Record) → bodiless (change r) ≡ bodiless r) (r : Record) (found : record_of b n ≡ Some r) where
   abbrev c : Board
   c = edit n change b
 
@@ -225,9 +230,14 @@ module _ (b : Board) (n : ℕ) (change : Record → Record) (same_birth : (r : R
       record {
         live = λ x e. sym (edit-live x) ∙ e;
         body = λ x e. bodies x;
-        realized = λ x e. at_each (λ y. is_realized c y ≡ is_realized b y) (λ y a. a.realized) (at-slots (λ ss. option_map_or is_true (option_and_then plain_in (named_in (codes "realized") ss)) false) (ap (λ (o : Option Val). option_map_or is_true o false) (h.plains (codes "realized")))) x;
-        place = λ x e. at_each (λ y. place_on c y ≡ place_on b y) (λ y a. a.place) (at-slots (λ ss. option_and_then number_in (option_and_then plain_in (named_in (codes "slot") ss))) (ap (option_and_then number_in) (h.plains (codes "slot")))) x;
-        bus = λ x q. at_each (λ y. bus_of c y ≡ Some q → bus_of b y ≡ Some q) (λ y a e. sym a.bus ∙ e) (λ e. ap (λ ss. option_and_then strong_in (named_in (codes "parent_bus") ss)) was ∙ h.strongs (codes "parent_bus") q (sym (ap (λ ss. option_and_then strong_in (named_in (codes "parent_bus") ss)) now) ∙ e)) x;
+        realized = λ x e. at_each (λ y. is_realized c y ≡ is_realized b y) (λ y a. a.realized)
+            (at-slots (λ ss. option_map_or is_true (option_and_then plain_in (named_in (codes "realized") ss)) false)
+            (ap (λ (o : Option Val). option_map_or is_true o false) (h.plains (codes "realized")))) x;
+        place = λ x e. at_each (λ y. place_on c y ≡ place_on b y) (λ y a. a.place) (at-slots (λ ss.
+            option_and_then number_in (option_and_then plain_in (named_in (codes "slot") ss))) (ap (option_and_then number_in) (h.plains (codes "slot")))) x;
+        bus = λ x q. at_each (λ y. bus_of c y ≡ Some q → bus_of b y ≡ Some q) (λ y a e. sym a.bus ∙ e)
+            (λ e. ap (λ ss. option_and_then strong_in (named_in (codes "parent_bus") ss)) was
+            ∙ h.strongs (codes "parent_bus") q (sym (ap (λ ss. option_and_then strong_in (named_in (codes "parent_bus") ss)) now) ∙ e)) x;
         children =
             at_each (λ y. Within (child_entries c y) (child_entries b y)) (λ y a. within-same a.children)
             (subst (λ (xs : List (List ℕ × ℕ)). Within xs (child_entries b n)) (sym (ap (filter_map child_entry) now))

@@ -117,7 +117,8 @@ any-kid_dropped p zero (x ∷ slots) s e at is no_more = go x (ap kid_entry (sam
     go (name, alias m property) q = absurd (let clash : None ≡ Some e = q in cc)
 
 -- a slot of one object that is let go
-module _ (depth : ℕ → ℕ) (out : ℕ → Bool) (left : Option ℕ) (ps : List ℕ) (b : Board) (h : Mid depth out left ps b) (n i : ℕ) (r : Record) (found : record_of b n ≡ Some r) (s : List ℕ × Slot) (at : slice_get r.slots i ≡ Some s) where
+module _ (depth : ℕ → ℕ) (out : ℕ → Bool) (left : Option ℕ) (ps : List ℕ) (b : Board) (h : Mid depth out left ps b) (n i : ℕ) (r : Record)
+    (found : record_of b n ≡ Some r) (s : List ℕ × Slot) (at : slice_get r.slots i ≡ Some s) where
   firm : Firm b
   firm = h.sits.near.firm
 
@@ -189,7 +190,8 @@ module _ (depth : ℕ → ℕ) (out : ℕ → Bool) (left : Option ℕ) (ps : Li
       child-same x =
           for-each
           (λ y.
-          among (1 ∷ MACHINE_BIRTH ∷ PERIPHERAL_BIRTH ∷ ANONYMOUS_BIRTH ∷ ROOT_BUS_BIRTH ∷ MEMORY_BUS_BIRTH ∷ OBJECTS_BIRTH ∷ []) y ≡ true → child_entries c y ≡ child_entries b y)
+          among (1 ∷ MACHINE_BIRTH ∷ PERIPHERAL_BIRTH ∷ ANONYMOUS_BIRTH ∷ ROOT_BUS_BIRTH ∷ MEMORY_BUS_BIRTH ∷ OBJECTS_BIRTH ∷ []) y ≡ true
+          → child_entries c y ≡ child_entries b y)
           (λ y p a k. a.children) (λ k. absurd (let clash : true ≡ false = sym k ∙ aside in cc)) x
 
       same-stands : (x : ℕ) → stands c x ≡ stands b x
@@ -416,11 +418,13 @@ cut-kept b root n i firm firm_behind r found s at t is =
     child_none = ap (λ (x : Slot). child_entry (s.0, x)) is
 
     plains : (name : List ℕ)
-        → option_and_then plain_in (option_map (λ (y : List ℕ × Slot). y.1) (find (λ y. bytes_eq y.0 name) (remove r.slots i))) ≡ option_and_then plain_in (option_map (λ (y : List ℕ × Slot). y.1) (find (λ y. bytes_eq y.0 name) r.slots))
+        → option_and_then plain_in (option_map (λ (y : List ℕ × Slot). y.1) (find (λ y. bytes_eq y.0 name) (remove r.slots i)))
+        ≡ option_and_then plain_in (option_map (λ (y : List ℕ × Slot). y.1) (find (λ y. bytes_eq y.0 name) r.slots))
     plains name = removed-same plain_in name i r.slots names s at (none_in plain_in refl)
 
     strongs : (name : List ℕ)
-        → option_and_then strong_in (option_map (λ (y : List ℕ × Slot). y.1) (find (λ y. bytes_eq y.0 name) (remove r.slots i))) ≡ option_and_then strong_in (option_map (λ (y : List ℕ × Slot). y.1) (find (λ y. bytes_eq y.0 name) r.slots))
+        → option_and_then strong_in (option_map (λ (y : List ℕ × Slot). y.1) (find (λ y. bytes_eq y.0 name) (remove r.slots i)))
+        ≡ option_and_then strong_in (option_map (λ (y : List ℕ × Slot). y.1) (find (λ y. bytes_eq y.0 name) r.slots))
     strongs name = removed-same strong_in name i r.slots names s at (none_in strong_in refl)
 
     slots : SlotSteps r.slots (remove r.slots i)
@@ -444,8 +448,10 @@ cut-kept b root n i firm firm_behind r found s at t is =
               option_map_or is_true
               (option_and_then plain_in (option_map (λ (y : List ℕ × Slot). y.1) (find (λ y. bytes_eq y.0 (codes "realized")) ss))) false)
               (ap (λ (o : Option Val). option_map_or is_true o false) (plains (codes "realized")));
-          bus = λ k. reads (λ ss. option_and_then strong_in (option_map (λ (y : List ℕ × Slot). y.1) (find (λ y. bytes_eq y.0 (codes "parent_bus")) ss))) (strongs (codes "parent_bus"));
-          place = λ k. reads (λ ss. option_and_then number_in (option_and_then plain_in (option_map (λ (y : List ℕ × Slot). y.1) (find (λ y. bytes_eq y.0 (codes "slot")) ss)))) (ap (option_and_then number_in) (plains (codes "slot")));
+          bus = λ k. reads (λ ss. option_and_then strong_in (option_map (λ (y : List ℕ × Slot). y.1) (find (λ y. bytes_eq y.0 (codes "parent_bus")) ss)))
+              (strongs (codes "parent_bus"));
+          place = λ k. reads (λ ss. option_and_then number_in (option_and_then plain_in
+              (option_map (λ (y : List ℕ × Slot). y.1) (find (λ y. bytes_eq y.0 (codes "slot")) ss)))) (ap (option_and_then number_in) (plains (codes "slot")));
           children = λ k. reads (filter_map child_entry) (entries-removed child_entry i r.slots s at child_none);
           kids = λ k o. reads (filter_map kid_entry) (entries-removed kid_entry i r.slots s at kid);
           fewer = λ k. within-same (reads (filter_map kid_entry) (entries-removed kid_entry i r.slots s at kid));
@@ -538,7 +544,8 @@ kid-gone d (suc i) name (x ∷ slots) s distinct h at is = choose x distinct h (
         further None k rest = rest k
         further (Some z) k rest = rest k.1
     named-here zero (y ∷ ys) e a =
-        (subst (λ (o : Option (List ℕ × ℕ)). AllByRecursion (λ (e : List ℕ × ℕ). e.1 ≡ d → e.0 ≡ name) (cons_option o (filter_map kid_entry ys))) (ap kid_entry (same_Some y s e) ∙ is) a).0 refl
+        (subst (λ (o : Option (List ℕ × ℕ)). AllByRecursion (λ (e : List ℕ × ℕ). e.1 ≡ d → e.0 ≡ name) (cons_option o (filter_map kid_entry ys)))
+        (ap kid_entry (same_Some y s e) ∙ is) a).0 refl
 
     rest-of : (o : Option (List ℕ × ℕ)) (ys : List (List ℕ × ℕ)) → AllByRecursion (λ (e : List ℕ × ℕ). e.1 ≡ d → e.0 ≡ name) (cons_option o ys)
         → AllByRecursion (λ (e : List ℕ × ℕ). e.1 ≡ d → e.0 ≡ name) ys
@@ -547,7 +554,8 @@ kid-gone d (suc i) name (x ∷ slots) s distinct h at is = choose x distinct h (
 
     choose : (y : List ℕ × Slot) → IsDistinct bytes_eq (names_in (y ∷ slots))
         → AllByRecursion (λ (e : List ℕ × ℕ). e.1 ≡ d → e.0 ≡ name) (filter_map kid_entry (y ∷ slots))
-        → (AllByRecursion (λ (e : List ℕ × ℕ). e.1 ≡ d → e.0 ≡ name) (filter_map kid_entry slots) → slice_get slots i ≡ Some s → kid_entry s ≡ Some (s.0, d) → listed d (filter_map kid_entry (without_hold i slots)) ≡ false)
+        → (AllByRecursion (λ (e : List ℕ × ℕ). e.1 ≡ d → e.0 ≡ name) (filter_map kid_entry slots) → slice_get slots i ≡ Some s → kid_entry s ≡ Some (s.0, d)
+        → listed d (filter_map kid_entry (without_hold i slots)) ≡ false)
         → listed d (filter_map kid_entry (y ∷ without_hold i slots)) ≡ false
     choose y a k rest = go (kid_entry y) refl
       where

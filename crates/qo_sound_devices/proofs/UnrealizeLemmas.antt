@@ -128,7 +128,8 @@ first-changed g name [] k j i e is = refl
 first-changed g name (s ∷ slots) k j i e is = go (is_named name s) refl i is (first-changed g name slots (suc k) j)
   where
     go : (t : Bool) → is_named name s ≡ t → (m : ℕ) → j ≡ m + k
-        → ((n : ℕ) → place_from (is_named name) (suc k) slots ≡ Some j → j ≡ n + suc k → named_in name (changed_at g n slots) ≡ option_map g (named_in name slots))
+        → ((n : ℕ) → place_from (is_named name) (suc k) slots ≡ Some j → j ≡ n + suc k
+        → named_in name (changed_at g n slots) ≡ option_map g (named_in name slots))
         → named_in name (changed_at g m (s ∷ slots)) ≡ option_map g (named_in name (s ∷ slots))
     go true p zero q rest = rw p refl
     go true p (suc m) q rest = absurd (let same : k ≡ j = same_Some k j (rw p at e) in omega (arith, same, q))
@@ -189,7 +190,8 @@ module _ (g : Slot → Slot) (mild : IsMild g) (n i : ℕ) (b : Board) where
       go (Some r) = ap Some (at_record r (r.birth == n) refl)
 
   -- where the value of one name is changed
-  pub mild-dimmed : ((slots : List (List ℕ × Slot)) → slots_at b n ≡ slots → option_and_then plain_in (named_in (codes "slot") (changed_at g i slots)) ≡ option_and_then plain_in (named_in (codes "slot") slots))
+  pub mild-dimmed : ((slots : List (List ℕ × Slot)) → slots_at b n ≡ slots
+      → option_and_then plain_in (named_in (codes "slot") (changed_at g i slots)) ≡ option_and_then plain_in (named_in (codes "slot") slots))
       → ((x : ℕ) → is_realized c x ≡ true → is_realized b x ≡ true) → Dimmed b c
   mild-dimmed slot fading =
       record {
@@ -268,7 +270,8 @@ dims-unseen n name b = go (place_from (is_named name) 0 (slots_at b n)) refl
     go : (o : Option ℕ) → place_from (is_named name) 0 (slots_at b n) ≡ o → Dims b (unseen_named n name b)
     go None e = rw (unseen_named, e) (dims-none b)
     go (Some i) e =
-        let same_plain : (own : List ℕ) → (slots : List (List ℕ × Slot)) → slots_at b n ≡ slots → option_and_then plain_in (named_in own (changed_at unseen i slots)) ≡ option_and_then plain_in (named_in own slots) =
+        let same_plain : (own : List ℕ) → (slots : List (List ℕ × Slot)) → slots_at b n ≡ slots
+        → option_and_then plain_in (named_in own (changed_at unseen i slots)) ≡ option_and_then plain_in (named_in own slots) =
         λ own slots q. named-changed plain_in unseen plain-unseen own i slots in
         let realized : (x : ℕ) → is_realized (edit n (with_changed unseen i) b) x ≡ is_realized b x =
         reads unseen mild-unseen n i b (λ slots. option_map_or is_true (option_and_then plain_in (named_in (codes "realized") slots)) false)
@@ -289,8 +292,10 @@ dims-set n name v no_slot no_mark b = go (place_from (is_named name) 0 (slots_at
     go None e = rw (set_named, e) (dims-none b)
     go (Some i) e =
         let f : Found (is_named name) (slots_at b n) i = found-at (is_named name) i (slots_at b n) e in
-        let same_named : (own : List ℕ) → bytes_eq name own ≡ false → (slots : List (List ℕ × Slot)) → slots_at b n ≡ slots → named_in own (changed_at (with_val v) i slots) ≡ named_in own slots =
-        λ own apart slots q. named-other (with_val v) own i slots f.entry (ap (λ (x : List (List ℕ × Slot)). slice_get x i) (sym q) ∙ f.at) (other-name name own apart f.entry f.passes) in
+        let same_named : (own : List ℕ) → bytes_eq name own ≡ false → (slots : List (List ℕ × Slot)) → slots_at b n ≡ slots
+        → named_in own (changed_at (with_val v) i slots) ≡ named_in own slots =
+        λ own apart slots q. named-other (with_val v) own i slots f.entry (ap (λ (x : List (List ℕ × Slot)). slice_get x i) (sym q) ∙ f.at)
+        (other-name name own apart f.entry f.passes) in
         let realized : (x : ℕ) → is_realized (edit n (with_changed (with_val v) i) b) x ≡ is_realized b x =
         reads (with_val v) (mild-val v) n i b (λ slots. option_map_or is_true (option_and_then plain_in (named_in (codes "realized") slots)) false)
         (λ slots q. ap (λ (o : Option Slot). option_map_or is_true (option_and_then plain_in o) false) (same_named (codes "realized") no_mark slots q)) in
@@ -477,7 +482,8 @@ module _ (b : Board) where
       turn keeps =
           let inner : Dimmed c (each (on_bus depth) (buses_of b d) c) =
           each-keeps (Dimmed c) (on_bus depth) (buses_of b d)
-          (λ m q e h. dimmed-then c (each (turns depth) (kids_of b m) e) (on_bus depth m e) (each-keeps (Dimmed c) (turns depth) (kids_of b m) (λ k r x j. dimmed-then c x (turns depth k x) j (keeps k x)) e h) (dims-bus m (each (turns depth) (kids_of b m) e)).dimmed) c
+          (λ m q e h. dimmed-then c (each (turns depth) (kids_of b m) e) (on_bus depth m e) (each-keeps (Dimmed c) (turns depth) (kids_of b m)
+          (λ k r x j. dimmed-then c x (turns depth k x) j (keeps k x)) e h) (dims-bus m (each (turns depth) (kids_of b m) e)).dimmed) c
           (dimmed-none c) in
           dimmed-then c (each (on_bus depth) (buses_of b d) c) (turns (suc depth) d c) inner (fades-device d (each (on_bus depth) (buses_of b d) c)).dimmed
 

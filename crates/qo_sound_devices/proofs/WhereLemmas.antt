@@ -20,8 +20,8 @@ use Rattle.qo_model.specs.Types.{is_a, types}
 use Rattle.qo_model.proofs.ReleaseLemmas.{found-within}
 use Rattle.qo_model.proofs.StepLemmas.{found_at}
 use Rattle.qo_model.proofs.TreeLemmas.{paths_lem, place_at}
+use Rattle.qo_model.proofs.GraphLemmas.{births_at}
 use Rattle.qo_sound.proofs.FirmLemmas.{Firm, parents_in}
-use Rattle.qo_sound.proofs.RecordLemmas.{births_at}
 use Rattle.qo_sound.proofs.SlotLemmas.{one_child}
 use Rattle.qo_sound_devices.specs.SoundPlaces.{child_entries, child_entry, has_entry, HasOwner, machines, bridges, IsAtHome, IsHosted, on_machine, on_device, listed, owns_it, PlacesBut, stands}
 use Rattle.qo_sound_devices.proofs.AttachedLemmas.{found-counted, listed-found, parent-is, place-birth, place-some}
@@ -106,7 +106,8 @@ first-named x name (y ∷ slots) few h s e = go (is_child x y.1) refl (first-nam
     behind (own, child m) p k = rw p at k
 
     go : (t : Bool) → is_child x y.1 ≡ t
-        → (sum_by (one_child x) slots ≤ 1 → has_entry (name, x) (filter_map child_entry slots) ≡ true → (z : List ℕ × Slot) → find (λ (w : List ℕ × Slot). is_child x w.1) slots ≡ Some z → z.0 ≡ name)
+        → (sum_by (one_child x) slots ≤ 1 → has_entry (name, x) (filter_map child_entry slots) ≡ true → (z : List ℕ × Slot)
+        → find (λ (w : List ℕ × Slot). is_child x w.1) slots ≡ Some z → z.0 ≡ name)
         → s.0 ≡ name
     go true p rest = subst (λ (z : List ℕ × Slot). z.0 ≡ name) (same_Some y s (rw p at e)) (here y p h few)
     go false p rest = rest (omega (arith, few, sum_by-cons (one_child x) y slots)) (behind y p h) s (rw p at e)

@@ -89,7 +89,8 @@ found-fits t name [] h row e = cc
 found-fits t name (p ∷ ps) h row e = go (bytes_eq (property_name p.name) name) refl (found-fits t name ps h.1 row)
   where
     go : (u : Bool) → bytes_eq (property_name p.name) name ≡ u
-        → (find (λ (x : Property). bytes_eq (property_name x.name) name) ps ≡ Some row → (fits_places t row ≡ true) × (bytes_eq (property_name row.name) name ≡ true))
+        → (find (λ (x : Property). bytes_eq (property_name x.name) name) ps ≡ Some row
+        → (fits_places t row ≡ true) × (bytes_eq (property_name row.name) name ≡ true))
         → (fits_places t row ≡ true) × (bytes_eq (property_name row.name) name ≡ true)
     go true q rest = subst (λ (x : Property). (fits_places t x ≡ true) × (bytes_eq (property_name x.name) name ≡ true)) (same_Some p row (rw q at e)) (h.0, q)
     go false q rest = rest (rw q at e)
@@ -102,9 +103,11 @@ row-fits b n name row e may = go (kind_of b n) refl e
     go None q k = absurd (let clash : None ≡ Some row = k in cc)
     go (Some t) q k =
         let all : (fits_places t row ≡ true) × (bytes_eq (property_name row.name) name ≡ true) = found-fits t name (slots_of t) (all-fit t) row k in
-        let parts : (not (is_a t (codes "bus")) && not (bytes_eq (property_name row.name) (codes "parent_bus"))) && (not (bytes_eq (property_name row.name) (codes "realized")) && not (bytes_eq (property_name row.name) (codes "slot"))) ≡ true =
+        let parts : (not (is_a t (codes "bus")) && not (bytes_eq (property_name row.name) (codes "parent_bus")))
+        && (not (bytes_eq (property_name row.name) (codes "realized")) && not (bytes_eq (property_name row.name) (codes "slot"))) ≡ true =
         rw (fits_places, may) at all.0 in
-        let halves : (not (is_a t (codes "bus")) && not (bytes_eq (property_name row.name) (codes "parent_bus")) ≡ true) × (not (bytes_eq (property_name row.name) (codes "realized")) && not (bytes_eq (property_name row.name) (codes "slot")) ≡ true) =
+        let halves : (not (is_a t (codes "bus")) && not (bytes_eq (property_name row.name) (codes "parent_bus")) ≡ true)
+        × (not (bytes_eq (property_name row.name) (codes "realized")) && not (bytes_eq (property_name row.name) (codes "slot")) ≡ true) =
         both (not (is_a t (codes "bus")) && not (bytes_eq (property_name row.name) (codes "parent_bus")))
         (not (bytes_eq (property_name row.name) (codes "realized")) && not (bytes_eq (property_name row.name) (codes "slot"))) parts in
         let kinds : (not (is_a t (codes "bus")) ≡ true) × (not (bytes_eq (property_name row.name) (codes "parent_bus")) ≡ true) =
@@ -153,7 +156,8 @@ set-kept b n i v name fits f firm root = kept-alike b c firm (dimmed-live b c di
     own = (bytes_eq-Decides f.entry.0 name).0 f.passes
 
     same_named : (other : List ℕ) → bytes_eq name other ≡ false → (slots : List (List ℕ × Slot)) → slots_at b n ≡ slots
-        → option_map (λ (s : List ℕ × Slot). s.1) (find (λ s. bytes_eq s.0 other) (changed_at (with_val v) i slots)) ≡ option_map (λ (s : List ℕ × Slot). s.1) (find (λ s. bytes_eq s.0 other) slots)
+        → option_map (λ (s : List ℕ × Slot). s.1) (find (λ s. bytes_eq s.0 other) (changed_at (with_val v) i slots))
+        ≡ option_map (λ (s : List ℕ × Slot). s.1) (find (λ s. bytes_eq s.0 other) slots)
     same_named other apart slots q =
         named-other (with_val v) other i slots f.entry (ap (λ (x : List (List ℕ × Slot)). slice_get x i) (sym q) ∙ f.at)
         (subst (λ (x : List ℕ). bytes_eq x other ≡ false) (sym own) apart)
@@ -219,7 +223,8 @@ point-kept depth b h n i m name f unlinked no_bus firm =
             ap g (edited-slots b n (with_changed (pointed m) i) (λ y. refl) r q) ∙ same r.slots was ∙ sym (ap g was)
 
     plains : (own : List ℕ)
-        → option_and_then plain_in (option_map (λ (s : List ℕ × Slot). s.1) (find (λ s. bytes_eq s.0 own) (slots_at c n))) ≡ option_and_then plain_in (option_map (λ (s : List ℕ × Slot). s.1) (find (λ s. bytes_eq s.0 own) (slots_at b n)))
+        → option_and_then plain_in (option_map (λ (s : List ℕ × Slot). s.1) (find (λ s. bytes_eq s.0 own) (slots_at c n)))
+        ≡ option_and_then plain_in (option_map (λ (s : List ℕ × Slot). s.1) (find (λ s. bytes_eq s.0 own) (slots_at b n)))
     plains own =
         at_owner (λ slots. option_and_then plain_in (option_map (λ (s : List ℕ × Slot). s.1) (find (λ s. bytes_eq s.0 own) slots)))
         (λ slots q. named-changed plain_in (pointed m) (plain-pointed m) own i slots)
@@ -228,7 +233,10 @@ point-kept depth b h n i m name f unlinked no_bus firm =
     here =
         record {
           realized = ap (λ (o : Option Val). option_map_or is_true o false) (plains (codes "realized"));
-          bus = λ k. at_owner (λ slots. option_and_then strong_in (option_map (λ (s : List ℕ × Slot). s.1) (find (λ s. bytes_eq s.0 (codes "parent_bus")) slots))) (λ slots q. ap (option_and_then strong_in) (named-other (pointed m) (codes "parent_bus") i slots f.entry (ap (λ (x : List (List ℕ × Slot)). slice_get x i) (sym q) ∙ f.at) apart));
+          bus =
+              λ k. at_owner (λ slots. option_and_then strong_in (option_map (λ (s : List ℕ × Slot). s.1) (find (λ s. bytes_eq s.0 (codes "parent_bus")) slots)))
+              (λ slots q. ap (option_and_then strong_in)
+              (named-other (pointed m) (codes "parent_bus") i slots f.entry (ap (λ (x : List (List ℕ × Slot)). slice_get x i) (sym q) ∙ f.at) apart));
           place = λ k. ap (option_and_then number_in) (plains (codes "slot"));
           children = λ k. at_owner (filter_map child_entry) (λ slots q. entries-changed child_entry (pointed m) (child-entry-pointed m) i slots);
           kids = λ k o. other k;

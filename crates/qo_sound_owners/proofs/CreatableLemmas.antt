@@ -23,9 +23,9 @@ use Rattle.qo_model.specs.Properties.{write}
 use Rattle.qo_model.specs.Release.{edited, let_go, pin, unpin}
 use Rattle.qo_model.specs.Types.{TypeRow, is_a, row_named, types}
 use Rattle.qo_model.specs.Unplug.{apart_within, detach, left_bus, lost_buses, set_named, unrealize}
-use Rattle.qo_model.proofs.StepLemmas.{found_at, found-edited}
+use Rattle.qo_model.proofs.StepLemmas.{found_at, found-edited, found-birth}
 use Rattle.qo_sound.proofs.FirmLemmas.{edited-kind, Firm}
-use Rattle.qo_sound.proofs.RecordLemmas.{all-append, all-both, all-imply, found-birth}
+use Rattle.qo_sound.proofs.RecordLemmas.{all-append, all-both, all-imply}
 use Rattle.qo_sound.proofs.ViewLemmas.{AtRest, rest-from_sound}
 use Rattle.qo_sound_clocks.specs.RegistersKept.{registers_set, with_registers}
 use Rattle.qo_sound_clocks.proofs.FoundLemmas.{found-append}

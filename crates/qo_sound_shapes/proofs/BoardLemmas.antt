@@ -13,8 +13,8 @@ use Rattle.qo_model.specs.Release.{after, drop_slot, edit, edited, finalise, fin
 use Rattle.qo_model.specs.ReleaseKeeps.{KeepsRelease}
 use Rattle.qo_model.specs.Types.{types}
 use Rattle.qo_model.proofs.ReleaseKeepsLemmas.{after_keeps}
-use Rattle.qo_model.proofs.StepLemmas.{drop-record, finish-gone, finish-record, found-edited, found_at}
-use Rattle.qo_sound.proofs.RecordLemmas.{all-imply, found-birth}
+use Rattle.qo_model.proofs.StepLemmas.{drop-record, finish-gone, finish-record, found-edited, found_at, found-birth}
+use Rattle.qo_sound.proofs.RecordLemmas.{all-imply}
 use Rattle.qo_sound_clocks.proofs.FoundLemmas.{found-append}
 use Rattle.qo_sound_shapes.specs.SoundShape.{SoundShape, unvalued}
 use Rattle.qo_sound_shapes.proofs.GoodLemmas.{Good, is_first}

@@ -29,8 +29,9 @@ use Rattle.qo_model.specs.Unplug.{apart_within, detach, disconnected, drained, e
 use Rattle.qo_model.specs.declared.properties.Property.{Property}
 use Rattle.qo_model.specs.declared.properties.RowKind.{RowKind}
 use Rattle.qo_model.specs.declared.properties.RowKind.TheVariants as row
+use Rattle.qo_model.proofs.StepLemmas.{found-birth}
 use Rattle.qo_sound.proofs.FirmLemmas.{FitsKind, Linked}
-use Rattle.qo_sound.proofs.RecordLemmas.{all-both, all-map, found-birth}
+use Rattle.qo_sound.proofs.RecordLemmas.{all-both, all-map}
 use Rattle.qo_sound.proofs.SlotLemmas.{all-changed, all-dropped}
 use Rattle.qo_sound.proofs.UnplugLemmas.{Found, found-at}
 use Rattle.qo_sound_devices.proofs.ResetLemmas.{first-on}
