@@ -12,8 +12,8 @@ use Rattle.qo_model.specs.Clocks.{ClocksFit, child_period, div_of, mul_of, own_p
 use Rattle.qo_model.specs.Devices.{number_in, plain_in}
 use Rattle.qo_model.specs.Paths as paths
 use Rattle.qo_model.specs.Unplug.{set_named}
-use Rattle.qo_model.proofs.PeriodLemmas.{period-own}
 use Rattle.qo_model.proofs.ClockFitLemmas.{IsWritten}
+use Rattle.qo_model.proofs.PeriodLemmas.{period-own}
 use Rattle.qo_object.specs.declared.slots.Slot.{Slot}
 use Rattle.qo_object.specs.declared.slots.Slot.TheVariants.{Plain, Child, Link, Alias}
 use Rattle.qo_object.specs.Shown.{birth_of, shown_slot}

@@ -5,8 +5,8 @@ use Rattle.std.proofs.lemmas.Option.{same_Some}
 use Rattle.qo_model.specs.Board.{Board}
 use Rattle.qo_model.specs.Clocks.{div_of, mul_of, own_period, period, scaled, scaled_by, source_of}
 use Rattle.qo_model.specs.Paths.{births}
-use Rattle.qo_model.proofs.PeriodLemmas.{scaled-zero, to_depth, turn_by}
 use Rattle.qo_model.proofs.ClockFitLemmas.{IsWritten}
+use Rattle.qo_model.proofs.PeriodLemmas.{scaled-zero, to_depth, turn_by}
 
 -- a clock that goes by another in one step or more
 pub data Under (b : Board) (c : ℕ) : ℕ → Type 0 where

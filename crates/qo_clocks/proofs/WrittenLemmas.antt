@@ -17,8 +17,8 @@ use Rattle.qo_model.specs.Clocks.{ClocksFit, acted, called, called_all, child_pe
 use Rattle.qo_model.specs.Depth.{by_depth}
 use Rattle.qo_model.specs.Paths as paths
 use Rattle.qo_model.specs.Paths.{births}
-use Rattle.qo_model.proofs.PeriodLemmas.{period-fed}
 use Rattle.qo_model.proofs.ClockFitLemmas.{IsWritten, with_below}
+use Rattle.qo_model.proofs.PeriodLemmas.{period-fed}
 use Rattle.qo_object.specs.Shown.{birth_of}
 use Rattle.qo_heap.specs.Acts.{Acts}
 use Rattle.qo_heap.specs.Board.{Shows}

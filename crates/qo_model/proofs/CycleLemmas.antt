@@ -27,7 +27,7 @@ all-at P (x ∷ xs) h n e = go (eqb n x) refl (all-at P xs h.1 n)
     go false p rest = rest (rw p at e)
 
 -- without plain values the references stay
-refs-graph_of : (b : Board) (n : ℕ) → refs (graph_of b) n ≡ refs b n
+pub refs-graph_of : (b : Board) (n : ℕ) → refs (graph_of b) n ≡ refs b n
 unfolding graph_of
 refs-graph_of b n = let same : sum_by (refs_in n) (map without_values b.records) ≡ sum_by (refs_in n) b.records = go b.records in omega (arith, same)
   where

@@ -1,4 +1,5 @@
 -- What a slot let go and the end of an object do to look-ups and to references.
+use Rattle.std.specs.Option.{option_map_or}
 use Rattle.std.proofs.Common.{eqb, ◌≡◌, refl, ap, ap₂, sym, ◌∙◌, ℕ, zero, suc, ◌<◌, ◌≤◌, Bool, true, false, cond, not, ◌&&◌, ◌==◌, List, [], ◌∷◌, map, filter, find, slice_get, sum_by, Option, Some, None, is_some, option_map, arith}
 use Rattle.std.proofs.lemmas.Bool.{eqb-true, eq-eqb}
 use Rattle.std.proofs.lemmas.Option.{same_Some}
@@ -56,6 +57,25 @@ found-edited n change same x (r ∷ rs) = go (r.birth == n) refl (r.birth == x) 
     go true p false q rest = let here : ((change r).birth == x) ≡ false = ap (λ (k : ℕ). k == x) (same r) ∙ q in rw (p, here, q) rest
     go false p true q rest = rw (p, q, edited, p) refl
     go false p false q rest = rw (p, q) rest
+
+-- what an edit leaves of each object, it leaves of the one that is found
+pub map-edited : {A : Type 0} (f : Record → A) (n : ℕ) (change : Record → Record) → ((r : Record) → f (change r) ≡ f r) → (o : Option Record)
+    → option_map f (option_map (edited n change) o) ≡ option_map f o
+map-edited f n change same None = refl
+map-edited f n change same (Some r) = go (r.birth == n) refl
+  where
+    go : (t : Bool) → (r.birth == n) ≡ t → Some (f (edited n change r)) ≡ Some (f r)
+    go true p = rw (edited, p) (ap Some (same r))
+    go false p = rw (edited, p) refl
+
+pub slots-edited : (n : ℕ) (change : Record → Record) → ((r : Record) → (change r).slots ≡ r.slots) → (o : Option Record)
+    → option_map_or (λ (r : Record). r.slots) (option_map (edited n change) o) [] ≡ option_map_or (λ (r : Record). r.slots) o []
+slots-edited n change same None = refl
+slots-edited n change same (Some r) = go (r.birth == n) refl
+  where
+    go : (t : Bool) → (r.birth == n) ≡ t → (edited n change r).slots ≡ r.slots
+    go true p = rw (edited, p) (same r)
+    go false p = rw (edited, p) refl
 
 pub drop-record : (b : Board) (n i x : ℕ) → record_of (drop_slot b n i) x ≡ option_map (edited n (with_dropped i)) (record_of b x)
 unfolding drop_slot

@@ -1,5 +1,5 @@
 -- `object-add` keeps a board at rest, taken or refused.
-use Rattle.std.proofs.Common.{◌≡◌, refl, ap, sym, subst, ◌∙◌, ℕ, ◌+◌, ◌≤◌, leb, Bool, true, false, cond, not, ◌==◌, List, [], ◌∷◌, ◌++◌, map, length, codes, sum_by, Option, Some, None, is_some, option_map, arith}
+use Rattle.std.proofs.Common.{◌≡◌, refl, ap, sym, subst, ◌∙◌, ℕ, ◌+◌, leb, Bool, true, false, cond, not, ◌==◌, List, [], ◌∷◌, ◌++◌, map, length, codes, sum_by, Option, Some, None, is_some, option_map, arith}
 use Rattle.std.specs.List.{AllByRecursion, list_any}
 use Rattle.std.specs.Option.{option_map_or}
 use Rattle.std.specs.Prelude.{if◌then◌else◌}
@@ -17,12 +17,11 @@ use Rattle.qo_model.specs.declared.notes.Note.{Note}
 use Rattle.qo_model.specs.Board.{Board, Record, Slot, plain, child, strong, weak, alias, record_of, kind_of, is_live}
 use Rattle.qo_model.specs.Changes.{with_added}
 use Rattle.qo_model.specs.Objects.{Given, added_as, added_by, barred, given_slots, has_slot, init_notes, object_add, refusal_of, with_attempt, with_object}
-use Rattle.qo_model.specs.Paths.{births, children_in, children_of, is_child}
+use Rattle.qo_model.specs.Paths.{children_in, children_of, is_child}
 use Rattle.qo_model.specs.Release.{edit, edited}
 use Rattle.qo_model.specs.Types.{TypeRow, is_a, row_named}
-use Rattle.qo_sound.proofs.RecordLemmas.{all-imply}
 use Rattle.qo_sound.proofs.SlotLemmas.{names_in, one_child}
-use Rattle.qo_sound.proofs.FirmLemmas.{Linked, AllLinked, parents_in, Firm}
+use Rattle.qo_sound.proofs.FirmLemmas.{Linked, AllLinked, parents_in, Firm, firm-born}
 use Rattle.qo_sound.proofs.WorkLemmas.{Nearly}
 use Rattle.qo_sound.proofs.ViewLemmas.{AtRest}
 use Rattle.qo_sound.proofs.FreshLemmas.{all-lone, new-names}
@@ -32,23 +31,12 @@ use Rattle.qo_sound.proofs.NamedLemmas.{IsNameless, leads-first, named-near}
 -- an attempt takes a birth, and nothing else
 pub attempt-rest : (b : Board) (t : TypeId) → AtRest b → AtRest (with_attempt b t)
 attempt-rest b t h =
-    let f : Firm b = h.used.firm in
     record {
-      used =
-          record {
-            firm =
-                record {
-                  rising = f.rising;
-                  within = all-imply (λ n. n ≤ b.born) (λ n. n ≤ b.born + 1) (λ n k. omega (arith, k)) (births b) f.within;
-                  begun = let low : 8 ≤ b.born = f.begun in omega (arith, low);
-                  named = f.named;
-                  linked = f.linked;
-                  one_parent = f.one_parent;
-                  none_round = f.none_round;
-                };
-            aliases = h.used.aliases;
-            used = h.used.used;
-          };
+      used = record {
+        firm = firm-born b (b.born + 1) (with_attempt b t).notes (omega arith) h.used.firm;
+        aliases = h.used.aliases;
+        used = h.used.used;
+      };
       pinned = h.pinned;
     }
 

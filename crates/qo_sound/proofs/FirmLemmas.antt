@@ -16,10 +16,11 @@ use Rattle.qo_model.specs.Paths.{births, child_of, is_child, children_in, childr
 use Rattle.qo_model.specs.Release.{edit, edited, emptied, with_dropped, drop_slot}
 use Rattle.qo_model.specs.SoundGraph.{Rises}
 use Rattle.qo_model.specs.Types.{is_a}
+use Rattle.qo_model.specs.declared.notes.Note.{Note}
 use Rattle.qo_model.proofs.EditLemmas.{sum-edit_le, sum-without_hold_le}
-use Rattle.qo_model.proofs.StepLemmas.{found-edited, found-birth}
 use Rattle.qo_model.proofs.GraphLemmas.{births_at}
-use Rattle.qo_sound.proofs.RecordLemmas.{all-filter, all-edited}
+use Rattle.qo_model.proofs.StepLemmas.{found-edited, found-birth, map-edited}
+use Rattle.qo_sound.proofs.RecordLemmas.{all-filter, all-edited, all-imply}
 use Rattle.qo_sound.proofs.SlotLemmas.{names_in, distinct-dropped, names-changed, all-dropped, all-changed, children-dropped, children-changed, sum-changed_same, one_child, left-child, one_child-same}
 
 -- the target of a link is there and of the link's type, where `kinds` says the type of each object that is there
@@ -57,6 +58,19 @@ pub record Firm (b : Board) : Type 0 where
   pub one_parent : (x : ℕ) → parents_of b x ≤ 1
   pub none_round : (n : ℕ) → ¬ (Leads (children_of b) n n)
 
+-- births that are taken, and notes
+pub firm-born : (b : Board) (born : ℕ) (notes : List Note) → b.born ≤ born → Firm b → Firm (record b { born = born; notes = notes })
+firm-born b born notes later f =
+    record {
+      rising = f.rising;
+      within = all-imply (λ n. n ≤ b.born) (λ n. n ≤ born) (λ n k. omega (arith, k, later)) (births b) f.within;
+      begun = let low : 8 ≤ b.born = f.begun in omega (arith, low, later);
+      named = f.named;
+      linked = f.linked;
+      one_parent = f.one_parent;
+      none_round = f.none_round;
+    }
+
 -- what leads nowhere else makes no other round
 pub Leads-within : (next wide : ℕ → List ℕ) → ((n m : ℕ) → leads next n m ≡ true → leads wide n m ≡ true) → {n m : ℕ} → Leads next n m → Leads wide n m
 Leads-within next wide is (one {n} {m} e) = one (is n m e)
@@ -83,15 +97,9 @@ module _ (n : ℕ) (change : Record → Record) (same_birth : (r : Record) → (
       go false p rest = rw (edited, p, rest) refl
 
   pub edited-kind : (b : Board) (x : ℕ) → kind_of (edit n change b) x ≡ kind_of b x
-  edited-kind b x = ap (option_map (λ (r : Record). r.kind)) (found-edited n change same_birth x b.records) ∙ go (record_of b x)
-    where
-      at_record : (r : Record) (t : Bool) → (r.birth == n) ≡ t → (edited n change r).kind ≡ r.kind
-      at_record r true p = rw (edited, p) (same_kind r)
-      at_record r false p = rw (edited, p) refl
-
-      go : (o : Option Record) → option_map (λ (r : Record). r.kind) (option_map (edited n change) o) ≡ option_map (λ (r : Record). r.kind) o
-      go None = refl
-      go (Some r) = ap Some (at_record r (r.birth == n) refl)
+  edited-kind b x =
+      ap (option_map (λ (r : Record). r.kind)) (found-edited n change same_birth x b.records)
+      ∙ map-edited (λ (r : Record). r.kind) n change same_kind (record_of b x)
 
   pub edited-kinds : (b : Board) → kind_of (edit n change b) ≡ kind_of b
   edited-kinds b = fun_ext (edited-kind b)

@@ -18,9 +18,9 @@ use Rattle.qo_model.specs.Release.{edited, put_in_order, unpin}
 use Rattle.qo_model.specs.SoundGraph.{Rises}
 use Rattle.qo_model.specs.Unplug.{is_named}
 use Rattle.qo_model.proofs.EditLemmas.{StandsAt, stands-at}
+use Rattle.qo_model.proofs.GraphLemmas.{births_at}
 use Rattle.qo_model.proofs.StepLemmas.{found_at, one_of}
 use Rattle.qo_model.proofs.PinLemmas.{IsUp}
-use Rattle.qo_model.proofs.GraphLemmas.{births_at}
 use Rattle.qo_sound.proofs.RecordLemmas.{above-none, edited-none}
 use Rattle.qo_sound.proofs.FirmLemmas.{Firm}
 use Rattle.qo_sound.proofs.FreshLemmas.{fresh-names, new-lone}

@@ -15,9 +15,9 @@ use Rattle.qo_model.specs.Paths.{births, child_of, children_in, children_of, is_
 use Rattle.qo_model.specs.References.{refs, refs_in}
 use Rattle.qo_model.specs.SoundGraph.{Rises}
 use Rattle.qo_model.specs.Types.{is_a}
+use Rattle.qo_model.proofs.GraphLemmas.{births_at}
 use Rattle.qo_model.proofs.StepLemmas.{found_at}
 use Rattle.qo_model.specs.SoundAliases.{lasting, PassesTo}
-use Rattle.qo_model.proofs.GraphLemmas.{births_at}
 use Rattle.qo_sound.proofs.RecordLemmas.{all-append, all-imply}
 use Rattle.qo_sound.proofs.SlotLemmas.{one_child}
 use Rattle.qo_sound.proofs.FirmLemmas.{FitsKind, Linked, HasNames, parents_in, parents_of, Firm, Leads-within}

@@ -111,36 +111,43 @@ module _ (q : List ℕ) where
       ∙ ap (told_plug n) (plugged-blind n (acted_all Realize (n ∷ bus_births n t) c))
       ∙ told-blind n (plugged (acted_all Realize (n ∷ bus_births n t) c) n)
 
-  -- the acts behind which an attempt is given up
-  pub passed-blind : (b : Board) (bus n : ℕ) (t : TypeId) (c : Board) → passed b bus n t (with_pins q c) ≡ with_pins q (passed b bus n t c)
-  passed-blind b bus n t c =
-      let buses : List ℕ = bus_births n t in
-      let last : List ℕ = buses ++ n ∷ [] in
-      let exits : List ℕ = if count b bus == 0 then last else [] in
-      let c1 : Board = acted_all Realize (n ∷ buses) c in
-      let c2 : Board = acted_all Enter last c1 in
-      let c3 : Board = acted_all Hold last c2 in
-      ap (λ (x : Board). acted_all Unrealize last (acted_all Exit exits (acted_all Hold last (acted_all Enter last x)))) (all-blind Realize (n ∷ buses) c)
-      ∙ ap (λ (x : Board). acted_all Unrealize last (acted_all Exit exits (acted_all Hold last x))) (all-blind Enter last c1)
-      ∙ ap (λ (x : Board). acted_all Unrealize last (acted_all Exit exits x)) (all-blind Hold last c2)
-      ∙ ap (acted_all Unrealize last) (all-blind Exit exits c3)
-      ∙ all-blind Unrealize last (acted_all Exit exits c3)
-
   all-pins : (act : Act) (ns : List ℕ) (c : Board) → (acted_all act ns c).pins ≡ c.pins
   unfolding acted
   all-pins act [] c = refl
   all-pins act (n ∷ ns) c = all-pins act ns (acted act n 0 c)
 
-  pub passed-pins : (b : Board) (bus n : ℕ) (t : TypeId) (c : Board) → (passed b bus n t c).pins ≡ c.pins
-  passed-pins b bus n t c =
-      let buses : List ℕ = bus_births n t in
-      let last : List ℕ = buses ++ n ∷ [] in
-      let exits : List ℕ = if count b bus == 0 then last else [] in
-      let c1 : Board = acted_all Realize (n ∷ buses) c in
-      let c2 : Board = acted_all Enter last c1 in
-      let c3 : Board = acted_all Hold last c2 in
-      all-pins Unrealize last (acted_all Exit exits c3) ∙ all-pins Exit exits c3 ∙ all-pins Hold last c2 ∙ all-pins Enter last c1
-      ∙ all-pins Realize (n ∷ buses) c
+  -- the acts behind which an attempt is given up
+  module _ (b : Board) (bus n : ℕ) (t : TypeId) (c : Board) where
+    abbrev buses : List ℕ
+    buses = bus_births n t
+
+    abbrev last : List ℕ
+    last = buses ++ n ∷ []
+
+    abbrev exits : List ℕ
+    exits = if count b bus == 0 then last else []
+
+    abbrev begun : Board
+    begun = acted_all Realize (n ∷ buses) c
+
+    abbrev entered : Board
+    entered = acted_all Enter last begun
+
+    abbrev stopped : Board
+    stopped = acted_all Hold last entered
+
+    pub passed-blind : passed b bus n t (with_pins q c) ≡ with_pins q (passed b bus n t c)
+    passed-blind =
+        ap (λ (x : Board). acted_all Unrealize last (acted_all Exit exits (acted_all Hold last (acted_all Enter last x)))) (all-blind Realize (n ∷ buses) c)
+        ∙ ap (λ (x : Board). acted_all Unrealize last (acted_all Exit exits (acted_all Hold last x))) (all-blind Enter last begun)
+        ∙ ap (λ (x : Board). acted_all Unrealize last (acted_all Exit exits x)) (all-blind Hold last entered)
+        ∙ ap (acted_all Unrealize last) (all-blind Exit exits stopped)
+        ∙ all-blind Unrealize last (acted_all Exit exits stopped)
+
+    pub passed-pins : (passed b bus n t c).pins ≡ c.pins
+    passed-pins =
+        all-pins Unrealize last (acted_all Exit exits stopped) ∙ all-pins Exit exits stopped ∙ all-pins Hold last entered ∙ all-pins Enter last begun
+        ∙ all-pins Realize (n ∷ buses) c
 
   -- all steps but the pin
   pub steps-blind : (b : Board) (t : TypeId) (a : Wanted) (spot : Spot) → started (b.born + 1) t (counted a.id (clocked (source_for b spot.bus) (b.born + 1)

@@ -22,14 +22,13 @@ use Rattle.qo_model.specs.Changes.{add, with_added}
 use Rattle.qo_model.specs.Depth.{leads, Leads, one, more}
 use Rattle.qo_model.specs.Devices.{is_going, kid_name}
 use Rattle.qo_model.specs.Objects.{has_slot, refusal_of}
-use Rattle.qo_model.specs.Paths.{births, attached, canonical, children_of, is_of}
+use Rattle.qo_model.specs.Paths.{attached, canonical, children_of, is_of}
 use Rattle.qo_model.specs.Plug.{Spot, Wanted, acted_all, addressed_at, at_stage, barred_early, barred_late, born_from, bus_barred, bus_births, bus_for, bus_type, code_in, container_barred, counted, cut_attempt, cut_order, device_last, drafted, first_of, id_barred, id_refused, is_free, joined, kind_barred, name_for, notice_barred, number_for, ok_or_zero, parent_for, passed_notes, place_barred, plug, plug_as, plug_attempt, plug_by, plug_late, realize_barred, room_barred, slot_for, spot_of, stood, told_plug, type_barred, types_in, valued, with_body_of, with_device, with_ended, with_given, with_path, with_plugged, with_source}
 use Rattle.qo_model.specs.Release.{edit}
 use Rattle.qo_model.specs.Reset.{is_out, phased, plugged, post}
 use Rattle.qo_model.specs.SoundAliases.{is_open}
 use Rattle.qo_model.specs.Types.{TypeRow, is_a, row_named, types}
-use Rattle.qo_sound.proofs.RecordLemmas.{all-imply}
-use Rattle.qo_sound.proofs.FirmLemmas.{Firm, edited-kinds}
+use Rattle.qo_sound.proofs.FirmLemmas.{Firm, edited-kinds, firm-born}
 use Rattle.qo_sound.proofs.NamedLemmas.{IsNameless, named-near}
 use Rattle.qo_sound.proofs.WorkLemmas.{Nearly}
 use Rattle.qo_sound.proofs.ViewLemmas.{AtRest}
@@ -292,23 +291,12 @@ plugged-rest b t a spot h shut place =
 -- attempts take births, and are noted
 pub ended-rest : (b : Board) (made : List (ℕ × TypeId)) (passed : List Note) (ended : List (ℕ × TypeId)) → AtRest b → AtRest (with_ended b made passed ended)
 ended-rest b made passed ended h =
-    let f : Firm b = h.used.firm in
     record {
-      used =
-          record {
-            firm =
-                record {
-                  rising = f.rising;
-                  within = all-imply (λ m. m ≤ b.born) (λ m. m ≤ b.born + length made) (λ m k. omega (arith, k)) (births b) f.within;
-                  begun = let low : 8 ≤ b.born = f.begun in omega (arith, low);
-                  named = f.named;
-                  linked = f.linked;
-                  one_parent = f.one_parent;
-                  none_round = f.none_round;
-                };
-            aliases = h.used.aliases;
-            used = h.used.used;
-          };
+      used = record {
+        firm = firm-born b (b.born + length made) (with_ended b made passed ended).notes (omega arith) h.used.firm;
+        aliases = h.used.aliases;
+        used = h.used.used;
+      };
       pinned = h.pinned;
     }
 

@@ -7,8 +7,8 @@ use Rattle.std.proofs.lemmas.Option.{same_Some}
 use Rattle.qo_model.specs.Board.{Record}
 use Rattle.qo_model.specs.Release.{edited}
 use Rattle.qo_model.specs.SoundGraph.{Rises}
-use Rattle.qo_model.proofs.StepLemmas.{found_at}
 use Rattle.qo_model.proofs.GraphLemmas.{births_at}
+use Rattle.qo_model.proofs.StepLemmas.{found_at}
 
 pub all-imply : {A : Type 0} (P Q : A → Type 0) → ((x : A) → P x → Q x) → (xs : List A) → AllByRecursion P xs → AllByRecursion Q xs
 all-imply P Q f [] h = tt

@@ -16,10 +16,10 @@ use Rattle.qo_model.specs.declared.properties.Property.{Property}
 use Rattle.qo_model.specs.declared.properties.RowKind.TheVariants as row
 use Rattle.qo_model.proofs.AttemptLemmas.{IsStar, LowRecord, LowSlot}
 use Rattle.qo_model.proofs.DraftEndsLemmas.{IsDraft, draft-begun, draft-free, draft-low, draft-rows, drafted-cut, drafted-ends, kid-ends, kid-free, kinds_in, unjoined-cut, unjoined-ends}
+use Rattle.qo_model.proofs.GraphLemmas.{births_at}
 use Rattle.qo_model.proofs.StepLemmas.{is_some-map}
 use Rattle.qo_model.proofs.PassedLemmas.{attempt-free, attempt-passed}
 use Rattle.qo_model.proofs.PinLemmas.{IsUp}
-use Rattle.qo_model.proofs.GraphLemmas.{births_at}
 use Rattle.qo_sound.proofs.FirmLemmas.{AllLinked, Firm, FitsKind, Linked}
 use Rattle.qo_sound.proofs.WorkLemmas.{Nearly}
 use Rattle.qo_sound.proofs.ViewLemmas.{AtRest}

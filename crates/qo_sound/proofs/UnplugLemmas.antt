@@ -244,7 +244,7 @@ held-unrealize ps d c h = held-turns ps c (suc (length (births c))) d c h
 
 -- taking out
 
-held-drained : (P : Board → Type 0) (f : ℕ → Board → Board) → ((n : ℕ) (c : Board) → P c → P (f n c)) → (times m : ℕ) (c : Board) → P c
+pub held-drained : (P : Board → Type 0) (f : ℕ → Board → Board) → ((n : ℕ) (c : Board) → P c → P (f n c)) → (times m : ℕ) (c : Board) → P c
     → P (drained f times m c)
 held-drained P f keeps zero m c h = h
 held-drained P f keeps (suc times) m c h = go (first_of (kids_of c m)) refl (held-drained P f keeps times m)
@@ -253,7 +253,7 @@ held-drained P f keeps (suc times) m c h = go (first_of (kids_of c m)) refl (hel
     go None e rest = rw (drained, e) h
     go (Some k) e rest = rw (drained, e) (rest (f k c) (keeps k c h))
 
-held-buses : (P : Board → Type 0) (f : ℕ → Board → Board) (d : ℕ) → ((m : ℕ) (c : Board) → P c → P (lost_bus f d m c)) → (times : ℕ) (c : Board) → P c
+pub held-buses : (P : Board → Type 0) (f : ℕ → Board → Board) (d : ℕ) → ((m : ℕ) (c : Board) → P c → P (lost_bus f d m c)) → (times : ℕ) (c : Board) → P c
     → P (lost_buses f times d c)
 held-buses P f d keeps zero c h = h
 held-buses P f d keeps (suc times) c h = go (first_of (buses_of c d)) refl (held-buses P f d keeps times)

@@ -1,21 +1,20 @@
 -- A sound tree, as facts of the board itself, and back.
-use Rattle.std.proofs.Common.{◌≡◌, ◌≢◌, refl, ap, sym, subst, ◌∙◌, ℕ, zero, suc, ◌<◌, ◌≤◌, Bool, true, false, ◌==◌, eqb, List, [], ◌∷◌, map, sum_by, count_by, Option, Some, None, is_some, option_map, arith}
+use Rattle.std.proofs.Common.{◌≡◌, ◌≢◌, refl, sym, subst, ◌∙◌, ℕ, zero, suc, ◌<◌, ◌≤◌, Bool, true, false, ◌==◌, eqb, List, [], ◌∷◌, map, sum_by, count_by, Option, Some, None, is_some, option_map, arith}
 use Rattle.std.specs.List.{AllByRecursion, IsDistinct, cons_option}
 use Rattle.std.specs.Str.{bytes_eq}
 use Rattle.std.proofs.lemmas.Bool.{eqb-true, eq-eqb}
 use Rattle.std.proofs.lemmas.List.Sums.{sum_by-cons}
 use Rattle.std.proofs.Math.Path.{fun_ext}
 use Rattle.qo_values.specs.declared.kinds.TypeId.{TypeId}
-use Rattle.qo_model.specs.Board.{Board, Record, Slot, plain, child, strong, weak, alias, kind_of, is_live, held}
+use Rattle.qo_model.specs.Board.{Board, Record, Slot, plain, child, strong, weak, alias, kind_of, is_live}
 use Rattle.qo_model.specs.Depth.{among, Leads}
 use Rattle.qo_model.specs.Paths.{births, child_of, children_in, children_of}
 use Rattle.qo_model.specs.References.{refs}
 use Rattle.qo_model.specs.SoundGraph.{graph_of, without_value, without_values, NamesLive, Rises, SoundGraph}
-use Rattle.qo_model.proofs.CycleLemmas.{all-at}
+use Rattle.qo_model.proofs.CycleLemmas.{all-at, refs-graph_of}
 use Rattle.qo_model.proofs.FinalNotesLemmas.{kind-live}
 use Rattle.qo_model.proofs.GraphLemmas.{births-graph_of, child_of-without_value, children_of-graph_of}
-use Rattle.qo_model.proofs.EditLemmas.{one_is}
-use Rattle.qo_model.proofs.StepLemmas.{found_at, live-among, one_of}
+use Rattle.qo_model.proofs.StepLemmas.{found_at, live-among}
 use Rattle.qo_model.specs.SoundAliases.{is_clock_slot, is_open, lasting, PassesTo}
 use Rattle.qo_sound.proofs.SlotLemmas.{clocks_in}
 use Rattle.qo_sound.specs.Kept.{SoundTree}
@@ -57,19 +56,8 @@ sum-graph_of f same (r ∷ rs) = omega (
   sum_by-cons (λ (x : Record). sum_by f x.slots) r rs,
 )
 
-held-without : (s : Slot) → held (without_value s) ≡ held s
-held-without (plain v) = refl
-held-without (child m) = refl
-held-without (strong t target) = refl
-held-without (weak t target) = refl
-held-without (alias m name) = refl
-
 parents-graph_of : (b : Board) (x : ℕ) → sum_by (parents_in x) (map without_values b.records) ≡ parents_of b x
 parents-graph_of b x = sum-graph_of (one_child x) (one_child-same without_value child_of-without_value x) b.records
-
-refs-graph_of : (b : Board) (x : ℕ) → refs (graph_of b) x ≡ refs b x
-unfolding graph_of
-refs-graph_of b x = omega (arith, sum-graph_of (one_of x) (λ s. ap (one_is x) (held-without s.1)) b.records)
 
 -- what a slot names, by types
 names-linked : (g : Board) (s : Slot) → NamesLive g (without_value s) → Linked (kind_of g) s

@@ -1,6 +1,5 @@
 pub mod CommandLemmas
 pub mod FewerLemmas
-pub mod FoundLemmas
 pub mod GrownLemmas
 pub mod KeepLemmas
 pub mod LawLemmas

@@ -16,7 +16,8 @@ use Rattle.qo_model.specs.Unplug.{detach, first_of}
 use Rattle.qo_model.proofs.StepLemmas.{found-edited, found_at}
 use Rattle.qo_sound.specs.Kept.{SoundTree}
 use Rattle.qo_sound.proofs.KeptLemmas.{sound_kept_lem}
-use Rattle.qo_sound_clocks.proofs.FewerLemmas.{Fewer, fewer-detach, fewer-none, slots_in}
+use Rattle.qo_sound.proofs.ReadLemmas.{slots_in}
+use Rattle.qo_sound_clocks.proofs.FewerLemmas.{Fewer, fewer-detach, fewer-none}
 use Rattle.qo_sound_clocks.proofs.ReadLemmas.{Reads, tree-reads}
 
 -- what is kept where objects read no more as clocks

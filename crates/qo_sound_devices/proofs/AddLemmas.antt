@@ -1,16 +1,13 @@
 -- `object-add` keeps places, taken or refused.
-use Rattle.std.proofs.Common.{◌≡◌, refl, ap, ap₂, sym, subst, ◌∙◌, ℕ, ◌+◌, ◌<◌, Bool, true, false, not, ◌||◌, ◌==◌, leb, List, [], ◌∷◌, ◌++◌, length, map, find, filter_map, Option, Some, None, is_some, option_map, option_and_then, arith, codes}
+use Rattle.std.proofs.Common.{◌≡◌, refl, ap, ap₂, sym, subst, ◌∙◌, ℕ, ◌+◌, ◌<◌, Bool, true, false, ◌||◌, ◌==◌, List, [], ◌∷◌, ◌++◌, map, find, filter_map, Option, Some, None, is_some, option_map, option_and_then, arith, codes}
 use Rattle.std.specs.List.{AllByRecursion, cons_option, list_any}
 use Rattle.std.specs.Option.{option_map_or, option_or}
 use Rattle.std.proofs.lemmas.List.Folds.{find-append}
-use Rattle.std.specs.Prelude.{if◌then◌else◌}
 use Rattle.std.specs.Str.{bytes_eq}
 use Rattle.std.proofs.lemmas.Bool.{eqb-true, eq-eqb}
 use Rattle.qo_values.specs.declared.births.TheConstants.{ANONYMOUS_BIRTH, MACHINE_BIRTH, MEMORY_BUS_BIRTH, OBJECTS_BIRTH, PERIPHERAL_BIRTH, ROOT_BUS_BIRTH, SYSTEM_CLOCK_BIRTH}
-use Rattle.qo_values.specs.Ids.{is_id}
 use Rattle.qo_values.specs.Registers.{fresh_registers}
 use Rattle.qo_values.specs.declared.codes.Code.{Code}
-use Rattle.qo_values.specs.declared.codes.Code.TheVariants.{E15, E21, E22, E23, E24, E43}
 use Rattle.qo_values.specs.declared.kinds.TypeId.{TypeId}
 use Rattle.qo_values.specs.declared.kinds.TypeId.TheVariants.{Object, Container, Machine, Device, SlotDevice, SlotUart, SlotTimer, SlotBridge, MemDimm, Bus, SlotBus, MemBus, Clock, MemoryBackend, MemoryBackendRam, Tag}
 use Rattle.qo_values.specs.declared.properties.Val.{Val}
@@ -19,18 +16,19 @@ use Rattle.qo_model.specs.Board.{Board, Record, Slot, plain, child, strong, weak
 use Rattle.qo_model.specs.Changes.{with_added}
 use Rattle.qo_model.specs.Devices.{bus_of, is_realized, is_true, place_on, plain_in, strong_in, number_in}
 use Rattle.qo_model.specs.Opening.{fresh_slots}
-use Rattle.qo_model.specs.Objects.{Given, given_to, slot_given, added_as, added_by, barred, given_slots, has_slot, object_add, refusal_of, with_attempt, with_object}
+use Rattle.qo_model.specs.Objects.{Given, given_to, slot_given, added_as, added_by, barred, given_slots, object_add, refusal_of, with_attempt, with_object}
 use Rattle.qo_model.specs.Paths.{is_of}
 use Rattle.qo_model.specs.Release.{edited}
 use Rattle.qo_model.specs.Types.{TypeRow, is_a, row_named, types}
 use Rattle.qo_model.proofs.StepLemmas.{found_at, found-edited, found-birth}
-use Rattle.qo_sound.proofs.AddLemmas.{attempt-rest, unbarred}
+use Rattle.qo_sound.proofs.AddLemmas.{attempt-rest, creatable}
 use Rattle.qo_sound.proofs.FirmLemmas.{Firm}
 use Rattle.qo_sound.proofs.RecordLemmas.{all-imply}
+use Rattle.qo_sound.proofs.TestLemmas.{decide, clash-back}
 use Rattle.qo_sound.proofs.ViewLemmas.{AtRest}
 use Rattle.qo_sound_devices.specs.SoundPlaces.{child_entries, child_entry, HasOwner, machines, bridges, id_of, IsAnonymous, IsAtHome, IsHome, IsKid, IsPeripheral, kid_entries, kid_entry, listed, owns_it, PlacesBut, stands}
 use Rattle.qo_sound_devices.proofs.AlikeLemmas.{alike-record, bodiless}
-use Rattle.qo_sound_devices.proofs.PlacesLemmas.{child-live, Keeps, keeps-none, children-grown, high-absent, MoreChildren, rooted-same, no-more, id-alike, kept-alike, of-alike, of-live, owner-live, path-alike, places-kept, SameBody, stands-live, suits-alike}
+use Rattle.qo_sound_devices.proofs.PlacesLemmas.{child-live, Keeps, keeps-none, children-grown, high-absent, MoreChildren, rooted-same, no-more, id-alike, kept-alike, of-alike, of-live, owner-live, places-kept, SameBody, stands-live, suits-alike, peripheral-alike, anonymous-alike}
 
 -- a board with more objects, of which places do not speak; `/objects` has a child more
 pub record Grown (b c : Board) : Type 0 where
@@ -49,10 +47,6 @@ pub record Grown (b c : Board) : Type 0 where
   pub objects : is_live b OBJECTS_BIRTH ≡ true → child_entries c OBJECTS_BIRTH ≡ child_entries b OBJECTS_BIRTH ++ added ∷ []
   pub no_device : (x : ℕ) → is_live b x ≡ false → is_of c (codes "device") x ≡ false
   pub no_children : (x : ℕ) → is_live b x ≡ false → child_entries c x ≡ []
-
-decide : (t : Bool) → {A : Type 0} → (t ≡ true → A) → (t ≡ false → A) → A
-decide true f g = f refl
-decide false f g = g refl
 
 module _ (depth : ℕ → ℕ) (b c : Board) (g : Grown b c) (firm : Firm b) (h : PlacesBut depth None (λ x. false) b) where
   first : child_entries c 1 ≡ child_entries b 1
@@ -155,20 +149,11 @@ module _ (depth : ℕ → ℕ) (b c : Board) (g : Grown b c) (firm : Firm b) (h 
       named d id e = decide (is_live b d) (λ k. k) (λ k. absurd (let clash : None ≡ Some id = sym (g.nameless d k) ∙ e in cc))
 
       one : (e : List ℕ × ℕ) → IsPeripheral b e → IsPeripheral c e
-      one e k =
-          let a : SameBody b c e.1 = g.body e.1 (of-live b (codes "device") e.1 k.device) in
-          record { device = of-alike b c e.1 (codes "device") a ∙ k.device; id = id-alike b c e.1 a ∙ k.id; path = path-alike b c e.1 a ∙ k.path }
+      one e k = peripheral-alike b c e (g.body e.1 (of-live b (codes "device") e.1 k.device)) k
 
       two : (e : List ℕ × ℕ) → IsAnonymous b e → IsAnonymous c e
       two e k =
-          let a : SameBody b c e.1 = g.body e.1 (of-live b (codes "device") e.1 k.device) in
-          let (n, (low, name)) = k.numbered in
-          record {
-            device = of-alike b c e.1 (codes "device") a ∙ k.device;
-            id = id-alike b c e.1 a ∙ k.id;
-            path = path-alike b c e.1 a ∙ k.path;
-            numbered = (n, (subst (λ (x : ℕ). n < x) (sym g.anonymous) low, name));
-          }
+          anonymous-alike b c e (λ n low. subst (λ (x : ℕ). n < x) (sym g.anonymous) low) (g.body e.1 (of-live b (codes "device") e.1 k.device)) k
 
       kids : (q : ℕ) → is_of c (codes "bus") q ≡ true → AllByRecursion (IsKid c q) (kid_entries c q)
       kids q e =
@@ -234,9 +219,6 @@ children-given b props [] = refl
 children-given b props (s ∷ slots) = ap₂ cons_option (child-given b props s) (children-given b props slots)
 
 -- what a user's object is
-never : {A : Type 0} → false ≡ true → A
-never e = absurd cc
-
 abbrev realized_in : List (List ℕ × Slot) → Bool
 realized_in slots =
     option_map_or is_true (option_and_then plain_in (option_map (λ (s : List ℕ × Slot). s.1) (find (λ s. bytes_eq s.0 (codes "realized")) slots))) false
@@ -249,19 +231,19 @@ record IsUsers (b : Board) (t : TypeId) (props : List Given) : Type 0 where
 
 users : (b : Board) (t : TypeId) (props : List Given) → is_a t (codes "user-creatable") ≡ true → IsUsers b t props
 unfolding types
-users b Object props = never
-users b Container props = never
-users b Machine props = never
-users b Device props = never
-users b SlotDevice props = never
-users b SlotUart props = never
-users b SlotTimer props = never
-users b SlotBridge props = never
-users b MemDimm props = never
-users b Bus props = never
-users b SlotBus props = never
-users b MemBus props = never
-users b Clock props = never
+users b Object props = clash-back
+users b Container props = clash-back
+users b Machine props = clash-back
+users b Device props = clash-back
+users b SlotDevice props = clash-back
+users b SlotUart props = clash-back
+users b SlotTimer props = clash-back
+users b SlotBridge props = clash-back
+users b MemDimm props = clash-back
+users b Bus props = clash-back
+users b SlotBus props = clash-back
+users b MemBus props = clash-back
+users b Clock props = clash-back
 users b MemoryBackend props =
     λ e. record { no_bus = refl; no_device = refl; no_children = children-given b props (fresh_slots MemoryBackend); unrealized = refl }
 users b MemoryBackendRam props =
@@ -430,20 +412,6 @@ attempt-places depth b t rest h =
     (kept-alike b (with_attempt b t) (attempt-rest b t rest).used.firm (owner-live b 1 MACHINE_BIRTH h.machine) refl
     (λ x e. alike-record b (with_attempt b t) x refl)) depth None
     (λ x. false) h
-
-creatable : (b : Board) (row : TypeRow) (id : List ℕ) → barred b row id ≡ None → is_a row.id (codes "user-creatable") ≡ true
-creatable b row id e =
-    let after_place : Option Code = if leb 4096 (length b.records) then Some E43 else None in
-    let after_name : Option Code = if has_slot b OBJECTS_BIRTH id then Some E24 else after_place in
-    let after_there : Option Code = if not (is_live b OBJECTS_BIRTH) then Some E15 else after_name in
-    let after_id : Option Code = if not (is_id id) then Some E23 else after_there in
-    let after_type : Option Code = if not (is_a row.id (codes "user-creatable")) then Some E22 else after_id in
-    let type_fits : (row.is_abstract ≡ false) × (after_type ≡ None) = unbarred row.is_abstract E21 after_type e in
-    turn (is_a row.id (codes "user-creatable")) (unbarred (not (is_a row.id (codes "user-creatable"))) E22 after_id type_fits.1).0
-  where
-    turn : (t : Bool) → not t ≡ false → t ≡ true
-    turn true k = refl
-    turn false k = absurd (let clash : true ≡ false = k in cc)
 
 added_as-places : (depth : ℕ → ℕ) (b : Board) (t : TypeId) (id : List ℕ) (props : List Given) (refusal : Option Code)
     → is_a t (codes "user-creatable") ≡ true → AtRest b → PlacesBut depth None (λ x. false) b → Keeps depth b (added_as b t id props refusal).board

@@ -174,7 +174,7 @@ severed-all depth (suc places) i n b c h = go (slot_at c n i) refl (severed-all 
     go (Some (weak t target)) p rest = rw (severed_from, p) (rest c h)
     go (Some (alias m property)) p rest = rw (severed_from, p) (rest c h)
 
-put-one : (n : ℕ) → among (put_in_order n (1 ∷ [])) 1 ≡ true
+pub put-one : (n : ℕ) → among (put_in_order n (1 ∷ [])) 1 ≡ true
 put-one n = go (leb 1 n) refl
   where
     go : (t : Bool) → leb 1 n ≡ t → among (put_in_order n (1 ∷ [])) 1 ≡ true

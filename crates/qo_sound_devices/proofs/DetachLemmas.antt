@@ -3,7 +3,7 @@ use Rattle.std.proofs.Common.{inl, nat_eq, ◌≡◌, refl, ap, ap₂, sym, subs
 use Rattle.std.specs.List.{cons_option, list_any}
 use Rattle.std.specs.Option.{option_map_or}
 use Rattle.std.specs.Str.{bytes_eq}
-use Rattle.std.proofs.lemmas.Bool.{eqb-true, eq-eqb}
+use Rattle.std.proofs.lemmas.Bool.{eqb-true, eq-eqb, false_from_ne_true}
 use Rattle.std.proofs.lemmas.Option.{same_Some}
 use Rattle.std.proofs.Math.Bool.{or-true}
 use Rattle.qo_values.specs.declared.births.TheConstants.{ANONYMOUS_BIRTH, MACHINE_BIRTH, MEMORY_BUS_BIRTH, OBJECTS_BIRTH, PERIPHERAL_BIRTH, ROOT_BUS_BIRTH}
@@ -25,7 +25,7 @@ use Rattle.qo_sound_devices.proofs.AlikeLemmas.{alike-record}
 use Rattle.qo_sound_devices.proofs.AttachedLemmas.{owns-listed, parent-is}
 use Rattle.qo_sound_devices.proofs.CommandLemmas.{Goes, goes-after, goes-pins}
 use Rattle.qo_sound_devices.proofs.DropLemmas.{edited-slots, names-at, strong-dropped}
-use Rattle.qo_sound_devices.proofs.LeaveLemmas.{false-of, IsUnlisted, Left, Stay, stay-kept, stay-then, unlisted-steps}
+use Rattle.qo_sound_devices.proofs.LeaveLemmas.{IsUnlisted, Left, Stay, stay-kept, stay-then, unlisted-steps}
 use Rattle.qo_sound_devices.proofs.LowLemmas.{faded_by, is-bus_of, IsBusOf, kid-of, kids-listed, room, unrealize-all, unrealize-dimmed, unrealize-only, unrealize-places, stands-dimmed}
 use Rattle.qo_sound_devices.proofs.MovedLemmas.{within-listed}
 use Rattle.qo_sound_devices.proofs.PartLemmas.{bus-left, Loose, ownless-steps, parent-left, Parted, slot-is, stay-let_go, steps-let_go, unrealized-steps}
@@ -84,7 +84,7 @@ no-kid ((name, strong t (Some m)) ∷ slots) e = absurd (let clash : Some m ≡ 
 no-kid ((name, weak t target) ∷ slots) e = no-kid slots e
 no-kid ((name, alias m property) ∷ slots) e = no-kid slots e
 
-first-among : (ns : List ℕ) (m : ℕ) → first_of ns ≡ Some m → among ns m ≡ true
+pub first-among : (ns : List ℕ) (m : ℕ) → first_of ns ≡ Some m → among ns m ≡ true
 first-among [] m e = cc
 first-among (n ∷ ns) m e = let own : eqb m n ≡ true = eq-eqb m n (sym (same_Some n m e)) in rw own refl
 
@@ -187,7 +187,7 @@ above-stay depth d q b c on h =
     record {
       on = λ x p e o low.
           let differs : (d == x) ≡ false =
-          false-of (d == x)
+          false_from_ne_true (d == x)
           (λ k.
           let its : q ≡ p = same_Some q p (sym on ∙ ap (bus_of b) (eqb-true d x k) ∙ o) in
           let same_depth : depth q ≡ depth p = ap depth its in absurd (omega (arith, same_depth, low))) in
@@ -199,7 +199,7 @@ above-all depth left out l b c h s =
     record {
       on = λ x q e o low.
           let differs : (1 == x) ≡ false =
-          false-of (1 == x) (λ k. let clash : true ≡ false = sym e ∙ ap (stands b) (sym (eqb-true 1 x k)) ∙ h.aside.0 in absurd cc) in
+          false_from_ne_true (1 == x) (λ k. let clash : true ≡ false = sym e ∙ ap (stands b) (sym (eqb-true 1 x k)) ∙ h.aside.0 in absurd cc) in
           (h_on x q e o differs);
     }
   where
@@ -222,7 +222,7 @@ lit-stay : (d : ℕ) (b c : Board) → is_realized b d ≡ false → Stay d b c 
 lit-stay d b c dim s =
     record {
       on =
-          λ x e lit. s.stands_on x (false-of (d == x) (λ k. let clash : true ≡ false = sym lit ∙ ap (is_realized b) (sym (eqb-true d x k)) ∙ dim in
+          λ x e lit. s.stands_on x (false_from_ne_true (d == x) (λ k. let clash : true ≡ false = sym lit ∙ ap (is_realized b) (sym (eqb-true d x k)) ∙ dim in
           absurd cc)) e;
     }
 
@@ -230,7 +230,7 @@ lit-all : (depth : ℕ → ℕ) (left : Option ℕ) (out : ℕ → Bool) (b c : 
 lit-all depth left out b c h s =
     record {
       on =
-          λ x e lit. s.stands_on x (false-of (1 == x) (λ k. let clash : true ≡ false = sym e ∙ ap (stands b) (sym (eqb-true 1 x k)) ∙ h.aside.0 in
+          λ x e lit. s.stands_on x (false_from_ne_true (1 == x) (λ k. let clash : true ≡ false = sym e ∙ ap (stands b) (sym (eqb-true 1 x k)) ∙ h.aside.0 in
           absurd cc)) e;
     }
 
@@ -305,7 +305,7 @@ module _ (depth : ℕ → ℕ) (out : ℕ → Bool) (n : ℕ) (f : ℕ → Board
           let s : Steps b (f k b) = one.went.steps in
           let isc : is_live (f k b) m ≡ true → is_of (f k b) (codes "bus") m ≡ true = λ live. of-alike b (f k b) m (codes "bus") (s.body m live) ∙ is in
           let away : listed k (kid_entries (f k b) m) ≡ false =
-          false-of (listed k (kid_entries (f k b) m))
+          false_from_ne_true (listed k (kid_entries (f k b) m))
           (λ l. let clash : true ≡ false = sym l ∙ one.unlisted m (isc (listed-owner (f k b) k m l)) in absurd cc) in
           let fewer : suc (length (kid_entries (f k b) m)) ≤ length (kid_entries b m) = within-shorter (λ (x : List ℕ × ℕ). x.1 == k) (s.kids m) away has in
           let last : Drained depth out ps m (f k b) (drained f times m (f k b)) =
@@ -667,7 +667,8 @@ pinned-out depth out n f takes ps up d q b h closed e on dim deep = result
           above =
               above-then depth (depth q) b p (unpin c d) (above-pin depth (depth q) b d)
               (above-then depth (depth q) p c (unpin c d) inner.above (above-all depth None out (depth q) c (unpin c d) inner.went.mid.places last.stay));
-          gone = false-of (stands (unpin c d) d) (λ k. let clash : true ≡ false = sym (stood-steps c (unpin c d) last.steps d k) ∙ inner.gone in absurd cc);
+          gone = false_from_ne_true (stands (unpin c d) d) (λ k. let clash : true ≡ false = sym (stood-steps c (unpin c d) last.steps d k) ∙ inner.gone in
+              absurd cc);
           unlisted = unlisted-steps c (unpin c d) d last.steps inner.unlisted;
           lit =
               lit-then b p (unpin c d) mid.sits.near.firm (steps-pin b d) (lit-pin b d)
@@ -692,12 +693,12 @@ turned b d x y a here = a
 turned b d x y a (down m k im ik u) = turned b d k y (further x m a (is-bus_of b x m im).owned (is-bus_of b x m im).bus (kids-listed k (slots_at b m) ik)) u
 
 -- below what is below a device are others
-under-more : (b : Board) (d x m k : ℕ) → Under b d x → among (buses_of b x) m ≡ true → among (kids_of b m) k ≡ true → Under b d k
+pub under-more : (b : Board) (d x m k : ℕ) → Under b d x → among (buses_of b x) m ≡ true → among (kids_of b m) k ≡ true → Under b d k
 under-more b d x m k here im ik = down m k im ik here
 under-more b d x m k (down n j jn jk u) im ik = down n j jn jk (under-more b j x m k u im ik)
 
 -- what is owned is gone over
-owned-bus : (b : Board) (q : ℕ) → is_of b (codes "bus") q ≡ true → (slots : List (List ℕ × Slot))
+pub owned-bus : (b : Board) (q : ℕ) → is_of b (codes "bus") q ≡ true → (slots : List (List ℕ × Slot))
     → list_any (owns_it q) (filter_map child_entry slots) ≡ true → among (filter_map (bus_in b) slots) q ≡ true
 owned-bus b q is [] e = cc
 owned-bus b q is ((name, plain v) ∷ slots) e = owned-bus b q is slots e
@@ -719,7 +720,7 @@ owned-bus b q is ((name, child k) ∷ slots) e = go (is_of b (codes "bus") k) re
     go false x u w true v rest = absurd (let clash : false ≡ true = sym x ∙ ap (is_of b (codes "bus")) (eqb-true k q v) ∙ is in cc)
     go false x u w false v rest = rw x (rest (rw v at e))
 
-listed-kid : (k : ℕ) (slots : List (List ℕ × Slot)) → listed k (filter_map kid_entry slots) ≡ true
+pub listed-kid : (k : ℕ) (slots : List (List ℕ × Slot)) → listed k (filter_map kid_entry slots) ≡ true
     → among (filter_map (λ (s : List ℕ × Slot). strong_in s.1) slots) k ≡ true
 listed-kid k [] e = cc
 listed-kid k ((name, plain v) ∷ slots) e = listed-kid k slots e
@@ -808,7 +809,7 @@ module _ (depth : ℕ → ℕ) (b : Board) (d : ℕ) (rest : AtRest b) (h : Plac
   behind = steps-then (unrealize (pin b d) d) x z taken_out.went.steps last.steps
 
   gone : stands z d ≡ false
-  gone = false-of (stands z d) (λ k. let clash : true ≡ false = sym (stood-steps x z last.steps d k) ∙ taken_out.gone in absurd cc)
+  gone = false_from_ne_true (stands z d) (λ k. let clash : true ≡ false = sym (stood-steps x z last.steps d k) ∙ taken_out.gone in absurd cc)
 
   -- who was below the device stood, and stands no more
   below-stood : (y : ℕ) → Above_it (pin b d) d y → stands (pin b d) y ≡ true

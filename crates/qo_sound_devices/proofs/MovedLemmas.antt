@@ -11,7 +11,7 @@ use Rattle.qo_model.specs.Paths.{is_of}
 use Rattle.qo_sound.proofs.FirmLemmas.{Firm}
 use Rattle.qo_sound.proofs.RecordLemmas.{all-both, all-imply}
 use Rattle.qo_sound_devices.specs.SoundPlaces.{child_entries, HasOwner, machines, bridges, IsAnonymous, IsHome, IsKid, IsPeripheral, IsShallow, kid_entries, listed, owns, PlacesBut, stands}
-use Rattle.qo_sound_devices.proofs.PlacesLemmas.{all-within, bus-listed, child-live, children-there, children-within, rooted-same, id-alike, id-live, IsThere, kid-live, linked-at, more, nothing, of-alike, of-live, or-cases, path-alike, realized-live, same, SameBody, stands-live, suits-alike, Within}
+use Rattle.qo_sound_devices.proofs.PlacesLemmas.{all-within, bus-listed, child-live, children-there, children-within, rooted-same, id-alike, id-live, IsThere, kid-live, linked-at, more, nothing, of-alike, of-live, or-cases, realized-live, same, SameBody, stands-live, suits-alike, Within, peripheral-alike, anonymous-alike}
 
 pub within-listed : (d : ℕ) {xs ys : List (List ℕ × ℕ)} → Within xs ys → listed d xs ≡ true → listed d ys ≡ true
 within-listed d (nothing ys) e = cc
@@ -88,13 +88,7 @@ module _ (b c : Board) (depth : ℕ → ℕ) (left before : Option ℕ) (out out
       (children-there c (slots_at c PERIPHERAL_BIRTH) (linked-at c m.firm PERIPHERAL_BIRTH)) (all-within (IsPeripheral b) peripherals h.peripheral))
     where
       one : (e : List ℕ × ℕ) → IsThere c e × IsPeripheral b e → IsPeripheral c e
-      one e k =
-          let a : SameBody b c e.1 = m.body e.1 k.0 in
-          record {
-            device = of-alike b c e.1 (codes "device") a ∙ k.1.device;
-            id = id-alike b c e.1 a ∙ k.1.id;
-            path = path-alike b c e.1 a ∙ k.1.path;
-          }
+      one e k = peripheral-alike b c e (m.body e.1 k.0) k.1
 
   anonymous : AllByRecursion (IsAnonymous c) (child_entries c ANONYMOUS_BIRTH)
   anonymous =
@@ -103,15 +97,7 @@ module _ (b c : Board) (depth : ℕ → ℕ) (left before : Option ℕ) (out out
       (children-there c (slots_at c ANONYMOUS_BIRTH) (linked-at c m.firm ANONYMOUS_BIRTH)) (all-within (IsAnonymous b) anonymouses h.anonymous))
     where
       one : (e : List ℕ × ℕ) → IsThere c e × IsAnonymous b e → IsAnonymous c e
-      one e k =
-          let a : SameBody b c e.1 = m.body e.1 k.0 in
-          let (n, (low, name)) = k.1.numbered in
-          record {
-            device = of-alike b c e.1 (codes "device") a ∙ k.1.device;
-            id = id-alike b c e.1 a ∙ k.1.id;
-            path = path-alike b c e.1 a ∙ k.1.path;
-            numbered = (n, (subst (λ (x : ℕ). n < x) (sym m.anonymous) low, name));
-          }
+      one e k = anonymous-alike b c e (λ n low. subst (λ (x : ℕ). n < x) (sym m.anonymous) low) (m.body e.1 k.0) k.1
 
   kids : (q : ℕ) → is_of c (codes "bus") q ≡ true → AllByRecursion (IsKid c q) (kid_entries c q)
   kids q e =

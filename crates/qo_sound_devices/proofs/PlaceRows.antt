@@ -1,5 +1,5 @@
 -- The places of the opening board, of a bridge, and of a bridge below a bridge are sound.
-use Rattle.std.proofs.Common.{◌≡◌, refl, ℕ, true, false, ◌==◌, List, [], codes, if◌then◌else◌, Some, None, arith}
+use Rattle.std.proofs.Common.{◌≡◌, refl, ℕ, ◌==◌, List, [], codes, if◌then◌else◌, Some, None, arith}
 use Rattle.qo_model.specs.Board.{Board}
 use Rattle.qo_model.specs.Changes.{add, cut, set}
 use Rattle.qo_model.specs.Clocks.{acted, clocks_below, period}
@@ -12,22 +12,18 @@ use Rattle.qo_model.specs.Reset.{held, plugged, post, pulse, released}
 use Rattle.qo_model.specs.Types.{types}
 use Rattle.qo_model.specs.Unplug.{apart_within, detach, unrealize}
 use Rattle.qo_values.specs.Placing.{least}
+use Rattle.qo_sound.proofs.TestLemmas.{clash as differs, clash-back as never}
 use Rattle.qo_sound_devices.specs.SoundPlaces.{SoundPlaces, machines, bridges, on_machine, on_device}
 use Rattle.qo_sound_devices.proofs.CheckLemmas.{Checked, checked-sound}
 
 -- what does not compute so
-never : {A : Type 0} → false ≡ true → A
-never e = absurd cc
-
-differs : {A : Type 0} → true ≡ false → A
-differs e = absurd cc
-
 unnamed : {A : Type 0} {x : List ℕ} → None ≡ Some x → A
 unnamed e = absurd cc
 
-opening : Checked opening_board
+-- a board with the objects of the opening board, whatever else it has been through
+objects-opening : (b : Board) → Checked (record b { records = opening_board.records })
 unfolding types opening_board
-opening =
+objects-opening b =
     record {
       machine = refl;
       objects = refl;
@@ -63,7 +59,7 @@ opening =
     }
 
 pub opening-places : SoundPlaces opening_board
-opening-places = checked-sound opening_board opening
+opening-places = checked-sound opening_board (objects-opening opening_board)
 
 abbrev wanted : List ℕ → Wanted
 wanted id = record { driver = codes "slot-bridge"; id = Some id; bus = None; props = [] }
@@ -213,37 +209,4 @@ two-places = checked-sound two places-two
 places-removed : Checked (detach two 9)
 unfolding types opening_board steps_to attached drop_slot finish finalise finalise_within let_go pin unpin add set cut acted period clocks_below depth_of
     is_going plug plugged post held released pulse least unrealize apart_within detach
-places-removed =
-    record {
-      machine = refl;
-      objects = refl;
-      parts = (refl, (refl, (refl, (refl, (refl, tt)))));
-      located = record { root = refl; machine = refl; peripheral = refl; anonymous = refl };
-      children = (
-        (record { bus = never; device = never }, (record { bus = never; device = never }, tt)),
-        (
-          (
-            record { bus = never; device = never },
-            (
-              record { bus = never; device = never },
-              (
-                record { bus = never; device = never },
-                (record { bus = λ e. on_machine refl; device = never }, (record { bus = λ e. on_machine refl; device = never }, tt)),
-              ),
-            ),
-          ),
-          (tt, (tt, (tt, (tt, (tt, (tt, tt)))))),
-        ),
-      );
-      aside = (refl, (refl, (refl, (refl, (refl, (refl, (refl, tt)))))));
-      peripheral = tt;
-      anonymous = tt;
-      kids = (λ e. tt, (λ e. tt, (λ e. tt, (λ e. tt, (λ e. tt, (λ e. tt, (λ e. tt, (λ e. tt, tt))))))));
-      depth = λ q. 0;
-      top = (refl, (refl, tt));
-      named = tt;
-      numbered = tt;
-      only = (never, (never, (never, (never, (never, (never, (never, (never, tt))))))));
-      ids = (λ id. unnamed, (λ id. unnamed, (λ id. unnamed, (λ id. unnamed, (λ id. unnamed, (λ id. unnamed, (λ id. unnamed, (λ id. unnamed, tt))))))));
-      once = tt;
-    }
+places-removed = objects-opening (detach two 9)

@@ -26,10 +26,11 @@ use Rattle.qo_model.specs.Unplug.{is_named, set_named}
 use Rattle.qo_model.proofs.StepLemmas.{found-edited}
 use Rattle.qo_sound.proofs.FirmLemmas.{Firm}
 use Rattle.qo_sound.proofs.MadeLemmas.{grown-new}
+use Rattle.qo_sound.proofs.ReadLemmas.{named_in}
 use Rattle.qo_sound.proofs.UnplugLemmas.{Found, found-at}
 use Rattle.qo_sound_devices.proofs.DropLemmas.{edited-slots}
-use Rattle.qo_sound_devices.proofs.PlainLemmas.{kept-append, kept-given_at, kept-link, kept-set, named_in, PlainIn, stay-add, stay-rows}
-use Rattle.qo_sound_devices.proofs.UnrealizeLemmas.{first-changed, mild-val, named-changed, named-other, none-found, other-name, reads}
+use Rattle.qo_sound_devices.proofs.PlainLemmas.{kept-append, kept-given_at, kept-link, kept-set, PlainIn, stay-add, stay-rows}
+use Rattle.qo_sound_devices.proofs.UnrealizeLemmas.{first-changed, named-changed, named-other, none-found, other-name, reads}
 
 -- the rows of a device begin so
 abbrev first_rows : List Property
@@ -116,7 +117,7 @@ set-other n name own v apart c = go (place_from (is_named own) 0 (slots_at c n))
     go (Some i) e =
         let f : Found (is_named own) (slots_at c n) i = found-at (is_named own) i (slots_at c n) e in
         rw (set_named, e)
-        (reads (with_val v) (mild-val v) n i c (λ slots. option_and_then plain_in (named_in name slots))
+        (reads (with_val v) n i c (λ slots. option_and_then plain_in (named_in name slots))
         (λ slots q. ap (option_and_then plain_in) (named-other (with_val v) name i slots f.entry
         (ap (λ (x : List (List ℕ × Slot)). slice_get x i) (sym q) ∙ f.at) (other-name own name apart f.entry f.passes))) n)
 

@@ -1,5 +1,5 @@
 -- Steps that only take away: objects, entries and links.
-use Rattle.std.proofs.Common.{◌≡◌, ◌≢◌, refl, ap, sym, subst, ◌∙◌, ℕ, zero, suc, Bool, true, false, ◌==◌, List, [], ◌∷◌, find, filter_map, remove, slice_get, Option, Some, None, is_some, option_map, option_and_then, codes}
+use Rattle.std.proofs.Common.{◌≡◌, ◌≢◌, refl, ap, sym, subst, ◌∙◌, ℕ, zero, suc, Bool, true, false, ◌==◌, List, [], ◌∷◌, filter_map, remove, slice_get, Option, Some, None, is_some, option_map, option_and_then, codes}
 use Rattle.std.specs.List.{cons_option, IsDistinct, list_any}
 use Rattle.std.specs.Option.{option_map_or}
 use Rattle.std.specs.Str.{bytes_eq}
@@ -14,8 +14,9 @@ use Rattle.qo_model.specs.Depth.{among}
 use Rattle.qo_model.specs.Devices.{bus_of, is_realized, is_true, number_in, place_on, plain_in, strong_in}
 use Rattle.qo_model.specs.Paths.{is_of}
 use Rattle.qo_model.specs.Release.{after, edit, edited, finalise, without_hold}
-use Rattle.qo_model.proofs.StepLemmas.{found-edited, is_some-map}
+use Rattle.qo_model.proofs.StepLemmas.{found-edited, is_some-map, map-edited}
 use Rattle.qo_sound.proofs.FirmLemmas.{Firm}
+use Rattle.qo_sound.proofs.ReadLemmas.{named_in}
 use Rattle.qo_sound.proofs.SlotLemmas.{names_in}
 use Rattle.qo_sound_devices.specs.SoundPlaces.{child_entries, child_entry, HasOwner, kid_entries, kid_entry, listed, owns_it, stands}
 use Rattle.qo_sound_devices.proofs.AlikeLemmas.{after-alike, Alike, alike-record, bodiless, other-record}
@@ -108,9 +109,6 @@ pub steps-after : (b : Board) (o : Option ℕ) → Steps b (after finalise b o)
 steps-after b o = steps-alike b (after finalise b o) (after-anonymous b o) (after-alike b o)
 
 -- slots, of which some was taken away
-
-abbrev named_in : List ℕ → List (List ℕ × Slot) → Option Slot
-named_in name slots = option_map (λ (s : List ℕ × Slot). s.1) (find (λ s. bytes_eq s.0 name) slots)
 
 pub record SlotSteps (xs ys : List (List ℕ × Slot)) : Type 0 where
   pub children : Within (filter_map child_entry ys) (filter_map child_entry xs)
@@ -215,15 +213,7 @@ module _ (b : Board) (n : ℕ) (change : Record → Record) (same_birth : (r : R
       go false p = other x (apart-alike x p)
 
   bodies : (x : ℕ) → SameBody b c x
-  bodies x = at_each (SameBody b c) (λ y a. a.body) (ap (option_map bodiless) (found-edited n change same_birth n b.records) ∙ go (record_of b n)) x
-    where
-      at_record : (y : Record) (t : Bool) → (y.birth == n) ≡ t → bodiless (edited n change y) ≡ bodiless y
-      at_record y true p = rw (edited, p) (same_body y)
-      at_record y false p = rw (edited, p) refl
-
-      go : (o : Option Record) → option_map bodiless (option_map (edited n change) o) ≡ option_map bodiless o
-      go None = refl
-      go (Some y) = ap Some (at_record y (y.birth == n) refl)
+  bodies x = ap (option_map bodiless) (found-edited n change same_birth x b.records) ∙ map-edited bodiless n change same_body (record_of b x)
 
   pub steps-edit : SlotSteps r.slots (change r).slots → Steps b (edit n change b)
   steps-edit h =

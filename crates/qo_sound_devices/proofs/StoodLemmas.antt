@@ -13,15 +13,16 @@ use Rattle.qo_model.specs.Paths.{canonical}
 use Rattle.qo_model.specs.Plug.{Spot, Wanted, addressed_at, clocked, drafted, fitted, joined, link_named, source_for, stood, valued, with_device, with_given, with_plugged}
 use Rattle.qo_model.specs.Release.{edit, edited}
 use Rattle.qo_model.specs.Unplug.{is_named, set_named}
-use Rattle.qo_model.proofs.StepLemmas.{found-edited}
+use Rattle.qo_model.proofs.StepLemmas.{found-edited, map-edited}
 use Rattle.qo_sound.proofs.FirmLemmas.{Firm}
 use Rattle.qo_sound.proofs.PlugLemmas.{shut-above}
+use Rattle.qo_sound.proofs.TestLemmas.{decide}
 use Rattle.qo_sound.proofs.ViewLemmas.{AtRest}
 use Rattle.qo_sound_devices.specs.SoundPlaces.{child_entry, path_of, PlacesBut}
 use Rattle.qo_sound_devices.proofs.AddLemmas.{children-given}
 use Rattle.qo_sound_devices.proofs.AlikeLemmas.{alike-none, alike-record, other-record}
 use Rattle.qo_sound_devices.proofs.DraftedLemmas.{drafted-made}
-use Rattle.qo_sound_devices.proofs.JoinedLemmas.{choose, done, Joined, Now, path_behind}
+use Rattle.qo_sound_devices.proofs.JoinedLemmas.{done, Joined, Now, path_behind}
 use Rattle.qo_sound_devices.proofs.MadeLemmas.{Goal, joined-wanted, now_at}
 use Rattle.qo_sound_devices.proofs.RealizedLemmas.{valued-at, valued-realized}
 use Rattle.qo_sound_devices.proofs.StartedLemmas.{acting, Beside, IsNow, joined-beside, joined-body, joined-counted, joined-dims, started-joined}
@@ -41,7 +42,8 @@ beside-slots n change same_birth same_kind same c =
           ap (λ (o : Option Record). filter_map child_entry (option_map_or (λ (r : Record). r.slots) o []))
           (found-edited n change same_birth n c.records)
           ∙ slots (record_of c n);
-      kind = ap (option_map (λ (r : Record). r.kind)) (found-edited n change same_birth n c.records) ∙ kinds (record_of c n);
+      kind = ap (option_map (λ (r : Record). r.kind)) (found-edited n change same_birth n c.records)
+          ∙ map-edited (λ (r : Record). r.kind) n change same_kind (record_of c n);
     }
   where
     slots : (o : Option Record)
@@ -49,12 +51,8 @@ beside-slots n change same_birth same_kind same c =
         ≡ filter_map child_entry (option_map_or (λ (r : Record). r.slots) o [])
     slots None = refl
     slots (Some r) =
-        choose (r.birth == n) {A = filter_map child_entry (edited n change r).slots ≡ filter_map child_entry r.slots} (λ p. rw (edited, p) (same r))
+        decide (r.birth == n) {A = filter_map child_entry (edited n change r).slots ≡ filter_map child_entry r.slots} (λ p. rw (edited, p) (same r))
         (λ p. rw (edited, p) refl)
-
-    kinds : (o : Option Record) → option_map (λ (r : Record). r.kind) (option_map (edited n change) o) ≡ option_map (λ (r : Record). r.kind) o
-    kinds None = refl
-    kinds (Some r) = ap Some (choose (r.birth == n) {A = (edited n change r).kind ≡ r.kind} (λ p. rw (edited, p) (same_kind r)) (λ p. rw (edited, p) refl))
 
 pub child-fitted : (b : Board) (m : ℕ) (s : List ℕ × Slot) → child_entry (s.0, fitted b m s.1) ≡ child_entry s
 child-fitted b m (name, plain v) = refl

@@ -53,9 +53,6 @@ whole-same b c names children kinds h d t s k =
         (ap (λ (xs : List (List ℕ × ℕ)). listed d xs || listed d (child_entries c ANONYMOUS_BIRTH)) (children PERIPHERAL_BIRTH)
         ∙ ap (λ (xs : List (List ℕ × ℕ)). listed d (child_entries b PERIPHERAL_BIRTH) || listed d xs) (children ANONYMOUS_BIRTH))
 
-slots_in : Option Record → Slots
-slots_in o = option_map_or (λ (r : Record). r.slots) o []
-
 -- an edit that leaves what is read of slots
 pub edit-read : {A : Type 0} (f : Slots → A) (n : ℕ) (change : Record → Record) → ((r : Record) → (change r).birth ≡ r.birth)
     → ((r : Record) → f (change r).slots ≡ f r.slots) → (c : Board) (x : ℕ) → f (slots_at (edit n change c) x) ≡ f (slots_at c x)

@@ -12,8 +12,8 @@ use Rattle.qo_model.specs.Board.{Board, Slot, slots_at}
 use Rattle.qo_model.specs.Devices.{buses_of, first_bus, kids_of, strong_in}
 use Rattle.qo_model.specs.Release.{pin, put_in_order, unpin}
 use Rattle.qo_model.specs.Unplug.{apart_within, drained, first_of, is_bus_slot, left_bus, left_parent, let_go_where, lost_bus, lost_buses}
-use Rattle.qo_model.proofs.PinLemmas.{IsUp}
 use Rattle.qo_model.proofs.DepthLemmas.{one-less}
+use Rattle.qo_model.proofs.PinLemmas.{IsUp}
 use Rattle.qo_notes.specs.Log.{Log, empty_log, noted_all}
 use Rattle.qo_object.specs.Content.{Content, with_pin}
 use Rattle.qo_object.specs.Shown.{shown_slots}

@@ -1,8 +1,8 @@
 use Rattle.std.proofs.Common.{◌∙◌, ◌-◌, ◌≤◌, length, sym, arith}
+use Rattle.qo_model.proofs.DepthLemmas.{one-less}
 use Rattle.qo_clocks.proofs.BelowLemmas.{over-all, over-found, over-none, over-not, over-other, over-too_wide}
 use Rattle.qo_clocks.proofs.below.+overflows.Goals.{in-Some+in-Some-child_period+else-overflows, in_default}
 use Rattle.qo_clocks.proofs.below.+overflows.Goals as goal
-use Rattle.qo_model.proofs.DepthLemmas.{one-less}
 
 pub returns-then-levels-eq0 : goal.returns-then-levels-eq0
 returns-then-levels-eq0 g t c = rw c.if-levels-eq0.true (over-none c.args.heap.now c.args.c.birth c.args.period)

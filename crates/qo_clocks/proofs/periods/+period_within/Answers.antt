@@ -1,8 +1,8 @@
 use Rattle.std.proofs.Common.{◌∙◌, ◌-◌, ap, sym}
+use Rattle.qo_model.proofs.DepthLemmas.{one-less}
 use Rattle.qo_clocks.specs.Periods.{scaled_on}
 use Rattle.qo_clocks.proofs.PeriodLemmas.{period-by, period-none, period-own}
 use Rattle.qo_clocks.proofs.periods.+period_within.Goals as goal
-use Rattle.qo_model.proofs.DepthLemmas.{one-less}
 
 pub returns-then-levels-eq0 : goal.returns-then-levels-eq0
 returns-then-levels-eq0 g t c = rw c.if-levels-eq0.true (period-none c.args.heap.now c.args.c.birth)

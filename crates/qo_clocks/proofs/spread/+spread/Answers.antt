@@ -1,11 +1,11 @@
 use Rattle.std.proofs.Common.{◌∙◌, ◌-◌, ◌≤◌, length, sym, arith, rules}
+use Rattle.qo_model.proofs.DepthLemmas.{one-less}
 use Rattle.qo_heap.specs.Acts.{Acts}
 use Rattle.qo_heap.specs.Timely.{Timely}
 use Rattle.qo_heap.proofs.ActsLemmas.{acts-live}
 use Rattle.qo_clocks.proofs.SpreadLemmas.{called-acts, called-timely, none-spread, to-all, to-kid, to-none, to-other, to-timely}
 use Rattle.qo_clocks.proofs.spread.+spread.Goals.{in-Some, in_default}
 use Rattle.qo_clocks.proofs.spread.+spread.Goals as goal
-use Rattle.qo_model.proofs.DepthLemmas.{one-less}
 
 pub returns-then-levels-eq0 : goal.returns-then-levels-eq0
 returns-then-levels-eq0 g t c = rw c.if-levels-eq0.true (none-spread c.args.heap.now c.args.c.birth c.args.before c.args.after)
