@@ -11,6 +11,7 @@ use Rattle.qo_model.specs.Board.{Board}
 use Rattle.qo_model.specs.ClockChanges.{clock_scaled, clock_set}
 use Rattle.qo_model.specs.Clocks.{ClocksFit, clock_written, clocks_below, overflows, period, scaled_by, source_of}
 use Rattle.qo_model.specs.Unplug.{set_named}
+use Rattle.qo_model.proofs.ClockFitLemmas.{fits-new}
 use Rattle.qo_object.specs.Shown.{birth_of}
 use Rattle.qo_object.specs.Slots.{with_val}
 use Rattle.qo_heap.specs.Acts.{Acts}
@@ -23,7 +24,7 @@ use Rattle.qo_clocks.specs.Periods.{fitting, scaled_on, wide_on}
 use Rattle.qo_clocks.specs.Reads.{own_on, source_on}
 use Rattle.qo_clocks.specs.Spread.{spread_on}
 use Rattle.qo_clocks.specs.Writes.{Answers, all_fit, with_period, with_scale, written_on}
-use Rattle.qo_clocks.proofs.FitLemmas.{fits-acts, fits-new}
+use Rattle.qo_clocks.proofs.FitLemmas.{fits-acts}
 use Rattle.qo_clocks.proofs.NumberLemmas.{both-child, both-divides, both-written, child-before, full-depth, own-before, own-child, own-div, own-written, shows-both, shows-own_written}
 use Rattle.qo_clocks.proofs.ReadLemmas.{shows-source}
 use Rattle.qo_clocks.proofs.WrittenLemmas.{answer-done, answer-over, none-over}

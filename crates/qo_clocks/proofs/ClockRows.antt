@@ -3,25 +3,21 @@ use Rattle.std.proofs.Common.{◌≡◌, refl, ℕ, ◌^◌, ◌-◌, List, [], 
 use Rattle.qo_values.specs.Placing.{least}
 use Rattle.qo_values.specs.declared.codes.Code.{Code}
 use Rattle.qo_values.specs.declared.codes.Code.TheVariants.{E45, E46, E47}
-use Rattle.qo_model.specs.declared.notes.Note.{Note}
 use Rattle.qo_model.specs.Board.{Board}
 use Rattle.qo_model.specs.Changes.{add, set}
 use Rattle.qo_model.specs.ClockChanges.{clock_scaled, clock_set}
 use Rattle.qo_model.specs.Clocks.{acted, clocks_below, period}
 use Rattle.qo_model.specs.Devices.{depth_of, is_going}
-use Rattle.qo_model.specs.Notes.{deed_word}
 use Rattle.qo_model.specs.Opening.{opening_board}
 use Rattle.qo_model.specs.Paths.{attached, steps_to}
-use Rattle.qo_model.specs.Plug.{Wanted, plug, with_source}
+use Rattle.qo_model.specs.Plug.{plug, with_source}
 use Rattle.qo_model.specs.Release.{drop_slot, finish, let_go, pin, unpin}
 use Rattle.qo_model.specs.Reset.{plugged, post}
 use Rattle.qo_model.specs.Types.{types}
 use Rattle.qo_model.specs.Unplug.{unseen_named}
+use Rattle.qo_model.proofs.RowTerms.{told, wanted, then_set, then_scaled}
 
 -- what was noted behind the sixteenth note, as its word and its birth; and the periods of the three clocks, or the code of a refusal
-abbrev told : Note → List ℕ × ℕ
-told x = (deed_word x.deed, x.birth)
-
 abbrev noted : Result Board Code → List (List ℕ × ℕ)
 noted (Ok b) = map told (drop 16 b.notes)
 noted (Err code) = []
@@ -30,22 +26,11 @@ abbrev periods : Result Board Code → List ℕ × Option Code
 periods (Ok b) = (period b 5 ∷ period b 10 ∷ period b 12 ∷ [], None)
 periods (Err code) = ([], Some code)
 
-abbrev wanted : List ℕ → List ℕ → Wanted
-wanted driver id = record { driver = driver; id = Some id; bus = None; props = [] }
-
 abbrev two : Board
 two = (plug (plug opening_board (wanted (codes "slot-uart") (codes "u"))).board (wanted (codes "slot-timer") (codes "t"))).board
 
 abbrev three : Board
 three = with_source 10 (Some 12) (unseen_named 12 (codes "source") two)
-
-abbrev then_set : ℕ → ℕ → Result Board Code → Result Board Code
-then_set c n (Ok b) = clock_set b c n
-then_set c n (Err code) = Err code
-
-abbrev then_scaled : ℕ → ℕ → ℕ → Result Board Code → Result Board Code
-then_scaled c mul div (Ok b) = clock_scaled b c mul div
-then_scaled c mul div (Err code) = Err code
 
 -- a period of 10 by 3 is 3, and times 3 it is 9: each clock rounds
 abbrev rounded : Result Board Code

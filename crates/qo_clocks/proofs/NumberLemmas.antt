@@ -12,6 +12,7 @@ use Rattle.qo_model.specs.Clocks.{ClocksFit, child_period, div_of, mul_of, own_p
 use Rattle.qo_model.specs.Devices.{number_in, plain_in}
 use Rattle.qo_model.specs.Paths as paths
 use Rattle.qo_model.specs.Unplug.{set_named}
+use Rattle.qo_model.proofs.ClockFitLemmas.{IsWritten}
 use Rattle.qo_model.proofs.PeriodLemmas.{period-own}
 use Rattle.qo_object.specs.declared.slots.Slot.{Slot}
 use Rattle.qo_object.specs.declared.slots.Slot.TheVariants.{Plain, Child, Link, Alias}
@@ -27,7 +28,7 @@ use Rattle.qo_clocks.specs.Writes.{is_plain, with_period, with_scale, written_on
 use Rattle.qo_clocks.proofs.LinkLemmas.{shows-set_named}
 use Rattle.qo_clocks.proofs.PeriodLemmas.{cut-low}
 use Rattle.qo_clocks.proofs.ReadLemmas.{shows-own, shows-source}
-use Rattle.qo_clocks.proofs.RoundLemmas.{IsWritten, period-kept}
+use Rattle.qo_clocks.proofs.RoundLemmas.{period-kept}
 use Rattle.qo_clocks.proofs.SetLemmas.{births-set, slot-elsewhere, slot-other, slot-own}
 use Rattle.qo_clocks.proofs.WrittenLemmas.{shows-wide}
 

@@ -1,7 +1,6 @@
 -- Periods on the heap are those of the boards that it shows, where all fit in 64 bits.
-use Rattle.std.proofs.Common.{◌≡◌, ◌⊎◌, inl, inr, refl, ap, eqb, sym, ◌∙◌, ℕ, zero, suc, ◌+◌, ◌*◌, ◌/◌, ◌-◌, ◌^◌, ◌<◌, ◌≤◌, min, Bool, true, false, cond, List, length, nat_le, unwrap_or, Option, Some, None, arith}
+use Rattle.std.proofs.Common.{◌≡◌, ◌⊎◌, inl, inr, refl, ap, sym, ◌∙◌, ℕ, zero, suc, ◌+◌, ◌-◌, ◌^◌, ◌<◌, ◌≤◌, min, Bool, true, false, cond, List, length, nat_le, unwrap_or, Option, Some, None, arith}
 use Rattle.std.specs.Option.{option_map_or}
-use Rattle.std.proofs.Math.Nat.{zero-div}
 use Rattle.std.proofs.lemmas.Bool.Decides.{nat_tests}
 use Rattle.std.proofs.lemmas.List.{length-map}
 use Rattle.qo_slots.specs.declared.keys.Key.{Key}
@@ -9,6 +8,7 @@ use Rattle.qo_model.specs.Board.{Board}
 use Rattle.qo_model.specs.Clocks.{ClocksFit, device_period, div_of, mul_of, own_period, period, period_turn, scaled, scaled_by, source_of}
 use Rattle.qo_model.specs.Depth.{by_depth}
 use Rattle.qo_model.specs.Paths as paths
+use Rattle.qo_model.proofs.PeriodLemmas.{scaled-zero}
 use Rattle.qo_object.specs.Shown.{birth_of}
 use Rattle.qo_heap.specs.Board.{Shows}
 use Rattle.qo_heap.specs.Objects.{Objects}
@@ -52,19 +52,7 @@ period-by v levels less n s more e = sym (ap (λ (d : ℕ). by_depth (period_tur
     go None q = cc
     go (Some k) q = let same : k ≡ s = cc in rw same refl
 
--- one more: of what is not zero
-pub one-less : (n : ℕ) → (n ≡ 0 → ⊥) → n ≡ suc (n - 1)
-one-less zero not_zero = absurd (not_zero refl)
-one-less (suc n) not_zero = omega arith
-
 -- 0 is scaled to 0
-
-pub scaled-zero : (mul div : ℕ) → scaled_by mul div 0 ≡ 0
-scaled-zero mul div = go (eqb div 0)
-  where
-    go : (t : Bool) → cond t 0 (0 * mul / div) ≡ 0
-    go true = refl
-    go false = let none : 0 * mul ≡ 0 = omega arith in ap (λ (k : ℕ). k / div) none ∙ zero-div div
 
 -- on a board: a period to a depth is that to any greater one, or 0
 

@@ -3,10 +3,10 @@ use Rattle.std.proofs.Common.{◌≡◌, refl, ap, ap₂, subst, sym, ◌∙◌,
 use Rattle.std.proofs.lemmas.Bool.{eqb-true}
 use Rattle.std.proofs.lemmas.Option.{same_Some}
 use Rattle.qo_model.specs.Board.{Board}
-use Rattle.qo_model.specs.Clocks.{div_of, mul_of, own_period, period, period_turn, scaled, scaled_by, source_of}
-use Rattle.qo_model.specs.Depth.{by_depth}
+use Rattle.qo_model.specs.Clocks.{div_of, mul_of, own_period, period, scaled, scaled_by, source_of}
 use Rattle.qo_model.specs.Paths.{births}
-use Rattle.qo_clocks.proofs.PeriodLemmas.{scaled-zero}
+use Rattle.qo_model.proofs.ClockFitLemmas.{IsWritten}
+use Rattle.qo_model.proofs.PeriodLemmas.{scaled-zero, to_depth, turn_by}
 
 -- a clock that goes by another in one step or more
 pub data Under (b : Board) (c : ℕ) : ℕ → Type 0 where
@@ -34,12 +34,6 @@ around b c (more {n} {s = t} q u) same s r =
     let turned : source_of b c ≡ Some t = subst (λ (k : ℕ). source_of b k ≡ Some t) (sym same) q in
     subst (λ (k : ℕ). Under b k k) to (further b c u t turned)
 
-abbrev pub to_depth : Board → ℕ → ℕ → ℕ
-to_depth b d n = by_depth (period_turn b) (λ _. 0) d n
-
-abbrev pub turn_by : Board → (ℕ → ℕ) → ℕ → Option ℕ → ℕ
-turn_by b f n o = elim o [ None ↦ own_period b n | Some s ↦ scaled b s (f s) ]
-
 round-zero : (b : Board) (k n : ℕ) → Under b n n → to_depth b k n ≡ 0
 round-zero b zero n u = refl
 round-zero b (suc k) n u =
@@ -53,15 +47,6 @@ unfolding period
 round-at b c n u e =
     let same : n ≡ c = eqb-true n c e in
     ap (period b) same ∙ round-zero b (suc (length (births b))) c (subst (λ (k : ℕ). Under b c k) same u)
-
--- what a write of a clock's numbers leaves
-
-pub record IsWritten (b new : Board) (c : ℕ) : Type 0 where
-  pub births : births new ≡ births b
-  pub sources : (n : ℕ) → source_of new n ≡ source_of b n
-  pub mul : (n : ℕ) → eqb n c ≡ false → mul_of new n ≡ mul_of b n
-  pub div : (n : ℕ) → eqb n c ≡ false → div_of new n ≡ div_of b n
-  pub own : (n : ℕ) → eqb n c ≡ false → own_period new n ≡ own_period b n
 
 pub under-new : (b new : Board) (c : ℕ) → IsWritten b new c → {n : ℕ} → Under b c n → Under new c n
 under-new b new c w (one {n} q) = one (w.sources n ∙ q)

@@ -4,7 +4,7 @@ use Rattle.std.specs.Prelude.{Ok, Err}
 use Rattle.std.specs.List.{flat_map, list_any}
 use Rattle.std.specs.Option.{option_map_or}
 use Rattle.std.proofs.Math.Path.{fun_ext}
-use Rattle.std.proofs.lemmas.Bool.{eqb-true}
+use Rattle.std.proofs.lemmas.Bool.{eqb-true, or_parts}
 use Rattle.std.proofs.lemmas.Bool.Decides.{nat_tests}
 use Rattle.std.proofs.lemmas.List.{map-append}
 use Rattle.std.proofs.lemmas.List.Folds.{list_any-append}
@@ -17,6 +17,7 @@ use Rattle.qo_model.specs.Clocks.{ClocksFit, acted, called, called_all, child_pe
 use Rattle.qo_model.specs.Depth.{by_depth}
 use Rattle.qo_model.specs.Paths as paths
 use Rattle.qo_model.specs.Paths.{births}
+use Rattle.qo_model.proofs.ClockFitLemmas.{IsWritten, with_below}
 use Rattle.qo_model.proofs.PeriodLemmas.{period-fed}
 use Rattle.qo_object.specs.Shown.{birth_of}
 use Rattle.qo_heap.specs.Acts.{Acts}
@@ -33,21 +34,14 @@ use Rattle.qo_clocks.specs.Spread.{Change, acted_on, all_called_on, called_on, c
 use Rattle.qo_clocks.specs.Writes.{Answers, all_fit}
 use Rattle.qo_clocks.proofs.PeriodLemmas.{cut-low}
 use Rattle.qo_clocks.proofs.ReadLemmas.{shows-div, shows-mul, shows-source}
-use Rattle.qo_clocks.proofs.RoundLemmas.{IsWritten, Under, one, more, round-at, scaled-same, under-new}
+use Rattle.qo_clocks.proofs.RoundLemmas.{Under, one, more, round-at, scaled-same, under-new}
 use Rattle.qo_clocks.proofs.SpreadLemmas.{acts-parent, called-acts}
 
 -- lists of clocks with those below each
 
-abbrev pub with_below : (ℕ → List ℕ) → ℕ → List ℕ
-with_below g n = n ∷ g n
-
 or-assoc : (s t u : Bool) → ((s || t) || u) ≡ (s || (t || u))
 or-assoc true t u = refl
 or-assoc false t u = refl
-
-or-none : (s t : Bool) → (s || t) ≡ false → (s ≡ false) × (t ≡ false)
-or-none true t e = cc
-or-none false t e = (refl, e)
 
 any-below : (p h : ℕ → Bool) (g : ℕ → List ℕ) (q : ℕ → Bool) (xs : List ℕ) → ((n : ℕ) → q n ≡ true → h n ≡ (p n || list_any p (g n)))
     → list_any h (filter q xs) ≡ list_any p (flat_map (with_below g) (filter q xs))
@@ -76,7 +70,7 @@ map-below f m p g q (x ∷ xs) each none = go (q x) refl none (map-below f m p g
         → (list_any p (flat_map (with_below g) (filter q xs)) ≡ false → flat_map f (filter q xs) ≡ map m (flat_map (with_below g) (filter q xs)))
         → flat_map f (cond t (x ∷ filter q xs) (filter q xs)) ≡ map m (flat_map (with_below g) (cond t (x ∷ filter q xs) (filter q xs)))
     go true e clear rest =
-        let (own, left) = or-none (p x || list_any p (g x)) (list_any p (flat_map (with_below g) (filter q xs)))
+        let (own, left) = or_parts (p x || list_any p (g x)) (list_any p (flat_map (with_below g) (filter q xs)))
         (sym (list_any-append p (x ∷ g x) (flat_map (with_below g) (filter q xs))) ∙ clear) in
         ap₂ (λ (k l : List Change). k ++ l) (each x e own) (rest left) ∙ sym (map-append m (x ∷ g x) (flat_map (with_below g) (filter q xs)))
     go false e clear rest = rest clear
@@ -190,7 +184,7 @@ module _ (b new : Board) (c : ℕ) (w : IsWritten b new c) where
       ∙ map-below (change_at v (changes_within v d) (child_period b n) (child_period new n)) changed (overflows new) (below d) (is_source b n) (births b)
       (λ m e clear.
       let parts : (overflows new m ≡ false) × (list_any (overflows new) (below d m) ≡ false) =
-      or-none (overflows new m) (list_any (overflows new) (below d m)) clear in
+      or_parts (overflows new m) (list_any (overflows new) (below d m)) clear in
       change-one v s fit d n m (way m (fed-source b n m e)) (fed-source b n m e) parts.0
       (changes-are v s fit d m (way-more n m way (fed-source b n m e)) parts.1))
       none
@@ -276,7 +270,7 @@ module _ (b new : Board) (c : ℕ) (w : IsWritten b new c) where
   pub none-over : (v : Objects) → Shows b v → (levels p a : ℕ) → levels ≡ suc (length (births b)) → p ≡ child_period new c
       → Some a ≡ all_fit v levels c (fitting p) → (overflows new c ≡ false) × (list_any (overflows new) (clocks_below b c) ≡ false)
   none-over v s levels p a full is e =
-      or-none (overflows new c) (list_any (overflows new) (clocks_below b c))
+      or_parts (overflows new c) (list_any (overflows new) (clocks_below b c))
       (sym (over-below v s levels full)
       ∙ ap (λ (k : ℕ). nat_le (2 ^ 64) k || overflows_on v levels c k) (sym is)
       ∙ (fit-some v levels p a e).0)

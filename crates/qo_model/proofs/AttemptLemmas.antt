@@ -67,7 +67,8 @@ none-at : (pre : List (List ℕ × Slot)) → slice_get (pre ++ []) (length pre)
 none-at [] = refl
 none-at (x ∷ pre) = none-at pre
 
-drop-here : (pre ss : List (List ℕ × Slot)) (s : List ℕ × Slot) (left : Slot) → emptied s.1 ≡ Some left → without_hold (length pre) (pre ++ s ∷ ss) ≡ pre ++ (s.0, left) ∷ ss
+drop-here : (pre ss : List (List ℕ × Slot)) (s : List ℕ × Slot) (left : Slot) → emptied s.1 ≡ Some left
+    → without_hold (length pre) (pre ++ s ∷ ss) ≡ pre ++ (s.0, left) ∷ ss
 drop-here [] ss s left e = rw (without_hold, e) refl
 drop-here (x ∷ pre) ss s left e = ap (λ (xs : List (List ℕ × Slot)). x ∷ xs) (drop-here pre ss s left e)
 
@@ -85,11 +86,13 @@ quiet-more (y ∷ pre) x q h = (h.0, quiet-more pre x q h.1)
 
 -- the end of an object, whatever was done to its slots before
 
-others-edit : (m : ℕ) (f : Record → Record) → ((r : Record) → (f r).birth ≡ r.birth) → (rs : List Record) → filter (λ (r : Record). not (r.birth == m)) (map (edited m f) rs) ≡ filter (λ (r : Record). not (r.birth == m)) rs
+others-edit : (m : ℕ) (f : Record → Record) → ((r : Record) → (f r).birth ≡ r.birth) → (rs : List Record)
+    → filter (λ (r : Record). not (r.birth == m)) (map (edited m f) rs) ≡ filter (λ (r : Record). not (r.birth == m)) rs
 others-edit m f same [] = refl
 others-edit m f same (r ∷ rs) = go (r.birth == m) refl (others-edit m f same rs)
   where
-    go : (t : Bool) → (r.birth == m) ≡ t → filter (λ (x : Record). not (x.birth == m)) (map (edited m f) rs) ≡ filter (λ (x : Record). not (x.birth == m)) rs → filter (λ (x : Record). not (x.birth == m)) (map (edited m f) (r ∷ rs)) ≡ filter (λ (x : Record). not (x.birth == m)) (r ∷ rs)
+    go : (t : Bool) → (r.birth == m) ≡ t → filter (λ (x : Record). not (x.birth == m)) (map (edited m f) rs) ≡ filter (λ (x : Record). not (x.birth == m)) rs
+        → filter (λ (x : Record). not (x.birth == m)) (map (edited m f) (r ∷ rs)) ≡ filter (λ (x : Record). not (x.birth == m)) (r ∷ rs)
     go true p rest = let here : ((f r).birth == m) ≡ true = ap (λ (k : ℕ). k == m) (same r) ∙ p in rw (edited, p, here) rest
     go false p rest = rw (edited, p, p) (ap (λ (xs : List Record). r ∷ xs) rest)
 
@@ -126,10 +129,12 @@ finish-drop c m i =
         go None = refl
         go (Some r) = own r
 
-    events : option_to_list (option_and_then deleted_event (found_at m (map (edited m (with_dropped i)) c.records))) ≡ option_to_list (option_and_then deleted_event (record_of c m))
+    events : option_to_list (option_and_then deleted_event (found_at m (map (edited m (with_dropped i)) c.records)))
+        ≡ option_to_list (option_and_then deleted_event (record_of c m))
     events = ap (λ (o : Option Record). option_to_list (option_and_then deleted_event o)) found ∙ go (record_of c m)
       where
-        go : (o : Option Record) → option_to_list (option_and_then deleted_event (option_map (edited m (with_dropped i)) o)) ≡ option_to_list (option_and_then deleted_event o)
+        go : (o : Option Record)
+            → option_to_list (option_and_then deleted_event (option_map (edited m (with_dropped i)) o)) ≡ option_to_list (option_and_then deleted_event o)
         go None = refl
         go (Some r) = ap (λ (o : Option DeviceEvent). option_to_list o) (told r)
 
@@ -144,15 +149,19 @@ drop-own c m i = ap (λ (o : Option Record). option_map_or (λ (r : Record). r.s
         by true p rest = let same : x ≡ r = same_Some x r (rw p at e) in ap (λ (y : Record). y.birth) (sym same) ∙ eqb-true x.birth m p
         by false p rest = rest (rw p at e)
 
-    go : (o : Option Record) → record_of c m ≡ o → option_map_or (λ (r : Record). r.slots) (option_map (edited m (with_dropped i)) o) [] ≡ without_hold i (option_map_or (λ (r : Record). r.slots) o [])
+    go : (o : Option Record) → record_of c m ≡ o
+        → option_map_or (λ (r : Record). r.slots) (option_map (edited m (with_dropped i)) o) [] ≡ without_hold i (option_map_or (λ (r : Record). r.slots) o [])
     go None p = refl
     go (Some r) p = let same : (r.birth == m) ≡ true = eq-eqb r.birth m (born c.records r p) in rw (edited, same) refl
 
-slot-here : (c : Board) (m i : ℕ) (ss : List (List ℕ × Slot)) (o : Option (List ℕ × Slot)) → slots_at c m ≡ ss → slice_get ss i ≡ o → slot_at c m i ≡ option_map (λ (s : List ℕ × Slot). s.1) o
-slot-here c m i ss o is e = ap (λ (xs : List (List ℕ × Slot)). option_map (λ (s : List ℕ × Slot). s.1) (slice_get xs i)) is ∙ ap (option_map (λ (s : List ℕ × Slot). s.1)) e
+slot-here : (c : Board) (m i : ℕ) (ss : List (List ℕ × Slot)) (o : Option (List ℕ × Slot)) → slots_at c m ≡ ss → slice_get ss i ≡ o
+    → slot_at c m i ≡ option_map (λ (s : List ℕ × Slot). s.1) o
+slot-here c m i ss o is e = ap (λ (xs : List (List ℕ × Slot)). option_map (λ (s : List ℕ × Slot). s.1) (slice_get xs i)) is
+    ∙ ap (option_map (λ (s : List ℕ × Slot). s.1)) e
 
 -- an object that holds nothing ends
-bare-end : (ss : List (List ℕ × Slot)) (c : Board) (m : ℕ) (pre : List (List ℕ × Slot)) → slots_at c m ≡ pre ++ ss → AllByRecursion (λ (s : List ℕ × Slot). held s.1 ≡ None) ss → end_of c m (length pre) ≡ finish c m
+bare-end : (ss : List (List ℕ × Slot)) (c : Board) (m : ℕ) (pre : List (List ℕ × Slot)) → slots_at c m ≡ pre ++ ss
+    → AllByRecursion (λ (s : List ℕ × Slot). held s.1 ≡ None) ss → end_of c m (length pre) ≡ finish c m
 bare-end [] c m pre is bare = end_of-none c m (length pre) (slot-here c m (length pre) (pre ++ []) None is (none-at pre))
 bare-end (s ∷ ss) c m pre is bare = step (λ c' pre' e. bare-end ss c' m pre' e bare.1) s.1 refl bare.0
   where
@@ -162,11 +171,13 @@ bare-end (s ∷ ss) c m pre is bare = step (λ c' pre' e. bare-end ss c' m pre' 
     Rest : Type 0
     Rest = (c' : Board) (pre' : List (List ℕ × Slot)) → slots_at c' m ≡ pre' ++ ss → end_of c' m (length pre') ≡ finish c' m
 
-    go : Rest → (x left : Slot) → s.1 ≡ x → held x ≡ None → emptied x ≡ Some left → next_place x (length pre) ≡ suc (length pre) → end_of c m (length pre) ≡ finish c m
+    go : Rest → (x left : Slot) → s.1 ≡ x → held x ≡ None → emptied x ≡ Some left → next_place x (length pre) ≡ suc (length pre)
+        → end_of c m (length pre) ≡ finish c m
     go rest x left e none leaves next =
         let c' : Board = drop_slot c m (length pre) in
         let pre' : List (List ℕ × Slot) = pre ++ (s.0, left) ∷ [] in
-        let slots : slots_at c' m ≡ pre' ++ ss = drop-own c m (length pre) ∙ ap (without_hold (length pre)) is ∙ drop-here pre ss s left (ap emptied e ∙ leaves) ∙ sym (append_assoc pre ((s.0, left) ∷ []) ss) in
+        let slots : slots_at c' m ≡ pre' ++ ss = drop-own c m (length pre) ∙ ap (without_hold (length pre)) is ∙ drop-here pre ss s left (ap emptied e ∙ leaves)
+        ∙ sym (append_assoc pre ((s.0, left) ∷ []) ss) in
         let place : next_place s.1 (length pre) ≡ length pre' = ap (λ (y : Slot). next_place y (length pre)) e ∙ next ∙ sym (length-more pre (s.0, left)) in
         let after_it : after finalise c' (held s.1) ≡ c' = ap (after finalise c') (ap held e ∙ none) in
         end_of-some c m (length pre) s.1 at
@@ -201,11 +212,13 @@ module _ (n m : ℕ) (le : n ≤ m) where
   low-unheld (weak t target) h = refl
   low-unheld (alias k p) h = refl
 
-  slots-forgotten : (ss : List (List ℕ × Slot)) → AllByRecursion (λ (s : List ℕ × Slot). LowSlot n s.1) ss → map (λ (s : List ℕ × Slot). (s.0, forgotten_in m s.1)) ss ≡ ss
+  slots-forgotten : (ss : List (List ℕ × Slot)) → AllByRecursion (λ (s : List ℕ × Slot). LowSlot n s.1) ss
+      → map (λ (s : List ℕ × Slot). (s.0, forgotten_in m s.1)) ss ≡ ss
   slots-forgotten [] h = refl
   slots-forgotten (s ∷ ss) h = let here = low-forgotten s.1 h.0 in let rest = slots-forgotten ss h.1 in λ j. (s.0, here j) ∷ rest j
 
-  slots-unheld : (ss : List (List ℕ × Slot)) → AllByRecursion (λ (s : List ℕ × Slot). LowSlot n s.1) ss → count_by (λ (s : List ℕ × Slot). holds_it m s.1) ss ≡ 0
+  slots-unheld : (ss : List (List ℕ × Slot)) → AllByRecursion (λ (s : List ℕ × Slot). LowSlot n s.1) ss
+      → count_by (λ (s : List ℕ × Slot). holds_it m s.1) ss ≡ 0
   slots-unheld [] h = refl
   slots-unheld (s ∷ ss) h =
       let none : cond {A = ℕ} (holds_it m s.1) 1 0 ≡ 0 = rw (low-unheld s.1 h.0) refl in
@@ -234,7 +247,8 @@ module _ (n m : ℕ) (le : n ≤ m) where
 
   pub records-unheld : (rs : List Record) → AllByRecursion (LowRecord n) rs → sum_by (refs_in m) rs ≡ 0
   records-unheld [] h = refl
-  records-unheld (r ∷ rs) h = let here : refs_in m r ≡ 0 = slots-unheld r.slots h.0.slots in omega (arith, here, records-unheld rs h.1, sum_by-cons (refs_in m) r rs)
+  records-unheld (r ∷ rs) h = let here : refs_in m r ≡ 0 = slots-unheld r.slots h.0.slots in
+      omega (arith, here, records-unheld rs h.1, sum_by-cons (refs_in m) r rs)
 
   pub pins-apart : (ps : List ℕ) → AllByRecursion (λ p. p < n) ps → count_by (λ p. p == m) ps ≡ 0
   pins-apart [] h = refl
@@ -253,17 +267,20 @@ quiet-low n (s ∷ ss) h = (by (target_of s.1) h.0, quiet-low n ss h.1)
     by None e = tt
     by (Some m) e = cc
 
-bare-low : (n : ℕ) (ss : List (List ℕ × Slot)) → AllByRecursion (λ (s : List ℕ × Slot). BareSlot n s.1) ss → AllByRecursion (λ (s : List ℕ × Slot). LowSlot n s.1) ss
+bare-low : (n : ℕ) (ss : List (List ℕ × Slot)) → AllByRecursion (λ (s : List ℕ × Slot). BareSlot n s.1) ss
+    → AllByRecursion (λ (s : List ℕ × Slot). LowSlot n s.1) ss
 bare-low n [] h = tt
 bare-low n (s ∷ ss) h = (h.0.low, bare-low n ss h.1)
 
-bare-empty : (n : ℕ) (ss : List (List ℕ × Slot)) → AllByRecursion (λ (s : List ℕ × Slot). BareSlot n s.1) ss → AllByRecursion (λ (s : List ℕ × Slot). held s.1 ≡ None) ss
+bare-empty : (n : ℕ) (ss : List (List ℕ × Slot)) → AllByRecursion (λ (s : List ℕ × Slot). BareSlot n s.1) ss
+    → AllByRecursion (λ (s : List ℕ × Slot). held s.1 ≡ None) ss
 bare-empty n [] h = tt
 bare-empty n (s ∷ ss) h = (h.0.empty, bare-empty n ss h.1)
 
 -- what is left of a star names nothing at or below the further objects that are gone
 
-star-forgotten : (n m lo : ℕ) (ss : List (List ℕ × Slot)) (ls : List Record) → n ≤ m → IsStar n lo ss ls → map (λ (s : List ℕ × Slot). (s.0, forgotten_in m s.1)) ss ≡ ss
+star-forgotten : (n m lo : ℕ) (ss : List (List ℕ × Slot)) (ls : List Record) → n ≤ m → IsStar n lo ss ls
+    → map (λ (s : List ℕ × Slot). (s.0, forgotten_in m s.1)) ss ≡ ss
 star-forgotten n m lo [] [] le h = refl
 star-forgotten n m lo [] (k ∷ ls) le h = absurd h
 star-forgotten n m lo ((name, child x) ∷ ss) [] le h = absurd h
@@ -277,7 +294,8 @@ star-forgotten n m lo ((name, weak t target) ∷ ss) ls le h =
 star-forgotten n m lo ((name, plain v) ∷ ss) ls le h = ap (λ (xs : List (List ℕ × Slot)). (name, plain v) ∷ xs) (star-forgotten n m lo ss ls le h)
 star-forgotten n m lo ((name, alias x p) ∷ ss) ls le h = ap (λ (xs : List (List ℕ × Slot)). (name, alias x p) ∷ xs) (star-forgotten n m lo ss ls le h)
 
-pub star-unheld : (n m lo : ℕ) (ss : List (List ℕ × Slot)) (ls : List Record) → m ≤ lo → IsStar n lo ss ls → count_by (λ (s : List ℕ × Slot). holds_it m s.1) ss ≡ 0
+pub star-unheld : (n m lo : ℕ) (ss : List (List ℕ × Slot)) (ls : List Record) → m ≤ lo → IsStar n lo ss ls
+    → count_by (λ (s : List ℕ × Slot). holds_it m s.1) ss ≡ 0
 star-unheld n m lo [] [] le h = refl
 star-unheld n m lo [] (k ∷ ls) le h = absurd h
 star-unheld n m lo ((name, child x) ∷ ss) [] le h = absurd h
@@ -286,11 +304,15 @@ star-unheld n m lo ((name, child x) ∷ ss) (k ∷ ls) le h =
     let other : (x == m) ≡ false = grind (arith, le, up) in
     let none : cond {A = ℕ} (holds_it m (child x)) 1 0 ≡ 0 = rw other refl in
     omega (arith, none, star-unheld n m x ss ls (omega arith) h.2.1, sum_by-cons (λ (y : List ℕ × Slot). cond {A = ℕ} (holds_it m y.1) 1 0) (name, child x) ss)
-star-unheld n m lo ((name, strong t None) ∷ ss) ls le h = omega (arith, star-unheld n m lo ss ls le h, sum_by-cons (λ (y : List ℕ × Slot). cond {A = ℕ} (holds_it m y.1) 1 0) (name, strong t None) ss)
+star-unheld n m lo ((name, strong t None) ∷ ss) ls le h =
+    omega (arith, star-unheld n m lo ss ls le h, sum_by-cons (λ (y : List ℕ × Slot). cond {A = ℕ} (holds_it m y.1) 1 0) (name, strong t None) ss)
 star-unheld n m lo ((name, strong t (Some x)) ∷ ss) ls le h = absurd h
-star-unheld n m lo ((name, weak t target) ∷ ss) ls le h = omega (arith, star-unheld n m lo ss ls le h.1, sum_by-cons (λ (y : List ℕ × Slot). cond {A = ℕ} (holds_it m y.1) 1 0) (name, weak t target) ss)
-star-unheld n m lo ((name, plain v) ∷ ss) ls le h = omega (arith, star-unheld n m lo ss ls le h, sum_by-cons (λ (y : List ℕ × Slot). cond {A = ℕ} (holds_it m y.1) 1 0) (name, plain v) ss)
-star-unheld n m lo ((name, alias x p) ∷ ss) ls le h = omega (arith, star-unheld n m lo ss ls le h, sum_by-cons (λ (y : List ℕ × Slot). cond {A = ℕ} (holds_it m y.1) 1 0) (name, alias x p) ss)
+star-unheld n m lo ((name, weak t target) ∷ ss) ls le h =
+    omega (arith, star-unheld n m lo ss ls le h.1, sum_by-cons (λ (y : List ℕ × Slot). cond {A = ℕ} (holds_it m y.1) 1 0) (name, weak t target) ss)
+star-unheld n m lo ((name, plain v) ∷ ss) ls le h =
+    omega (arith, star-unheld n m lo ss ls le h, sum_by-cons (λ (y : List ℕ × Slot). cond {A = ℕ} (holds_it m y.1) 1 0) (name, plain v) ss)
+star-unheld n m lo ((name, alias x p) ∷ ss) ls le h =
+    omega (arith, star-unheld n m lo ss ls le h, sum_by-cons (λ (y : List ℕ × Slot). cond {A = ℕ} (holds_it m y.1) 1 0) (name, alias x p) ss)
 
 -- the further objects that are left: each above a number, and bare
 abbrev pub AreKids : ℕ → ℕ → List Record → Type 0
@@ -317,7 +339,8 @@ module _ (n m : ℕ) (le : n ≤ m) where
   kids-others lo (k ∷ ls) low h =
       let up : lo < k.birth = h.0 in
       let other : (k.birth == m) ≡ false = grind (arith, low, up) in
-      let here : forgotten m k ≡ k = ap (λ (ss : List (List ℕ × Slot)). record k { slots = ss }) (slots-forgotten n m le k.slots (bare-low n k.slots h.1.0.slots)) in
+      let here : forgotten m k ≡ k =
+      ap (λ (ss : List (List ℕ × Slot)). record k { slots = ss }) (slots-forgotten n m le k.slots (bare-low n k.slots h.1.0.slots)) in
       let rest = kids-others k.birth ls (omega arith) h.1.1 in
       rw other (λ j. here j ∷ rest j)
 
@@ -340,14 +363,16 @@ kids-low n lo (k ∷ ls) low h = let up : lo < k.birth = h.0 in (omega (arith, l
 
 -- the device and its further objects
 
-module _ (b : Board) (d : Record) (olds : AllByRecursion (LowRecord d.birth) b.records) (pins : AllByRecursion (λ p. p < d.birth) b.pins) (no_path : d.kept_path ≡ None) where
+module _ (b : Board) (d : Record) (olds : AllByRecursion (LowRecord d.birth) b.records) (pins : AllByRecursion (λ p. p < d.birth) b.pins)
+    (no_path : d.kept_path ≡ None) where
   abbrev pub n : ℕ
   n = d.birth
 
   own : (n == n) ≡ true
   own = eq-eqb n n refl
 
-  star-found : (ss : List (List ℕ × Slot)) (ls : List Record) (notes : List Note) (x : ℕ) → n ≤ x → record_of (star b d ss ls notes) x ≡ found_at x (record d { slots = ss } ∷ ls)
+  star-found : (ss : List (List ℕ × Slot)) (ls : List Record) (notes : List Note) (x : ℕ) → n ≤ x
+      → record_of (star b d ss ls notes) x ≡ found_at x (record d { slots = ss } ∷ ls)
   star-found ss ls notes x le =
       find-append (λ (r : Record). r.birth == x) b.records (record d { slots = ss } ∷ ls)
       ∙ ap (λ (o : Option Record). option_or o (found_at x (record d { slots = ss } ∷ ls))) (records-found n x le b.records olds)
@@ -359,18 +384,23 @@ module _ (b : Board) (d : Record) (olds : AllByRecursion (LowRecord d.birth) b.r
   star-slots ss ls notes = ap (λ (o : Option Record). option_map_or (λ (r : Record). r.slots) o []) (star-own ss ls notes)
 
   -- a slot of the device is let go
-  star-drop : (ss rest : List (List ℕ × Slot)) (ls : List Record) (notes : List Note) (i : ℕ) → AreKids n n ls → without_hold i ss ≡ rest → drop_slot (star b d ss ls notes) n i ≡ star b d rest ls notes
+  star-drop : (ss rest : List (List ℕ × Slot)) (ls : List Record) (notes : List Note) (i : ℕ) → AreKids n n ls → without_hold i ss ≡ rest
+      → drop_slot (star b d ss ls notes) n i ≡ star b d rest ls notes
   unfolding drop_slot
   star-drop ss rest ls notes i kids is =
       let parts = map-append (edited n (with_dropped i)) b.records (record d { slots = ss } ∷ ls) in
       let old = records-edited n n (omega arith) (with_dropped i) b.records olds in
       let new = kids-edited n n (omega arith) (with_dropped i) n ls (omega arith) kids in
-      let dev : edited n (with_dropped i) (record d { slots = ss }) ≡ record d { slots = rest } = rw (edited, own) (ap (λ (xs : List (List ℕ × Slot)). record d { slots = xs }) is) in
-      let records : map (edited n (with_dropped i)) (b.records ++ record d { slots = ss } ∷ ls) ≡ b.records ++ record d { slots = rest } ∷ ls = parts ∙ (λ j. old j ++ dev j ∷ new j) in
+      let dev : edited n (with_dropped i) (record d { slots = ss }) ≡ record d { slots = rest } =
+      rw (edited, own) (ap (λ (xs : List (List ℕ × Slot)). record d { slots = xs }) is) in
+      let records : map (edited n (with_dropped i)) (b.records ++ record d { slots = ss } ∷ ls) ≡ b.records ++ record d { slots = rest } ∷ ls =
+      parts ∙ (λ j. old j ++ dev j ∷ new j) in
       ap (λ (rs : List Record). record b { records = rs; notes = notes }) records
 
   -- a further object ends
-  kid-ends : (ss : List (List ℕ × Slot)) (k : Record) (ls : List Record) (notes : List Note) → n < k.birth → k.kept_path ≡ None → map (λ (s : List ℕ × Slot). (s.0, forgotten_in k.birth s.1)) ss ≡ ss → AreKids n k.birth ls → finish (star b d ss (k ∷ ls) notes) k.birth ≡ star b d ss ls (notes ++ final_notes k)
+  kid-ends : (ss : List (List ℕ × Slot)) (k : Record) (ls : List Record) (notes : List Note) → n < k.birth → k.kept_path ≡ None
+      → map (λ (s : List ℕ × Slot). (s.0, forgotten_in k.birth s.1)) ss ≡ ss → AreKids n k.birth ls
+      → finish (star b d ss (k ∷ ls) notes) k.birth ≡ star b d ss ls (notes ++ final_notes k)
   unfolding finish
   kid-ends ss k ls notes up no_event stays kids =
       λ j. record b { records = records j; notes = notes ++ said j; events = silent j }
@@ -399,7 +429,8 @@ module _ (b : Board) (d : Record) (olds : AllByRecursion (LowRecord d.birth) b.r
       silent : b.events ++ option_to_list (option_and_then deleted_event (record_of (star b d ss (k ∷ ls) notes) m)) ≡ b.events
       silent =
           ap (λ (o : Option Record). b.events ++ option_to_list (option_and_then deleted_event o)) found
-          ∙ ap (λ (path : Option (List ℕ)). b.events ++ option_to_list (option_map (λ (p : List ℕ). record { deleted = true; id = k.device_id; path = p }) path)) no_event
+          ∙ ap (λ (path : Option (List ℕ)). b.events
+          ++ option_to_list (option_map (λ (p : List ℕ). record { deleted = true; id = k.device_id; path = p }) path)) no_event
           ∙ append-nil b.events
 
       rest : map (forgotten m) (filter (λ (r : Record). not (r.birth == m)) (dev ∷ k ∷ ls)) ≡ dev ∷ ls
@@ -425,7 +456,8 @@ module _ (b : Board) (d : Record) (olds : AllByRecursion (LowRecord d.birth) b.r
       silent : b.events ++ option_to_list (option_and_then deleted_event (record_of (star b d ss [] notes) n)) ≡ b.events
       silent =
           ap (λ (o : Option Record). b.events ++ option_to_list (option_and_then deleted_event o)) (star-own ss [] notes)
-          ∙ ap (λ (path : Option (List ℕ)). b.events ++ option_to_list (option_map (λ (p : List ℕ). record { deleted = true; id = d.device_id; path = p }) path)) no_path
+          ∙ ap (λ (path : Option (List ℕ)). b.events
+          ++ option_to_list (option_map (λ (p : List ℕ). record { deleted = true; id = d.device_id; path = p }) path)) no_path
           ∙ append-nil b.events
 
       rest : map (forgotten n) (filter (λ (r : Record). not (r.birth == n)) (dev ∷ [])) ≡ []
@@ -439,7 +471,8 @@ module _ (b : Board) (d : Record) (olds : AllByRecursion (LowRecord d.birth) b.r
           ∙ append-nil b.records
 
   -- nothing refers to a further object whose child slot was let go
-  kid-free : (pre ss : List (List ℕ × Slot)) (k : Record) (ls : List Record) (notes : List Note) → n < k.birth → AreQuiet pre → BareKid n k → IsStar n k.birth ss ls → refs (star b d (pre ++ ss) (k ∷ ls) notes) k.birth ≡ 0
+  kid-free : (pre ss : List (List ℕ × Slot)) (k : Record) (ls : List Record) (notes : List Note) → n < k.birth → AreQuiet pre → BareKid n k
+      → IsStar n k.birth ss ls → refs (star b d (pre ++ ss) (k ∷ ls) notes) k.birth ≡ 0
   kid-free pre ss k ls notes up quiet bare is =
       let le : n ≤ k.birth = omega arith in
       let f : Record → ℕ = refs_in k.birth in
@@ -451,27 +484,49 @@ module _ (b : Board) (d : Record) (olds : AllByRecursion (LowRecord d.birth) b.r
       let kid : sum_by g k.slots ≡ 0 = slots-unheld n k.birth le k.slots (bare-low n k.slots bare.slots) in
       let more : sum_by f ls ≡ 0 = kids-unheld n k.birth le k.birth ls (star-kids n k.birth ss ls is) in
       let held : count_by (λ p. p == k.birth) b.pins ≡ 0 = pins-apart n k.birth le b.pins pins in
-      omega (arith, old, front, back, kid, more, held, sum_by-append f b.records (dev ∷ k ∷ ls), sum_by-cons f dev (k ∷ ls), sum_by-cons f k ls, sum_by-append g pre ss)
+      omega (
+        arith,
+        old,
+        front,
+        back,
+        kid,
+        more,
+        held,
+        sum_by-append f b.records (dev ∷ k ∷ ls),
+        sum_by-cons f dev (k ∷ ls),
+        sum_by-cons f k ls,
+        sum_by-append g pre ss,
+      )
 
   abbrev Ends : List (List ℕ × Slot) → Type 0
-  Ends ss = (lo : ℕ) (ls : List Record) (pre : List (List ℕ × Slot)) (notes : List Note) → n ≤ lo → AreQuiet pre → IsStar n lo ss ls → end_of (star b d (pre ++ ss) ls notes) n (length pre) ≡ record b { notes = notes ++ flat_map final_notes ls ++ final_notes d }
+  Ends ss = (lo : ℕ) (ls : List Record) (pre : List (List ℕ × Slot)) (notes : List Note) → n ≤ lo → AreQuiet pre → IsStar n lo ss ls
+      → end_of (star b d (pre ++ ss) ls notes) n (length pre) ≡ record b { notes = notes ++ flat_map final_notes ls ++ final_notes d }
 
-  at-first : (s : List ℕ × Slot) (ss : List (List ℕ × Slot)) (ls : List Record) (pre : List (List ℕ × Slot)) (notes : List Note) → slot_at (star b d (pre ++ s ∷ ss) ls notes) n (length pre) ≡ Some s.1
-  at-first s ss ls pre notes = slot-here (star b d (pre ++ s ∷ ss) ls notes) n (length pre) (pre ++ s ∷ ss) (Some s) (star-slots (pre ++ s ∷ ss) ls notes) (here-at pre ss s)
+  at-first : (s : List ℕ × Slot) (ss : List (List ℕ × Slot)) (ls : List Record) (pre : List (List ℕ × Slot)) (notes : List Note)
+      → slot_at (star b d (pre ++ s ∷ ss) ls notes) n (length pre) ≡ Some s.1
+  at-first s ss ls pre notes =
+      slot-here (star b d (pre ++ s ∷ ss) ls notes) n (length pre) (pre ++ s ∷ ss) (Some s) (star-slots (pre ++ s ∷ ss) ls notes) (here-at pre ss s)
 
   -- a slot that holds nothing
-  past-slot : (s : List ℕ × Slot) (ss : List (List ℕ × Slot)) (left : Slot) → Ends ss → held s.1 ≡ None → emptied s.1 ≡ Some left → target_of left ≡ None → ((i : ℕ) → next_place s.1 i ≡ suc i) → (lo : ℕ) (ls : List Record) (pre : List (List ℕ × Slot)) (notes : List Note) → n ≤ lo → AreQuiet pre → AreKids n n ls → IsStar n lo ss ls → end_of (star b d (pre ++ s ∷ ss) ls notes) n (length pre) ≡ record b { notes = notes ++ flat_map final_notes ls ++ final_notes d }
+  past-slot : (s : List ℕ × Slot) (ss : List (List ℕ × Slot)) (left : Slot) → Ends ss → held s.1 ≡ None → emptied s.1 ≡ Some left
+      → target_of left ≡ None → ((i : ℕ) → next_place s.1 i ≡ suc i) → (lo : ℕ) (ls : List Record) (pre : List (List ℕ × Slot)) (notes : List Note)
+      → n ≤ lo → AreQuiet pre → AreKids n n ls → IsStar n lo ss ls
+      → end_of (star b d (pre ++ s ∷ ss) ls notes) n (length pre) ≡ record b { notes = notes ++ flat_map final_notes ls ++ final_notes d }
   past-slot s ss left ends none leaves quiet_left next lo ls pre notes low quiet kids is =
       let c : Board = star b d (pre ++ s ∷ ss) ls notes in
       let pre' : List (List ℕ × Slot) = pre ++ (s.0, left) ∷ [] in
-      let dropped : drop_slot c n (length pre) ≡ star b d (pre' ++ ss) ls notes = star-drop (pre ++ s ∷ ss) (pre' ++ ss) ls notes (length pre) kids (drop-here pre ss s left leaves ∙ sym (append_assoc pre ((s.0, left) ∷ []) ss)) in
+      let dropped : drop_slot c n (length pre) ≡ star b d (pre' ++ ss) ls notes =
+      star-drop (pre ++ s ∷ ss) (pre' ++ ss) ls notes (length pre) kids (drop-here pre ss s left leaves ∙ sym (append_assoc pre ((s.0, left) ∷ []) ss)) in
       end_of-some c n (length pre) s.1 (at-first s ss ls pre notes)
       ∙ ap (λ (o : Option ℕ). end_of (after finalise (drop_slot c n (length pre)) o) n (next_place s.1 (length pre))) none
       ∙ (λ j. end_of (dropped j) n ((next (length pre) ∙ sym (length-more pre (s.0, left))) j))
       ∙ ends lo ls pre' notes low (quiet-more pre (s.0, left) quiet_left quiet) is
 
   -- a child
-  past-child : (name : List ℕ) (m : ℕ) (ss : List (List ℕ × Slot)) → Ends ss → (lo : ℕ) (k : Record) (ls : List Record) (pre : List (List ℕ × Slot)) (notes : List Note) → n ≤ lo → AreQuiet pre → IsStar n lo ((name, child m) ∷ ss) (k ∷ ls) → end_of (star b d (pre ++ (name, child m) ∷ ss) (k ∷ ls) notes) n (length pre) ≡ record b { notes = notes ++ flat_map final_notes (k ∷ ls) ++ final_notes d }
+  past-child : (name : List ℕ) (m : ℕ) (ss : List (List ℕ × Slot)) → Ends ss
+      → (lo : ℕ) (k : Record) (ls : List Record) (pre : List (List ℕ × Slot)) (notes : List Note)
+      → n ≤ lo → AreQuiet pre → IsStar n lo ((name, child m) ∷ ss) (k ∷ ls) → end_of (star b d (pre ++ (name, child m) ∷ ss) (k ∷ ls) notes) n (length pre)
+      ≡ record b { notes = notes ++ flat_map final_notes (k ∷ ls) ++ final_notes d }
   past-child name m ss ends lo k ls pre notes low quiet is =
       let s : List ℕ × Slot = (name, child m) in
       let c : Board = star b d (pre ++ s ∷ ss) (k ∷ ls) notes in
@@ -491,7 +546,8 @@ module _ (b : Board) (d : Record) (olds : AllByRecursion (LowRecord d.birth) b.r
       let slots : slots_at c' k.birth ≡ k.slots = ap (λ (o : Option Record). option_map_or (λ (r : Record). r.slots) o []) there in
       let gone : finalise c' k.birth ≡ finish c' k.birth = end_of-first c' k.birth ∙ bare-end k.slots c' k.birth [] slots (bare-empty n k.slots bare.slots) in
       let stays : map (λ (x : List ℕ × Slot). (x.0, forgotten_in k.birth x.1)) (pre ++ ss) ≡ pre ++ ss =
-      map-append (λ (x : List ℕ × Slot). (x.0, forgotten_in k.birth x.1)) pre ss ∙ (λ j. slots-forgotten n k.birth (omega arith) pre (quiet-low n pre quiet) j ++ star-forgotten n k.birth k.birth ss ls (omega arith) star_left j)
+      map-append (λ (x : List ℕ × Slot). (x.0, forgotten_in k.birth x.1)) pre ss
+      ∙ (λ j. slots-forgotten n k.birth (omega arith) pre (quiet-low n pre quiet) j ++ star-forgotten n k.birth k.birth ss ls (omega arith) star_left j)
       in
       end_of-some c n (length pre) (child m) (at-first s ss (k ∷ ls) pre notes)
       ∙ (λ j. end_of (after finalise (dropped j) (Some (sym born j))) n (length pre))
@@ -501,18 +557,24 @@ module _ (b : Board) (d : Record) (olds : AllByRecursion (LowRecord d.birth) b.r
 
   ends-all : (ss : List (List ℕ × Slot)) → Ends ss
   ends-all [] lo [] pre notes low quiet is =
-      end_of-none (star b d (pre ++ []) [] notes) n (length pre) (slot-here (star b d (pre ++ []) [] notes) n (length pre) (pre ++ []) None (star-slots (pre ++ []) [] notes) (none-at pre))
+      end_of-none (star b d (pre ++ []) [] notes) n (length pre)
+      (slot-here (star b d (pre ++ []) [] notes) n (length pre) (pre ++ []) None (star-slots (pre ++ []) [] notes) (none-at pre))
       ∙ device-ends (pre ++ []) notes
       ∙ ap (λ (ns : List Note). record b { notes = ns ++ final_notes d }) (sym (append-nil notes))
   ends-all [] lo (k ∷ ls) pre notes low quiet is = absurd is
   ends-all ((name, child m) ∷ ss) lo [] pre notes low quiet is = absurd is
   ends-all ((name, child m) ∷ ss) lo (k ∷ ls) pre notes low quiet is = past-child name m ss (ends-all ss) lo k ls pre notes low quiet is
   ends-all ((name, strong t (Some m)) ∷ ss) lo ls pre notes low quiet is = absurd is
-  ends-all ((name, strong t None) ∷ ss) lo ls pre notes low quiet is = past-slot (name, strong t None) ss (strong t None) (ends-all ss) refl refl refl (λ i. refl) lo ls pre notes low quiet (kids-low n lo ls low (star-kids n lo ss ls is)) is
-  ends-all ((name, weak t target) ∷ ss) lo ls pre notes low quiet is = past-slot (name, weak t target) ss (weak t None) (ends-all ss) refl refl refl (λ i. refl) lo ls pre notes low quiet (kids-low n lo ls low (star-kids n lo ss ls is.1)) is.1
-  ends-all ((name, plain v) ∷ ss) lo ls pre notes low quiet is = past-slot (name, plain v) ss (plain v) (ends-all ss) refl refl refl (λ i. refl) lo ls pre notes low quiet (kids-low n lo ls low (star-kids n lo ss ls is)) is
-  ends-all ((name, alias m p) ∷ ss) lo ls pre notes low quiet is = past-slot (name, alias m p) ss (alias m p) (ends-all ss) refl refl refl (λ i. refl) lo ls pre notes low quiet (kids-low n lo ls low (star-kids n lo ss ls is)) is
+  ends-all ((name, strong t None) ∷ ss) lo ls pre notes low quiet is = past-slot (name, strong t None) ss (strong t None) (ends-all ss) refl refl refl
+      (λ i. refl) lo ls pre notes low quiet (kids-low n lo ls low (star-kids n lo ss ls is)) is
+  ends-all ((name, weak t target) ∷ ss) lo ls pre notes low quiet is = past-slot (name, weak t target) ss (weak t None) (ends-all ss) refl refl refl (λ i. refl)
+      lo ls pre notes low quiet (kids-low n lo ls low (star-kids n lo ss ls is.1)) is.1
+  ends-all ((name, plain v) ∷ ss) lo ls pre notes low quiet is = past-slot (name, plain v) ss (plain v) (ends-all ss) refl refl refl (λ i. refl) lo ls pre notes
+      low quiet (kids-low n lo ls low (star-kids n lo ss ls is)) is
+  ends-all ((name, alias m p) ∷ ss) lo ls pre notes low quiet is = past-slot (name, alias m p) ss (alias m p) (ends-all ss) refl refl refl (λ i. refl) lo ls pre
+      notes low quiet (kids-low n lo ls low (star-kids n lo ss ls is)) is
 
   -- a device that comes free ends, with its further objects before it, in slot order, and all else is as before
-  pub attempt-ends : (ss : List (List ℕ × Slot)) (ls : List Record) (notes : List Note) → IsStar n n ss ls → finalise (star b d ss ls notes) n ≡ record b { notes = notes ++ flat_map final_notes ls ++ final_notes d }
+  pub attempt-ends : (ss : List (List ℕ × Slot)) (ls : List Record) (notes : List Note) → IsStar n n ss ls
+      → finalise (star b d ss ls notes) n ≡ record b { notes = notes ++ flat_map final_notes ls ++ final_notes d }
   attempt-ends ss ls notes is = end_of-first (star b d ss ls notes) n ∙ ends-all ss n ls [] notes (omega arith) tt is

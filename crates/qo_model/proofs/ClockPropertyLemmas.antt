@@ -116,7 +116,8 @@ row-fits b n name p e = of (kind_of b n) e
     of None q = cc
     of (Some t) q = by t (row_of_property t name) refl q
 
-slot-fits : (n : ℕ) (s : Slot) (o : Option Property) (q : ℕ × Property) → in_slot n s o ≡ Ok q → ((p : Property) → o ≡ Some p → FitsProperty p) → FitsProperty q.1
+slot-fits : (n : ℕ) (s : Slot) (o : Option Property) (q : ℕ × Property) → in_slot n s o ≡ Ok q → ((p : Property) → o ≡ Some p → FitsProperty p)
+    → FitsProperty q.1
 slot-fits n (plain old) (Some p) q e fits = let same : p ≡ q.1 = cc in subst FitsProperty same (fits p refl)
 slot-fits n (plain old) None q e fits = cc
 slot-fits n (child m) o q e fits = cc

@@ -1,17 +1,15 @@
 -- Worked rows of the numbers of clocks, read and written as properties: those of the system clock, and of a UART behind it.
-use Rattle.std.proofs.Common.{◌≡◌, refl, ℕ, ◌^◌, ◌-◌, true, List, [], ◌∷◌, map, drop, codes, Option, Some, None, Result, Ok, Err}
+use Rattle.std.proofs.Common.{◌≡◌, refl, ℕ, ◌^◌, ◌-◌, true, List, [], ◌∷◌, map, drop, codes, Option, Some, None, Ok, Err}
 use Rattle.qo_values.specs.Placing.{least}
 use Rattle.qo_values.specs.declared.codes.Code.{Code}
 use Rattle.qo_values.specs.declared.codes.Code.TheVariants.{E17, E18, E19, E45, E46, E47}
 use Rattle.qo_values.specs.declared.properties.Val.{Val}
 use Rattle.qo_values.specs.declared.properties.Val.TheVariants as val
-use Rattle.qo_model.specs.declared.notes.Note.{Note}
 use Rattle.qo_model.specs.Board.{Board}
 use Rattle.qo_model.specs.Changes.{add, set}
 use Rattle.qo_model.specs.ClockProperties.{set_property}
 use Rattle.qo_model.specs.Clocks.{acted, clocks_below, period}
 use Rattle.qo_model.specs.Devices.{depth_of, is_going}
-use Rattle.qo_model.specs.Notes.{deed_word}
 use Rattle.qo_model.specs.Opening.{opening_board}
 use Rattle.qo_model.specs.Paths.{attached, steps_to}
 use Rattle.qo_model.specs.Plug.{plug}
@@ -19,6 +17,7 @@ use Rattle.qo_model.specs.Properties.{value_of}
 use Rattle.qo_model.specs.Release.{drop_slot, finish, let_go, pin, unpin}
 use Rattle.qo_model.specs.Reset.{plugged, post}
 use Rattle.qo_model.specs.Types.{types}
+use Rattle.qo_model.proofs.RowTerms.{told}
 
 -- a UART; a number to a property of the system clock; the code of a refusal
 abbrev uart : Board
@@ -31,9 +30,6 @@ abbrev refusal : ℕ → List ℕ → Val → Board → Option Code
 refusal n name v b = elim (set_property b n name v) [ Ok c ↦ None | Err code ↦ Some code ]
 
 -- what is noted behind the UART's own notes, as word and birth; and what is read of its clock's period, by either name
-abbrev told : Note → List ℕ × ℕ
-told x = (deed_word x.deed, x.birth)
-
 abbrev noted : Board → List (List ℕ × ℕ)
 noted b = map told (drop 8 b.notes)
 

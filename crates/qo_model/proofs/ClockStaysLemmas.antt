@@ -1,7 +1,6 @@
 -- Writes of clocks leave all but objects and notes, and so `qom-set` leaves what the other commands on objects leave.
-use Rattle.std.proofs.Common.{◌≡◌, refl, ap, subst, ℕ, zero, suc, Bool, true, false, ◌==◌, cond, eqb, List, [], ◌∷◌, codes, Option, None, Some, is_some, Result, Ok, Err}
+use Rattle.std.proofs.Common.{◌≡◌, refl, ap, subst, ℕ, Bool, true, false, ◌==◌, cond, List, [], ◌∷◌, codes, Option, None, Some, is_some, Ok, Err}
 use Rattle.std.specs.List.{list_any}
-use Rattle.qo_values.specs.declared.codes.Code.{Code}
 use Rattle.qo_values.specs.declared.codes.Code.TheVariants.{E45, E46, E47}
 use Rattle.qo_values.specs.declared.kinds.Act.{Act}
 use Rattle.qo_values.specs.declared.kinds.Act.TheVariants.{Pre, Update}

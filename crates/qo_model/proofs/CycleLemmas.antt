@@ -1,5 +1,5 @@
 -- A detached object of a sound board is held from a cycle or from an attached object: its holders are followed until one is met again.
-use Rattle.std.proofs.Common.{◌≡◌, ◌≢◌, refl, ap, sym, subst, ◌∙◌, ℕ, zero, suc, ◌+◌, ◌<◌, ◌≤◌, Bool, true, false, cond, ◌==◌, eqb, List, [], ◌∷◌, map, length, filter_map, sum_by, count_by, Option, Some, None, is_some, arith}
+use Rattle.std.proofs.Common.{◌≡◌, ◌≢◌, refl, ap, sym, subst, ◌∙◌, ℕ, zero, suc, ◌+◌, ◌<◌, ◌≤◌, Bool, true, false, ◌==◌, eqb, List, [], ◌∷◌, map, length, filter_map, sum_by, count_by, Option, Some, None, is_some, arith}
 use Rattle.std.specs.List.{AllByRecursion, IsDistinct}
 use Rattle.std.specs.Cmp.{nat_eq_equiv}
 use Rattle.std.proofs.lemmas.Bool.{eqb-true, eq-eqb}
@@ -14,11 +14,8 @@ use Rattle.qo_model.specs.Paths.{births, attached, attached_turn}
 use Rattle.qo_model.specs.References.{refs, refs_in, holds_it}
 use Rattle.qo_model.specs.SoundGraph.{graph_of, without_value, without_values, Rises, SoundGraph}
 use Rattle.qo_model.proofs.EditLemmas.{sum-held, one_is}
-use Rattle.qo_model.proofs.GraphLemmas.{among-above, births-graph_of}
-use Rattle.qo_model.proofs.StepLemmas.{found_at, found-among, live-among}
-
-abbrev births_at : List Record → List ℕ
-births_at rs = map (λ (r : Record). r.birth) rs
+use Rattle.qo_model.proofs.GraphLemmas.{among-above, births-graph_of, births_at}
+use Rattle.qo_model.proofs.StepLemmas.{found_at, found-among, live-among, one_of}
 
 -- a fact of each number holds of one that is among them
 pub all-at : (P : ℕ → Type 0) (xs : List ℕ) → AllByRecursion P xs → (n : ℕ) → among xs n ≡ true → P n
@@ -29,12 +26,8 @@ all-at P (x ∷ xs) h n e = go (eqb n x) refl (all-at P xs h.1 n)
     go true p rest = subst P (sym (eqb-true n x p)) h.0
     go false p rest = rest (rw p at e)
 
--- one for a slot that holds n, else zero
-abbrev one_of : ℕ → List ℕ × Slot → ℕ
-one_of n s = cond {A = ℕ} (holds_it n s.1) 1 0
-
 -- without plain values the references stay
-refs-graph_of : (b : Board) (n : ℕ) → refs (graph_of b) n ≡ refs b n
+pub refs-graph_of : (b : Board) (n : ℕ) → refs (graph_of b) n ≡ refs b n
 unfolding graph_of
 refs-graph_of b n = let same : sum_by (refs_in n) (map without_values b.records) ≡ sum_by (refs_in n) b.records = go b.records in omega (arith, same)
   where
@@ -47,7 +40,13 @@ refs-graph_of b n = let same : sum_by (refs_in n) (map without_values b.records)
 
     go : (rs : List Record) → sum_by (refs_in n) (map without_values rs) ≡ sum_by (refs_in n) rs
     go [] = refl
-    go (r ∷ rs) = omega (arith, go rs, sum-held (one_is n) without_value slot r.slots, sum_by-cons (refs_in n) (without_values r) (map without_values rs), sum_by-cons (refs_in n) r rs)
+    go (r ∷ rs) = omega (
+      arith,
+      go rs,
+      sum-held (one_is n) without_value slot r.slots,
+      sum_by-cons (refs_in n) (without_values r) (map without_values rs),
+      sum_by-cons (refs_in n) r rs,
+    )
 
 -- the objects that slots hold
 abbrev held_in : List (List ℕ × Slot) → List ℕ
@@ -110,7 +109,8 @@ has-holder : (b : Board) → SoundGraph b → (n : ℕ) → among (births b) n �
 unfolding graph_of
 has-holder b sound n there e =
     let other : n ≢ 1 = detached-other b n e in
-    let some : 0 < refs (graph_of b) n = all-at (λ (m : ℕ). m ≢ 1 → 0 < refs (graph_of b) m) (births (graph_of b)) sound.referred n (rw births-graph_of there) other in
+    let some : 0 < refs (graph_of b) n =
+    all-at (λ (m : ℕ). m ≢ 1 → 0 < refs (graph_of b) m) (births (graph_of b)) sound.referred n (rw births-graph_of there) other in
     let pins : b.pins ≡ 1 ∷ [] = sound.pinned in
     let not_one : (1 == n) ≡ false = grind arith in
     let unpinned : count_by (λ (m : ℕ). m == n) b.pins ≡ 0 = rw (pins, not_one) refl in
@@ -129,7 +129,8 @@ record IsBack (b : Board) (passed : List ℕ) (m : ℕ) : Type 0 where
   ahead : AllByRecursion (λ x. Leads (held_by b) m x) passed
 
 -- one step further back
-all-back : (b : Board) (k m : ℕ) (passed : List ℕ) → leads (held_by b) k m ≡ true → AllByRecursion (λ x. Leads (held_by b) m x) passed → AllByRecursion (λ x. Leads (held_by b) k x) passed
+all-back : (b : Board) (k m : ℕ) (passed : List ℕ) → leads (held_by b) k m ≡ true → AllByRecursion (λ x. Leads (held_by b) m x) passed
+    → AllByRecursion (λ x. Leads (held_by b) k x) passed
 all-back b k m [] e h = tt
 all-back b k m (x ∷ xs) e h = (more e h.0, all-back b k m xs e h.1)
 
@@ -145,15 +146,19 @@ apart m (x ∷ xs) e = go (eqb m x) refl (apart m xs)
 there-each : (all xs : List ℕ) → AllByRecursion (λ x. among all x ≡ true) xs → (q : ℕ) → among xs q ≡ true → among all q ≡ true
 there-each all xs h q e = all-at (λ (x : ℕ). among all x ≡ true) xs h q e
 
-back-more : (b : Board) (k m : ℕ) (passed : List ℕ) → IsBack b passed m → among passed m ≡ false → among (births b) m ≡ true → leads (held_by b) k m ≡ true → IsBack b (m ∷ passed) k
+back-more : (b : Board) (k m : ℕ) (passed : List ℕ) → IsBack b passed m → among passed m ≡ false → among (births b) m ≡ true → leads (held_by b) k m ≡ true
+    → IsBack b (m ∷ passed) k
 unfolding IsDistinct
-back-more b k m passed w new there e = record { distinct = (apart m passed new, w.distinct); there = (there, w.there); ahead = (one e, all-back b k m passed e w.ahead) }
+back-more b k m passed w new there e =
+    record { distinct = (apart m passed new, w.distinct); there = (there, w.there); ahead = (one e, all-back b k m passed e w.ahead) }
 
 -- with a new one they are no more than all objects
-back-length : (b : Board) (m : ℕ) (passed : List ℕ) → IsBack b passed m → among passed m ≡ false → among (births b) m ≡ true → length passed + 1 ≤ length (births b)
+back-length : (b : Board) (m : ℕ) (passed : List ℕ) → IsBack b passed m → among passed m ≡ false → among (births b) m ≡ true
+    → length passed + 1 ≤ length (births b)
 unfolding IsDistinct
 back-length b m passed w new there =
-    let short : length (m ∷ passed) ≤ length (births b) = length-le_from_is_member nat_eq_equiv (m ∷ passed) (births b) (apart m passed new, w.distinct) (there-each (births b) (m ∷ passed) (there, w.there)) in
+    let short : length (m ∷ passed) ≤ length (births b) =
+    length-le_from_is_member nat_eq_equiv (m ∷ passed) (births b) (apart m passed new, w.distinct) (there-each (births b) (m ∷ passed) (there, w.there)) in
     omega arith
 
 -- an object that was passed closes a cycle
@@ -161,7 +166,8 @@ closed : (b : Board) (n m : ℕ) (passed : List ℕ) → IsBack b passed m → a
 closed b n m passed w met way = a_cycle m (all-at (λ (x : ℕ). Leads (held_by b) m x) passed w.ahead m met) way
 
 -- from m, which leads to n, back along holders, as long as there is room for objects that were not passed
-follow : (b : Board) → SoundGraph b → (n : ℕ) (room : ℕ) (m : ℕ) (passed : List ℕ) → length (births b) ≤ length passed + room → IsBack b passed m → among (births b) m ≡ true → attached b m ≡ false → Leads (held_by b) m n → HeldFrom b n
+follow : (b : Board) → SoundGraph b → (n : ℕ) (room : ℕ) (m : ℕ) (passed : List ℕ) → length (births b) ≤ length passed + room → IsBack b passed m
+    → among (births b) m ≡ true → attached b m ≡ false → Leads (held_by b) m n → HeldFrom b n
 follow b sound n zero m passed enough w there e way = go (among passed m) refl
   where
     go : (t : Bool) → among passed m ≡ t → HeldFrom b n
@@ -169,11 +175,13 @@ follow b sound n zero m passed enough w there e way = go (among passed m) refl
     go false p = absurd (let short : length passed + 1 ≤ length (births b) = back-length b m passed w p there in omega arith)
 follow b sound n (suc room) m passed enough w there e way = go (among passed m) refl (follow b sound n room)
   where
-    step : (x : HasHolder b m) → among passed m ≡ false → (t : Bool) → attached b x.holder ≡ t → ((k : ℕ) (ks : List ℕ) → length (births b) ≤ length ks + room → IsBack b ks k → among (births b) k ≡ true → attached b k ≡ false → Leads (held_by b) k n → HeldFrom b n) → HeldFrom b n
+    step : (x : HasHolder b m) → among passed m ≡ false → (t : Bool) → attached b x.holder ≡ t → ((k : ℕ) (ks : List ℕ) → length (births b) ≤ length ks + room
+        → IsBack b ks k → among (births b) k ≡ true → attached b k ≡ false → Leads (held_by b) k n → HeldFrom b n) → HeldFrom b n
     step x p true q rest = an_attached x.holder q (more x.holds way)
     step x p false q rest = rest x.holder (m ∷ passed) (omega arith) (back-more b x.holder m passed w p there x.holds) x.there q (more x.holds way)
 
-    go : (t : Bool) → among passed m ≡ t → ((k : ℕ) (ks : List ℕ) → length (births b) ≤ length ks + room → IsBack b ks k → among (births b) k ≡ true → attached b k ≡ false → Leads (held_by b) k n → HeldFrom b n) → HeldFrom b n
+    go : (t : Bool) → among passed m ≡ t → ((k : ℕ) (ks : List ℕ) → length (births b) ≤ length ks + room → IsBack b ks k → among (births b) k ≡ true
+        → attached b k ≡ false → Leads (held_by b) k n → HeldFrom b n) → HeldFrom b n
     go true p rest = closed b n m passed w p way
     go false p rest = let x : HasHolder b m = has-holder b sound m there e in step x p (attached b x.holder) refl rest
 

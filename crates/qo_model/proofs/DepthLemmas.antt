@@ -1,10 +1,15 @@
 -- The law of recursion by objects: its answer is one turn over its own answers.
-use Rattle.std.proofs.Common.{◌≡◌, refl, sym, subst, ℕ, zero, suc, ◌+◌, ◌<◌, ◌≤◌, Bool, true, false, List, [], ◌∷◌, length, eqb, arith}
+use Rattle.std.proofs.Common.{◌≡◌, refl, sym, subst, ℕ, zero, suc, ◌+◌, ◌-◌, ◌<◌, ◌≤◌, Bool, true, false, List, [], ◌∷◌, length, eqb, arith}
 use Rattle.std.specs.List.{AllByRecursion, IsDistinct}
 use Rattle.std.proofs.lemmas.Bool.{eqb-true}
 use Rattle.std.proofs.lemmas.Map.Made.{length-le_from_is_member}
 use Rattle.std.specs.Cmp.{nat_eq_equiv}
 use Rattle.qo_model.specs.Depth.{by_depth, by_objects, among, leads, Leads, one, more, IsTree, IsLocal}
+
+-- one level less, where there are levels
+pub one-less : (n : ℕ) → (n ≡ 0 → ⊥) → n ≡ suc (n - 1)
+one-less zero not_zero = absurd (not_zero refl)
+one-less (suc n) not_zero = omega arith
 
 -- one step more behind others
 pub Leads-push : {next : ℕ → List ℕ} {n m k : ℕ} → Leads next n m → leads next m k ≡ true → Leads next n k
@@ -70,17 +75,21 @@ module _ (next : ℕ → List ℕ) (all : List ℕ) (tree : IsTree next all) whe
   way-length : (m : ℕ) (passed : List ℕ) → IsWay passed m → length passed + 1 ≤ length all
   unfolding IsDistinct
   way-length m passed w =
-      let short : length (m ∷ passed) ≤ length all = length-le_from_is_member nat_eq_equiv (m ∷ passed) all (apart m passed w.ahead, w.distinct) (live-among (m ∷ passed) (w.here, w.live)) in
+      let short : length (m ∷ passed) ≤ length all =
+      length-le_from_is_member nat_eq_equiv (m ∷ passed) all (apart m passed w.ahead, w.distinct) (live-among (m ∷ passed) (w.here, w.live)) in
       omega arith
 
 module _ {A : Type 0} (next : ℕ → List ℕ) (turn : (ℕ → A) → ℕ → A) (base : ℕ → A) (all : List ℕ) (local : IsLocal next turn) (tree : IsTree next all) where
   -- behind d passed objects a depth that leaves room for the others is enough
-  enough : (depth : ℕ) (m : ℕ) (passed : List ℕ) → IsWay next all tree passed m → length all ≤ length passed + depth → by_depth turn base depth m ≡ by_depth turn base (suc depth) m
+  enough : (depth : ℕ) (m : ℕ) (passed : List ℕ) → IsWay next all tree passed m → length all ≤ length passed + depth
+      → by_depth turn base depth m ≡ by_depth turn base (suc depth) m
   enough zero m passed w room = absurd (let long : length passed + 1 ≤ length all = way-length next all tree m passed w in omega arith)
   enough (suc depth) m passed w room =
-      local m (by_depth turn base depth) (by_depth turn base (suc depth)) (λ k s. enough depth k (m ∷ passed) (way-more next all tree m k passed w s) (omega arith))
+      local m (by_depth turn base depth) (by_depth turn base (suc depth))
+      (λ k s. enough depth k (m ∷ passed) (way-more next all tree m k passed w s) (omega arith))
 
   -- the answer at each object, also where none is, is a turn over the answers
   pub by_objects_is : (n : ℕ) → by_objects turn base all n ≡ turn (by_objects turn base all) n
   by_objects_is n =
-      local n (by_depth turn base (length all)) (by_depth turn base (suc (length all))) (λ m s. enough (length all) m [] (way-none next all tree m (tree.lives n m s)) (omega arith))
+      local n (by_depth turn base (length all)) (by_depth turn base (suc (length all)))
+      (λ m s. enough (length all) m [] (way-none next all tree m (tree.lives n m s)) (omega arith))

@@ -55,15 +55,18 @@ born-push m j (x ∷ ks) k e = ap (λ (os : List (ℕ × TypeId)). (m, x) ∷ os
 
 begun-push : (os : List (ℕ × TypeId)) (j : ℕ) (k : TypeId) → begun_notes (os ++ (j, k) ∷ []) ≡ begun_notes os ++ init_notes j k
 begun-push [] j k = append-nil (init_notes j k)
-begun-push (o ∷ os) j k = ap (λ (ns : List Note). init_notes o.0 o.1 ++ ns) (begun-push os j k) ∙ sym (append_assoc (init_notes o.0 o.1) (begun_notes os) (init_notes j k))
+begun-push (o ∷ os) j k = ap (λ (ns : List Note). init_notes o.0 o.1 ++ ns) (begun-push os j k)
+    ∙ sym (append_assoc (init_notes o.0 o.1) (begun_notes os) (init_notes j k))
 
 kids-edited : (n : ℕ) (f : Record → Record) (m : ℕ) (ks : List TypeId) → n < m → map (edited n f) (kids_from m ks) ≡ kids_from m ks
 kids-edited n f m [] low = refl
-kids-edited n f m (k ∷ ks) low = let other : (m == n) ≡ false = grind (arith, low) in rw (edited, other) (ap (λ (rs : List Record). fresh_record m k ∷ rs) (kids-edited n f (suc m) ks (omega (arith, low))))
+kids-edited n f m (k ∷ ks) low = let other : (m == n) ≡ false = grind (arith, low) in
+    rw (edited, other) (ap (λ (rs : List Record). fresh_record m k ∷ rs) (kids-edited n f (suc m) ks (omega (arith, low))))
 
 -- stars with a slot more
 
-star-slot : (n : ℕ) (s : List ℕ × Slot) → ((lo : ℕ) → IsStar n lo (s ∷ []) []) → (lo : ℕ) (ss : List (List ℕ × Slot)) (ls : List Record) → IsStar n lo ss ls → IsStar n lo (ss ++ s ∷ []) ls
+star-slot : (n : ℕ) (s : List ℕ × Slot) → ((lo : ℕ) → IsStar n lo (s ∷ []) []) → (lo : ℕ) (ss : List (List ℕ × Slot)) (ls : List Record) → IsStar n lo ss ls
+    → IsStar n lo (ss ++ s ∷ []) ls
 star-slot n s q lo [] [] h = q lo
 star-slot n s q lo [] (k ∷ ls) h = absurd h
 star-slot n s q lo ((name, child m) ∷ ss) [] h = absurd h
@@ -74,11 +77,13 @@ star-slot n s q lo ((name, weak t target) ∷ ss) ls h = (h.0, star-slot n s q l
 star-slot n s q lo ((name, plain v) ∷ ss) ls h = star-slot n s q lo ss ls h
 star-slot n s q lo ((name, alias m p) ∷ ss) ls h = star-slot n s q lo ss ls h
 
-star-kid : (n j : ℕ) (name : List ℕ) (k : Record) → k.birth ≡ j → BareKid n k → (lo : ℕ) (ss : List (List ℕ × Slot)) (ls : List Record) → lo < j → AllByRecursion (λ (r : Record). r.birth < j) ls → IsStar n lo ss ls → IsStar n lo (ss ++ (name, child j) ∷ []) (ls ++ k ∷ [])
+star-kid : (n j : ℕ) (name : List ℕ) (k : Record) → k.birth ≡ j → BareKid n k → (lo : ℕ) (ss : List (List ℕ × Slot)) (ls : List Record) → lo < j
+    → AllByRecursion (λ (r : Record). r.birth < j) ls → IsStar n lo ss ls → IsStar n lo (ss ++ (name, child j) ∷ []) (ls ++ k ∷ [])
 star-kid n j name k born bare lo [] [] up low h = (up, born, (bare, tt))
 star-kid n j name k born bare lo [] (l ∷ ls) up low h = absurd h
 star-kid n j name k born bare lo ((other, child m) ∷ ss) [] up low h = absurd h
-star-kid n j name k born bare lo ((other, child m) ∷ ss) (l ∷ ls) up low h = (h.0, h.1, (h.2.0, star-kid n j name k born bare m ss ls (subst (λ (x : ℕ). x < j) h.1 low.0) low.1 h.2.1))
+star-kid n j name k born bare lo ((other, child m) ∷ ss) (l ∷ ls) up low h =
+    (h.0, h.1, (h.2.0, star-kid n j name k born bare m ss ls (subst (λ (x : ℕ). x < j) h.1 low.0) low.1 h.2.1))
 star-kid n j name k born bare lo ((other, strong t None) ∷ ss) ls up low h = star-kid n j name k born bare lo ss ls up low h
 star-kid n j name k born bare lo ((other, strong t (Some m)) ∷ ss) ls up low h = absurd h
 star-kid n j name k born bare lo ((other, weak t target) ∷ ss) ls up low h = (h.0, star-kid n j name k born bare lo ss ls up low h.1)
@@ -122,7 +127,8 @@ pub record IsDraft (b : Board) (n : ℕ) (t : TypeId) (ks : List TypeId) (c : Bo
 
 module _ (b : Board) (n : ℕ) (t : TypeId) (low : AllByRecursion (LowRecord n) b.records) where
   -- a slot more of the device
-  star-added : (name : List ℕ) (s : Slot) (ss : List (List ℕ × Slot)) (ks : List TypeId) → add n name s (with_star b n t ss ks) ≡ with_star b n t (ss ++ (name, s) ∷ []) ks
+  star-added : (name : List ℕ) (s : Slot) (ss : List (List ℕ × Slot)) (ks : List TypeId)
+      → add n name s (with_star b n t ss ks) ≡ with_star b n t (ss ++ (name, s) ∷ []) ks
   unfolding add
   star-added name s ss ks = ap (λ (rs : List Record). record (with_star b n t ss ks) { records = rs }) same
     where
@@ -132,19 +138,23 @@ module _ (b : Board) (n : ℕ) (t : TypeId) (low : AllByRecursion (LowRecord n) 
       own : (n == n) ≡ true
       own = eq-eqb n n refl
 
-      same : map (edited n (with_added name s)) (b.records ++ record (fresh n t) { slots = ss } ∷ kids_from (suc n) ks) ≡ b.records ++ record (fresh n t) { slots = ss ++ (name, s) ∷ [] } ∷ kids_from (suc n) ks
+      same : map (edited n (with_added name s)) (b.records ++ record (fresh n t) { slots = ss } ∷ kids_from (suc n) ks)
+          ≡ b.records ++ record (fresh n t) { slots = ss ++ (name, s) ∷ [] } ∷ kids_from (suc n) ks
       same =
           map-append (edited n (with_added name s)) b.records (record (fresh n t) { slots = ss } ∷ kids_from (suc n) ks)
-          ∙ ap₂ (λ (xs ys : List Record). xs ++ ys) (records-edited n n (omega arith) (with_added name s) b.records low) (rw (edited, own) (ap (λ (rs : List Record). record (fresh n t) { slots = ss ++ (name, s) ∷ [] } ∷ rs) (kids-edited n (with_added name s) (suc n) ks (omega arith))))
+          ∙ ap₂ (λ (xs ys : List Record). xs ++ ys) (records-edited n n (omega arith) (with_added name s) b.records low) (rw (edited, own) (ap
+          (λ (rs : List Record). record (fresh n t) { slots = ss ++ (name, s) ∷ [] } ∷ rs) (kids-edited n (with_added name s) (suc n) ks (omega arith))))
 
   -- a further object more
-  star-grown : (k : TypeId) (ss : List (List ℕ × Slot)) (ks : List TypeId) → with_new (fresh_record (n + length ks + 1) k) (with_star b n t ss ks) ≡ with_star b n t ss (ks ++ k ∷ [])
+  star-grown : (k : TypeId) (ss : List (List ℕ × Slot)) (ks : List TypeId)
+      → with_new (fresh_record (n + length ks + 1) k) (with_star b n t ss ks) ≡ with_star b n t ss (ks ++ k ∷ [])
   star-grown k ss ks = λ i. record b { records = records i; born = born i; notes = notes i }
     where
       m : ℕ
       m = n + length ks + 1
 
-      records : (b.records ++ record (fresh n t) { slots = ss } ∷ kids_from (suc n) ks) ++ fresh_record (n + length ks + 1) k ∷ [] ≡ b.records ++ record (fresh n t) { slots = ss } ∷ kids_from (suc n) (ks ++ k ∷ [])
+      records : (b.records ++ record (fresh n t) { slots = ss } ∷ kids_from (suc n) ks) ++ fresh_record (n + length ks + 1) k ∷ []
+          ≡ b.records ++ record (fresh n t) { slots = ss } ∷ kids_from (suc n) (ks ++ k ∷ [])
       records =
           append_assoc b.records (record (fresh n t) { slots = ss } ∷ kids_from (suc n) ks) (fresh_record (n + length ks + 1) k ∷ [])
           ∙ ap (λ (rs : List Record). b.records ++ record (fresh n t) { slots = ss } ∷ rs) (sym (kids-push (suc n) (n + length ks + 1) ks k (omega arith)))
@@ -158,7 +168,8 @@ module _ (b : Board) (n : ℕ) (t : TypeId) (low : AllByRecursion (LowRecord n) 
           ∙ ap (λ (ns : List Note). b.notes ++ ns) (sym (begun-push (born_from n (t ∷ ks)) (n + length ks + 1) k))
           ∙ ap (λ (os : List (ℕ × TypeId)). b.notes ++ begun_notes ((n, t) ∷ os)) (sym (born-push (suc n) (n + length ks + 1) ks k (omega arith)))
 
-  draft-slot : (name : List ℕ) (s : Slot) (ks : List TypeId) (c : Board) → ((lo : ℕ) → IsStar n lo ((name, s) ∷ []) []) → IsDraft b n t ks c → IsDraft b n t ks (add n name s c)
+  draft-slot : (name : List ℕ) (s : Slot) (ks : List TypeId) (c : Board) → ((lo : ℕ) → IsStar n lo ((name, s) ∷ []) []) → IsDraft b n t ks c
+      → IsDraft b n t ks (add n name s c)
   draft-slot name s ks c q h =
       record {
         slots = h.slots ++ (name, s) ∷ [];
@@ -170,10 +181,12 @@ module _ (b : Board) (n : ℕ) (t : TypeId) (low : AllByRecursion (LowRecord n) 
   draft-kid name k ks c h =
       record {
         slots = h.slots ++ (name, child (n + length ks + 1)) ∷ [];
-        shape = ap (with_kid n name k) h.shape ∙ ap (add n name (child (n + length ks + 1))) (star-grown k h.slots ks) ∙ star-added name (child (n + length ks + 1)) h.slots (ks ++ k ∷ []);
+        shape = ap (with_kid n name k) h.shape ∙ ap (add n name (child (n + length ks + 1))) (star-grown k h.slots ks)
+            ∙ star-added name (child (n + length ks + 1)) h.slots (ks ++ k ∷ []);
         star_is =
             subst (IsStar n n (h.slots ++ (name, child (n + length ks + 1)) ∷ [])) (sym (kids-push (suc n) (n + length ks + 1) ks k (omega arith)))
-            (star-kid n (n + length ks + 1) name (fresh_record (n + length ks + 1) k) refl (bare-fresh n (n + length ks + 1) k) n h.slots (kids_from (suc n) ks) (omega arith) (kids-low (n + length ks + 1) (suc n) ks (omega arith)) h.star_is);
+            (star-kid n (n + length ks + 1) name (fresh_record (n + length ks + 1) k) refl (bare-fresh n (n + length ks + 1) k) n h.slots (kids_from (suc n) ks)
+            (omega arith) (kids-low (n + length ks + 1) (suc n) ks (omega arith)) h.star_is);
       }
 
   draft-alias : (name property : List ℕ) (o : Option ℕ) (ks : List TypeId) (c : Board) → IsDraft b n t ks c → IsDraft b n t ks (aliased n name property o c)
@@ -236,10 +249,13 @@ born-length m [] = refl
 born-length m (k ∷ ks) = ap suc (born-length (suc m) ks)
 
 -- a draft that comes free
-pub draft-ends : (b : Board) (t : TypeId) (ks : List TypeId) (c : Board) → AllByRecursion (LowRecord (b.born + 1)) b.records → AllByRecursion (λ p. p < b.born + 1) b.pins → IsDraft b (b.born + 1) t ks c → finalise c (b.born + 1) ≡ with_ended b (born_from (b.born + 1) (t ∷ ks)) [] (device_last (born_from (b.born + 1) (t ∷ ks)))
+pub draft-ends : (b : Board) (t : TypeId) (ks : List TypeId) (c : Board) → AllByRecursion (LowRecord (b.born + 1)) b.records
+    → AllByRecursion (λ p. p < b.born + 1) b.pins → IsDraft b (b.born + 1) t ks c
+    → finalise c (b.born + 1) ≡ with_ended b (born_from (b.born + 1) (t ∷ ks)) [] (device_last (born_from (b.born + 1) (t ∷ ks)))
 draft-ends b t ks c low pins h =
     ap (λ (x : Board). finalise x (b.born + 1)) h.shape
-    ∙ attempt-ends (record b { born = b.born + 1 + length ks }) (fresh (b.born + 1) t) low pins refl h.slots (kids_from (suc (b.born + 1)) ks) (b.notes ++ begun_notes (born_from (b.born + 1) (t ∷ ks))) h.star_is
+    ∙ attempt-ends (record b { born = b.born + 1 + length ks }) (fresh (b.born + 1) t) low pins refl h.slots (kids_from (suc (b.born + 1)) ks)
+    (b.notes ++ begun_notes (born_from (b.born + 1) (t ∷ ks))) h.star_is
     ∙ (λ i. record b { born = born i; notes = notes i })
   where
     os : List (ℕ × TypeId)
@@ -248,19 +264,25 @@ draft-ends b t ks c low pins h =
     born : b.born + 1 + length ks ≡ b.born + length (born_from (b.born + 1) (t ∷ ks))
     born = omega (arith, born-length (suc (b.born + 1)) ks)
 
-    notes : b.notes ++ begun_notes (born_from (b.born + 1) (t ∷ ks)) ++ flat_map final_notes (kids_from (suc (b.born + 1)) ks) ++ final_notes (fresh (b.born + 1) t) ≡ b.notes ++ begun_notes (born_from (b.born + 1) (t ∷ ks)) ++ [] ++ ended_notes (born_from (suc (b.born + 1)) ks ++ (b.born + 1, t) ∷ [])
+    notes : b.notes ++ begun_notes (born_from (b.born + 1) (t ∷ ks)) ++ flat_map final_notes (kids_from (suc (b.born + 1)) ks)
+        ++ final_notes (fresh (b.born + 1) t)
+        ≡ b.notes ++ begun_notes (born_from (b.born + 1) (t ∷ ks)) ++ [] ++ ended_notes (born_from (suc (b.born + 1)) ks ++ (b.born + 1, t) ∷ [])
     notes =
         append_assoc (b.notes ++ begun_notes (born_from (b.born + 1) (t ∷ ks))) (flat_map final_notes (kids_from (suc (b.born + 1)) ks)) (ending (b.born + 1) t)
-        ∙ ap (λ (ns : List Note). (b.notes ++ begun_notes (born_from (b.born + 1) (t ∷ ks))) ++ (ns ++ ending (b.born + 1) t)) (kids-ended (suc (b.born + 1)) ks)
-        ∙ ap₂ (λ (xs ys : List Note). xs ++ ys) (sym (append-nil (b.notes ++ begun_notes (born_from (b.born + 1) (t ∷ ks))))) (sym (ended-push (born_from (suc (b.born + 1)) ks) (b.born + 1) t))
+        ∙ ap (λ (ns : List Note). (b.notes ++ begun_notes (born_from (b.born + 1) (t ∷ ks))) ++ (ns ++ ending (b.born + 1) t))
+        (kids-ended (suc (b.born + 1)) ks)
+        ∙ ap₂ (λ (xs ys : List Note). xs ++ ys) (sym (append-nil (b.notes ++ begun_notes (born_from (b.born + 1) (t ∷ ks)))))
+        (sym (ended-push (born_from (suc (b.born + 1)) ks) (b.born + 1) t))
 
 pub add-suc : (k : ℕ) → k + 1 ≡ suc k
 add-suc k = omega arith
 
 -- all properties: an attempt that was refused
-pub drafted-ends : (b : Board) (t : TypeId) (m stage : ℕ) → AllByRecursion (LowRecord (b.born + 1)) b.records → AllByRecursion (λ p. p < b.born + 1) b.pins → (stage == 8) ≡ false → finalise (drafted b t) (b.born + 1) ≡ plug_attempt b t m stage
+pub drafted-ends : (b : Board) (t : TypeId) (m stage : ℕ) → AllByRecursion (LowRecord (b.born + 1)) b.records → AllByRecursion (λ p. p < b.born + 1) b.pins
+    → (stage == 8) ≡ false → finalise (drafted b t) (b.born + 1) ≡ plug_attempt b t m stage
 drafted-ends b t m stage low pins early =
-    draft-ends b t (kinds_in (slots_of t)) (drafted b t) low pins (draft-rows b (b.born + 1) t low (slots_of t) [] (with_new (fresh (b.born + 1) t) b) (draft-begun b t))
+    draft-ends b t (kinds_in (slots_of t)) (drafted b t) low pins
+    (draft-rows b (b.born + 1) t low (slots_of t) [] (with_new (fresh (b.born + 1) t) b) (draft-begun b t))
     ∙ ap (λ (k : ℕ). with_ended b (born_from k (types_in t)) [] (device_last (born_from k (types_in t)))) (add-suc b.born)
     ∙ rw (plug_attempt, early) refl
 
@@ -269,7 +291,8 @@ kinds-append : (ps qs : List Property) → kinds_in (ps ++ qs) ≡ kinds_in ps +
 kinds-append [] qs = refl
 kinds-append (p ∷ ps) qs = go (further_in p) refl (kinds-append ps qs)
   where
-    go : (o : Option (List ℕ × TypeId)) → further_in p ≡ o → kinds_in (ps ++ qs) ≡ kinds_in ps ++ kinds_in qs → kinds_in (p ∷ ps ++ qs) ≡ kinds_in (p ∷ ps) ++ kinds_in qs
+    go : (o : Option (List ℕ × TypeId)) → further_in p ≡ o → kinds_in (ps ++ qs) ≡ kinds_in ps ++ kinds_in qs
+        → kinds_in (p ∷ ps ++ qs) ≡ kinds_in (p ∷ ps) ++ kinds_in qs
     go None e rest = rw e rest
     go (Some f) e rest = rw e (ap (λ (ts : List TypeId). f.1 ∷ ts) rest)
 
@@ -277,9 +300,12 @@ take-born : (m : ℕ) (ks js : List TypeId) → take (length ks) (born_from m (k
 take-born m [] js = refl
 take-born m (k ∷ ks) js = ap (λ (os : List (ℕ × TypeId)). (m, k) ∷ os) (take-born (suc m) ks js)
 
-pub drafted-cut : (b : Board) (t : TypeId) (ps qs : List Property) → slots_of t ≡ ps ++ qs → AllByRecursion (LowRecord (b.born + 1)) b.records → AllByRecursion (λ p. p < b.born + 1) b.pins → finalise (rows_made (b.born + 1) t ps (with_new (fresh (b.born + 1) t) b)) (b.born + 1) ≡ cut_attempt b t (suc (length (kinds_in ps))) true
+pub drafted-cut : (b : Board) (t : TypeId) (ps qs : List Property) → slots_of t ≡ ps ++ qs → AllByRecursion (LowRecord (b.born + 1)) b.records
+    → AllByRecursion (λ p. p < b.born + 1) b.pins
+    → finalise (rows_made (b.born + 1) t ps (with_new (fresh (b.born + 1) t) b)) (b.born + 1) ≡ cut_attempt b t (suc (length (kinds_in ps))) true
 drafted-cut b t ps qs split low pins =
-    draft-ends b t (kinds_in ps) (rows_made (b.born + 1) t ps (with_new (fresh (b.born + 1) t) b)) low pins (draft-rows b (b.born + 1) t low ps [] (with_new (fresh (b.born + 1) t) b) (draft-begun b t))
+    draft-ends b t (kinds_in ps) (rows_made (b.born + 1) t ps (with_new (fresh (b.born + 1) t) b)) low pins
+    (draft-rows b (b.born + 1) t low ps [] (with_new (fresh (b.born + 1) t) b) (draft-begun b t))
     ∙ ap (λ (os : List (ℕ × TypeId)). with_ended b os [] (device_last os)) objects
   where
     objects : born_from (b.born + 1) (t ∷ kinds_in ps) ≡ take (suc (length (kinds_in ps))) (born_from (suc b.born) (types_in t))
@@ -289,7 +315,8 @@ drafted-cut b t ps qs split low pins =
         ∙ ap (λ (ts : List TypeId). take (suc (length (kinds_in ps))) (born_from (suc b.born) (t ∷ ts))) (sym (kinds-append ps qs) ∙ ap kinds_in (sym split))
 
 -- nothing refers to a draft that is not joined
-pub draft-free : (b : Board) (t : TypeId) (ks : List TypeId) (c : Board) → AllByRecursion (LowRecord (b.born + 1)) b.records → AllByRecursion (λ p. p < b.born + 1) b.pins → IsDraft b (b.born + 1) t ks c → refs c (b.born + 1) ≡ 0
+pub draft-free : (b : Board) (t : TypeId) (ks : List TypeId) (c : Board) → AllByRecursion (LowRecord (b.born + 1)) b.records
+    → AllByRecursion (λ p. p < b.born + 1) b.pins → IsDraft b (b.born + 1) t ks c → refs c (b.born + 1) ≡ 0
 draft-free b t ks c low pins h = ap (λ (x : Board). refs x (b.born + 1)) h.shape ∙ none
   where
     n : ℕ
@@ -327,15 +354,18 @@ slot-higher n m le (weak t None) h = tt
 slot-higher n m le (weak t (Some k)) h = omega (arith, le, h)
 slot-higher n m le (alias k p) h = tt
 
-slots-higher : (n m : ℕ) → n ≤ m → (ss : List (List ℕ × Slot)) → AllByRecursion (λ (s : List ℕ × Slot). LowSlot n s.1) ss → AllByRecursion (λ (s : List ℕ × Slot). LowSlot m s.1) ss
+slots-higher : (n m : ℕ) → n ≤ m → (ss : List (List ℕ × Slot)) → AllByRecursion (λ (s : List ℕ × Slot). LowSlot n s.1) ss
+    → AllByRecursion (λ (s : List ℕ × Slot). LowSlot m s.1) ss
 slots-higher n m le [] h = tt
 slots-higher n m le (s ∷ ss) h = (slot-higher n m le s.1 h.0, slots-higher n m le ss h.1)
 
 records-higher : (n m : ℕ) → n ≤ m → (rs : List Record) → AllByRecursion (LowRecord n) rs → AllByRecursion (LowRecord m) rs
 records-higher n m le [] h = tt
-records-higher n m le (r ∷ rs) h = let low : r.birth < n = h.0.birth in (record { birth = omega (arith, le, low); slots = slots-higher n m le r.slots h.0.slots }, records-higher n m le rs h.1)
+records-higher n m le (r ∷ rs) h = let low : r.birth < n = h.0.birth in
+    (record { birth = omega (arith, le, low); slots = slots-higher n m le r.slots h.0.slots }, records-higher n m le rs h.1)
 
-star-low : (n m lo : ℕ) → n ≤ m → (ss : List (List ℕ × Slot)) (ls : List Record) → AllByRecursion (λ (r : Record). r.birth < m) ls → IsStar n lo ss ls → AllByRecursion (λ (s : List ℕ × Slot). LowSlot m s.1) ss
+star-low : (n m lo : ℕ) → n ≤ m → (ss : List (List ℕ × Slot)) (ls : List Record) → AllByRecursion (λ (r : Record). r.birth < m) ls → IsStar n lo ss ls
+    → AllByRecursion (λ (s : List ℕ × Slot). LowSlot m s.1) ss
 star-low n m lo le [] ls low h = tt
 star-low n m lo le ((name, child x) ∷ ss) [] low h = absurd h
 star-low n m lo le ((name, child x) ∷ ss) (k ∷ ls) low h = (subst (λ (y : ℕ). y < m) h.1 low.0, star-low n m x le ss ls low.1 h.2.1)
@@ -345,35 +375,50 @@ star-low n m lo le ((name, weak t target) ∷ ss) ls low h = (slot-higher n m le
 star-low n m lo le ((name, plain v) ∷ ss) ls low h = (tt, star-low n m lo le ss ls low h)
 star-low n m lo le ((name, alias x p) ∷ ss) ls low h = (tt, star-low n m lo le ss ls low h)
 
-bare-low : (m : ℕ) (ss : List (List ℕ × Slot)) → AllByRecursion (λ (s : List ℕ × Slot). BareSlot m s.1) ss → AllByRecursion (λ (s : List ℕ × Slot). LowSlot m s.1) ss
+bare-low : (m : ℕ) (ss : List (List ℕ × Slot)) → AllByRecursion (λ (s : List ℕ × Slot). BareSlot m s.1) ss
+    → AllByRecursion (λ (s : List ℕ × Slot). LowSlot m s.1) ss
 bare-low m [] h = tt
 bare-low m (s ∷ ss) h = (h.0.low, bare-low m ss h.1)
 
 kid-records : (m j : ℕ) (ks : List TypeId) → j + length ks ≤ m → AllByRecursion (LowRecord m) (kids_from j ks)
 kid-records m j [] le = tt
-kid-records m j (k ∷ ks) le = (record { birth = omega (arith, le); slots = bare-low m (fresh_slots k) (bare-slots m k (slots_of k)) }, kid-records m (suc j) ks (omega (arith, le)))
+kid-records m j (k ∷ ks) le =
+    (record { birth = omega (arith, le); slots = bare-low m (fresh_slots k) (bare-slots m k (slots_of k)) }, kid-records m (suc j) ks (omega (arith, le)))
 
 all-join : (P : Record → Type 0) (xs ys : List Record) → AllByRecursion P xs → AllByRecursion P ys → AllByRecursion P (xs ++ ys)
 all-join P [] ys h k = k
 all-join P (x ∷ xs) ys h k = (h.0, all-join P xs ys h.1 k)
 
 -- what a draft names is below the next birth
-pub draft-low : (b : Board) (t : TypeId) (ks : List TypeId) (c : Board) → AllByRecursion (LowRecord (b.born + 1)) b.records → IsDraft b (b.born + 1) t ks c → AllByRecursion (LowRecord (c.born + 1)) c.records
+pub draft-low : (b : Board) (t : TypeId) (ks : List TypeId) (c : Board) → AllByRecursion (LowRecord (b.born + 1)) b.records → IsDraft b (b.born + 1) t ks c
+    → AllByRecursion (LowRecord (c.born + 1)) c.records
 draft-low b t ks c low h =
     subst (AllByRecursion (LowRecord (c.born + 1))) (sym (ap (λ (x : Board). x.records) h.shape))
-    (all-join (LowRecord (c.born + 1)) b.records (record (fresh (b.born + 1) t) { slots = h.slots } ∷ kids_from (suc (b.born + 1)) ks) (records-higher (b.born + 1) (c.born + 1) (omega (arith, born)) b.records low)
-    (record { birth = omega (arith, born); slots = star-low (b.born + 1) (c.born + 1) (b.born + 1) (omega (arith, born)) h.slots (kids_from (suc (b.born + 1)) ks) (kids-low (c.born + 1) (suc (b.born + 1)) ks (omega (arith, born))) h.star_is }, kid-records (c.born + 1) (suc (b.born + 1)) ks (omega (arith, born))))
+    (all-join (LowRecord (c.born + 1)) b.records (record (fresh (b.born + 1) t) { slots = h.slots } ∷ kids_from (suc (b.born + 1)) ks)
+    (records-higher (b.born + 1) (c.born + 1) (omega (arith, born)) b.records low) (
+      record {
+        birth = omega (arith, born);
+        slots = star-low (b.born + 1) (c.born + 1) (b.born + 1) (omega (arith, born)) h.slots (kids_from (suc (b.born + 1)) ks)
+            (kids-low (c.born + 1) (suc (b.born + 1)) ks (omega (arith, born))) h.star_is;
+      },
+      kid-records (c.born + 1) (suc (b.born + 1)) ks (omega (arith, born)),
+    ))
   where
     born : c.born ≡ b.born + 1 + length ks
     born = ap (λ (x : Board). x.born) h.shape
 
 -- an object that was made behind others that do not name it, and that holds nothing, leaves its notes
-pub kid-ends : (k : TypeId) (ss : List (List ℕ × Slot)) (c : Board) → AllByRecursion (LowRecord (c.born + 1)) c.records → AllByRecursion (λ p. p < c.born + 1) c.pins → IsStar (c.born + 1) (c.born + 1) ss [] → finalise (with_new (record (fresh (c.born + 1) k) { slots = ss }) c) (c.born + 1) ≡ record c { born = c.born + 1; notes = c.notes ++ init_notes (c.born + 1) k ++ ending (c.born + 1) k }
+pub kid-ends : (k : TypeId) (ss : List (List ℕ × Slot)) (c : Board) → AllByRecursion (LowRecord (c.born + 1)) c.records
+    → AllByRecursion (λ p. p < c.born + 1) c.pins → IsStar (c.born + 1) (c.born + 1) ss []
+    → finalise (with_new (record (fresh (c.born + 1) k) { slots = ss }) c) (c.born + 1)
+    ≡ record c { born = c.born + 1; notes = c.notes ++ init_notes (c.born + 1) k ++ ending (c.born + 1) k }
 kid-ends k ss c low pins star_is =
     attempt-ends (record c { born = c.born + 1 }) (fresh (c.born + 1) k) low pins refl ss [] (c.notes ++ init_notes (c.born + 1) k) star_is
     ∙ ap (λ (ns : List Note). record c { born = c.born + 1; notes = ns ++ ending (c.born + 1) k }) (append-nil (c.notes ++ init_notes (c.born + 1) k))
 
-pub kid-free : (k : TypeId) (ss : List (List ℕ × Slot)) (c : Board) → AllByRecursion (LowRecord (c.born + 1)) c.records → AllByRecursion (λ p. p < c.born + 1) c.pins → IsStar (c.born + 1) (c.born + 1) ss [] → refs (with_new (record (fresh (c.born + 1) k) { slots = ss }) c) (c.born + 1) ≡ 0
+pub kid-free : (k : TypeId) (ss : List (List ℕ × Slot)) (c : Board) → AllByRecursion (LowRecord (c.born + 1)) c.records
+    → AllByRecursion (λ p. p < c.born + 1) c.pins → IsStar (c.born + 1) (c.born + 1) ss []
+    → refs (with_new (record (fresh (c.born + 1) k) { slots = ss }) c) (c.born + 1) ≡ 0
 kid-free k ss c low pins star_is =
     omega (
       arith,
@@ -388,10 +433,14 @@ kid-free k ss c low pins star_is =
     own = star-unheld (c.born + 1) (c.born + 1) (c.born + 1) ss [] (omega arith) star_is
 
 -- and then the device with those that were joined
-pub unjoined-ends : (b : Board) (t : TypeId) (ks : List TypeId) (k : TypeId) (c : Board) → AllByRecursion (LowRecord (b.born + 1)) b.records → AllByRecursion (λ p. p < b.born + 1) b.pins → IsDraft b (b.born + 1) t ks c → finalise (record c { born = c.born + 1; notes = c.notes ++ init_notes (c.born + 1) k ++ ending (c.born + 1) k }) (b.born + 1) ≡ with_ended b (born_from (b.born + 1) (t ∷ ks ++ k ∷ [])) [] ((b.born + 1 + length ks + 1, k) ∷ device_last (born_from (b.born + 1) (t ∷ ks)))
+pub unjoined-ends : (b : Board) (t : TypeId) (ks : List TypeId) (k : TypeId) (c : Board) → AllByRecursion (LowRecord (b.born + 1)) b.records
+    → AllByRecursion (λ p. p < b.born + 1) b.pins → IsDraft b (b.born + 1) t ks c
+    → finalise (record c { born = c.born + 1; notes = c.notes ++ init_notes (c.born + 1) k ++ ending (c.born + 1) k }) (b.born + 1)
+    ≡ with_ended b (born_from (b.born + 1) (t ∷ ks ++ k ∷ [])) [] ((b.born + 1 + length ks + 1, k) ∷ device_last (born_from (b.born + 1) (t ∷ ks)))
 unjoined-ends b t ks k c low pins h =
     ap (λ (x : Board). finalise (record x { born = x.born + 1; notes = x.notes ++ init_notes (x.born + 1) k ++ ending (x.born + 1) k }) (b.born + 1)) h.shape
-    ∙ attempt-ends (record b { born = j }) (fresh (b.born + 1) t) low pins refl h.slots (kids_from (suc (b.born + 1)) ks) (front ++ init_notes j k ++ ending j k) h.star_is
+    ∙ attempt-ends (record b { born = j }) (fresh (b.born + 1) t) low pins refl h.slots (kids_from (suc (b.born + 1)) ks)
+    (front ++ init_notes j k ++ ending j k) h.star_is
     ∙ (λ i. record b { born = born i; notes = notes i })
   where
     j : ℕ
@@ -406,19 +455,27 @@ unjoined-ends b t ks k c low pins h =
     begun : List Note
     begun = b.notes ++ begun_notes (born_from (b.born + 1) (t ∷ ks ++ k ∷ []))
 
-    all_begun : (b.notes ++ begun_notes (born_from (b.born + 1) (t ∷ ks))) ++ init_notes (b.born + 1 + length ks + 1) k ≡ b.notes ++ begun_notes (born_from (b.born + 1) (t ∷ ks ++ k ∷ []))
+    all_begun : (b.notes ++ begun_notes (born_from (b.born + 1) (t ∷ ks))) ++ init_notes (b.born + 1 + length ks + 1) k
+        ≡ b.notes ++ begun_notes (born_from (b.born + 1) (t ∷ ks ++ k ∷ []))
     all_begun =
         append_assoc b.notes (begun_notes (born_from (b.born + 1) (t ∷ ks))) (init_notes (b.born + 1 + length ks + 1) k)
         ∙ ap (λ (ns : List Note). b.notes ++ ns) (sym (begun-push (born_from (b.born + 1) (t ∷ ks)) (b.born + 1 + length ks + 1) k))
-        ∙ ap (λ (os : List (ℕ × TypeId)). b.notes ++ begun_notes ((b.born + 1, t) ∷ os)) (sym (born-push (suc (b.born + 1)) (b.born + 1 + length ks + 1) ks k (omega arith)))
+        ∙ ap (λ (os : List (ℕ × TypeId)). b.notes ++ begun_notes ((b.born + 1, t) ∷ os))
+        (sym (born-push (suc (b.born + 1)) (b.born + 1 + length ks + 1) ks k (omega arith)))
 
-    notes : (b.notes ++ begun_notes (born_from (b.born + 1) (t ∷ ks))) ++ init_notes (b.born + 1 + length ks + 1) k ++ ending (b.born + 1 + length ks + 1) k ++ flat_map final_notes (kids_from (suc (b.born + 1)) ks) ++ ending (b.born + 1) t ≡ b.notes ++ begun_notes (born_from (b.born + 1) (t ∷ ks ++ k ∷ [])) ++ [] ++ ended_notes ((b.born + 1 + length ks + 1, k) ∷ born_from (suc (b.born + 1)) ks ++ (b.born + 1, t) ∷ [])
+    notes : (b.notes ++ begun_notes (born_from (b.born + 1) (t ∷ ks))) ++ init_notes (b.born + 1 + length ks + 1) k ++ ending (b.born + 1 + length ks + 1) k
+        ++ flat_map final_notes (kids_from (suc (b.born + 1)) ks) ++ ending (b.born + 1) t ≡ b.notes ++ begun_notes (born_from (b.born + 1) (t ∷ ks ++ k ∷ []))
+        ++ [] ++ ended_notes ((b.born + 1 + length ks + 1, k) ∷ born_from (suc (b.born + 1)) ks ++ (b.born + 1, t) ∷ [])
     notes =
         ap₂ (λ (xs ys : List Note). (xs ++ ending (b.born + 1 + length ks + 1) k ++ ys) ++ ending (b.born + 1) t) all_begun (kids-ended (suc (b.born + 1)) ks)
-        ∙ ap (λ (ns : List Note). ns ++ ending (b.born + 1) t) (append_assoc begun (ending (b.born + 1 + length ks + 1) k) (ended_notes (born_from (suc (b.born + 1)) ks)))
+        ∙ ap (λ (ns : List Note). ns ++ ending (b.born + 1) t)
+        (append_assoc begun (ending (b.born + 1 + length ks + 1) k) (ended_notes (born_from (suc (b.born + 1)) ks)))
         ∙ append_assoc begun (ending (b.born + 1 + length ks + 1) k ++ ended_notes (born_from (suc (b.born + 1)) ks)) (ending (b.born + 1) t)
-        ∙ ap (λ (ns : List Note). begun ++ ns) (append_assoc (ending (b.born + 1 + length ks + 1) k) (ended_notes (born_from (suc (b.born + 1)) ks)) (ending (b.born + 1) t) ∙ ap (λ (ns : List Note). ending (b.born + 1 + length ks + 1) k ++ ns) (sym (ended-push (born_from (suc (b.born + 1)) ks) (b.born + 1) t)))
-        ∙ ap (λ (ns : List Note). ns ++ ended_notes ((b.born + 1 + length ks + 1, k) ∷ born_from (suc (b.born + 1)) ks ++ (b.born + 1, t) ∷ [])) (sym (append-nil begun))
+        ∙ ap (λ (ns : List Note). begun ++ ns)
+        (append_assoc (ending (b.born + 1 + length ks + 1) k) (ended_notes (born_from (suc (b.born + 1)) ks)) (ending (b.born + 1) t)
+        ∙ ap (λ (ns : List Note). ending (b.born + 1 + length ks + 1) k ++ ns) (sym (ended-push (born_from (suc (b.born + 1)) ks) (b.born + 1) t)))
+        ∙ ap (λ (ns : List Note). ns ++ ended_notes ((b.born + 1 + length ks + 1, k) ∷ born_from (suc (b.born + 1)) ks ++ (b.born + 1, t) ∷ []))
+        (sym (append-nil begun))
 
 drop-born : (m j : ℕ) (ks : List TypeId) (k : TypeId) → j ≡ m + length ks → drop (length ks) (born_from m (ks ++ k ∷ [])) ≡ (j, k) ∷ []
 drop-born m j [] k e = let same : m ≡ j = omega (arith, e) in ap (λ (i : ℕ). (i, k) ∷ []) same
@@ -438,7 +495,8 @@ unjoined-cut b t ps p k qs split is = ap₂ (λ (os es : List (ℕ × TypeId)). 
     kid = rw (further_in, is) refl
 
     all_kinds : kinds_in (slots_of t) ≡ (kinds_in ps ++ k ∷ []) ++ kinds_in qs
-    all_kinds = ap kinds_in split ∙ kinds-append ps (p ∷ qs) ∙ ap (λ (ts : List TypeId). kinds_in ps ++ ts) kid ∙ sym (append_assoc (kinds_in ps) (k ∷ []) (kinds_in qs))
+    all_kinds = ap kinds_in split ∙ kinds-append ps (p ∷ qs) ∙ ap (λ (ts : List TypeId). kinds_in ps ++ ts) kid
+        ∙ sym (append_assoc (kinds_in ps) (k ∷ []) (kinds_in qs))
 
     size : length (kinds_in ps ++ k ∷ []) ≡ suc (length (kinds_in ps))
     size = omega (arith, length-push (kinds_in ps) k)
@@ -453,7 +511,10 @@ unjoined-cut b t ps p k qs split is = ap₂ (λ (os es : List (ℕ × TypeId)). 
     objects : born_from (b.born + 1) (t ∷ kinds_in ps ++ k ∷ []) ≡ take (suc (suc (length (kinds_in ps)))) (born_from (suc b.born) (types_in t))
     objects = sym taken
 
-    order : (b.born + 1 + length (kinds_in ps) + 1, k) ∷ device_last (born_from (b.born + 1) (t ∷ kinds_in ps)) ≡ cut_order false (suc (suc (length (kinds_in ps)))) (take (suc (suc (length (kinds_in ps)))) (born_from (suc b.born) (types_in t)))
+    order : (b.born + 1 + length (kinds_in ps) + 1, k) ∷ device_last (born_from (b.born + 1) (t ∷ kinds_in ps))
+        ≡ cut_order false (suc (suc (length (kinds_in ps)))) (take (suc (suc (length (kinds_in ps)))) (born_from (suc b.born) (types_in t)))
     order =
-        ap₂ (λ (xs ys : List (ℕ × TypeId)). xs ++ device_last ys) (sym (drop-born (b.born + 1) (b.born + 1 + length (kinds_in ps) + 1) (t ∷ kinds_in ps) k (omega arith))) (sym (take-born (b.born + 1) (t ∷ kinds_in ps) (k ∷ [])))
+        ap₂ (λ (xs ys : List (ℕ × TypeId)). xs ++ device_last ys)
+        (sym (drop-born (b.born + 1) (b.born + 1 + length (kinds_in ps) + 1) (t ∷ kinds_in ps) k (omega arith)))
+        (sym (take-born (b.born + 1) (t ∷ kinds_in ps) (k ∷ [])))
         ∙ ap (cut_order false (suc (suc (length (kinds_in ps))))) objects

@@ -7,7 +7,8 @@ use Rattle.qo_model.specs.Board.{Board, Record, Slot, plain, child, strong, weak
 use Rattle.qo_model.specs.Release.{forgotten_in, edited, emptied, without_hold}
 
 -- where an edit raises no record's number, it raises no sum of them
-pub sum-edit_le : (f : Record → ℕ) (n : ℕ) (change : Record → Record) → ((r : Record) → f (change r) ≤ f r) → (rs : List Record) → sum_by f (map (edited n change) rs) ≤ sum_by f rs
+pub sum-edit_le : (f : Record → ℕ) (n : ℕ) (change : Record → Record) → ((r : Record) → f (change r) ≤ f r) → (rs : List Record)
+    → sum_by f (map (edited n change) rs) ≤ sum_by f rs
 sum-edit_le f n change less [] = omega arith
 sum-edit_le f n change less (r ∷ rs) = go (r.birth == n) refl (sum-edit_le f n change less rs)
   where
@@ -16,11 +17,14 @@ sum-edit_le f n change less (r ∷ rs) = go (r.birth == n) refl (sum-edit_le f n
     go false p rest = rw p (omega (arith, sum_by-cons f r (map (edited n change) rs), sum_by-cons f r rs))
 
 -- where it lowers the number of the record that is found by so much at least, it lowers the sum by so much
-pub sum-edit_lt : (f : Record → ℕ) (n : ℕ) (change : Record → Record) → ((r : Record) → f (change r) ≤ f r) → (rs : List Record) (x : Record) → find (λ (r : Record). r.birth == n) rs ≡ Some x → f (change x) < f x → sum_by f (map (edited n change) rs) < sum_by f rs
+pub sum-edit_lt : (f : Record → ℕ) (n : ℕ) (change : Record → Record) → ((r : Record) → f (change r) ≤ f r) → (rs : List Record) (x : Record)
+    → find (λ (r : Record). r.birth == n) rs ≡ Some x → f (change x) < f x → sum_by f (map (edited n change) rs) < sum_by f rs
 sum-edit_lt f n change less [] x e falls = cc
 sum-edit_lt f n change less (r ∷ rs) x e falls = go (r.birth == n) refl (sum-edit_lt f n change less rs x)
   where
-    go : (t : Bool) → (r.birth == n) ≡ t → (find (λ (y : Record). y.birth == n) rs ≡ Some x → f (change x) < f x → sum_by f (map (edited n change) rs) < sum_by f rs) → sum_by f (map (edited n change) (r ∷ rs)) < sum_by f (r ∷ rs)
+    go : (t : Bool) → (r.birth == n) ≡ t
+        → (find (λ (y : Record). y.birth == n) rs ≡ Some x → f (change x) < f x → sum_by f (map (edited n change) rs) < sum_by f rs)
+        → sum_by f (map (edited n change) (r ∷ rs)) < sum_by f (r ∷ rs)
     go true p rest =
         let is : r ≡ x = same_Some r x (rw p at e) in
         let here : f (change r) < f r = subst (λ (y : Record). f (change y) < f y) (sym is) falls in
@@ -28,7 +32,8 @@ sum-edit_lt f n change less (r ∷ rs) x e falls = go (r.birth == n) refl (sum-e
     go false p rest = rw p (omega (arith, sum_by-cons f r (map (edited n change) rs), sum_by-cons f r rs, rest (rw p at e) falls))
 
 -- a sum over some of the records, each of which has no larger number than before
-pub sum-filter_le : (f : Record → ℕ) (g : Record → Record) (keep : Record → Bool) → ((r : Record) → f (g r) ≤ f r) → (rs : List Record) → sum_by f (map g (filter keep rs)) ≤ sum_by f rs
+pub sum-filter_le : (f : Record → ℕ) (g : Record → Record) (keep : Record → Bool) → ((r : Record) → f (g r) ≤ f r) → (rs : List Record)
+    → sum_by f (map g (filter keep rs)) ≤ sum_by f rs
 sum-filter_le f g keep less [] = omega arith
 sum-filter_le f g keep less (r ∷ rs) = go (keep r) refl (sum-filter_le f g keep less rs)
   where
@@ -41,7 +46,8 @@ abbrev pub left_of : (List ℕ × Slot → ℕ) → List ℕ × Slot → ℕ
 left_of f s = elim (emptied s.1) as (λ _. ℕ) [ None ↦ 0 | Some left ↦ f (s.0, left) ]
 
 -- letting a slot go changes a sum over the slots by this slot alone
-pub sum-without_hold : (f : List ℕ × Slot → ℕ) (i : ℕ) (slots : List (List ℕ × Slot)) (s : List ℕ × Slot) → slice_get slots i ≡ Some s → sum_by f (without_hold i slots) + f s ≡ sum_by f slots + left_of f s
+pub sum-without_hold : (f : List ℕ × Slot → ℕ) (i : ℕ) (slots : List (List ℕ × Slot)) (s : List ℕ × Slot) → slice_get slots i ≡ Some s
+    → sum_by f (without_hold i slots) + f s ≡ sum_by f slots + left_of f s
 sum-without_hold f i [] s e = cc
 sum-without_hold f zero (x ∷ slots) s e =
     let is : x ≡ s = same_Some x s e in
@@ -59,7 +65,8 @@ without_hold-past zero (x ∷ slots) e = cc
 without_hold-past (suc i) (x ∷ slots) e = ap (λ (ss : List (List ℕ × Slot)). x ∷ ss) (without_hold-past i slots e)
 
 -- where what is left of a slot has no larger number, letting go raises no sum
-pub sum-without_hold_le : (f : List ℕ × Slot → ℕ) → ((s : List ℕ × Slot) → left_of f s ≤ f s) → (i : ℕ) (slots : List (List ℕ × Slot)) → sum_by f (without_hold i slots) ≤ sum_by f slots
+pub sum-without_hold_le : (f : List ℕ × Slot → ℕ) → ((s : List ℕ × Slot) → left_of f s ≤ f s) → (i : ℕ) (slots : List (List ℕ × Slot))
+    → sum_by f (without_hold i slots) ≤ sum_by f slots
 sum-without_hold_le f less i slots = go (slice_get slots i) refl
   where
     go : (o : Option (List ℕ × Slot)) → slice_get slots i ≡ o → sum_by f (without_hold i slots) ≤ sum_by f slots
@@ -103,16 +110,19 @@ pub record StandsAt (b : Board) (n i : ℕ) (s : Slot) : Type 0 where
 pub stands-at : (b : Board) (n i : ℕ) (s : Slot) → slot_at b n i ≡ Some s → StandsAt b n i s
 stands-at b n i s e = go (record_of b n) refl e
   where
-    at_entry : (r : Record) → record_of b n ≡ Some r → (o : Option (List ℕ × Slot)) → slice_get r.slots i ≡ o → option_map (λ (x : List ℕ × Slot). x.1) o ≡ Some s → StandsAt b n i s
+    at_entry : (r : Record) → record_of b n ≡ Some r → (o : Option (List ℕ × Slot)) → slice_get r.slots i ≡ o
+        → option_map (λ (x : List ℕ × Slot). x.1) o ≡ Some s → StandsAt b n i s
     at_entry r p None q h = cc
     at_entry r p (Some x) q h = record { owner = r; entry = x; found = p; at = q; is = same_Some x.1 s h }
 
-    go : (o : Option Record) → record_of b n ≡ o → option_map (λ (x : List ℕ × Slot). x.1) (slice_get (option_map_or (λ (r : Record). r.slots) o []) i) ≡ Some s → StandsAt b n i s
+    go : (o : Option Record) → record_of b n ≡ o → option_map (λ (x : List ℕ × Slot). x.1) (slice_get (option_map_or (λ (r : Record). r.slots) o []) i) ≡ Some s
+        → StandsAt b n i s
     go None p h = cc
     go (Some r) p h = at_entry r p (slice_get r.slots i) refl h
 
 -- a change of slots that leaves what they hold changes no sum over what they hold
-pub sum-held : (f : Option ℕ → ℕ) (g : Slot → Slot) → ((s : Slot) → held (g s) ≡ held s) → (slots : List (List ℕ × Slot)) → sum_by (λ (s : List ℕ × Slot). f (held s.1)) (map (λ (s : List ℕ × Slot). (s.0, g s.1)) slots) ≡ sum_by (λ (s : List ℕ × Slot). f (held s.1)) slots
+pub sum-held : (f : Option ℕ → ℕ) (g : Slot → Slot) → ((s : Slot) → held (g s) ≡ held s) → (slots : List (List ℕ × Slot))
+    → sum_by (λ (s : List ℕ × Slot). f (held s.1)) (map (λ (s : List ℕ × Slot). (s.0, g s.1)) slots) ≡ sum_by (λ (s : List ℕ × Slot). f (held s.1)) slots
 sum-held f g same [] = refl
 sum-held f g same (s ∷ slots) =
     omega (

@@ -23,11 +23,13 @@ use Rattle.qo_model.proofs.FinalNotesLemmas.{after-keeps, edit-keeps, let_go-kee
 use Rattle.qo_model.proofs.FinalNotesGrowthLemmas.{attempt-grows, grown-keeps, object-grows}
 
 -- `object-add`
-added_as-keeps : (b : Board) (t : TypeId) (id : List ℕ) (props : List Given) (refusal : Option Code) → NotesInOrder b → NotesInOrder (added_as b t id props refusal).board
+added_as-keeps : (b : Board) (t : TypeId) (id : List ℕ) (props : List Given) (refusal : Option Code) → NotesInOrder b
+    → NotesInOrder (added_as b t id props refusal).board
 added_as-keeps b t id props None o = grown-keeps b _ t false (object-grows b t id props o) o
 added_as-keeps b t id props (Some code) o = grown-keeps b _ t true (attempt-grows b t o) o
 
-added_by-keeps : (b : Board) (row : TypeRow) (id : List ℕ) (props : List Given) (refusal : Option Code) → NotesInOrder b → NotesInOrder (added_by b row id props refusal).board
+added_by-keeps : (b : Board) (row : TypeRow) (id : List ℕ) (props : List Given) (refusal : Option Code) → NotesInOrder b
+    → NotesInOrder (added_by b row id props refusal).board
 added_by-keeps b row id props None o = added_as-keeps b row.id id props (refusal_of b row.id props) o
 added_by-keeps b row id props (Some code) o = o
 
@@ -65,7 +67,8 @@ relinked-keeps b n i target o = go (slot_at b n i) refl
   where
     go : (s : Option Slot) → slot_at b n i ≡ s → NotesInOrder (relinked b n i target)
     go None p = rw (relinked, p) o
-    go (Some s) p = rw (relinked, p) (after-keeps (pointed_at target n i (drop_slot b n i)) (held s) (pointed-keeps (drop_slot b n i) n i target (drop-keeps b n i o)))
+    go (Some s) p =
+        rw (relinked, p) (after-keeps (pointed_at target n i (drop_slot b n i)) (held s) (pointed-keeps (drop_slot b n i) n i target (drop-keeps b n i o)))
 
 linked-keeps : (b : Board) (n i : ℕ) (target : Result (Option ℕ) Code) → NotesInOrder b → NotesInOrder (behind_write b (linked b n i target))
 linked-keeps b n i (Ok target) o = relinked-keeps b n i target o
@@ -118,7 +121,8 @@ severed_from-keeps : (places i n : ℕ) (b : Board) → NotesInOrder b → Notes
 severed_from-keeps zero i n b o = o
 severed_from-keeps (suc places) i n b o = go (slot_at b n i) refl (severed_from-keeps places (suc i) n)
   where
-    go : (s : Option Slot) → slot_at b n i ≡ s → ((c : Board) → NotesInOrder c → NotesInOrder (severed_from places (suc i) n c)) → NotesInOrder (severed_from (suc places) i n b)
+    go : (s : Option Slot) → slot_at b n i ≡ s → ((c : Board) → NotesInOrder c → NotesInOrder (severed_from places (suc i) n c))
+        → NotesInOrder (severed_from (suc places) i n b)
     go None p rest = rw (severed_from, p) (rest b o)
     go (Some (plain v)) p rest = rw (severed_from, p) (rest b o)
     go (Some (child m)) p rest = rw (severed_from, p) (rest b o)
@@ -136,7 +140,8 @@ sever-keeps b n o = go (is_live b n) refl (attached b n) refl
     go : (there : Bool) → is_live b n ≡ there → (at_home : Bool) → attached b n ≡ at_home → NotesInOrder (sever b n).board
     go false p at_home q = rw (sever, p) o
     go true p true q = rw (sever, p, q) o
-    go true p false q = rw (sever, p, q) (unpin-keeps (severed_from (length (slots_at b n)) 0 n (pin b n)) n (severed_from-keeps (length (slots_at b n)) 0 n (pin b n) (pin-keeps b n o)))
+    go true p false q = rw (sever, p, q)
+        (unpin-keeps (severed_from (length (slots_at b n)) 0 n (pin b n)) n (severed_from-keeps (length (slots_at b n)) 0 n (pin b n) (pin-keeps b n o)))
 
 -- each change
 pub changed-keeps : (b : Board) (change : Change) → NotesInOrder b → NotesInOrder (changed b change)

@@ -42,20 +42,23 @@ behind-own : (m : ℕ) (deed : TypeId → Deed) (ts : List TypeId) (notes : List
 behind-own m deed ts notes =
     filter-append (λ (x : Note). x.birth == m) notes (noted m deed ts) ∙ ap (λ (xs : List Note). notes_on m notes ++ xs) (noted-own m deed ts)
 
-behind-other : (m x : ℕ) → (m == x) ≡ false → (deed : TypeId → Deed) (ts : List TypeId) (notes : List Note) → notes_on x (notes ++ noted m deed ts) ≡ notes_on x notes
+behind-other : (m x : ℕ) → (m == x) ≡ false → (deed : TypeId → Deed) (ts : List TypeId) (notes : List Note)
+    → notes_on x (notes ++ noted m deed ts) ≡ notes_on x notes
 behind-other m x e deed ts notes =
     filter-append (λ (y : Note). y.birth == x) notes (noted m deed ts)
     ∙ ap (λ (xs : List Note). notes_on x notes ++ xs) (noted-other m x e deed ts)
     ∙ append-nil (notes_on x notes)
 
 -- an act that does not begin its object belongs between
-one-noted : (n : ℕ) (act : Act) (notes : List Note) → notes_on n (notes ++ record { birth = n; deed = Did act } ∷ []) ≡ notes_on n notes ++ record { birth = n; deed = Did act } ∷ []
+one-noted : (n : ℕ) (act : Act) (notes : List Note)
+    → notes_on n (notes ++ record { birth = n; deed = Did act } ∷ []) ≡ notes_on n notes ++ record { birth = n; deed = Did act } ∷ []
 one-noted n act notes = filter-append (λ (x : Note). x.birth == n) notes (record { birth = n; deed = Did act } ∷ []) ∙ rw (eq-eqb n n refl) refl
 
 one-other : (n x : ℕ) → (n == x) ≡ false → (act : Act) (notes : List Note) → notes_on x (notes ++ record { birth = n; deed = Did act } ∷ []) ≡ notes_on x notes
 one-other n x e act notes = filter-append (λ (y : Note). y.birth == x) notes (record { birth = n; deed = Did act } ∷ []) ∙ rw e (append-nil (notes_on x notes))
 
-story-goes-on : (n : ℕ) (t : TypeId) (act : Act) (notes : List Note) → deed_type (Did act) ≡ None → Story n t false notes → Story n t false (notes ++ record { birth = n; deed = Did act } ∷ [])
+story-goes-on : (n : ℕ) (t : TypeId) (act : Act) (notes : List Note) → deed_type (Did act) ≡ None → Story n t false notes
+    → Story n t false (notes ++ record { birth = n; deed = Did act } ∷ [])
 story-goes-on n t act notes plain s =
     record {
       between = s.between ++ this;
@@ -153,7 +156,7 @@ grown-keeps b c t over g o =
         (old.0, story-same n old.0 true c.notes b.notes (g.unnoted n p) old.1)
 
 -- the next birth is not there, and has no note
-next-absent : (b : Board) → NotesInOrder b → (o : Option TypeId) → kind_of b (b.born + 1) ≡ o → kind_of b (b.born + 1) ≡ None
+pub next-absent : (b : Board) → NotesInOrder b → (o : Option TypeId) → kind_of b (b.born + 1) ≡ o → kind_of b (b.born + 1) ≡ None
 next-absent b o None e = e
 next-absent b o (Some t) e =
     let born : IsBorn b (b.born + 1) = o.counted (b.born + 1) (live-of-kind b (b.born + 1) t e) in
@@ -164,11 +167,12 @@ next-unnoted : (b : Board) → NotesInOrder b → notes_on (b.born + 1) b.notes 
 next-unnoted b o = o.unborn (b.born + 1) (λ born. let over : b.born + 1 ≤ b.born = born.1 in absurd (omega arith))
 
 -- its init notes are the beginning of its story
-next-begins : (b : Board) (t : TypeId) → NotesInOrder b → notes_on (b.born + 1) (b.notes ++ init_notes (b.born + 1) t) ≡ beginning (b.born + 1) t
+pub next-begins : (b : Board) (t : TypeId) → NotesInOrder b → notes_on (b.born + 1) (b.notes ++ init_notes (b.born + 1) t) ≡ beginning (b.born + 1) t
 next-begins b t o =
     let opened : 8 ≤ b.born = o.opened in
     let later : leb (b.born + 1) 8 ≡ false = grind arith in
-    rw (beginning, later) (behind-own (b.born + 1) (λ k. Did (Init k)) (inits t) b.notes ∙ ap (λ (xs : List Note). xs ++ init_notes (b.born + 1) t) (next-unnoted b o))
+    rw (beginning, later)
+    (behind-own (b.born + 1) (λ k. Did (Init k)) (inits t) b.notes ∙ ap (λ (xs : List Note). xs ++ init_notes (b.born + 1) t) (next-unnoted b o))
 
 -- an attempt that is given up
 pub attempt-grows : (b : Board) (t : TypeId) → NotesInOrder b → Grown b (with_attempt b t) t true
@@ -195,13 +199,13 @@ or-none : (o : Option Record) → option_or o None ≡ o
 or-none None = refl
 or-none (Some r) = refl
 
-last-other : (rs : List Record) (r : Record) (x : ℕ) → (r.birth == x) ≡ false → found_at x (rs ++ r ∷ []) ≡ found_at x rs
+pub last-other : (rs : List Record) (r : Record) (x : ℕ) → (r.birth == x) ≡ false → found_at x (rs ++ r ∷ []) ≡ found_at x rs
 last-other rs r x e = find-append (λ (y : Record). y.birth == x) rs (r ∷ []) ∙ rw e (or-none (found_at x rs))
 
-last-own : (rs : List Record) (r : Record) → found_at r.birth rs ≡ None → found_at r.birth (rs ++ r ∷ []) ≡ Some r
+pub last-own : (rs : List Record) (r : Record) → found_at r.birth rs ≡ None → found_at r.birth (rs ++ r ∷ []) ≡ Some r
 last-own rs r e = find-append (λ (y : Record). y.birth == r.birth) rs (r ∷ []) ∙ rw (e, eq-eqb r.birth r.birth refl) refl
 
-unmapped : (o : Option Record) → option_map (λ (r : Record). r.kind) o ≡ None → o ≡ None
+pub unmapped : (o : Option Record) → option_map (λ (r : Record). r.kind) o ≡ None → o ≡ None
 unmapped None e = refl
 unmapped (Some r) e = cc
 
@@ -212,7 +216,8 @@ object-grows b t id props o =
       born = refl;
       others = λ x e. ap (option_map (λ (r : Record). r.kind)) (last-other named new x e) ∙ named-kind x;
       unnoted = λ x e. behind-other (b.born + 1) x e (λ k. Did (Init k)) (inits t) b.notes;
-      kind = ap (option_map (λ (r : Record). r.kind)) (last-own named new (unmapped (found_at (b.born + 1) named) (named-kind (b.born + 1) ∙ next-absent b o (kind_of b (b.born + 1)) refl)));
+      kind = ap (option_map (λ (r : Record). r.kind))
+          (last-own named new (unmapped (found_at (b.born + 1) named) (named-kind (b.born + 1) ∙ next-absent b o (kind_of b (b.born + 1)) refl)));
       story =
           record {
             between = [];

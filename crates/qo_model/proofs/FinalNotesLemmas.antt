@@ -6,12 +6,12 @@ use Rattle.qo_model.specs.declared.notes.Note.{Note}
 use Rattle.qo_model.specs.Board.{Board, Record, record_of, is_live, kind_of}
 use Rattle.qo_model.specs.FinalNotes.{beginning, ending, IsBorn, NotesInOrder, Story}
 use Rattle.qo_model.specs.References.{refs}
-use Rattle.qo_model.specs.Release.{after, edit, edited, final_notes, finalise, let_go, unpin}
+use Rattle.qo_model.specs.Release.{after, edit, final_notes, finalise, let_go, unpin}
 use Rattle.qo_model.specs.ReleaseKeeps.{Leaves, without_slots}
 use Rattle.qo_model.specs.ReleaseNotes.{notes_on, finals_of, NotesEnds}
 use Rattle.qo_model.proofs.ReleaseLeavesLemmas.{release_leaves, let_go-leaves, unpin-leaves}
-use Rattle.qo_model.proofs.ReleaseNotesLemmas.{finals-none, found-birth, release_notes, let_go-notes, unpin-notes}
-use Rattle.qo_model.proofs.StepLemmas.{found-edited, is_some-map}
+use Rattle.qo_model.proofs.ReleaseNotesLemmas.{finals-none, release_notes, let_go-notes, unpin-notes}
+use Rattle.qo_model.proofs.StepLemmas.{found-edited, is_some-map, found-birth, map-edited}
 
 -- an object is there where it has a type
 pub kind-live : (b : Board) (n : ℕ) → is_some (kind_of b n) ≡ is_live b n
@@ -120,17 +120,10 @@ unpin-keeps b n o =
     ends-keep c (unpin b n) ends (unpin-leaves b n) (pins-keep b (unpin b n).pins o)
 
 -- an edit that keeps births and types keeps them
-kind-edited : (n : ℕ) (change : Record → Record) → ((r : Record) → (change r).kind ≡ r.kind) → (o : Option Record) → option_map (λ (r : Record). r.kind) (option_map (edited n change) o) ≡ option_map (λ (r : Record). r.kind) o
-kind-edited n change same None = refl
-kind-edited n change same (Some r) = go (r.birth == n) refl
-  where
-    go : (t : Bool) → (r.birth == n) ≡ t → Some (edited n change r).kind ≡ Some r.kind
-    go true p = rw (edited, p) (ap Some (same r))
-    go false p = rw (edited, p) refl
-
-pub edit-kind : (n : ℕ) (change : Record → Record) → ((r : Record) → (change r).birth ≡ r.birth) → ((r : Record) → (change r).kind ≡ r.kind) → (b : Board) (x : ℕ) → kind_of (edit n change b) x ≡ kind_of b x
+pub edit-kind : (n : ℕ) (change : Record → Record) → ((r : Record) → (change r).birth ≡ r.birth) → ((r : Record) → (change r).kind ≡ r.kind)
+    → (b : Board) (x : ℕ) → kind_of (edit n change b) x ≡ kind_of b x
 edit-kind n change birth kind b x =
-    ap (option_map (λ (r : Record). r.kind)) (found-edited n change birth x b.records) ∙ kind-edited n change kind (record_of b x)
+    ap (option_map (λ (r : Record). r.kind)) (found-edited n change birth x b.records) ∙ map-edited (λ (r : Record). r.kind) n change kind (record_of b x)
 
 -- boards that agree in births, types and notes
 pub same-keep : (b c : Board) → c.born ≡ b.born → c.notes ≡ b.notes → ((n : ℕ) → kind_of c n ≡ kind_of b n) → NotesInOrder b → NotesInOrder c
@@ -148,5 +141,6 @@ same-keep b c born notes kind o =
     live : (n : ℕ) → is_live c n ≡ is_live b n
     live n = sym (kind-live c n) ∙ ap is_some (kind n) ∙ kind-live b n
 
-pub edit-keeps : (n : ℕ) (change : Record → Record) → ((r : Record) → (change r).birth ≡ r.birth) → ((r : Record) → (change r).kind ≡ r.kind) → (b : Board) → NotesInOrder b → NotesInOrder (edit n change b)
+pub edit-keeps : (n : ℕ) (change : Record → Record) → ((r : Record) → (change r).birth ≡ r.birth) → ((r : Record) → (change r).kind ≡ r.kind) → (b : Board)
+    → NotesInOrder b → NotesInOrder (edit n change b)
 edit-keeps n change birth kind b o = same-keep b (edit n change b) refl refl (edit-kind n change birth kind b) o

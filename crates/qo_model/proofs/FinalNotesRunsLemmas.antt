@@ -120,7 +120,8 @@ story-once : (n : ℕ) (t : TypeId) (over : Bool) (notes : List Note) → Story 
 story-once n t over notes s =
     record {
       before = beginning n t ++ s.between;
-      none_final = list_any-append is_final (beginning n t) s.between ∙ ap₂ (λ (u v : Bool). u || v) (beginning-not-final n t) (unbound-not-final s.between s.neither);
+      none_final = list_any-append is_final (beginning n t) s.between
+          ∙ ap₂ (λ (u v : Bool). u || v) (beginning-not-final n t) (unbound-not-final s.between s.neither);
       last = last_of t over;
       in_order = s.in_order ∙ ap (λ (xs : List Note). beginning n t ++ s.between ++ xs) (ends over);
     }

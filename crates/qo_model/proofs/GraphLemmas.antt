@@ -1,11 +1,11 @@
 -- Children and births: on a board without plain values, after a search, and by the order of births.
-use Rattle.std.proofs.Common.{◌≡◌, refl, ap, ap₂, ℕ, ◌<◌, Bool, true, false, List, [], ◌∷◌, map, ◌==◌, eqb, Option, find, is_some, arith}
+use Rattle.std.proofs.Common.{◌≡◌, refl, ap, ap₂, ℕ, ◌<◌, Bool, true, false, List, [], ◌∷◌, map, ◌==◌, eqb, find, arith}
 use Rattle.std.specs.List.{cons_option, AllByRecursion}
-use Rattle.std.specs.Option.{option_map_or, option_and_then}
+use Rattle.std.specs.Option.{option_map_or}
 use Rattle.std.proofs.lemmas.Bool.{eqb-true}
 use Rattle.qo_model.specs.Board.{Board, Record, Slot, plain, child, strong, weak, alias}
 use Rattle.qo_model.specs.Depth.{among, Leads}
-use Rattle.qo_model.specs.Paths.{births, child_of, children_in, children_of, place_in}
+use Rattle.qo_model.specs.Paths.{births, child_of, children_in, children_of}
 use Rattle.qo_model.specs.SoundGraph.{graph_of, without_value, without_values}
 use Rattle.qo_model.proofs.DepthLemmas.{Leads-up}
 
@@ -22,9 +22,9 @@ among-above n m (x ∷ xs) h e = go (eqb m x) refl (among-above n m xs h.1)
 abbrev pub children_at : List Record → ℕ → List ℕ
 children_at rs n = children_in (option_map_or (λ (r : Record). r.slots) (find (λ r. r.birth == n) rs) [])
 
--- the place of n among records
-abbrev pub place_at : List Record → ℕ → Option (ℕ × List ℕ)
-place_at rs n = option_and_then (place_in n) (find (λ r. is_some (place_in n r)) rs)
+-- the births among records
+abbrev pub births_at : List Record → List ℕ
+births_at rs = map (λ (r : Record). r.birth) rs
 
 -- without plain values the births and the children stay
 pub births-graph_of : (b : Board) → births (graph_of b) ≡ births b
@@ -50,7 +50,8 @@ children_at-without_values : (rs : List Record) (n : ℕ) → children_at (map w
 children_at-without_values [] n = refl
 children_at-without_values (r ∷ rs) n = go (r.birth == n) refl (children_at-without_values rs n)
   where
-    go : (t : Bool) → (r.birth == n) ≡ t → children_at (map without_values rs) n ≡ children_at rs n → children_at (map without_values (r ∷ rs)) n ≡ children_at (r ∷ rs) n
+    go : (t : Bool) → (r.birth == n) ≡ t → children_at (map without_values rs) n ≡ children_at rs n
+        → children_at (map without_values (r ∷ rs)) n ≡ children_at (r ∷ rs) n
     go true p rest = rw p (children_in-without_values r.slots)
     go false p rest = rw p rest
 

@@ -1,4 +1,5 @@
 pub mod AttemptLemmas
+pub mod ClockFitLemmas
 pub mod ClockPropertyLemmas
 mod ClockPropertyRows
 pub mod ClockStaysLemmas
@@ -26,6 +27,7 @@ mod ObjectRows
 mod ReleaseRows
 pub mod ReleaseRulesLemmas
 mod Rows
+pub mod RowTerms
 pub mod StaysLemmas
 pub mod StepLemmas
 pub mod TreeLemmas

@@ -6,9 +6,7 @@ use Rattle.qo_values.specs.declared.kinds.TypeId.TheVariants.{Tag}
 use Rattle.qo_values.specs.declared.properties.Val.{Val}
 use Rattle.qo_values.specs.declared.properties.Val.TheVariants as val
 use Rattle.qo_values.specs.declared.kinds.Act.TheVariants.{Init}
-use Rattle.qo_model.specs.declared.notes.Deed.{Deed}
 use Rattle.qo_model.specs.declared.notes.Deed.TheVariants.{Did, Final}
-use Rattle.qo_model.specs.declared.notes.Note.{Note}
 use Rattle.qo_model.specs.Board.{Board, Record}
 use Rattle.qo_model.specs.Changes.{point, set}
 use Rattle.qo_model.specs.Objects.{Given, detached, object_add, object_del, sever}
@@ -18,10 +16,7 @@ use Rattle.qo_model.specs.Properties.{value_of, write}
 use Rattle.qo_model.specs.References.{refs}
 use Rattle.qo_model.specs.Release.{drop_slot, finish, finalise, finalise_within, let_go, pin, unpin}
 use Rattle.qo_model.specs.Types.{types}
-
--- a note on an object
-abbrev note : ℕ → Deed → Note
-note n deed = record { birth = n; deed = deed }
+use Rattle.qo_model.proofs.RowTerms.{note}
 
 -- a tag of a name
 abbrev tagged : List ℕ → Board → Board
@@ -33,7 +28,8 @@ wrote n name v b = elim (write b n name v) [ Ok c ↦ c | Err code ↦ b ]
 
 -- two tags, each the next of the other, both removed
 abbrev crossed : Board
-crossed = wrote 10 (codes "next") (val.Text (codes "/objects/a")) (wrote 9 (codes "next") (val.Text (codes "/objects/b")) (tagged (codes "b") (tagged (codes "a") opening_board)))
+crossed = wrote 10 (codes "next") (val.Text (codes "/objects/a"))
+    (wrote 9 (codes "next") (val.Text (codes "/objects/b")) (tagged (codes "b") (tagged (codes "a") opening_board)))
 
 abbrev removed : Board
 removed = (object_del (object_del crossed (codes "a")).board (codes "b")).board
@@ -61,7 +57,8 @@ severed-births = refl
 
 -- one tag holds the other, which sees it: removed in the order other, one, they end, and no link keeps either
 abbrev seen : Board
-seen = wrote 10 (codes "seen") (val.Text (codes "/objects/a")) (wrote 9 (codes "next") (val.Text (codes "/objects/b")) (tagged (codes "b") (tagged (codes "a") opening_board)))
+seen = wrote 10 (codes "seen") (val.Text (codes "/objects/a"))
+    (wrote 9 (codes "next") (val.Text (codes "/objects/b")) (tagged (codes "b") (tagged (codes "a") opening_board)))
 
 seen-notes : drop 2 (object_del (object_del seen (codes "b")).board (codes "a")).board.notes ≡ note 10 (Final Tag) ∷ note 9 (Final Tag) ∷ []
 unfolding types opening_board steps_to attached drop_slot finish finalise finalise_within let_go pin unpin point set
@@ -89,7 +86,8 @@ unfolding types opening_board steps_to attached
 refusals = refl
 
 -- an attempt that was given up: the births are one higher, and its notes are there
-given_up : (object_add opening_board (codes "tag") (codes "b") ((codes "flag", val.Uint 1) ∷ [])).board.notes ≡ note 9 (Did (Init Tag)) ∷ note 9 (Final Tag) ∷ []
+given_up : (object_add opening_board (codes "tag") (codes "b") ((codes "flag", val.Uint 1) ∷ [])).board.notes
+    ≡ note 9 (Did (Init Tag)) ∷ note 9 (Final Tag) ∷ []
 unfolding types opening_board
 given_up = refl
 

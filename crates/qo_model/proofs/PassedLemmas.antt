@@ -93,7 +93,9 @@ passed-begun b n t ks c h =
     record {
       d = record (fresh n t) { slots = h.slots };
       ls = kids_from (suc n) ks;
-      shape = h.shape ∙ ap (λ (ns : List Note). record b { records = b.records ++ record (fresh n t) { slots = h.slots } ∷ kids_from (suc n) ks; born = n + length ks; notes = ns }) (sym (append-nil (b.notes ++ begun_notes (born_from n (t ∷ ks)))));
+      shape = h.shape ∙ ap (λ (ns : List Note).
+          record b { records = b.records ++ record (fresh n t) { slots = h.slots } ∷ kids_from (suc n) ks; born = n + length ks; notes = ns })
+          (sym (append-nil (b.notes ++ begun_notes (born_from n (t ∷ ks)))));
       birth = refl;
       kind = refl;
       no_path = refl;
@@ -102,7 +104,8 @@ passed-begun b n t ks c h =
     }
 
 module _ (b : Board) (n : ℕ) (t : TypeId) (ks : List TypeId) (low : AllByRecursion (LowRecord n) b.records) where
-  passed-act : (act : Act) (m : ℕ) (extra : List Note) (c : Board) → n ≤ m → IsPassed b n t ks extra c → IsPassed b n t ks (extra ++ did act m ∷ []) (acted act m 0 c)
+  passed-act : (act : Act) (m : ℕ) (extra : List Note) (c : Board) → n ≤ m → IsPassed b n t ks extra c
+      → IsPassed b n t ks (extra ++ did act m ∷ []) (acted act m 0 c)
   unfolding acted
   passed-act act m extra c le h =
       record {
@@ -112,23 +115,30 @@ module _ (b : Board) (n : ℕ) (t : TypeId) (ks : List TypeId) (low : AllByRecur
         birth = same.birth h.d ∙ h.birth;
         kind = same.kind h.d ∙ h.kind;
         no_path = same.path h.d ∙ h.no_path;
-        star_is = subst (λ (ss : List (List ℕ × Slot)). IsStar n n ss (map (edited m (with_act_on act b.now 0)) h.ls)) (sym (same.slots h.d)) (star-leaves (edited m (with_act_on act b.now 0)) same n n h.d.slots h.ls h.star_is);
+        star_is = subst (λ (ss : List (List ℕ × Slot)). IsStar n n ss (map (edited m (with_act_on act b.now 0)) h.ls)) (sym (same.slots h.d))
+            (star-leaves (edited m (with_act_on act b.now 0)) same n n h.d.slots h.ls h.star_is);
         ends = finals-leave (edited m (with_act_on act b.now 0)) same h.ls ∙ h.ends;
       }
     where
       same : LeavesRest (edited m (with_act_on act b.now 0))
       same = act-leaves m act b.now 0
 
-      records : map (edited m (with_act_on act b.now 0)) (b.records ++ h.d ∷ h.ls) ≡ b.records ++ edited m (with_act_on act b.now 0) h.d ∷ map (edited m (with_act_on act b.now 0)) h.ls
-      records = map-append (edited m (with_act_on act b.now 0)) b.records (h.d ∷ h.ls) ∙ ap (λ (rs : List Record). rs ++ edited m (with_act_on act b.now 0) h.d ∷ map (edited m (with_act_on act b.now 0)) h.ls) (records-edited n m le (with_act_on act b.now 0) b.records low)
+      records : map (edited m (with_act_on act b.now 0)) (b.records ++ h.d ∷ h.ls)
+          ≡ b.records ++ edited m (with_act_on act b.now 0) h.d ∷ map (edited m (with_act_on act b.now 0)) h.ls
+      records = map-append (edited m (with_act_on act b.now 0)) b.records (h.d ∷ h.ls)
+          ∙ ap (λ (rs : List Record). rs ++ edited m (with_act_on act b.now 0) h.d ∷ map (edited m (with_act_on act b.now 0)) h.ls)
+          (records-edited n m le (with_act_on act b.now 0) b.records low)
 
-      notes : (b.notes ++ begun_notes (born_from n (t ∷ ks)) ++ extra) ++ did act m ∷ [] ≡ b.notes ++ begun_notes (born_from n (t ∷ ks)) ++ (extra ++ did act m ∷ [])
+      notes : (b.notes ++ begun_notes (born_from n (t ∷ ks)) ++ extra) ++ did act m ∷ []
+          ≡ b.notes ++ begun_notes (born_from n (t ∷ ks)) ++ (extra ++ did act m ∷ [])
       notes = append_assoc (b.notes ++ begun_notes (born_from n (t ∷ ks))) extra (did act m ∷ [])
 
-  passed-all : (act : Act) (ms : List ℕ) (extra : List Note) (c : Board) → AllByRecursion (λ m. n ≤ m) ms → IsPassed b n t ks extra c → IsPassed b n t ks (extra ++ map (did act) ms) (acted_all act ms c)
+  passed-all : (act : Act) (ms : List ℕ) (extra : List Note) (c : Board) → AllByRecursion (λ m. n ≤ m) ms → IsPassed b n t ks extra c
+      → IsPassed b n t ks (extra ++ map (did act) ms) (acted_all act ms c)
   passed-all act [] extra c le h = subst (λ (ns : List Note). IsPassed b n t ks ns c) (sym (append-nil extra)) h
   passed-all act (m ∷ ms) extra c le h =
-      subst (λ (ns : List Note). IsPassed b n t ks ns (acted_all act ms (acted act m 0 c))) (append_assoc extra (did act m ∷ []) (map (did act) ms)) (passed-all act ms (extra ++ did act m ∷ []) (acted act m 0 c) le.1 (passed-act act m extra c le.0 h))
+      subst (λ (ns : List Note). IsPassed b n t ks ns (acted_all act ms (acted act m 0 c))) (append_assoc extra (did act m ∷ []) (map (did act) ms))
+      (passed-all act ms (extra ++ did act m ∷ []) (acted act m 0 c) le.1 (passed-act act m extra c le.0 h))
 
   -- nothing refers to it, and it leaves its notes
   passed-free : (extra : List Note) (c : Board) → AllByRecursion (λ p. p < n) b.pins → IsPassed b n t ks extra c → refs c n ≡ 0
@@ -149,10 +159,13 @@ module _ (b : Board) (n : ℕ) (t : TypeId) (ks : List TypeId) (low : AllByRecur
             sum_by-cons (refs_in n) h.d h.ls,
           )
 
-  passed-ends : (extra : List Note) (c : Board) → n ≡ b.born + 1 → AllByRecursion (λ p. p < n) b.pins → IsPassed b n t ks extra c → finalise c n ≡ with_ended b (born_from n (t ∷ ks)) extra (device_last (born_from n (t ∷ ks)))
+  passed-ends : (extra : List Note) (c : Board) → n ≡ b.born + 1 → AllByRecursion (λ p. p < n) b.pins → IsPassed b n t ks extra c
+      → finalise c n ≡ with_ended b (born_from n (t ∷ ks)) extra (device_last (born_from n (t ∷ ks)))
   passed-ends extra c is pins h =
       ap₂ finalise h.shape (sym h.birth)
-      ∙ attempt-ends (record b { born = n + length ks }) h.d (subst (λ (x : ℕ). AllByRecursion (LowRecord x) b.records) (sym h.birth) low) (subst (λ (x : ℕ). AllByRecursion (λ p. p < x) b.pins) (sym h.birth) pins) h.no_path h.d.slots h.ls (b.notes ++ begun_notes (born_from n (t ∷ ks)) ++ extra) (subst (λ (x : ℕ). IsStar x x h.d.slots h.ls) (sym h.birth) h.star_is)
+      ∙ attempt-ends (record b { born = n + length ks }) h.d (subst (λ (x : ℕ). AllByRecursion (LowRecord x) b.records) (sym h.birth) low)
+      (subst (λ (x : ℕ). AllByRecursion (λ p. p < x) b.pins) (sym h.birth) pins) h.no_path h.d.slots h.ls
+      (b.notes ++ begun_notes (born_from n (t ∷ ks)) ++ extra) (subst (λ (x : ℕ). IsStar x x h.d.slots h.ls) (sym h.birth) h.star_is)
       ∙ (λ i. record b { born = born i; notes = notes i })
     where
       born : n + length ks ≡ b.born + length (born_from n (t ∷ ks))
@@ -161,7 +174,8 @@ module _ (b : Board) (n : ℕ) (t : TypeId) (ks : List TypeId) (low : AllByRecur
       front : List Note
       front = b.notes ++ begun_notes (born_from n (t ∷ ks)) ++ extra
 
-      notes : b.notes ++ begun_notes (born_from n (t ∷ ks)) ++ extra ++ flat_map final_notes h.ls ++ final_notes h.d ≡ b.notes ++ begun_notes (born_from n (t ∷ ks)) ++ extra ++ ended_notes (born_from (suc n) ks ++ (n, t) ∷ [])
+      notes : b.notes ++ begun_notes (born_from n (t ∷ ks)) ++ extra ++ flat_map final_notes h.ls ++ final_notes h.d
+          ≡ b.notes ++ begun_notes (born_from n (t ∷ ks)) ++ extra ++ ended_notes (born_from (suc n) ks ++ (n, t) ∷ [])
       notes =
           ap₂ (λ (xs ys : List Note). front ++ xs ++ ys) h.ends (ap₂ ending h.birth h.kind)
           ∙ append_assoc front (ended_notes (born_from (suc n) ks)) (ending n t)
@@ -172,7 +186,8 @@ buses-above : (n j : ℕ) → n ≤ j → (ts : List TypeId) → AllByRecursion 
 buses-above n j le [] = tt
 buses-above n j le (t ∷ ts) = go (is_bus (j, t)) refl (buses-above n (suc j) (omega (arith, le)) ts)
   where
-    go : (u : Bool) → is_bus (j, t) ≡ u → AllByRecursion (λ m. n ≤ m) (map (λ (o : ℕ × TypeId). o.0) (filter is_bus (born_from (suc j) ts))) → AllByRecursion (λ m. n ≤ m) (map (λ (o : ℕ × TypeId). o.0) (filter is_bus (born_from j (t ∷ ts))))
+    go : (u : Bool) → is_bus (j, t) ≡ u → AllByRecursion (λ m. n ≤ m) (map (λ (o : ℕ × TypeId). o.0) (filter is_bus (born_from (suc j) ts)))
+        → AllByRecursion (λ m. n ≤ m) (map (λ (o : ℕ × TypeId). o.0) (filter is_bus (born_from j (t ∷ ts))))
     go true e rest = rw e (le, rest)
     go false e rest = rw e rest
 

@@ -18,7 +18,7 @@ use Rattle.qo_model.specs.Laws.{PeriodsLaw}
 use Rattle.qo_model.specs.Paths.{births}
 use Rattle.qo_model.proofs.DepthLemmas.{Leads-push}
 
-scaled-zero : (mul div : ℕ) → scaled_by mul div 0 ≡ 0
+pub scaled-zero : (mul div : ℕ) → scaled_by mul div 0 ≡ 0
 scaled-zero mul div = go (eqb div 0)
   where
     go : (t : Bool) → cond t 0 (0 * mul / div) ≡ 0
@@ -51,7 +51,7 @@ module _ (b : Board) where
       ap (λ (o : Option Record). unwrap_or (option_and_then number_in (option_and_then plain_in (slot_in_record (codes "period") o))) 0)
       (no-record n b.records e)
 
-  with-source : (n s : ℕ) → source_of b n ≡ Some s → among (births b) n ≡ true
+  pub with-source : (n s : ℕ) → source_of b n ≡ Some s → among (births b) n ≡ true
   with-source n s q = go (among (births b) n) refl
     where
       go : (t : Bool) → among (births b) n ≡ t → t ≡ true
@@ -94,10 +94,10 @@ module _ (b : Board) where
       let turned : leads sources k m ≡ true = subst (λ (x : ℕ). leads sources x m ≡ true) same e in
       subst (λ (x : ℕ). Leads sources x x) to (Leads-push l turned)
 
-  abbrev to_depth : ℕ → ℕ → ℕ
+  abbrev pub to_depth : ℕ → ℕ → ℕ
   to_depth d n = by_depth (period_turn b) (λ _. 0) d n
 
-  abbrev turn_by : (ℕ → ℕ) → ℕ → Option ℕ → ℕ
+  abbrev pub turn_by : (ℕ → ℕ) → ℕ → Option ℕ → ℕ
   turn_by f n o = elim o [ None ↦ own_period b n | Some s ↦ scaled b s (f s) ]
 
   round-zero : (k n : ℕ) → Leads sources n n → to_depth k n ≡ 0

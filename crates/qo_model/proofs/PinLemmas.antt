@@ -38,7 +38,8 @@ put-back n (m ∷ ms) up = go (leb m n) refl (m == n) refl (put-back n ms up.1)
     go : (t : Bool) → leb m n ≡ t → (u : Bool) → (m == n) ≡ u → without_first n (put_in_order n ms) ≡ ms → without_first n (put_in_order n (m ∷ ms)) ≡ m ∷ ms
     go true p true q rest =
         let same : m ≡ n = eqb-true m n q in
-        rw (put_in_order, p, without_first, q) (put-first n ms (subst (λ (x : ℕ). AllByRecursion (λ k. x ≤ k) ms) same up.0) ∙ ap (λ (x : ℕ). x ∷ ms) (sym same))
+        rw (put_in_order, p, without_first, q)
+        (put-first n ms (subst (λ (x : ℕ). AllByRecursion (λ k. x ≤ k) ms) same up.0) ∙ ap (λ (x : ℕ). x ∷ ms) (sym same))
     go true p false q rest = rw (put_in_order, p, without_first, q) (ap (λ (xs : List ℕ). m ∷ xs) rest)
     go false p u q rest = let own : (n == n) ≡ true = eq-eqb n n refl in rw (put_in_order, p, without_first, own) refl
 
@@ -62,7 +63,8 @@ pub put-among : (n : ℕ) (ms : List ℕ) → list_any (nat_eq n) (put_in_order 
 put-among n [] = let own : eqb n n ≡ true = eq-eqb n n refl in rw (put_in_order, own) refl
 put-among n (m ∷ ms) = go (leb m n) refl (eqb n m) refl (put-among n ms)
   where
-    go : (t : Bool) → leb m n ≡ t → (u : Bool) → eqb n m ≡ u → list_any (nat_eq n) (put_in_order n ms) ≡ true → list_any (nat_eq n) (put_in_order n (m ∷ ms)) ≡ true
+    go : (t : Bool) → leb m n ≡ t → (u : Bool) → eqb n m ≡ u → list_any (nat_eq n) (put_in_order n ms) ≡ true
+        → list_any (nat_eq n) (put_in_order n (m ∷ ms)) ≡ true
     go true p true q rest = rw (put_in_order, p, q) refl
     go true p false q rest = rw (put_in_order, p, q) rest
     go false p u q rest = let own : eqb n n ≡ true = eq-eqb n n refl in rw (put_in_order, p, own) refl
@@ -84,7 +86,8 @@ pub severed-pins : (places i n : ℕ) (b : Board) → (severed_from places i n b
 severed-pins zero i n b = refl
 severed-pins (suc places) i n b = go (slot_at b n i) refl (severed-pins places (suc i) n)
   where
-    go : (s : Option Slot) → slot_at b n i ≡ s → ((c : Board) → (severed_from places (suc i) n c).pins ≡ c.pins) → (severed_from (suc places) i n b).pins ≡ b.pins
+    go : (s : Option Slot) → slot_at b n i ≡ s → ((c : Board) → (severed_from places (suc i) n c).pins ≡ c.pins)
+        → (severed_from (suc places) i n b).pins ≡ b.pins
     go None p rest = rw (severed_from, p) (rest b)
     go (Some (plain v)) p rest = rw (severed_from, p) (rest b)
     go (Some (child m)) p rest = rw (severed_from, p) (rest b)

@@ -18,31 +18,38 @@ module _ (P : List (ℕ × ℕ) → Board → Type 0) (keeps : KeepsRelease P) w
   KeepsBelow c = (b : Board) (n : ℕ) (work : List (ℕ × ℕ)) → holding b < c → P ((n, 0) ∷ work) b → P work (finalise b n)
 
   -- one slot is let go, with all that follows
-  turn : (c : ℕ) → KeepsBelow c → (b : Board) (n i : ℕ) (work : List (ℕ × ℕ)) (s : Slot) → slot_at b n i ≡ Some s → holding b ≤ c → P ((n, i) ∷ work) b → P ((n, next_place s i) ∷ work) (after finalise (drop_slot b n i) (held s))
+  turn : (c : ℕ) → KeepsBelow c → (b : Board) (n i : ℕ) (work : List (ℕ × ℕ)) (s : Slot) → slot_at b n i ≡ Some s → holding b ≤ c → P ((n, i) ∷ work) b
+      → P ((n, next_place s i) ∷ work) (after finalise (drop_slot b n i) (held s))
   turn c below b n i work s e few p = go (held s) refl
     where
-      choose : (m : ℕ) → held s ≡ Some m → (t : Bool) → (refs (drop_slot b n i) m == 0) ≡ t → P ((n, next_place s i) ∷ work) (after finalise (drop_slot b n i) (Some m))
+      choose : (m : ℕ) → held s ≡ Some m → (t : Bool) → (refs (drop_slot b n i) m == 0) ≡ t
+          → P ((n, next_place s i) ∷ work) (after finalise (drop_slot b n i) (Some m))
       choose m q true free =
           let falls : holding (drop_slot b n i) < holding b = drop-falls b n i s m e q in
-          rw (after, free) (below (drop_slot b n i) m ((n, next_place s i) ∷ work) (omega arith) (keeps.freed b n i work s m p e q (eqb-true (refs (drop_slot b n i) m) 0 free)))
+          rw (after, free) (below (drop_slot b n i) m ((n, next_place s i) ∷ work) (omega arith)
+          (keeps.freed b n i work s m p e q (eqb-true (refs (drop_slot b n i) m) 0 free)))
       choose m q false held_on =
-          rw (after, held_on) (keeps.kept b n i work s p e (λ k h. subst (λ x. 0 < refs (drop_slot b n i) x) (same_Some m k (sym q ∙ h)) (above-zero (refs (drop_slot b n i) m) held_on)))
+          rw (after, held_on) (keeps.kept b n i work s p e
+          (λ k h. subst (λ x. 0 < refs (drop_slot b n i) x) (same_Some m k (sym q ∙ h)) (above-zero (refs (drop_slot b n i) m) held_on)))
 
       go : (o : Option ℕ) → held s ≡ o → P ((n, next_place s i) ∷ work) (after finalise (drop_slot b n i) o)
       go None q = keeps.kept b n i work s p e (λ m h. absurd (let clash : None ≡ Some m = sym q ∙ h in cc))
       go (Some m) q = choose m q (refs (drop_slot b n i) m == 0) refl
 
   -- the slots that are left, and the end
-  places : (c : ℕ) → KeepsBelow c → (k : ℕ) (b : Board) (n i : ℕ) (work : List (ℕ × ℕ)) → width b ≤ k + i → holding b ≤ c → P ((n, i) ∷ work) b → P work (finish (from_place finalise k b n i) n)
+  places : (c : ℕ) → KeepsBelow c → (k : ℕ) (b : Board) (n i : ℕ) (work : List (ℕ × ℕ)) → width b ≤ k + i → holding b ≤ c → P ((n, i) ∷ work) b
+      → P work (finish (from_place finalise k b n i) n)
   places c below zero b n i work room few p = keeps.ended b n i work p (past-width b n i (omega arith))
   places c below (suc k) b n i work room few p = go (slot_at b n i) refl (places c below k)
     where
-      go : (o : Option Slot) → slot_at b n i ≡ o → ((d : Board) (m j : ℕ) (rest : List (ℕ × ℕ)) → width d ≤ k + j → holding d ≤ c → P ((m, j) ∷ rest) d → P rest (finish (from_place finalise k d m j) m)) → P work (finish (from_place finalise (suc k) b n i) n)
+      go : (o : Option Slot) → slot_at b n i ≡ o → ((d : Board) (m j : ℕ) (rest : List (ℕ × ℕ)) → width d ≤ k + j → holding d ≤ c → P ((m, j) ∷ rest) d
+          → P rest (finish (from_place finalise k d m j) m)) → P work (finish (from_place finalise (suc k) b n i) n)
       go None e rest = rw (from_place-none finalise (suc k) b n i e) (keeps.ended b n i work p e)
       go (Some s) e rest =
           let d : Board = after finalise (drop_slot b n i) (held s) in
           let less : holding d ≤ c = omega (arith, after-holding finalise finalise-shrinks (drop_slot b n i) (held s), drop-holding b n i) in
-          rw (from_place-some finalise k b n i s e) (rest d n (next_place s i) work (place-falls finalise finalise-shrinks b n i s k e room) less (turn c below b n i work s e few p))
+          rw (from_place-some finalise k b n i s e)
+          (rest d n (next_place s i) work (place-falls finalise finalise-shrinks b n i s k e room) less (turn c below b n i work s e few p))
 
   below : (c : ℕ) → KeepsBelow c
   below zero b n work few p = absurd (omega arith)
@@ -51,8 +58,10 @@ module _ (P : List (ℕ × ℕ) → Board → Type 0) (keeps : KeepsRelease P) w
   pub release_keeps : Keeps P
   release_keeps b n work p = below (suc (holding b)) b n work (omega arith) p
 
--- what follows a slot that was let go keeps P, where P holds of what is next: what it held, as the front of the work, where this is free, and else the work alone
-pub after_keeps : (P : List (ℕ × ℕ) → Board → Type 0) → KeepsRelease P → (c : Board) (o : Option ℕ) (work : List (ℕ × ℕ)) → ((m : ℕ) → o ≡ Some m → refs c m ≡ 0 → P ((m, 0) ∷ work) c) → (((m : ℕ) → o ≡ Some m → 0 < refs c m) → P work c) → P work (after finalise c o)
+-- what follows a slot that was let go keeps P, where P holds of what is next: what it held, as the front of the work, where this is free, and else the work
+-- alone
+pub after_keeps : (P : List (ℕ × ℕ) → Board → Type 0) → KeepsRelease P → (c : Board) (o : Option ℕ) (work : List (ℕ × ℕ))
+    → ((m : ℕ) → o ≡ Some m → refs c m ≡ 0 → P ((m, 0) ∷ work) c) → (((m : ℕ) → o ≡ Some m → 0 < refs c m) → P work c) → P work (after finalise c o)
 after_keeps P keeps c None work free held_on = held_on (λ m e. absurd (let clash : None ≡ Some m = e in cc))
 after_keeps P keeps c (Some m) work free held_on = go (refs c m == 0) refl
   where

@@ -29,7 +29,8 @@ filter-twice : (p q : ℕ → Bool) (xs : List ℕ) → filter p (filter q xs) �
 filter-twice p q [] = refl
 filter-twice p q (x ∷ xs) = go (p x) refl (q x) refl (filter-twice p q xs)
   where
-    go : (t : Bool) → p x ≡ t → (u : Bool) → q x ≡ u → filter p (filter q xs) ≡ filter (λ (y : ℕ). p y && q y) xs → filter p (filter q (x ∷ xs)) ≡ filter (λ (y : ℕ). p y && q y) (x ∷ xs)
+    go : (t : Bool) → p x ≡ t → (u : Bool) → q x ≡ u → filter p (filter q xs) ≡ filter (λ (y : ℕ). p y && q y) xs
+        → filter p (filter q (x ∷ xs)) ≡ filter (λ (y : ℕ). p y && q y) (x ∷ xs)
     go true e true d rest = rw (e, d) (rw e (ap (λ (ys : List ℕ). x ∷ ys) rest))
     go true e false d rest = rw (e, d) rest
     go false e true d rest = rw (e, d) (rw e rest)
@@ -111,7 +112,8 @@ leaves-finish b c n h =
     gained : {A : Type 0} (xs ys more : List A) → (zs : List A) × (xs ≡ ys ++ zs) → (zs : List A) × (xs ++ more ≡ ys ++ zs)
     gained xs ys more p = (p.0 ++ more, ap (λ us. us ++ more) p.1 ∙ append_assoc ys p.0 more)
 
-    same : (x : ℕ) (t : Bool) → (x == n) ≡ t → is_live (finish c n) x ≡ true → option_map without_slots (record_of (finish c n) x) ≡ option_map without_slots (record_of b x)
+    same : (x : ℕ) (t : Bool) → (x == n) ≡ t → is_live (finish c n) x ≡ true
+        → option_map without_slots (record_of (finish c n) x) ≡ option_map without_slots (record_of b x)
     same x true p e = absurd (let gone : is_live (finish c n) x ≡ false = rw p at (finish-live c n x) in let clash : true ≡ false = sym e ∙ gone in cc)
     same x false p e =
         let there : is_live c x ≡ true = sym (rw p at (finish-live c n x)) ∙ e in
@@ -150,7 +152,8 @@ unpin-leaves b n = go (list_any (nat_eq n) b.pins) refl
     go : (t : Bool) → list_any (nat_eq n) b.pins ≡ t → Leaves (record b { pins = (unpin b n).pins }) (unpin b n)
     go false p = rw (unpin, p) (leaves-none b)
     go true p =
-        let h : Leaves (without_pin b n) (after finalise (without_pin b n) (Some n)) = after-leaves (without_pin b n) (without_pin b n) (Some n) (leaves-none (without_pin b n)) in
+        let h : Leaves (without_pin b n) (after finalise (without_pin b n) (Some n)) =
+        after-leaves (without_pin b n) (without_pin b n) (Some n) (leaves-none (without_pin b n)) in
         rw (unpin, p) (rw h.pins h)
 
 pub leaves_lem : LeavesLaw

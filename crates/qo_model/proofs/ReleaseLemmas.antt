@@ -22,7 +22,8 @@ dropped-width : (i : ℕ) (r : Record) → width_in (with_dropped i r) ≤ width
 dropped-width i r = omega (arith, sum-without_hold_le one_slot left-slot i r.slots, length-sum r.slots, length-sum (without_hold i r.slots))
 
 -- where it held an object, its record holds one less
-dropped-falls : (i : ℕ) (r : Record) (s : List ℕ × Slot) (m : ℕ) → slice_get r.slots i ≡ Some s → held s.1 ≡ Some m → holding_in (with_dropped i r) < holding_in r
+dropped-falls : (i : ℕ) (r : Record) (s : List ℕ × Slot) (m : ℕ) → slice_get r.slots i ≡ Some s → held s.1 ≡ Some m
+    → holding_in (with_dropped i r) < holding_in r
 dropped-falls i r s m e h =
     let one : one_held s ≡ 1 = rw h refl in
     omega (arith, sum-without_hold one_held i r.slots s e, left-held s, one)
@@ -120,7 +121,8 @@ after-width f h b (Some m) = go (refs b m == 0) refl
     go false p = rw (after, p) (omega arith)
 
 -- behind a slot the places that are left are fewer
-pub place-falls : (f : Board → ℕ → Board) → IsShrinking f → (b : Board) (n i : ℕ) (s : Slot) (k : ℕ) → slot_at b n i ≡ Some s → width b ≤ suc k + i → width (after f (drop_slot b n i) (held s)) ≤ k + next_place s i
+pub place-falls : (f : Board → ℕ → Board) → IsShrinking f → (b : Board) (n i : ℕ) (s : Slot) (k : ℕ) → slot_at b n i ≡ Some s → width b ≤ suc k + i
+    → width (after f (drop_slot b n i) (held s)) ≤ k + next_place s i
 place-falls f h b n i (child m) k e room = omega (arith, after-width f h (drop_slot b n i) (Some m), drop-shorter b n i m e)
 place-falls f h b n i (plain v) k e room = omega (arith, drop-width b n i)
 place-falls f h b n i (strong t target) k e room = omega (arith, after-width f h (drop_slot b n i) target, drop-width b n i)
@@ -132,7 +134,8 @@ pub from_place-none : (f : Board → ℕ → Board) (k : ℕ) (b : Board) (n i :
 from_place-none f zero b n i e = refl
 from_place-none f (suc k) b n i e = rw (from_place, e) refl
 
-pub from_place-some : (f : Board → ℕ → Board) (k : ℕ) (b : Board) (n i : ℕ) (s : Slot) → slot_at b n i ≡ Some s → from_place f (suc k) b n i ≡ from_place f k (after f (drop_slot b n i) (held s)) n (next_place s i)
+pub from_place-some : (f : Board → ℕ → Board) (k : ℕ) (b : Board) (n i : ℕ) (s : Slot) → slot_at b n i ≡ Some s
+    → from_place f (suc k) b n i ≡ from_place f k (after f (drop_slot b n i) (held s)) n (next_place s i)
 from_place-some f k b n i s e = rw (from_place, e) refl
 
 -- at a place that is no smaller than the number of all slots there is none
@@ -144,12 +147,14 @@ past-width b n i room = go (slot_at b n i) refl
     go (Some s) p = absurd (let within : i < width b = place-lt-width b n i s p in omega arith)
 
 -- bounds on places that are enough give the same
-pub enough_places : (f : Board → ℕ → Board) → IsShrinking f → (k l : ℕ) (b : Board) (n i : ℕ) → width b ≤ k + i → width b ≤ l + i → from_place f k b n i ≡ from_place f l b n i
+pub enough_places : (f : Board → ℕ → Board) → IsShrinking f → (k l : ℕ) (b : Board) (n i : ℕ) → width b ≤ k + i → width b ≤ l + i
+    → from_place f k b n i ≡ from_place f l b n i
 enough_places f h zero l b n i room room' = sym (from_place-none f l b n i (past-width b n i (omega arith)))
 enough_places f h (suc k) zero b n i room room' = from_place-none f (suc k) b n i (past-width b n i (omega arith))
 enough_places f h (suc k) (suc l) b n i room room' = go (slot_at b n i) refl (enough_places f h k l)
   where
-    go : (o : Option Slot) → slot_at b n i ≡ o → ((c : Board) (m j : ℕ) → width c ≤ k + j → width c ≤ l + j → from_place f k c m j ≡ from_place f l c m j) → from_place f (suc k) b n i ≡ from_place f (suc l) b n i
+    go : (o : Option Slot) → slot_at b n i ≡ o → ((c : Board) (m j : ℕ) → width c ≤ k + j → width c ≤ l + j → from_place f k c m j ≡ from_place f l c m j)
+        → from_place f (suc k) b n i ≡ from_place f (suc l) b n i
     go None p rest = from_place-none f (suc k) b n i p ∙ sym (from_place-none f (suc l) b n i p)
     go (Some s) p rest =
         from_place-some f k b n i s p
@@ -161,7 +166,8 @@ pub from_place-holding : (f : Board → ℕ → Board) → IsShrinking f → (k 
 from_place-holding f h zero b n i = omega arith
 from_place-holding f h (suc k) b n i = go (slot_at b n i) refl (from_place-holding f h k)
   where
-    go : (o : Option Slot) → slot_at b n i ≡ o → ((c : Board) (m j : ℕ) → holding (from_place f k c m j) ≤ holding c) → holding (from_place f (suc k) b n i) ≤ holding b
+    go : (o : Option Slot) → slot_at b n i ≡ o → ((c : Board) (m j : ℕ) → holding (from_place f k c m j) ≤ holding c)
+        → holding (from_place f (suc k) b n i) ≤ holding b
     go None p rest = rw (from_place-none f (suc k) b n i p) (omega arith)
     go (Some s) p rest =
         let c : Board = after f (drop_slot b n i) (held s) in
@@ -199,10 +205,12 @@ finalise-shrinks =
     }
 
 -- behind a slot that was let go, finalisers that agree below what the board held give the same
-after-agree : (f g : Board → ℕ → Board) (c : ℕ) → AgreeBelow c f g → (b : Board) (n i : ℕ) (s : Slot) → slot_at b n i ≡ Some s → holding b ≤ c → after f (drop_slot b n i) (held s) ≡ after g (drop_slot b n i) (held s)
+after-agree : (f g : Board → ℕ → Board) (c : ℕ) → AgreeBelow c f g → (b : Board) (n i : ℕ) (s : Slot) → slot_at b n i ≡ Some s → holding b ≤ c
+    → after f (drop_slot b n i) (held s) ≡ after g (drop_slot b n i) (held s)
 after-agree f g c h b n i s e few = go (held s) refl
   where
-    freed : (m : ℕ) → held s ≡ Some m → (t : Bool) → (refs (drop_slot b n i) m == 0) ≡ t → after f (drop_slot b n i) (Some m) ≡ after g (drop_slot b n i) (Some m)
+    freed : (m : ℕ) → held s ≡ Some m → (t : Bool) → (refs (drop_slot b n i) m == 0) ≡ t
+        → after f (drop_slot b n i) (Some m) ≡ after g (drop_slot b n i) (Some m)
     freed m p true q = let falls : holding (drop_slot b n i) < holding b = drop-falls b n i s m e p in rw (after, q) (h.agree (drop_slot b n i) m (omega arith))
     freed m p false q = rw (after, q) refl
 
@@ -210,11 +218,13 @@ after-agree f g c h b n i s e few = go (held s) refl
     go None p = refl
     go (Some m) p = freed m p (refs (drop_slot b n i) m == 0) refl
 
-from_place-agree : (f g : Board → ℕ → Board) (c : ℕ) → IsShrinking f → AgreeBelow c f g → (k : ℕ) (b : Board) (n i : ℕ) → holding b ≤ c → from_place f k b n i ≡ from_place g k b n i
+from_place-agree : (f g : Board → ℕ → Board) (c : ℕ) → IsShrinking f → AgreeBelow c f g → (k : ℕ) (b : Board) (n i : ℕ) → holding b ≤ c
+    → from_place f k b n i ≡ from_place g k b n i
 from_place-agree f g c shrinks h zero b n i few = refl
 from_place-agree f g c shrinks h (suc k) b n i few = go (slot_at b n i) refl (from_place-agree f g c shrinks h k)
   where
-    go : (o : Option Slot) → slot_at b n i ≡ o → ((d : Board) (m j : ℕ) → holding d ≤ c → from_place f k d m j ≡ from_place g k d m j) → from_place f (suc k) b n i ≡ from_place g (suc k) b n i
+    go : (o : Option Slot) → slot_at b n i ≡ o → ((d : Board) (m j : ℕ) → holding d ≤ c → from_place f k d m j ≡ from_place g k d m j)
+        → from_place f (suc k) b n i ≡ from_place g (suc k) b n i
     go None p rest = from_place-none f (suc k) b n i p ∙ sym (from_place-none g (suc k) b n i p)
     go (Some s) p rest =
         let d : Board = after f (drop_slot b n i) (held s) in
@@ -256,13 +266,16 @@ pub slots_from-none : (b : Board) (n i : ℕ) → slot_at b n i ≡ None → slo
 slots_from-none b n i e = from_place-none finalise (width b) b n i e
 
 -- a slot that stands is let go first
-pub slots_from-some : (b : Board) (n i : ℕ) (s : Slot) → slot_at b n i ≡ Some s → slots_from b n i ≡ slots_from (after finalise (drop_slot b n i) (held s)) n (next_place s i)
+pub slots_from-some : (b : Board) (n i : ℕ) (s : Slot) → slot_at b n i ≡ Some s
+    → slots_from b n i ≡ slots_from (after finalise (drop_slot b n i) (held s)) n (next_place s i)
 slots_from-some b n i s e =
     let c : Board = after finalise (drop_slot b n i) (held s) in
     let j : ℕ = next_place s i in
-    let one_more : slots_from b n i ≡ from_place finalise (suc (width b)) b n i = enough_places finalise finalise-shrinks (width b) (suc (width b)) b n i (omega arith) (omega arith) in
+    let one_more : slots_from b n i ≡ from_place finalise (suc (width b)) b n i =
+    enough_places finalise finalise-shrinks (width b) (suc (width b)) b n i (omega arith) (omega arith) in
     let room : width c ≤ width b + j = place-falls finalise finalise-shrinks b n i s (width b) e (omega arith) in
-    let as_many : from_place finalise (width b) c n j ≡ slots_from c n j = enough_places finalise finalise-shrinks (width b) (width c) c n j room (omega arith) in
+    let as_many : from_place finalise (width b) c n j ≡ slots_from c n j =
+    enough_places finalise finalise-shrinks (width b) (width c) c n j room (omega arith) in
     one_more ∙ from_place-some finalise (width b) b n i s e ∙ as_many
 
 -- what is left of a finalisation of n whose slots before a place were let go
@@ -276,5 +289,6 @@ end_of-first b n = finalise-is b n
 pub end_of-none : (b : Board) (n i : ℕ) → slot_at b n i ≡ None → end_of b n i ≡ finish b n
 end_of-none b n i e = ap (λ (c : Board). finish c n) (slots_from-none b n i e)
 
-pub end_of-some : (b : Board) (n i : ℕ) (s : Slot) → slot_at b n i ≡ Some s → end_of b n i ≡ end_of (after finalise (drop_slot b n i) (held s)) n (next_place s i)
+pub end_of-some : (b : Board) (n i : ℕ) (s : Slot) → slot_at b n i ≡ Some s
+    → end_of b n i ≡ end_of (after finalise (drop_slot b n i) (held s)) n (next_place s i)
 end_of-some b n i s e = ap (λ (d : Board). finish d n) (slots_from-some b n i s e)

@@ -3,7 +3,6 @@ use Rattle.std.specs.List.{list_any}
 use Rattle.std.proofs.Common.{nat_eq, ◌≡◌, refl, ap, ap₂, sym, ◌∙◌, ℕ, Bool, true, false, ◌==◌, List, [], ◌∷◌, ◌++◌, map, Option, Some, None, is_some, option_map, append-nil, arith}
 use Rattle.std.specs.Option.{option_map_or}
 use Rattle.std.proofs.lemmas.Bool.{eqb-true, eq-eqb}
-use Rattle.std.proofs.lemmas.Option.{same_Some}
 use Rattle.std.proofs.lemmas.List.Elements.{filter-append}
 use Rattle.qo_values.specs.declared.kinds.TypeId.{TypeId}
 use Rattle.qo_model.specs.declared.notes.Deed.{Deed}
@@ -16,18 +15,7 @@ use Rattle.qo_model.specs.ReleaseKeeps.{KeepsRelease}
 use Rattle.qo_model.specs.Laws.{FinalNotesLaw}
 use Rattle.qo_model.specs.ReleaseNotes.{notes_on, finals_of, NotesEnds}
 use Rattle.qo_model.proofs.ReleaseKeepsLemmas.{release_keeps, after_keeps}
-use Rattle.qo_model.proofs.StepLemmas.{found_at, drop-record, drop-live, finish-record, finish-live}
-
--- a record that is found has the birth
-pub found-birth : (n : ℕ) (rs : List Record) (x : Record) → found_at n rs ≡ Some x → x.birth ≡ n
-found-birth n [] x e = cc
-found-birth n (r ∷ rs) x e = go (r.birth == n) refl (found-birth n rs x)
-  where
-    go : (t : Bool) → (r.birth == n) ≡ t → (found_at n rs ≡ Some x → x.birth ≡ n) → x.birth ≡ n
-    go true p rest =
-        let is : r ≡ x = same_Some r x (rw p at e) in
-        ap (λ (y : Record). y.birth) (sym is) ∙ eqb-true r.birth n p
-    go false p rest = rest (rw p at e)
+use Rattle.qo_model.proofs.StepLemmas.{drop-record, drop-live, finish-record, finish-live, found-birth}
 
 -- notes for each type, all of one birth
 abbrev ends : ℕ → List TypeId → List Note

@@ -17,7 +17,8 @@ with_slot name s r = record r { slots = map (λ (x : List ℕ × Slot). if bytes
 -- a UART with its clock, which has another device as its peer, and whose path was kept
 abbrev uart_with : ℕ → ℕ → ℕ → Record
 uart_with birth clock peer =
-    with_slot (codes "peer") (strong Device (Some peer)) (record (fresh_record birth SlotUart) { slots = slots_with (λ name. if bytes_eq name (codes "clk") then Some clock else None) SlotUart; kept_path = Some (codes "/kept") })
+    with_slot (codes "peer") (strong Device (Some peer)) (record (fresh_record birth
+    SlotUart) { slots = slots_with (λ name. if bytes_eq name (codes "clk") then Some clock else None) SlotUart; kept_path = Some (codes "/kept") })
 
 -- two such under `/machine/peripheral`, and a tag that sees the first
 abbrev peers : Board

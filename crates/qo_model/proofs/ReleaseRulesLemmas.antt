@@ -45,23 +45,30 @@ slots-reached : (c : ℕ) → ReachedBelow c → (k : ℕ) (b : Board) (n i : �
 slots-reached c below zero b n i room few = past (past-width b n i (omega arith))
 slots-reached c below (suc k) b n i room few = go (slot_at b n i) refl (slots-reached c below k)
   where
-    turn : (s : Slot) → slot_at b n i ≡ Some s → (o : Option ℕ) → held s ≡ o → SlotsFrom (after finalise (drop_slot b n i) o) n (next_place s i) (from_place finalise k (after finalise (drop_slot b n i) o) n (next_place s i)) → SlotsFrom b n i (from_place finalise k (after finalise (drop_slot b n i) o) n (next_place s i))
+    turn : (s : Slot) → slot_at b n i ≡ Some s → (o : Option ℕ) → held s ≡ o
+        → SlotsFrom (after finalise (drop_slot b n i) o) n (next_place s i) (from_place finalise k (after finalise (drop_slot b n i) o) n (next_place s i))
+        → SlotsFrom b n i (from_place finalise k (after finalise (drop_slot b n i) o) n (next_place s i))
     turn s e None q rest = kept e (λ m h. absurd (let clash : None ≡ Some m = sym q ∙ h in cc)) rest
     turn s e (Some m) q rest = choose (refs (drop_slot b n i) m == 0) refl
       where
-        choose : (t : Bool) → (refs (drop_slot b n i) m == 0) ≡ t → SlotsFrom b n i (from_place finalise k (after finalise (drop_slot b n i) (Some m)) n (next_place s i))
+        choose : (t : Bool) → (refs (drop_slot b n i) m == 0) ≡ t
+            → SlotsFrom b n i (from_place finalise k (after finalise (drop_slot b n i) (Some m)) n (next_place s i))
         choose true free =
             let falls : holding (drop_slot b n i) < holding b = drop-falls b n i s m e q in
             rw (after, free) (freed e q (eqb-true (refs (drop_slot b n i) m) 0 free) (below (drop_slot b n i) m (omega arith)) (rw (after, free) at rest))
         choose false held_on =
-            rw (after, held_on) (kept e (λ l h. subst (λ x. 0 < refs (drop_slot b n i) x) (same_Some m l (sym q ∙ h)) (above-zero (refs (drop_slot b n i) m) held_on)) (rw (after, held_on) at rest))
+            rw (after, held_on)
+            (kept e (λ l h. subst (λ x. 0 < refs (drop_slot b n i) x) (same_Some m l (sym q ∙ h)) (above-zero (refs (drop_slot b n i) m) held_on))
+            (rw (after, held_on) at rest))
 
-    go : (o : Option Slot) → slot_at b n i ≡ o → ((d : Board) (m j : ℕ) → width d ≤ k + j → holding d ≤ c → SlotsFrom d m j (from_place finalise k d m j)) → SlotsFrom b n i (from_place finalise (suc k) b n i)
+    go : (o : Option Slot) → slot_at b n i ≡ o → ((d : Board) (m j : ℕ) → width d ≤ k + j → holding d ≤ c → SlotsFrom d m j (from_place finalise k d m j))
+        → SlotsFrom b n i (from_place finalise (suc k) b n i)
     go None e rest = rw (from_place-none finalise (suc k) b n i e) (past e)
     go (Some s) e rest =
         let d : Board = after finalise (drop_slot b n i) (held s) in
         let less : holding d ≤ c = omega (arith, after-holding finalise finalise-shrinks (drop_slot b n i) (held s), drop-holding b n i) in
-        rw (from_place-some finalise k b n i s e) (turn s e (held s) refl (rest d n (next_place s i) (place-falls finalise finalise-shrinks b n i s k e room) less))
+        rw (from_place-some finalise k b n i s e)
+        (turn s e (held s) refl (rest d n (next_place s i) (place-falls finalise finalise-shrinks b n i s k e room) less))
 
 reached-below : (c : ℕ) → ReachedBelow c
 reached-below zero b n few = absurd (omega arith)

@@ -187,7 +187,10 @@ uart_births : List ℕ → Option ℕ
 uart_births name = if bytes_eq name (codes "clk") then Some 10 else None
 
 uart_board : Board
-uart_board = record opening_board { records = opening_records ++ record (fresh_record 9 SlotUart) { slots = slots_with uart_births SlotUart } ∷ fresh_record 10 Clock ∷ [] }
+uart_board = record opening_board {
+  records = opening_records ++ record (fresh_record 9 SlotUart) { slots = slots_with uart_births SlotUart } ∷ fresh_record 10
+      Clock ∷ [];
+}
 
 listing-of-uart :
     listing uart_board 9

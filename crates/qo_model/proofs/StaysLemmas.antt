@@ -39,7 +39,8 @@ stays-then b c d h k =
     }
 
 left-stays : (b c : Board) → Leaves b c → Stays b c
-left-stays b c h = record { anonymous = h.anonymous; now = h.now; running = h.running; holds = h.holds; pending = h.pending; notices = h.notices; rings = h.rings }
+left-stays b c h =
+    record { anonymous = h.anonymous; now = h.now; running = h.running; holds = h.holds; pending = h.pending; notices = h.notices; rings = h.rings }
 
 after-stays : (b : Board) (o : Option ℕ) → Stays b (after finalise b o)
 after-stays b None = stays-none b
@@ -155,7 +156,8 @@ severed-stays (suc places) i n b = go (slot_at b n i) refl (severed-stays places
     go None p rest = rw (severed_from, p) (rest b)
     go (Some (plain v)) p rest = rw (severed_from, p) (rest b)
     go (Some (child m)) p rest = rw (severed_from, p) (rest b)
-    go (Some (strong t target)) p rest = rw (severed_from, p) (stays-then b (let_go b n i) (severed_from places (suc i) n (let_go b n i)) (left-stays b (let_go b n i) (let_go-leaves b n i)) (rest (let_go b n i)))
+    go (Some (strong t target)) p rest = rw (severed_from, p)
+        (stays-then b (let_go b n i) (severed_from places (suc i) n (let_go b n i)) (left-stays b (let_go b n i) (let_go-leaves b n i)) (rest (let_go b n i)))
     go (Some (weak t target)) p rest = rw (severed_from, p) (rest b)
     go (Some (alias m property)) p rest = rw (severed_from, p) (rest b)
 
@@ -177,7 +179,8 @@ sever-stays b n = go (is_live b n) refl (attached b n) refl
     go : (there : Bool) → is_live b n ≡ there → (at_home : Bool) → attached b n ≡ at_home → Stays b (sever b n).board
     go false p at_home q = rw (sever, p) (stays-none b)
     go true p true q = rw (sever, p, q) (stays-none b)
-    go true p false q = rw (sever, p, q) (all (pin b n) (severed_from (length (slots_at b n)) 0 n (pin b n)) (pin-stays b n) (severed-stays (length (slots_at b n)) 0 n (pin b n)))
+    go true p false q = rw (sever, p, q)
+        (all (pin b n) (severed_from (length (slots_at b n)) 0 n (pin b n)) (pin-stays b n) (severed-stays (length (slots_at b n)) 0 n (pin b n)))
 
 pub changed-stays : (b : Board) (change : Change) → Stays b (changed b change)
 changed-stays b (added driver id props) = object_add-stays b driver id props
@@ -187,7 +190,8 @@ changed-stays b (severed n) = sever-stays b n
 
 behind-stays : (b : Board) (changes : List Change) → Stays b (behind b changes)
 behind-stays b [] = stays-none b
-behind-stays b (change ∷ changes) = stays-then b (changed b change) (behind (changed b change) changes) (changed-stays b change) (behind-stays (changed b change) changes)
+behind-stays b (change ∷ changes) =
+    stays-then b (changed b change) (behind (changed b change) changes) (changed-stays b change) (behind-stays (changed b change) changes)
 
 pub stays_lem : StaysLaw
 stays_lem = record { change = changed-stays; attempt = attempt-stays; run = behind-stays }

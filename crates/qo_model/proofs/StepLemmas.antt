@@ -1,4 +1,5 @@
 -- What a slot let go and the end of an object do to look-ups and to references.
+use Rattle.std.specs.Option.{option_map_or}
 use Rattle.std.proofs.Common.{eqb, ◌≡◌, refl, ap, ap₂, sym, ◌∙◌, ℕ, zero, suc, ◌<◌, ◌≤◌, Bool, true, false, cond, not, ◌&&◌, ◌==◌, List, [], ◌∷◌, map, filter, find, slice_get, sum_by, Option, Some, None, is_some, option_map, arith}
 use Rattle.std.proofs.lemmas.Bool.{eqb-true, eq-eqb}
 use Rattle.std.proofs.lemmas.Option.{same_Some}
@@ -17,6 +18,17 @@ use Rattle.qo_model.proofs.ReleaseKeepsLemmas.{release_keeps}
 abbrev pub found_at : ℕ → List Record → Option Record
 found_at x rs = find (λ (r : Record). r.birth == x) rs
 
+-- a record that is found has the birth
+pub found-birth : (n : ℕ) (rs : List Record) (x : Record) → found_at n rs ≡ Some x → x.birth ≡ n
+found-birth n [] x e = cc
+found-birth n (r ∷ rs) x e = go (r.birth == n) refl (found-birth n rs x)
+  where
+    go : (t : Bool) → (r.birth == n) ≡ t → (found_at n rs ≡ Some x → x.birth ≡ n) → x.birth ≡ n
+    go true p rest =
+        let is : r ≡ x = same_Some r x (rw p at e) in
+        ap (λ (y : Record). y.birth) (sym is) ∙ eqb-true r.birth n p
+    go false p rest = rest (rw p at e)
+
 -- an object is there exactly where its birth is among the births
 pub found-among : (x : ℕ) (rs : List Record) → is_some (found_at x rs) ≡ among (map (λ (r : Record). r.birth) rs) x
 found-among x [] = refl
@@ -25,7 +37,8 @@ found-among x (r ∷ rs) = go (r.birth == x) refl (found-among x rs)
     flip : (r.birth == x) ≡ eqb x r.birth
     flip = grind arith
 
-    go : (t : Bool) → (r.birth == x) ≡ t → is_some (found_at x rs) ≡ among (map (λ (y : Record). y.birth) rs) x → is_some (found_at x (r ∷ rs)) ≡ among (map (λ (y : Record). y.birth) (r ∷ rs)) x
+    go : (t : Bool) → (r.birth == x) ≡ t → is_some (found_at x rs) ≡ among (map (λ (y : Record). y.birth) rs) x
+        → is_some (found_at x (r ∷ rs)) ≡ among (map (λ (y : Record). y.birth) (r ∷ rs)) x
     go true p rest = rw (p, sym flip ∙ p) refl
     go false p rest = rw (p, sym flip ∙ p) rest
 
@@ -33,15 +46,36 @@ pub live-among : (b : Board) (x : ℕ) → is_live b x ≡ among (births b) x
 live-among b x = found-among x b.records
 
 -- an edit that keeps births changes what is found, and nothing else
-pub found-edited : (n : ℕ) (change : Record → Record) → ((r : Record) → (change r).birth ≡ r.birth) → (x : ℕ) (rs : List Record) → found_at x (map (edited n change) rs) ≡ option_map (edited n change) (found_at x rs)
+pub found-edited : (n : ℕ) (change : Record → Record) → ((r : Record) → (change r).birth ≡ r.birth) → (x : ℕ) (rs : List Record)
+    → found_at x (map (edited n change) rs) ≡ option_map (edited n change) (found_at x rs)
 found-edited n change same x [] = refl
 found-edited n change same x (r ∷ rs) = go (r.birth == n) refl (r.birth == x) refl (found-edited n change same x rs)
   where
-    go : (t : Bool) → (r.birth == n) ≡ t → (u : Bool) → (r.birth == x) ≡ u → found_at x (map (edited n change) rs) ≡ option_map (edited n change) (found_at x rs) → found_at x (map (edited n change) (r ∷ rs)) ≡ option_map (edited n change) (found_at x (r ∷ rs))
+    go : (t : Bool) → (r.birth == n) ≡ t → (u : Bool) → (r.birth == x) ≡ u → found_at x (map (edited n change) rs)
+        ≡ option_map (edited n change) (found_at x rs) → found_at x (map (edited n change) (r ∷ rs)) ≡ option_map (edited n change) (found_at x (r ∷ rs))
     go true p true q rest = let here : ((change r).birth == x) ≡ true = ap (λ (k : ℕ). k == x) (same r) ∙ q in rw (p, here, q, edited, p) refl
     go true p false q rest = let here : ((change r).birth == x) ≡ false = ap (λ (k : ℕ). k == x) (same r) ∙ q in rw (p, here, q) rest
     go false p true q rest = rw (p, q, edited, p) refl
     go false p false q rest = rw (p, q) rest
+
+-- what an edit leaves of each object, it leaves of the one that is found
+pub map-edited : {A : Type 0} (f : Record → A) (n : ℕ) (change : Record → Record) → ((r : Record) → f (change r) ≡ f r) → (o : Option Record)
+    → option_map f (option_map (edited n change) o) ≡ option_map f o
+map-edited f n change same None = refl
+map-edited f n change same (Some r) = go (r.birth == n) refl
+  where
+    go : (t : Bool) → (r.birth == n) ≡ t → Some (f (edited n change r)) ≡ Some (f r)
+    go true p = rw (edited, p) (ap Some (same r))
+    go false p = rw (edited, p) refl
+
+pub slots-edited : (n : ℕ) (change : Record → Record) → ((r : Record) → (change r).slots ≡ r.slots) → (o : Option Record)
+    → option_map_or (λ (r : Record). r.slots) (option_map (edited n change) o) [] ≡ option_map_or (λ (r : Record). r.slots) o []
+slots-edited n change same None = refl
+slots-edited n change same (Some r) = go (r.birth == n) refl
+  where
+    go : (t : Bool) → (r.birth == n) ≡ t → (edited n change r).slots ≡ r.slots
+    go true p = rw (edited, p) (same r)
+    go false p = rw (edited, p) refl
 
 pub drop-record : (b : Board) (n i x : ℕ) → record_of (drop_slot b n i) x ≡ option_map (edited n (with_dropped i)) (record_of b x)
 unfolding drop_slot
@@ -71,7 +105,8 @@ found-other : (n x : ℕ) → (x == n) ≡ false → (rs : List Record) → foun
 found-other n x apart [] = refl
 found-other n x apart (r ∷ rs) = go (r.birth == n) refl (r.birth == x) refl (found-other n x apart rs)
   where
-    go : (t : Bool) → (r.birth == n) ≡ t → (u : Bool) → (r.birth == x) ≡ u → found_at x (others n rs) ≡ option_map (forgotten n) (found_at x rs) → found_at x (others n (r ∷ rs)) ≡ option_map (forgotten n) (found_at x (r ∷ rs))
+    go : (t : Bool) → (r.birth == n) ≡ t → (u : Bool) → (r.birth == x) ≡ u → found_at x (others n rs) ≡ option_map (forgotten n) (found_at x rs)
+        → found_at x (others n (r ∷ rs)) ≡ option_map (forgotten n) (found_at x (r ∷ rs))
     go true p true q rest =
         let here : r.birth ≡ n = eqb-true r.birth n p in
         let there : r.birth ≡ x = eqb-true r.birth x q in
@@ -114,7 +149,9 @@ pub finish-births : (b : Board) (n : ℕ) → births (finish b n) ≡ filter (λ
 unfolding finish
 finish-births b n = go b.records
   where
-    step : (r : Record) (rs : List Record) (t : Bool) → (r.birth == n) ≡ t → map (λ (y : Record). y.birth) (others n rs) ≡ filter (λ (x : ℕ). not (x == n)) (map (λ (y : Record). y.birth) rs) → map (λ (y : Record). y.birth) (others n (r ∷ rs)) ≡ filter (λ (x : ℕ). not (x == n)) (map (λ (y : Record). y.birth) (r ∷ rs))
+    step : (r : Record) (rs : List Record) (t : Bool) → (r.birth == n) ≡ t
+        → map (λ (y : Record). y.birth) (others n rs) ≡ filter (λ (x : ℕ). not (x == n)) (map (λ (y : Record). y.birth) rs)
+        → map (λ (y : Record). y.birth) (others n (r ∷ rs)) ≡ filter (λ (x : ℕ). not (x == n)) (map (λ (y : Record). y.birth) (r ∷ rs))
     step r rs true p rest = rw p rest
     step r rs false p rest = rw p (ap (λ (ns : List ℕ). r.birth ∷ ns) rest)
 
@@ -123,7 +160,7 @@ finish-births b n = go b.records
     go (r ∷ rs) = step r rs (r.birth == n) refl (go rs)
 
 -- one for a slot that holds x, else zero
-abbrev one_of : ℕ → List ℕ × Slot → ℕ
+abbrev pub one_of : ℕ → List ℕ × Slot → ℕ
 one_of x s = cond {A = ℕ} (holds_it x s.1) 1 0
 
 left-of : (x : ℕ) (s : List ℕ × Slot) → left_of (one_of x) s ≤ one_of x s

@@ -1,5 +1,5 @@
 -- Laws of paths: parents make a tree, and paths go along it.
-use Rattle.std.proofs.Common.{◌≡◌, refl, ap, sym, subst, ◌∙◌, ℕ, zero, suc, ◌<◌, Bool, true, false, List, [], ◌∷◌, ◌++◌, map, length, ◌==◌, eqb, Option, Some, None, find, option_map, is_some, arith}
+use Rattle.std.proofs.Common.{◌≡◌, refl, ap, sym, subst, ◌∙◌, ℕ, zero, suc, ◌<◌, Bool, true, false, List, [], ◌∷◌, ◌++◌, length, ◌==◌, eqb, Option, Some, None, find, option_map, is_some, arith}
 use Rattle.std.specs.Option.{option_and_then, option_to_list, option_map_or}
 use Rattle.std.proofs.lemmas.Bool.{eqb-true, eq-eqb}
 use Rattle.std.proofs.Math.Bool.{or-true, or-false}
@@ -13,15 +13,12 @@ use Rattle.qo_model.specs.SoundAliases.{PassesTo, lasting}
 use Rattle.qo_model.specs.SoundGraph.{graph_of, Rises, SoundGraph, GraphFacts}
 use Rattle.qo_model.specs.Laws.{PathsLaw, FrameLaw}
 use Rattle.qo_model.proofs.DepthLemmas.{Leads-back, by_objects_is}
-use Rattle.qo_model.proofs.GraphLemmas.{among-above, children_at, children_of-graph_of, births-graph_of}
+use Rattle.qo_model.proofs.GraphLemmas.{among-above, children_at, children_of-graph_of, births-graph_of, births_at}
 use Rattle.qo_model.proofs.StepLemmas.{is_some-map}
 
 -- the place of n among records
 abbrev pub place_at : List Record → ℕ → Option (ℕ × List ℕ)
 place_at rs n = option_and_then (place_in n) (find (λ r. is_some (place_in n r)) rs)
-
-abbrev births_at : List Record → List ℕ
-births_at rs = map (λ (r : Record). r.birth) rs
 
 -- a slot that is found for a child has it
 found-child : (n : ℕ) (slots : List (List ℕ × Slot)) → is_some (find (λ (s : List ℕ × Slot). is_child n s.1) slots) ≡ true → among (children_in slots) n ≡ true
@@ -32,7 +29,8 @@ found-child n ((name, weak t target) ∷ slots) e = found-child n slots e
 found-child n ((name, alias m property) ∷ slots) e = found-child n slots e
 found-child n ((name, child m) ∷ slots) e = go (m == n) refl (found-child n slots)
   where
-    go : (t : Bool) → (m == n) ≡ t → (is_some (find (λ (s : List ℕ × Slot). is_child n s.1) slots) ≡ true → among (children_in slots) n ≡ true) → among (m ∷ children_in slots) n ≡ true
+    go : (t : Bool) → (m == n) ≡ t → (is_some (find (λ (s : List ℕ × Slot). is_child n s.1) slots) ≡ true → among (children_in slots) n ≡ true)
+        → among (m ∷ children_in slots) n ≡ true
     go true p rest = rw (eq-eqb n m (sym (eqb-true m n p))) refl
     go false p rest = rw (rest (rw p at e)) (or-true (eqb n m))
 
@@ -96,7 +94,8 @@ pub parents-tree : (b : Board) → SoundGraph b → IsTree (parents b) (births b
 parents-tree b sound =
     let rising : Rises (births b) = rw births-graph_of at sound.rising in
     record {
-      none_round = λ n l. sound.none_round n (Leads-back (parents b) (children_of (graph_of b)) (λ k m e. rw children_of-graph_of (parent-of b rising k m e).child_there) l);
+      none_round = λ n l.
+          sound.none_round n (Leads-back (parents b) (children_of (graph_of b)) (λ k m e. rw children_of-graph_of (parent-of b rising k m e).child_there) l);
       lives = λ n m e. (parent-of b rising n m e).there;
     }
 
@@ -160,6 +159,7 @@ frame_lem =
     record {
       graph = λ b c e h. subst GraphFacts e h;
       aliases = λ b c e h.
-          subst (λ (records : List Record). AllByRecursion (λ (r : Record). AllByRecursion (λ (s : List ℕ × Slot). PassesTo (lasting r) s.1) r.slots) records) e h;
+          subst (λ (records : List Record). AllByRecursion (λ (r : Record). AllByRecursion (λ (s : List ℕ × Slot). PassesTo (lasting r) s.1) r.slots) records) e
+          h;
       events = λ b c e h. record { none = sym e ∙ h.none };
     }

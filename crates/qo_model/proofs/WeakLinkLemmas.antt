@@ -31,7 +31,8 @@ dropped-see there zero (s ∷ slots) h = go (emptied s.1) refl
 dropped-see there (suc i) (s ∷ slots) h = (h.0, dropped-see there i slots h.1)
 
 -- where a test passes all but n that another passes, what sees only this, with its links to n emptied, sees only that
-forgotten-sees : (there after : ℕ → Bool) (n : ℕ) → ((x : ℕ) → after x ≡ (not (x == n) && there x)) → (s : Slot) → SeesOnly there s → SeesOnly after (forgotten_in n s)
+forgotten-sees : (there after : ℕ → Bool) (n : ℕ) → ((x : ℕ) → after x ≡ (not (x == n) && there x)) → (s : Slot) → SeesOnly there s
+    → SeesOnly after (forgotten_in n s)
 forgotten-sees there after n is (plain v) h = tt
 forgotten-sees there after n is (child m) h = tt
 forgotten-sees there after n is (strong t target) h = tt
@@ -43,7 +44,8 @@ forgotten-sees there after n is (weak t (Some m)) h = go (m == n) refl
     go false p = rw (forgotten_in, p) (rw p at (is m) ∙ h)
 forgotten-sees there after n is (alias m property) h = tt
 
-forgotten-see : (there after : ℕ → Bool) (n : ℕ) → ((x : ℕ) → after x ≡ (not (x == n) && there x)) → (slots : List (List ℕ × Slot)) → SeeOnly there slots → SeeOnly after (map (λ (s : List ℕ × Slot). (s.0, forgotten_in n s.1)) slots)
+forgotten-see : (there after : ℕ → Bool) (n : ℕ) → ((x : ℕ) → after x ≡ (not (x == n) && there x)) → (slots : List (List ℕ × Slot)) → SeeOnly there slots
+    → SeeOnly after (map (λ (s : List ℕ × Slot). (s.0, forgotten_in n s.1)) slots)
 forgotten-see there after n is [] h = tt
 forgotten-see there after n is (s ∷ slots) h = (forgotten-sees there after n is s.1 h.0, forgotten-see there after n is slots h.1)
 
@@ -63,7 +65,8 @@ same-all there after is (s ∷ slots) h = (same-see there after is s.1 h.0, same
 abbrev AllSee : (ℕ → Bool) → List Record → Type 0
 AllSee there rs = AllByRecursion (λ (r : Record). AllByRecursion (λ (s : List ℕ × Slot). SeesOnly there s.1) r.slots) rs
 
-all-drop : (there after : ℕ → Bool) → ((x : ℕ) → after x ≡ there x) → (n i : ℕ) (rs : List Record) → AllSee there rs → AllSee after (map (edited n (with_dropped i)) rs)
+all-drop : (there after : ℕ → Bool) → ((x : ℕ) → after x ≡ there x) → (n i : ℕ) (rs : List Record) → AllSee there rs
+    → AllSee after (map (edited n (with_dropped i)) rs)
 all-drop there after is n i [] h = tt
 all-drop there after is n i (r ∷ rs) h = (go (r.birth == n) refl, all-drop there after is n i rs h.1)
   where
@@ -71,11 +74,13 @@ all-drop there after is n i (r ∷ rs) h = (go (r.birth == n) refl, all-drop the
     go true p = rw (edited, p) (dropped-see after i r.slots (same-all there after is r.slots h.0))
     go false p = rw (edited, p) (same-all there after is r.slots h.0)
 
-all-finish : (there after : ℕ → Bool) (n : ℕ) → ((x : ℕ) → after x ≡ (not (x == n) && there x)) → (rs : List Record) → AllSee there rs → AllSee after (map (forgotten n) (filter (λ (r : Record). not (r.birth == n)) rs))
+all-finish : (there after : ℕ → Bool) (n : ℕ) → ((x : ℕ) → after x ≡ (not (x == n) && there x)) → (rs : List Record) → AllSee there rs
+    → AllSee after (map (forgotten n) (filter (λ (r : Record). not (r.birth == n)) rs))
 all-finish there after n is [] h = tt
 all-finish there after n is (r ∷ rs) h = go (r.birth == n) refl (all-finish there after n is rs h.1)
   where
-    go : (t : Bool) → (r.birth == n) ≡ t → AllSee after (map (forgotten n) (filter (λ (y : Record). not (y.birth == n)) rs)) → AllSee after (map (forgotten n) (filter (λ (y : Record). not (y.birth == n)) (r ∷ rs)))
+    go : (t : Bool) → (r.birth == n) ≡ t → AllSee after (map (forgotten n) (filter (λ (y : Record). not (y.birth == n)) rs))
+        → AllSee after (map (forgotten n) (filter (λ (y : Record). not (y.birth == n)) (r ∷ rs)))
     go true p rest = rw p rest
     go false p rest = rw p (forgotten-see there after n is r.slots h.0, rest)
 

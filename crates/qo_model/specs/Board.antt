@@ -7,7 +7,8 @@ use Rattle.qo_values.specs.declared.kinds.TypeId.{TypeId}
 use Rattle.qo_values.specs.declared.properties.Val.{Val}
 use Rattle.qo_model.specs.declared.notes.Note.{Note}
 
--- what stands in a slot of an object: a value; a child; a link to objects of a type, which may be empty, and which holds its target where it is strong; or a property of another object under a name
+-- what stands in a slot of an object: a value; a child; a link to objects of a type, which may be empty, and which holds its target where it is strong; or a
+-- property of another object under a name
 pub data Slot : Type 0 where
   plain : Val → Slot
   child : ℕ → Slot

@@ -1,4 +1,5 @@
--- The changes of the board by calls on one object: it is made, and its slots are added, pointed, set and cut (docs/devel/qom.rst, "The QEMU Object Model"; include/qom/object.h).
+-- The changes of the board by calls on one object: it is made, and its slots are added, pointed, set and cut (docs/devel/qom.rst, "The QEMU Object Model";
+-- include/qom/object.h).
 use Rattle.std.specs.Prelude.{ℕ, zero, suc, ◌+◌, List, [], ◌∷◌, ◌++◌, remove, Some, None}
 use Rattle.qo_values.specs.Registers.{fresh_registers}
 use Rattle.qo_values.specs.declared.kinds.TypeId.{TypeId}

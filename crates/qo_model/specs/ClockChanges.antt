@@ -1,4 +1,5 @@
--- The changes of a clock's numbers (docs/devel/clocks.rst, "Changing a clock period" and "Clock multiplier and divider settings"): each is refused or decided before anything is written.
+-- The changes of a clock's numbers (docs/devel/clocks.rst, "Changing a clock period" and "Clock multiplier and divider settings"): each is refused or decided
+-- before anything is written.
 use Rattle.std.specs.Prelude.{ℕ, ◌==◌, is_some, if◌then◌else◌, codes, Result, Err}
 use Rattle.qo_values.specs.declared.codes.Code.{Code}
 use Rattle.qo_values.specs.declared.codes.Code.TheVariants.{E45, E46}

@@ -1,5 +1,6 @@
--- The numbers of clocks as properties, which `qom-set` alone writes, and `qom-set` whole (docs/devel/clocks.rst, "Changing a clock period" and "Clock multiplier and divider settings"; QEMU's QAPI, `qom-set`).
-use Rattle.std.specs.Prelude.{ℕ, Bool, true, false, if◌then◌else◌, List, Option, Some, None, is_some, unwrap_or, option_and_then, Result, Ok, Err}
+-- The numbers of clocks as properties, which `qom-set` alone writes, and `qom-set` whole (docs/devel/clocks.rst, "Changing a clock period" and "Clock
+-- multiplier and divider settings"; QEMU's QAPI, `qom-set`).
+use Rattle.std.specs.Prelude.{ℕ, Bool, true, false, if◌then◌else◌, List, Option, Some, None, is_some, option_and_then, Result, Ok, Err}
 use Rattle.qo_values.specs.Properties.{admits}
 use Rattle.qo_values.specs.declared.codes.Code.{Code}
 use Rattle.qo_values.specs.declared.codes.Code.TheVariants.{E17, E18, E19}

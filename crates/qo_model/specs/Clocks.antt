@@ -1,4 +1,5 @@
--- The clock tree: periods, and who is called back where one changes (docs/devel/clocks.rst, "The clock state", "Clock callbacks", "Connecting two clocks together", "Clock multiplier and divider settings", "Changing a clock period").
+-- The clock tree: periods, and who is called back where one changes (docs/devel/clocks.rst, "The clock state", "Clock callbacks", "Connecting two clocks
+-- together", "Clock multiplier and divider settings", "Changing a clock period").
 use Rattle.std.specs.Prelude.{◌≢◌, ◌<◌, ℕ, ◌*◌, ◌/◌, ◌^◌, Bool, true, false, ◌==◌, nat_le, if◌then◌else◌, List, [], ◌∷◌, ◌++◌, filter, codes, Option, Some, None, option_map, option_and_then, unwrap_or, Result, Ok, Err}
 use Rattle.std.specs.List.{list_any, flat_map}
 use Rattle.std.specs.Option.{option_map_or}

@@ -1,4 +1,5 @@
--- Devices on their buses: what is read of them (docs/devel/qom.rst; include/hw/qdev-core.h: buses and realization; the slots and the child names are the profile's).
+-- Devices on their buses: what is read of them (docs/devel/qom.rst; include/hw/qdev-core.h: buses and realization; the slots and the child names are the
+-- profile's).
 use Rattle.std.specs.Prelude.{not, ◌&&◌, ℕ, ◌+◌, suc, Bool, true, false, if◌then◌else◌, List, [], ◌∷◌, ◌++◌, filter_map, codes, decimal, Option, Some, None, option_and_then}
 use Rattle.std.specs.List.{list_any}
 use Rattle.std.specs.Option.{option_map_or}

@@ -1,4 +1,5 @@
--- What the notes of a board say of each birth (docs/devel/qom.rst, "The QEMU Object Model": `instance_init`, base first, and `instance_finalize`, derived first).
+-- What the notes of a board say of each birth (docs/devel/qom.rst, "The QEMU Object Model": `instance_init`, base first, and `instance_finalize`, derived
+-- first).
 use Rattle.std.specs.Prelude.{◌≡◌, ℕ, ◌≤◌, ◌<◌, leb, Bool, true, false, if◌then◌else◌, List, [], ◌++◌, map, Option, Some, is_some}
 use Rattle.std.specs.Option.{option_map_or}
 use Rattle.std.specs.List.{list_any}
@@ -28,7 +29,8 @@ is_bound x = is_some (deed_type x.deed)
 abbrev pub ending : ℕ → TypeId → List Note
 ending n t = map (λ (k : TypeId). record { birth = n; deed = Final k }) (finals t)
 
--- n has its final notes at most once, derived first, and no note behind them: what was noted of it is other notes, and then nothing or the final notes of one type
+-- n has its final notes at most once, derived first, and no note behind them: what was noted of it is other notes, and then nothing or the final notes of one
+-- type
 pub record FinalOnce (n : ℕ) (notes : List Note) : Type 0 where
   pub before : List Note
   pub none_final : list_any is_final before ≡ false
@@ -39,7 +41,8 @@ pub record FinalOnce (n : ℕ) (notes : List Note) : Type 0 where
 abbrev pub beginning : ℕ → TypeId → List Note
 beginning n t = if leb n OPENING_OBJECTS then [] else init_notes n t
 
--- what was noted of n, an object of a type that is over or not: its init notes, base first; notes that are neither init nor final; and, once it is over, its final notes, derived first
+-- what was noted of n, an object of a type that is over or not: its init notes, base first; notes that are neither init nor final; and, once it is over, its
+-- final notes, derived first
 pub record Story (n : ℕ) (t : TypeId) (over : Bool) (notes : List Note) : Type 0 where
   pub between : List Note
   pub neither : list_any is_bound between ≡ false

@@ -12,7 +12,8 @@ use Rattle.qo_model.specs.Opening.{opening_board}
 use Rattle.qo_model.specs.Properties.{write}
 use Rattle.qo_model.specs.Release.{finalise, let_go, unpin}
 
--- a change: `object-add` of a type's name, an id and properties; `object-del` of an id; a value to the property of a name of an object; or `x-sever` of an object
+-- a change: `object-add` of a type's name, an id and properties; `object-del` of an id; a value to the property of a name of an object; or `x-sever` of an
+-- object
 pub data Change : Type 0 where
   added : List ℕ → List ℕ → List Given → Change
   deleted : List ℕ → Change
@@ -51,6 +52,7 @@ pub record FinalOnceLaw : Type 0 where
   pub step : (b : Board) (change : Change) → NotesInOrder b → NotesInOrder (changed b change)
   pub opening : NotesInOrder opening_board
   pub run : (changes : List Change) → NotesInOrder (behind opening_board changes)
-  -- where they are in order each birth has its final notes at most once, derived first, and no note behind them; so it is behind any changes of the opening board
+  -- where they are in order each birth has its final notes at most once, derived first, and no note behind them; so it is behind any changes of the opening
+  -- board
   pub once : (b : Board) → NotesInOrder b → (n : ℕ) → FinalOnce n b.notes
   pub once_in_run : (changes : List Change) (n : ℕ) → FinalOnce n (behind opening_board changes).notes

@@ -1,4 +1,5 @@
--- Removals that are asked for, and what the guest answers (QEMU's QAPI, `device_del`; include/hw/hotplug.h; the order of refusals is the profile's); the reset of the whole board.
+-- Removals that are asked for, and what the guest answers (QEMU's QAPI, `device_del`; include/hw/hotplug.h; the order of refusals is the profile's); the reset
+-- of the whole board.
 use Rattle.std.specs.Prelude.{ℕ, zero, suc, false, not, ◌==◌, ◌||◌, if◌then◌else◌, List, [], ◌∷◌, ◌++◌, filter, length, codes, option_and_then, option_map, option_to_list, Option, None, Some, is_some}
 use Rattle.qo_values.specs.declared.births.TheConstants.{MACHINE_BIRTH, PERIPHERAL_BIRTH}
 use Rattle.qo_values.specs.declared.codes.Code.TheVariants.{E33, E34, E35}
@@ -10,7 +11,8 @@ use Rattle.qo_model.specs.Plug.{notice_barred}
 use Rattle.qo_model.specs.Reset.{pulse}
 use Rattle.qo_model.specs.Unplug.{detach, first_of, without_all}
 
--- the device that a text is of: of one that begins with `/` the device at that absolute path, of any other the child of that name in the container of devices with an id
+-- the device that a text is of: of one that begins with `/` the device at that absolute path, of any other the child of that name in the container of devices
+-- with an id
 abbrev pub device_at : Board → List ℕ → Option ℕ
 device_at b id =
     if is_absolute id then resolve_absolute b id (codes "device")

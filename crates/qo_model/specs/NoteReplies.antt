@@ -8,6 +8,7 @@ use Rattle.qo_model.specs.declared.notes.Note.{Note}
 abbrev pub first_from : ℕ → List Note → ℕ
 first_from from notes = min (max from (total_of notes - NOTES_KEPT)) (total_of notes)
 
--- the notes that are given: from that number on, as many as one reply has at most; numbers count all notes from 0, so the first kept has the total less how many are kept
+-- the notes that are given: from that number on, as many as one reply has at most; numbers count all notes from 0, so the first kept has the total less how
+-- many are kept
 abbrev pub given_from : ℕ → List Note → List Note
 given_from from notes = take NOTES_PER_REPLY (drop (first_from from notes - (total_of notes - length (kept_of notes))) (kept_of notes))

@@ -1,4 +1,5 @@
--- Adding and removing objects by command (QEMU's QAPI, `object-add` and `object-del`; the order of refusals is the profile's), and cutting the links of a detached one.
+-- Adding and removing objects by command (QEMU's QAPI, `object-add` and `object-del`; the order of refusals is the profile's), and cutting the links of a
+-- detached one.
 use Rattle.std.specs.Prelude.{ℕ, zero, suc, ◌+◌, ◌==◌, ◌&&◌, Bool, true, false, not, leb, if◌then◌else◌, List, [], ◌∷◌, ◌++◌, map, filter, length, codes, find, Option, Some, None, is_none, Result, Ok, Err}
 use Rattle.std.specs.List.{list_any}
 use Rattle.std.specs.Option.{option_map_or}
@@ -86,7 +87,8 @@ init_notes n t = map (λ (k : TypeId). record { birth = n; deed = Did (Init k) }
 abbrev pub has_slot : Board → ℕ → List ℕ → Bool
 has_slot b n name = list_any (λ (s : List ℕ × Slot). bytes_eq s.0 name) (slots_at b n)
 
--- why an object of a named type, under an id at `/objects`, is refused before an attempt is made, if it is; E15 where `/objects` is not there, which it is on every sound board
+-- why an object of a named type, under an id at `/objects`, is refused before an attempt is made, if it is; E15 where `/objects` is not there, which it is on
+-- every sound board
 abbrev pub barred : Board → TypeRow → List ℕ → Option Code
 barred b row id =
     if row.is_abstract then Some E21

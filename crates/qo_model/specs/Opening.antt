@@ -36,7 +36,8 @@ first_slot further t name (row.Alias owner of) = option_map (λ n. Slot.alias n 
 
 -- the slots of a new object with these further objects, in order
 abbrev pub slots_with : (List ℕ → Option ℕ) → TypeId → List (List ℕ × Slot)
-slots_with further t = filter_map (λ (p : Property). option_map (λ (s : Slot). (property_name p.name, s)) (first_slot further t (property_name p.name) p.kind)) (slots_of t)
+slots_with further t =
+    filter_map (λ (p : Property). option_map (λ (s : Slot). (property_name p.name, s)) (first_slot further t (property_name p.name) p.kind)) (slots_of t)
 
 -- the slots of a new object without further objects: its plain properties and its links
 abbrev pub fresh_slots : TypeId → List (List ℕ × Slot)

@@ -54,7 +54,10 @@ attached b n = by_objects (attached_turn b) (λ _. false) (births b) n
 -- a `/` and a name for each step from the root down to an object, where f says it of its parent
 abbrev pub steps_turn : Board → (ℕ → Option (List ℕ)) → ℕ → Option (List ℕ)
 steps_turn b f n =
-    elim (n == ROOT_BIRTH) [ true ↦ Some [] | false ↦ elim (place_of b n) [ None ↦ None | Some p ↦ option_map (λ (above : List ℕ). above ++ 47 ∷ p.1) (f p.0) ] ]
+    elim (n == ROOT_BIRTH) [
+      | true ↦ Some []
+      | false ↦ elim (place_of b n) [ None ↦ None | Some p ↦ option_map (λ (above : List ℕ). above ++ 47 ∷ p.1) (f p.0) ]
+    ]
 
 -- a `/` and the name of the child slot for each step from the root down; none where parents do not lead there
 unfoldable pub steps_to : Board → ℕ → Option (List ℕ)

@@ -1,4 +1,5 @@
--- Plugging: adding a device in stages, and what an attempt leaves that was given up (include/hw/qdev-core.h, "Realization"; include/hw/hotplug.h; the stages and the order of refusals are the profile's).
+-- Plugging: adding a device in stages, and what an attempt leaves that was given up (include/hw/qdev-core.h, "Realization"; include/hw/hotplug.h; the stages
+-- and the order of refusals are the profile's).
 use Rattle.std.specs.Prelude.{ℕ, zero, suc, ◌+◌, Bool, true, false, not, ◌&&◌, ◌||◌, ◌==◌, nat_le, nat_lt, if◌then◌else◌, List, [], ◌∷◌, ◌++◌, map, filter, filter_map, drop, take, length, find, codes, Option, Some, None, option_map, option_and_then, unwrap_or, Result, Ok, Err}
 use Rattle.std.specs.List.{flat_map, list_any}
 use Rattle.std.specs.Option.{option_map_or, option_or}
@@ -78,7 +79,8 @@ type_barred driver =
       | Some row ↦ if row.is_abstract then Some E21 else if not (is_a row.id (codes "device")) then Some E22 else None
     ]
 
--- stage 2: the id, and the place in the container; E15 where the container is not there, and E24 where the next name of a device without id is taken, which is on no sound board
+-- stage 2: the id, and the place in the container; E15 where the container is not there, and E24 where the next name of a device without id is taken, which is
+-- on no sound board
 abbrev pub parent_for : Option (List ℕ) → ℕ
 parent_for None = ANONYMOUS_BIRTH
 parent_for (Some id) = PERIPHERAL_BIRTH
@@ -214,7 +216,8 @@ barred_early b t a =
 
 abbrev pub barred_late : Board → TypeId → ℕ → List Given → Option (ℕ × Code)
 barred_late b t bus props =
-    first_of (at_stage 4 (refusal_of b t props) ∷ at_stage 5 (place_barred b t bus props) ∷ at_stage 6 (realize_barred b t props) ∷ at_stage 8 (notice_barred b) ∷ [])
+    first_of (at_stage 4 (refusal_of b t props) ∷ at_stage 5 (place_barred b t bus props) ∷ at_stage 6 (realize_barred b t props) ∷ at_stage 8 (notice_barred b)
+    ∷ [])
 
 -- notes
 abbrev pub did : Act → ℕ → Note

@@ -1,4 +1,5 @@
--- Release: letting go of what a slot holds, and finalising an object whose last holder went (docs/devel/qom.rst, "The QEMU Object Model": reference counting, `object_unref`, `object_finalize`).
+-- Release: letting go of what a slot holds, and finalising an object whose last holder went (docs/devel/qom.rst, "The QEMU Object Model": reference counting,
+-- `object_unref`, `object_finalize`).
 use Rattle.std.specs.Prelude.{ℕ, zero, suc, ◌==◌, leb, nat_eq, true, false, not, if◌then◌else◌, List, [], ◌∷◌, ◌++◌, map, filter, length, sum_by, count_by, Option, Some, None, is_some, option_map, option_and_then, option_to_list}
 use Rattle.std.specs.List.{list_any}
 use Rattle.std.specs.Option.{option_map_or}

@@ -1,4 +1,5 @@
--- What a release keeps. The work of a release is a list: each object that is being finalised, and the place from which its slots are still to be let go, the one that is finalised first at the front.
+-- What a release keeps. The work of a release is a list: each object that is being finalised, and the place from which its slots are still to be let go, the
+-- one that is finalised first at the front.
 use Rattle.std.specs.Prelude.{◌≡◌, ℕ, ◌<◌, Bool, true, List, [], ◌∷◌, ◌++◌, filter, Some, None, option_map, ⊤}
 use Rattle.std.specs.List.{AllByRecursion}
 use Rattle.qo_model.specs.declared.notes.Note.{Note}
@@ -7,11 +8,14 @@ use Rattle.qo_model.specs.Paths.{births}
 use Rattle.qo_model.specs.References.{refs}
 use Rattle.qo_model.specs.Release.{drop_slot, next_place, finish, finalise}
 
--- what each turn of the work keeps: an object ends that has no slot at its place; a slot is let go whose object then is free, and this object comes to the front; a slot is let go, and nothing is free
+-- what each turn of the work keeps: an object ends that has no slot at its place; a slot is let go whose object then is free, and this object comes to the
+-- front; a slot is let go, and nothing is free
 pub record KeepsRelease (P : List (ℕ × ℕ) → Board → Type 0) : Type 0 where
   pub ended : (b : Board) (n i : ℕ) (work : List (ℕ × ℕ)) → P ((n, i) ∷ work) b → slot_at b n i ≡ None → P work (finish b n)
-  pub freed : (b : Board) (n i : ℕ) (work : List (ℕ × ℕ)) (s : Slot) (m : ℕ) → P ((n, i) ∷ work) b → slot_at b n i ≡ Some s → held s ≡ Some m → refs (drop_slot b n i) m ≡ 0 → P ((m, 0) ∷ (n, next_place s i) ∷ work) (drop_slot b n i)
-  pub kept : (b : Board) (n i : ℕ) (work : List (ℕ × ℕ)) (s : Slot) → P ((n, i) ∷ work) b → slot_at b n i ≡ Some s → ((m : ℕ) → held s ≡ Some m → 0 < refs (drop_slot b n i) m) → P ((n, next_place s i) ∷ work) (drop_slot b n i)
+  pub freed : (b : Board) (n i : ℕ) (work : List (ℕ × ℕ)) (s : Slot) (m : ℕ) → P ((n, i) ∷ work) b → slot_at b n i ≡ Some s → held s ≡ Some m
+      → refs (drop_slot b n i) m ≡ 0 → P ((m, 0) ∷ (n, next_place s i) ∷ work) (drop_slot b n i)
+  pub kept : (b : Board) (n i : ℕ) (work : List (ℕ × ℕ)) (s : Slot) → P ((n, i) ∷ work) b → slot_at b n i ≡ Some s
+      → ((m : ℕ) → held s ≡ Some m → 0 < refs (drop_slot b n i) m) → P ((n, next_place s i) ∷ work) (drop_slot b n i)
 
 -- what each turn keeps, a release keeps
 abbrev pub Keeps : (List (ℕ × ℕ) → Board → Type 0) → Type 0

@@ -1,4 +1,5 @@
--- The rules of release, without a bound: how a finalisation goes on, step by step, from one board to another (docs/devel/qom.rst, "The QEMU Object Model": reference counting, `object_unref`, `object_finalize`).
+-- The rules of release, without a bound: how a finalisation goes on, step by step, from one board to another (docs/devel/qom.rst, "The QEMU Object Model":
+-- reference counting, `object_unref`, `object_finalize`).
 use Rattle.std.specs.Prelude.{◌≡◌, ℕ, ◌<◌, Some, None}
 use Rattle.qo_model.specs.Board.{Board, Slot, slot_at, held}
 use Rattle.qo_model.specs.References.{refs}
@@ -14,6 +15,8 @@ mutual
     -- there is none at this place
     past : {b : Board} {n i : ℕ} → slot_at b n i ≡ None → SlotsFrom b n i b
     -- one is let go; what it held, if it held an object, still has references; then those behind it
-    kept : {b c : Board} {n i : ℕ} {s : Slot} → slot_at b n i ≡ Some s → ((m : ℕ) → held s ≡ Some m → 0 < refs (drop_slot b n i) m) → SlotsFrom (drop_slot b n i) n (next_place s i) c → SlotsFrom b n i c
+    kept : {b c : Board} {n i : ℕ} {s : Slot} → slot_at b n i ≡ Some s → ((m : ℕ) → held s ≡ Some m → 0 < refs (drop_slot b n i) m)
+        → SlotsFrom (drop_slot b n i) n (next_place s i) c → SlotsFrom b n i c
     -- one is let go; nothing refers to what it held any more, and this is finalised; then those behind it
-    freed : {b c d : Board} {n i m : ℕ} {s : Slot} → slot_at b n i ≡ Some s → held s ≡ Some m → refs (drop_slot b n i) m ≡ 0 → Finalises (drop_slot b n i) m c → SlotsFrom c n (next_place s i) d → SlotsFrom b n i d
+    freed : {b c d : Board} {n i m : ℕ} {s : Slot} → slot_at b n i ≡ Some s → held s ≡ Some m → refs (drop_slot b n i) m ≡ 0 → Finalises (drop_slot b n i) m c
+        → SlotsFrom c n (next_place s i) d → SlotsFrom b n i d

@@ -1,4 +1,5 @@
--- The types of objects and their properties (docs/devel/qom.rst, "The QEMU Object Model", "Class Initialization", "Interfaces"; the sixteen types are the profile's).
+-- The types of objects and their properties (docs/devel/qom.rst, "The QEMU Object Model", "Class Initialization", "Interfaces"; the sixteen types are the
+-- profile's).
 use Rattle.std.specs.Prelude.{ℕ, ◌-◌, ◌^◌, zero, suc, Bool, true, false, ◌||◌, if◌then◌else◌, List, [], ◌∷◌, ◌++◌, length, reverse, filter, find, map, flat_map, codes, pos, negsuc, Option, Some, None}
 use Rattle.std.specs.List.{list_any, join_with_byte}
 use Rattle.std.specs.Option.{option_and_then, option_map_or}
@@ -21,7 +22,8 @@ use Rattle.qo_model.specs.declared.properties.PropertyName.TheVariants as prop
 use Rattle.qo_model.specs.declared.properties.RowKind.{RowKind}
 use Rattle.qo_model.specs.declared.properties.RowKind.TheVariants.{Plain, Child, Link, Alias}
 
--- a row of types: the type that it derives from, whether it has no objects of its own, and the interfaces and the properties that it adds to those of its parent
+-- a row of types: the type that it derives from, whether it has no objects of its own, and the interfaces and the properties that it adds to those of its
+-- parent
 pub record TypeRow : Type 0 where
   pub id : TypeId
   pub parent : Option TypeId
@@ -78,9 +80,21 @@ types =
           ∷ property prop.ClockPeriod (Alias prop.Clk prop.Period) Set
           ∷ [];
     }
-    ∷ record { id = SlotUart; parent = Some SlotDevice; is_abstract = false; interfaces = []; properties = property prop.Chardev (Plain ty.Text first.NoText) Add ∷ [] }
+    ∷ record {
+      id = SlotUart;
+      parent = Some SlotDevice;
+      is_abstract = false;
+      interfaces = [];
+      properties = property prop.Chardev (Plain ty.Text first.NoText) Add ∷ [];
+    }
     ∷ record { id = SlotTimer; parent = Some SlotDevice; is_abstract = false; interfaces = []; properties = [] }
-    ∷ record { id = SlotBridge; parent = Some SlotDevice; is_abstract = false; interfaces = HotplugHandler ∷ []; properties = property prop.Bus0 (Child SlotBus) Never ∷ [] }
+    ∷ record {
+      id = SlotBridge;
+      parent = Some SlotDevice;
+      is_abstract = false;
+      interfaces = HotplugHandler ∷ [];
+      properties = property prop.Bus0 (Child SlotBus) Never ∷ [];
+    }
     ∷ record {
       id = MemDimm;
       parent = Some Device;
@@ -192,4 +206,5 @@ names_text (name ∷ names) = join_with_byte 44 (name ∷ names)
 -- the line of a type: its name, its parent or `-`, `abstract` or `plain`, its interfaces or `-`; spaces between them, and LF behind
 abbrev pub type_line : TypeRow → List ℕ
 type_line r =
-    join_with_byte 32 (type_name r.id ∷ option_map_or type_name r.parent (codes "-") ∷ (if r.is_abstract then codes "abstract" else codes "plain") ∷ names_text (map interface_name r.interfaces) ∷ []) ++ 10 ∷ []
+    join_with_byte 32 (type_name r.id ∷ option_map_or type_name r.parent (codes "-") ∷ (if r.is_abstract then codes "abstract" else codes "plain")
+    ∷ names_text (map interface_name r.interfaces) ∷ []) ++ 10 ∷ []

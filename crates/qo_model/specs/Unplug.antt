@@ -1,4 +1,5 @@
--- Unplugging: a device is unrealized, with all that is below it, and let go (include/hw/qdev-core.h, "Realization" and `unparent`; include/hw/hotplug.h; the order is the profile's).
+-- Unplugging: a device is unrealized, with all that is below it, and let go (include/hw/qdev-core.h, "Realization" and `unparent`; include/hw/hotplug.h; the
+-- order is the profile's).
 use Rattle.std.specs.Prelude.{◌&&◌, ℕ, zero, suc, Bool, false, not, ◌==◌, List, [], ◌∷◌, filter, length, codes, Option, Some, None}
 use Rattle.std.specs.Str.{bytes_eq}
 use Rattle.qo_values.specs.declared.births.TheConstants.{ANONYMOUS_BIRTH, PERIPHERAL_BIRTH}

@@ -328,11 +328,6 @@ less v w acts bus n i x e =
     let low : i < length (slots_of v n) = past-length (turned_to (is_bus v) bus) x i (slots_of v n) e in
     omega (arith, same, low)
 
--- one more: of what is not zero
-pub one-less : (n : ℕ) → (n ≡ 0 → ⊥) → n ≡ suc (n - 1)
-one-less zero not_zero = absurd (not_zero refl)
-one-less (suc n) not_zero = omega arith
-
 -- the count over holds
 
 pub gone-under : (v : Objects) (n m levels : ℕ) → content_of v n ≡ None → nat_eq m n ≡ among (post_by (below_on v) (suc levels) n) m

@@ -13,25 +13,28 @@ use Rattle.qo_model.specs.References.{refs}
 use Rattle.qo_model.specs.Release.{edit, edited}
 use Rattle.qo_model.specs.SoundAliases.{is_clock_slot, is_open, lasting, PassesTo}
 use Rattle.qo_model.specs.SoundGraph.{Rises}
-use Rattle.qo_model.proofs.StepLemmas.{found_at}
+use Rattle.qo_model.proofs.StepLemmas.{found_at, one_of}
 use Rattle.qo_sound.proofs.RecordLemmas.{all-append, all-imply, sum-edited}
 use Rattle.qo_sound.proofs.SlotLemmas.{clocks_in, names_in, one_child}
 use Rattle.qo_sound.proofs.FirmLemmas.{Linked, HasNames, Firm, firm-edit}
-use Rattle.qo_sound.proofs.FinishLemmas.{one_of}
 use Rattle.qo_sound.proofs.WorkLemmas.{HasOwn, Nearly}
 use Rattle.qo_sound.proofs.CutLemmas.{near-edit}
 
 -- a name that differs from the others comes behind them
-pub distinct-push : (id : List ℕ) (names : List (List ℕ)) → IsDistinct bytes_eq names → AllByRecursion (λ name. bytes_eq name id ≡ false) names → IsDistinct bytes_eq (names ++ id ∷ [])
+pub distinct-push : (id : List ℕ) (names : List (List ℕ)) → IsDistinct bytes_eq names → AllByRecursion (λ name. bytes_eq name id ≡ false) names
+    → IsDistinct bytes_eq (names ++ id ∷ [])
 unfolding IsDistinct
 distinct-push id [] h k = (tt, tt)
 distinct-push id (name ∷ names) h k = (all-append (λ x. bytes_eq name x ≡ false) names (id ∷ []) h.0 (k.0, tt), distinct-push id names h.1 k.1)
 
-pub names-added : (name : List ℕ) (s : Slot) (r : Record) → AllByRecursion (λ x. bytes_eq x name ≡ false) (names_in r.slots) → HasNames r → HasNames (with_added name s r)
-names-added name s r free h = subst (IsDistinct bytes_eq) (sym (map-append (λ (x : List ℕ × Slot). x.0) r.slots ((name, s) ∷ []))) (distinct-push name (names_in r.slots) h free)
+pub names-added : (name : List ℕ) (s : Slot) (r : Record) → AllByRecursion (λ x. bytes_eq x name ≡ false) (names_in r.slots) → HasNames r
+    → HasNames (with_added name s r)
+names-added name s r free h =
+    subst (IsDistinct bytes_eq) (sym (map-append (λ (x : List ℕ × Slot). x.0) r.slots ((name, s) ∷ []))) (distinct-push name (names_in r.slots) h free)
 
 -- the clocks in slots stay where one more comes
-cons-more : (o : Option ℕ) (ns ms : List ℕ) → ((y : ℕ) → among ns y ≡ true → among ms y ≡ true) → (y : ℕ) → among (cons_option o ns) y ≡ true → among (cons_option o ms) y ≡ true
+cons-more : (o : Option ℕ) (ns ms : List ℕ) → ((y : ℕ) → among ns y ≡ true → among ms y ≡ true) → (y : ℕ) → among (cons_option o ns) y ≡ true
+    → among (cons_option o ms) y ≡ true
 cons-more None ns ms more y e = more y e
 cons-more (Some m) ns ms more y e = go (eqb y m) refl
   where
@@ -43,7 +46,8 @@ pub clocks-more : (x : List ℕ × Slot) (slots : List (List ℕ × Slot)) (y : 
 clocks-more x [] y e = cc
 clocks-more x (s ∷ slots) y e = go (is_clock_slot s) refl (clocks-more x slots)
   where
-    go : (t : Bool) → is_clock_slot s ≡ t → ((z : ℕ) → among (clocks_in slots) z ≡ true → among (clocks_in (slots ++ x ∷ [])) z ≡ true) → among (clocks_in (s ∷ slots ++ x ∷ [])) y ≡ true
+    go : (t : Bool) → is_clock_slot s ≡ t → ((z : ℕ) → among (clocks_in slots) z ≡ true → among (clocks_in (slots ++ x ∷ [])) z ≡ true)
+        → among (clocks_in (s ∷ slots ++ x ∷ [])) y ≡ true
     go true p rest = rw p (cons-more (child_of s.1) (clocks_in slots) (clocks_in (slots ++ x ∷ [])) rest y (rw p at e))
     go false p rest = rw p (rest y (rw p at e))
 
@@ -64,13 +68,21 @@ passes-more ns ms more (alias m name) h = more m h
 pub own-added : (name : List ℕ) (s : Slot) (r : Record) → PassesTo (lasting r) s → HasOwn r → HasOwn (with_added name s r)
 own-added name s r here h =
     all-append (λ (x : List ℕ × Slot). PassesTo (lasting (with_added name s r)) x.1) r.slots ((name, s) ∷ [])
-    (all-imply (λ (x : List ℕ × Slot). PassesTo (lasting r) x.1) (λ (x : List ℕ × Slot). PassesTo (lasting (with_added name s r)) x.1) (λ x k. passes-more (lasting r) (lasting (with_added name s r)) (lasting-more name s r) x.1 k) r.slots h)
+    (all-imply (λ (x : List ℕ × Slot). PassesTo (lasting r) x.1) (λ (x : List ℕ × Slot). PassesTo (lasting (with_added name s r)) x.1)
+    (λ x k. passes-more (lasting r) (lasting (with_added name s r)) (lasting-more name s r) x.1 k) r.slots h)
     (passes-more (lasting r) (lasting (with_added name s r)) (lasting-more name s r) s here, tt)
 
 -- a sum over the slots of all objects has one number more
-pub sum-added : (f : List ℕ × Slot → ℕ) (n : ℕ) (name : List ℕ) (s : Slot) (rs : List Record) → Rises (map (λ (r : Record). r.birth) rs) → (owner : Record) → found_at n rs ≡ Some owner → sum_by (λ (r : Record). sum_by f r.slots) (map (edited n (with_added name s)) rs) ≡ sum_by (λ (r : Record). sum_by f r.slots) rs + f (name, s)
+pub sum-added : (f : List ℕ × Slot → ℕ) (n : ℕ) (name : List ℕ) (s : Slot) (rs : List Record) → Rises (map (λ (r : Record). r.birth) rs) → (owner : Record)
+    → found_at n rs ≡ Some owner
+    → sum_by (λ (r : Record). sum_by f r.slots) (map (edited n (with_added name s)) rs) ≡ sum_by (λ (r : Record). sum_by f r.slots) rs + f (name, s)
 sum-added f n name s rs up owner found =
-    omega (arith, sum-edited (λ (r : Record). sum_by f r.slots) n (with_added name s) rs up owner found, sum_by-append f owner.slots ((name, s) ∷ []), sum_by-cons f (name, s) [])
+    omega (
+      arith,
+      sum-edited (λ (r : Record). sum_by f r.slots) n (with_added name s) rs up owner found,
+      sum_by-append f owner.slots ((name, s) ∷ []),
+      sum_by-cons f (name, s) [],
+    )
 
 -- a slot that names no child adds no parent and no child
 pub children-added : (name : List ℕ) (s : Slot) (slots : List (List ℕ × Slot)) → child_of s ≡ None → children_in (slots ++ (name, s) ∷ []) ≡ children_in slots
@@ -85,7 +97,9 @@ none-child x (weak t target) e = refl
 none-child x (alias m name) e = refl
 
 -- a slot more that names no child
-pub near-added : (o : Option ℕ) (b : Board) (n : ℕ) (name : List ℕ) (s : Slot) (owner : Record) → record_of b n ≡ Some owner → AllByRecursion (λ x. bytes_eq x name ≡ false) (names_in owner.slots) → child_of s ≡ None → Linked (kind_of b) s → PassesTo (lasting owner) s → Nearly o b → Nearly o (add n name s b)
+pub near-added : (o : Option ℕ) (b : Board) (n : ℕ) (name : List ℕ) (s : Slot) (owner : Record) → record_of b n ≡ Some owner
+    → AllByRecursion (λ x. bytes_eq x name ≡ false) (names_in owner.slots) → child_of s ≡ None → Linked (kind_of b) s → PassesTo (lasting owner) s → Nearly o b
+    → Nearly o (add n name s b)
 unfolding add
 near-added o b n name s owner found free none links passes h = near-edit n (with_added name s) (λ r. refl) (λ r. refl) o b firm owns more h
   where
@@ -97,7 +111,8 @@ near-added o b n name s owner found free none links passes h = near-edit n (with
         firm-edit n (with_added name s) (λ r. refl) (λ r. refl) b h.firm
         (λ r e k. names-added name s r (subst (λ (x : Record). AllByRecursion (λ y. bytes_eq y name ≡ false) (names_in x.slots)) (is r e) free) k)
         (λ r e k. all-append (λ (x : List ℕ × Slot). Linked (kind_of b) x.1) r.slots ((name, s) ∷ []) k (links, tt))
-        (λ x r. let nothing : one_child x (name, s) ≡ 0 = none-child x s none in omega (arith, nothing, sum_by-append (one_child x) r.slots ((name, s) ∷ []), sum_by-cons (one_child x) (name, s) []))
+        (λ x r. let nothing : one_child x (name, s) ≡ 0 = none-child x s none in
+        omega (arith, nothing, sum_by-append (one_child x) r.slots ((name, s) ∷ []), sum_by-cons (one_child x) (name, s) []))
         (λ r y e k. rw (children-added name s r.slots none) at k)
 
     owns : (r : Record) → record_of b n ≡ Some r → HasOwn r → HasOwn (with_added name s r)

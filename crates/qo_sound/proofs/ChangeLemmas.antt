@@ -15,13 +15,12 @@ use Rattle.qo_model.specs.Properties.{pointed_at, relinked}
 use Rattle.qo_model.specs.References.{refs, refs_in, holds_it}
 use Rattle.qo_model.specs.Release.{drop_slot, edit, edited, emptied, let_go, with_dropped, without_hold}
 use Rattle.qo_model.proofs.EditLemmas.{StandsAt, stands-at}
-use Rattle.qo_model.proofs.StepLemmas.{drop-live, drop-record, live-among}
+use Rattle.qo_model.proofs.StepLemmas.{drop-live, drop-record, live-among, found-birth, one_of}
 use Rattle.qo_model.specs.SoundAliases.{is_open, lasting, PassesTo}
 use Rattle.qo_sound.proofs.SlotLemmas.{clocks-changed, clocks-stay, IsNoClock, no_child}
-use Rattle.qo_sound.proofs.RecordLemmas.{all-edited, found-birth, sum-edited}
+use Rattle.qo_sound.proofs.RecordLemmas.{all-edited, sum-edited}
 use Rattle.qo_sound.proofs.SlotLemmas.{all-changed, all-dropped, child-pointed, sum-changed}
 use Rattle.qo_sound.proofs.FirmLemmas.{FitsKind, Linked, Firm, edited-births, edited-kinds, firm-drop, firm-changed}
-use Rattle.qo_sound.proofs.FinishLemmas.{one_of}
 use Rattle.qo_sound.proofs.WorkLemmas.{HasOwn, Nearly, after-firm, dropped-held}
 
 -- what passes on to objects does so where a slot was let go
@@ -33,10 +32,12 @@ left-passes ns (weak t target) left e h = subst (PassesTo ns) (same_Some (weak t
 left-passes ns (alias m property) left e h = subst (PassesTo ns) (same_Some (alias m property) left e) h
 
 own-dropped : (i : ℕ) (r : Record) → lasting (with_dropped i r) ≡ lasting r → HasOwn r → HasOwn (with_dropped i r)
-own-dropped i r same h = subst (λ (ns : List ℕ). AllByRecursion (λ (s : List ℕ × Slot). PassesTo ns s.1) (without_hold i r.slots)) (sym same) (all-dropped (PassesTo (lasting r)) (left-passes (lasting r)) i r.slots h)
+own-dropped i r same h = subst (λ (ns : List ℕ). AllByRecursion (λ (s : List ℕ × Slot). PassesTo ns s.1) (without_hold i r.slots)) (sym same)
+    (all-dropped (PassesTo (lasting r)) (left-passes (lasting r)) i r.slots h)
 
 -- a slot let go that takes no lasting child
-pub near-drop : (b : Board) (n i : ℕ) (s : Slot) → slot_at b n i ≡ Some s → ((r : Record) → record_of b n ≡ Some r → lasting (with_dropped i r) ≡ lasting r) → Nearly None b → Nearly (held s) (drop_slot b n i)
+pub near-drop : (b : Board) (n i : ℕ) (s : Slot) → slot_at b n i ≡ Some s → ((r : Record) → record_of b n ≡ Some r → lasting (with_dropped i r) ≡ lasting r)
+    → Nearly None b → Nearly (held s) (drop_slot b n i)
 unfolding drop_slot
 near-drop b n i s e lasts h =
     record {
@@ -59,21 +60,24 @@ open-last b n i wide r e =
     rw here refl
 
 -- a link takes no child, and a slot of another name not the clock
-pub other-lasts : (b : Board) (n i : ℕ) → ((r : Record) (s : List ℕ × Slot) → record_of b n ≡ Some r → slice_get r.slots i ≡ Some s → IsNoClock s) → (s : Slot) → slot_at b n i ≡ Some s → (r : Record) → record_of b n ≡ Some r → lasting (with_dropped i r) ≡ lasting r
+pub other-lasts : (b : Board) (n i : ℕ) → ((r : Record) (s : List ℕ × Slot) → record_of b n ≡ Some r → slice_get r.slots i ≡ Some s → IsNoClock s) → (s : Slot)
+    → slot_at b n i ≡ Some s → (r : Record) → record_of b n ≡ Some r → lasting (with_dropped i r) ≡ lasting r
 other-lasts b n i other s e r q =
     let here : StandsAt b n i s = stands-at b n i s e in
     let is : here.owner ≡ r = same_Some here.owner r (sym here.found ∙ q) in
     let place : slice_get r.slots i ≡ Some here.entry = subst (λ (x : Record). slice_get x.slots i ≡ Some here.entry) is here.at in
     ap (λ (ns : List ℕ). cond (is_open r.birth) [] ns) (clocks-stay i r.slots here.entry place (other r here.entry q place))
 
-link-lasts : (b : Board) (n i : ℕ) (s : Slot) → slot_at b n i ≡ Some s → child_of s ≡ None → (r : Record) → record_of b n ≡ Some r → lasting (with_dropped i r) ≡ lasting r
+link-lasts : (b : Board) (n i : ℕ) (s : Slot) → slot_at b n i ≡ Some s → child_of s ≡ None → (r : Record) → record_of b n ≡ Some r
+    → lasting (with_dropped i r) ≡ lasting r
 link-lasts b n i s e none r q =
     let here : StandsAt b n i s = stands-at b n i s e in
     let is : here.owner ≡ r = same_Some here.owner r (sym here.found ∙ q) in
     let place : slice_get r.slots i ≡ Some here.entry = subst (λ (x : Record). slice_get x.slots i ≡ Some here.entry) is here.at in
     ap (λ (ns : List ℕ). cond (is_open r.birth) [] ns) (clocks-stay i r.slots here.entry place (no_child (ap child_of here.is ∙ none)))
 
-pub near-let_go : (b : Board) (n i : ℕ) → ((s : Slot) → slot_at b n i ≡ Some s → (r : Record) → record_of b n ≡ Some r → lasting (with_dropped i r) ≡ lasting r) → Nearly None b → Nearly None (let_go b n i)
+pub near-let_go : (b : Board) (n i : ℕ) → ((s : Slot) → slot_at b n i ≡ Some s → (r : Record) → record_of b n ≡ Some r → lasting (with_dropped i r) ≡ lasting r)
+    → Nearly None b → Nearly None (let_go b n i)
 unfolding let_go
 near-let_go b n i lasts h = go (slot_at b n i) refl
   where
@@ -94,28 +98,39 @@ pub record IsGentle (g : Slot → Slot) : Type 0 where
   pub passes : (ns : List ℕ) (s : Slot) → PassesTo ns s → PassesTo ns (g s)
 
 own-changed : (g : Slot → Slot) → IsGentle g → (i : ℕ) (r : Record) → HasOwn r → HasOwn (with_changed g i r)
-own-changed g gentle i r h = subst (λ (ns : List ℕ). AllByRecursion (λ (s : List ℕ × Slot). PassesTo ns s.1) (changed_at g i r.slots)) (sym same) (all-changed (PassesTo (lasting r)) g i r.slots (λ s e k. gentle.passes (lasting r) s.1 k) h)
+own-changed g gentle i r h = subst (λ (ns : List ℕ). AllByRecursion (λ (s : List ℕ × Slot). PassesTo ns s.1) (changed_at g i r.slots)) (sym same)
+    (all-changed (PassesTo (lasting r)) g i r.slots (λ s e k. gentle.passes (lasting r) s.1 k) h)
   where
     same : lasting (with_changed g i r) ≡ lasting r
     same = ap (λ (ns : List ℕ). cond (is_open r.birth) [] ns) (clocks-changed g gentle.children i r.slots)
 
 -- no object loses a reference
-changed-refs : (g : Slot → Slot) (b : Board) → Firm b → (n i : ℕ) (s : Slot) → slot_at b n i ≡ Some s → (k : ℕ) → one_of k ([], s) ≤ one_of k ([], g s) → refs b k ≤ refs (edit n (with_changed g i) b) k
+changed-refs : (g : Slot → Slot) (b : Board) → Firm b → (n i : ℕ) (s : Slot) → slot_at b n i ≡ Some s → (k : ℕ) → one_of k ([], s) ≤ one_of k ([], g s)
+    → refs b k ≤ refs (edit n (with_changed g i) b) k
 changed-refs g b h n i s e k more =
     let here : StandsAt b n i s = stands-at b n i s e in
     let rises : one_of k here.entry ≤ one_of k (here.entry.0, g here.entry.1) = rw here.is more in
-    omega (arith, rises, sum-changed (one_of k) g i here.owner.slots here.entry here.at, sum-edited (refs_in k) n (with_changed g i) b.records h.rising here.owner here.found)
+    omega (
+      arith,
+      rises,
+      sum-changed (one_of k) g i here.owner.slots here.entry here.at,
+      sum-edited (refs_in k) n (with_changed g i) b.records h.rising here.owner here.found,
+    )
 
-pub near-changed : (g : Slot → Slot) → IsGentle g → (o : Option ℕ) (b : Board) (n i : ℕ) (s : Slot) → slot_at b n i ≡ Some s → (Linked (kind_of b) s → Linked (kind_of b) (g s)) → ((k : ℕ) → one_of k ([], s) ≤ one_of k ([], g s)) → Nearly o b → Nearly o (edit n (with_changed g i) b)
+pub near-changed : (g : Slot → Slot) → IsGentle g → (o : Option ℕ) (b : Board) (n i : ℕ) (s : Slot) → slot_at b n i ≡ Some s
+    → (Linked (kind_of b) s → Linked (kind_of b) (g s)) → ((k : ℕ) → one_of k ([], s) ≤ one_of k ([], g s)) → Nearly o b
+    → Nearly o (edit n (with_changed g i) b)
 near-changed g gentle o b n i s e fits more h =
     record {
-      firm = firm-changed g gentle.children b n i (λ x q. subst (λ (y : Slot). Linked (kind_of b) y → Linked (kind_of b) (g y)) (same_Some s x (sym e ∙ q)) fits) h.firm;
+      firm = firm-changed g gentle.children b n i
+          (λ x q. subst (λ (y : Slot). Linked (kind_of b) y → Linked (kind_of b) (g y)) (same_Some s x (sym e ∙ q)) fits) h.firm;
       aliases = all-edited HasOwn HasOwn n (with_changed g i) b.records h.firm.rising (λ r p k. k) (λ r q k. own-changed g gentle i r k) h.aliases;
       used = λ m there none. h.used m (same-live m ∙ there) (omega (arith, none, changed-refs g b h.firm n i s e m (more m)));
     }
   where
     same-live : (m : ℕ) → is_live b m ≡ is_live (edit n (with_changed g i) b) m
-    same-live m = live-among b m ∙ ap (λ (ns : List ℕ). among ns m) (sym (edited-births n (with_changed g i) (λ r. refl) (λ r. refl) b.records)) ∙ sym (live-among (edit n (with_changed g i) b) m)
+    same-live m = live-among b m ∙ ap (λ (ns : List ℕ). among ns m) (sym (edited-births n (with_changed g i) (λ r. refl) (λ r. refl) b.records))
+        ∙ sym (live-among (edit n (with_changed g i) b) m)
 
 gentle-pointed : (m : ℕ) → IsGentle (pointed m)
 gentle-pointed m = record { children = child-pointed m; passes = passes }
@@ -154,10 +169,13 @@ pub emptied-at : (b : Board) (n i : ℕ) (s left : Slot) → slot_at b n i ≡ S
 emptied-at b n i s left e leaves =
     let here : StandsAt b n i s = stands-at b n i s e in
     let own : (here.owner.birth == n) ≡ true = eq-eqb here.owner.birth n (found-birth n b.records here.owner here.found) in
-    let slots : slots_at (drop_slot b n i) n ≡ without_hold i here.owner.slots = ap (λ (o : Option Record). option_map_or (λ (r : Record). r.slots) o []) (drop-record b n i n ∙ ap (option_map (edited n (with_dropped i))) here.found) ∙ rw (edited, own) refl in
-    ap (λ (x : List (List ℕ × Slot)). option_map (λ (y : List ℕ × Slot). y.1) (slice_get x i)) slots ∙ at_place i here.owner.slots here.entry here.at (ap emptied here.is ∙ leaves)
+    let slots : slots_at (drop_slot b n i) n ≡ without_hold i here.owner.slots = ap (λ (o : Option Record). option_map_or (λ (r : Record). r.slots) o [])
+    (drop-record b n i n ∙ ap (option_map (edited n (with_dropped i))) here.found) ∙ rw (edited, own) refl in
+    ap (λ (x : List (List ℕ × Slot)). option_map (λ (y : List ℕ × Slot). y.1) (slice_get x i)) slots
+    ∙ at_place i here.owner.slots here.entry here.at (ap emptied here.is ∙ leaves)
   where
-    at_place : (j : ℕ) (slots : List (List ℕ × Slot)) (x : List ℕ × Slot) → slice_get slots j ≡ Some x → emptied x.1 ≡ Some left → option_map (λ (y : List ℕ × Slot). y.1) (slice_get (without_hold j slots) j) ≡ Some left
+    at_place : (j : ℕ) (slots : List (List ℕ × Slot)) (x : List ℕ × Slot) → slice_get slots j ≡ Some x → emptied x.1 ≡ Some left
+        → option_map (λ (y : List ℕ × Slot). y.1) (slice_get (without_hold j slots) j) ≡ Some left
     at_place j [] x q k = cc
     at_place zero (y ∷ slots) x q k =
         let is : emptied y.1 ≡ Some left = ap (λ (z : List ℕ × Slot). emptied z.1) (same_Some y x q) ∙ k in
@@ -170,20 +188,28 @@ pub data IsLink (t : TypeId) : Slot → Type 0 where
   seeing : (target : Option ℕ) → IsLink t (weak t target)
 
 -- a link that was let go points at an object of its type
-pointed-drop : (b : Board) (n i : ℕ) (t : TypeId) (s left : Slot) (m : ℕ) → slot_at b n i ≡ Some s → emptied s ≡ Some left → held left ≡ None → (FitsKind (kind_of b) t (Some m) → Linked (kind_of b) (pointed m left)) → FitsKind (kind_of b) t (Some m) → Nearly (held s) (drop_slot b n i) → Nearly (held s) (point n i m (drop_slot b n i))
+pointed-drop : (b : Board) (n i : ℕ) (t : TypeId) (s left : Slot) (m : ℕ) → slot_at b n i ≡ Some s → emptied s ≡ Some left → held left ≡ None
+    → (FitsKind (kind_of b) t (Some m) → Linked (kind_of b) (pointed m left)) → FitsKind (kind_of b) t (Some m) → Nearly (held s) (drop_slot b n i)
+    → Nearly (held s) (point n i m (drop_slot b n i))
 unfolding drop_slot point
 pointed-drop b n i t s left m e leaves empty links fits h =
-    near-changed (pointed m) (gentle-pointed m) (held s) (drop_slot b n i) n i left (emptied-at b n i s left e leaves) (λ old. subst (λ (kinds : ℕ → Option TypeId). Linked kinds (pointed m left)) (sym (edited-kinds n (with_dropped i) (λ r. refl) (λ r. refl) b)) (links fits)) (λ k. omega (arith, none k)) h
+    near-changed (pointed m) (gentle-pointed m) (held s) (drop_slot b n i) n i left (emptied-at b n i s left e leaves) (λ old.
+    subst (λ (kinds : ℕ → Option TypeId). Linked kinds (pointed m left)) (sym (edited-kinds n (with_dropped i) (λ r. refl) (λ r. refl) b)) (links fits))
+    (λ k. omega (arith, none k)) h
   where
     none : (k : ℕ) → one_of k ([], left) ≡ 0
     none k = rw (holds_it, empty) refl
 
 -- a link is written: its new target fits
-pub near-relinked : (b : Board) (n i : ℕ) (t : TypeId) (s : Slot) → IsLink t s → slot_at b n i ≡ Some s → (target : Option ℕ) → FitsKind (kind_of b) t target → Nearly None b → Nearly None (relinked b n i target)
+pub near-relinked : (b : Board) (n i : ℕ) (t : TypeId) (s : Slot) → IsLink t s → slot_at b n i ≡ Some s → (target : Option ℕ) → FitsKind (kind_of b) t target
+    → Nearly None b → Nearly None (relinked b n i target)
 near-relinked b n i t s link e target fits h = rw (relinked, e) (after-firm (pointed_at target n i (drop_slot b n i)) (held s) (go t s link target fits e))
   where
-    go : (u : TypeId) (x : Slot) → IsLink u x → (to : Option ℕ) → FitsKind (kind_of b) u to → slot_at b n i ≡ Some x → Nearly (held x) (pointed_at to n i (drop_slot b n i))
+    go : (u : TypeId) (x : Slot) → IsLink u x → (to : Option ℕ) → FitsKind (kind_of b) u to → slot_at b n i ≡ Some x
+        → Nearly (held x) (pointed_at to n i (drop_slot b n i))
     go u x (holding old) None k q = near-drop b n i (strong u old) q (link-lasts b n i (strong u old) q refl) h
     go u x (seeing old) None k q = near-drop b n i (weak u old) q (link-lasts b n i (weak u old) q refl) h
-    go u x (holding old) (Some m) k q = pointed-drop b n i u (strong u old) (strong u None) m q refl refl (λ f. f) k (near-drop b n i (strong u old) q (link-lasts b n i (strong u old) q refl) h)
-    go u x (seeing old) (Some m) k q = pointed-drop b n i u (weak u old) (weak u None) m q refl refl (λ f. f) k (near-drop b n i (weak u old) q (link-lasts b n i (weak u old) q refl) h)
+    go u x (holding old) (Some m) k q = pointed-drop b n i u (strong u old) (strong u None) m q refl refl (λ f. f) k
+        (near-drop b n i (strong u old) q (link-lasts b n i (strong u old) q refl) h)
+    go u x (seeing old) (Some m) k q =
+        pointed-drop b n i u (weak u old) (weak u None) m q refl refl (λ f. f) k (near-drop b n i (weak u old) q (link-lasts b n i (weak u old) q refl) h)

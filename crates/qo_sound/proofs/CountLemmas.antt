@@ -65,7 +65,8 @@ distinct-times (n ∷ ns) h = (apart n ns none, distinct-times ns (λ x. omega (
 times-children : (x : ℕ) (slots : List (List ℕ × Slot)) → times x (children_in slots) ≡ sum_by (one_child x) slots
 times-children x [] = refl
 times-children x ((name, plain v) ∷ slots) = omega (arith, times-children x slots, sum_by-cons (one_child x) (name, plain v) slots)
-times-children x ((name, child m) ∷ slots) = omega (arith, times-children x slots, sum_by-cons (one_child x) (name, child m) slots, sum_by-cons (one_at x) m (children_in slots))
+times-children x ((name, child m) ∷ slots) =
+    omega (arith, times-children x slots, sum_by-cons (one_child x) (name, child m) slots, sum_by-cons (one_at x) m (children_in slots))
 times-children x ((name, strong t target) ∷ slots) = omega (arith, times-children x slots, sum_by-cons (one_child x) (name, strong t target) slots)
 times-children x ((name, weak t target) ∷ slots) = omega (arith, times-children x slots, sum_by-cons (one_child x) (name, weak t target) slots)
 times-children x ((name, alias m property) ∷ slots) = omega (arith, times-children x slots, sum_by-cons (one_child x) (name, alias m property) slots)
@@ -76,11 +77,20 @@ all_children rs = flat_map (λ (r : Record). children_in r.slots) rs
 times-all : (x : ℕ) (rs : List Record) → times x (all_children rs) ≡ sum_by (parents_in x) rs
 times-all x [] = refl
 times-all x (r ∷ rs) =
-    let apart : times x (all_children (r ∷ rs)) ≡ times x (children_in r.slots ++ all_children rs) = ap (times x) (flat_map-cons (λ (y : Record). children_in y.slots) r rs) in
-    omega (arith, apart, times-all x rs, times-children x r.slots, sum_by-append (one_at x) (children_in r.slots) (all_children rs), sum_by-cons (parents_in x) r rs)
+    let apart : times x (all_children (r ∷ rs)) ≡ times x (children_in r.slots ++ all_children rs) =
+    ap (times x) (flat_map-cons (λ (y : Record). children_in y.slots) r rs) in
+    omega (
+      arith,
+      apart,
+      times-all x rs,
+      times-children x r.slots,
+      sum_by-append (one_at x) (children_in r.slots) (all_children rs),
+      sum_by-cons (parents_in x) r rs,
+    )
 
 pub parents-from_distinct : (rs : List Record) → IsDistinct nat_eq (flat_map (λ (r : Record). children_in r.slots) rs) → (x : ℕ) → sum_by (parents_in x) rs ≤ 1
 parents-from_distinct rs h x = omega (arith, times-all x rs, times-distinct (all_children rs) h x)
 
-pub distinct-from_parents : (rs : List Record) → ((x : ℕ) → sum_by (parents_in x) rs ≤ 1) → IsDistinct nat_eq (flat_map (λ (r : Record). children_in r.slots) rs)
+pub distinct-from_parents : (rs : List Record) → ((x : ℕ) → sum_by (parents_in x) rs ≤ 1)
+    → IsDistinct nat_eq (flat_map (λ (r : Record). children_in r.slots) rs)
 distinct-from_parents rs h = distinct-times (all_children rs) (λ x. omega (arith, times-all x rs, h x))

@@ -12,8 +12,9 @@ use Rattle.qo_model.specs.Devices.{bus_of, buses_of, clock_of, kids_of}
 use Rattle.qo_model.specs.Objects.{place_from}
 use Rattle.qo_model.specs.Paths.{births}
 use Rattle.qo_model.specs.Release.{after, drop_slot, finalise, let_go, pin, put_in_order, unpin, with_dropped, without_first}
-use Rattle.qo_model.specs.Unplug.{apart_within, detach, disconnected, drained, each, first_of, is_bus_slot, is_child_slot, is_named, left_bus, left_parent, let_go_where, lost_bus, lost_buses, unseen, unseen_named, names_kid, take_slot, take_where, taken_by, unheld, unnoticed, unrealize, unrealize_turn, unrealized_bus, unrealized_device, without_all}
+use Rattle.qo_model.specs.Unplug.{apart_within, detach, disconnected, drained, each, is_bus_slot, is_child_slot, is_named, left_bus, left_parent, let_go_where, lost_bus, lost_buses, unseen, unseen_named, names_kid, take_slot, take_where, taken_by, unheld, unnoticed, unrealize, unrealize_turn, unrealized_bus, unrealized_device, without_all}
 use Rattle.qo_sound.proofs.MakeStepsLemmas.{KeepsActs, KeepsEdits, step-set}
+use Rattle.qo_sound.proofs.UnplugLemmas.{held-drained, held-buses}
 
 -- other holds, pending removals and notices keep P
 abbrev pub KeepsLists : (Board → Type 0) → Type 0
@@ -131,23 +132,13 @@ module _ (P : Board → Type 0) (edits : KeepsEdits P) (pins : KeepsPins P) (end
 
   module _ (f : ℕ → Board → Board) (keeps : (n : ℕ) (c : Board) → P c → P (f n c)) where
     step-drained : (times m : ℕ) (c : Board) → P c → P (drained f times m c)
-    step-drained zero m c h = h
-    step-drained (suc times) m c h = go (first_of (kids_of c m)) refl (step-drained times m)
-      where
-        go : (o : Option ℕ) → first_of (kids_of c m) ≡ o → ((e : Board) → P e → P (drained f times m e)) → P (drained f (suc times) m c)
-        go None e rest = rw (drained, e) h
-        go (Some k) e rest = rw (drained, e) (rest (f k c) (keeps k c h))
+    step-drained times m c h = held-drained P f keeps times m c h
 
     step-lost_bus : (d m : ℕ) (c : Board) → P c → P (lost_bus f d m c)
     step-lost_bus d m c h = step-where (is_bus_slot m) d _ (step-drained (length (slots_at c m)) m c h)
 
     step-lost_buses : (times d : ℕ) (c : Board) → P c → P (lost_buses f times d c)
-    step-lost_buses zero d c h = h
-    step-lost_buses (suc times) d c h = go (first_of (buses_of c d)) refl (step-lost_buses times d)
-      where
-        go : (o : Option ℕ) → first_of (buses_of c d) ≡ o → ((e : Board) → P e → P (lost_buses f times d e)) → P (lost_buses f (suc times) d c)
-        go None e rest = rw (lost_buses, e) h
-        go (Some m) e rest = rw (lost_buses, e) (rest (lost_bus f d m c) (step-lost_bus d m c h))
+    step-lost_buses times d c h = held-buses P f d (step-lost_bus d) times c h
 
     step-taken : (d : ℕ) (c : Board) → P c → P (taken_by f d c)
     step-taken d c h = step-left_parent d _ (step-left_bus d _ (step-lost_buses (length (slots_at c d)) d c h))

@@ -16,7 +16,7 @@ use Rattle.qo_model.specs.Stays.{Stays}
 use Rattle.qo_model.specs.Types.{TypeRow, row_named, slots_of}
 use Rattle.qo_model.specs.Unplug.{detach}
 use Rattle.qo_model.proofs.ReleaseLeavesLemmas.{release_leaves}
-use Rattle.qo_model.proofs.StaysLemmas.{stays-none}
+use Rattle.qo_model.proofs.StaysLemmas.{stays-none, stays-then}
 use Rattle.qo_sound.specs.DevicesStay.{AddLeaves, anonymous_behind, AttemptLeaves, DetachLeaves, DevicesStayLaw}
 use Rattle.qo_sound.proofs.MakeStepsLemmas.{all-any, any-rows, KeepsActs, KeepsEdits, KeepsNew, step-acted_all, step-drafted, step-plugged, step-stood}
 use Rattle.qo_sound.proofs.DetachStepsLemmas.{KeepsLists, KeepsPins, step-detach, step-pin, step-unrealize}
@@ -26,18 +26,6 @@ use Rattle.qo_sound.proofs.ResetLemmas.{held-leaves, pulse-leaves, released-leav
 
 attempt-none : (b : Board) → AttemptLeaves b b
 attempt-none b = record { stays = stays-none b; events = refl }
-
-stays-then : (b c d : Board) → Stays b c → Stays c d → Stays b d
-stays-then b c d h k =
-    record {
-      anonymous = k.anonymous ∙ h.anonymous;
-      now = k.now ∙ h.now;
-      running = k.running ∙ h.running;
-      holds = k.holds ∙ h.holds;
-      pending = k.pending ∙ h.pending;
-      notices = k.notices ∙ h.notices;
-      rings = k.rings ∙ h.rings;
-    }
 
 attempt-then : (b c d : Board) → Stays c d → d.events ≡ c.events → AttemptLeaves b c → AttemptLeaves b d
 attempt-then b c d stays events h = record { stays = stays-then b c d h.stays stays; events = events ∙ h.events }

@@ -29,8 +29,9 @@ use Rattle.qo_model.specs.RowNames.{property_name}
 use Rattle.qo_model.specs.declared.properties.Property.{Property}
 use Rattle.qo_model.specs.declared.properties.RowKind.{RowKind}
 use Rattle.qo_model.specs.declared.properties.RowKind.TheVariants as row
-use Rattle.qo_model.proofs.StepLemmas.{found_at, found-edited}
-use Rattle.qo_sound.proofs.RecordLemmas.{births_at, all-append, found-birth}
+use Rattle.qo_model.proofs.GraphLemmas.{births_at}
+use Rattle.qo_model.proofs.StepLemmas.{found_at, found-edited, found-birth}
+use Rattle.qo_sound.proofs.RecordLemmas.{all-append}
 use Rattle.qo_sound.proofs.SlotLemmas.{clocks_in, names_in, one_child}
 use Rattle.qo_sound.proofs.FirmLemmas.{Linked, parents_of, edited-leads}
 use Rattle.qo_sound.proofs.FreshLemmas.{fresh-names, new-lone}
@@ -47,7 +48,15 @@ held_up n b = record b { pins = n ∷ b.pins }
 pub near-held_up : (n : ℕ) (b : Board) → Nearly (Some n) b → Nearly None (held_up n b)
 near-held_up n b h =
     record {
-      firm = record { rising = h.firm.rising; within = h.firm.within; begun = h.firm.begun; named = h.firm.named; linked = h.firm.linked; one_parent = h.firm.one_parent; none_round = h.firm.none_round };
+      firm = record {
+        rising = h.firm.rising;
+        within = h.firm.within;
+        begun = h.firm.begun;
+        named = h.firm.named;
+        linked = h.firm.linked;
+        one_parent = h.firm.one_parent;
+        none_round = h.firm.none_round;
+      };
       aliases = h.aliases;
       used = used;
     }
@@ -67,7 +76,15 @@ near-held_up n b h =
 pub near-let_down : (n : ℕ) (b : Board) → Nearly None (held_up n b) → Nearly (Some n) b
 near-let_down n b h =
     record {
-      firm = record { rising = h.firm.rising; within = h.firm.within; begun = h.firm.begun; named = h.firm.named; linked = h.firm.linked; one_parent = h.firm.one_parent; none_round = h.firm.none_round };
+      firm = record {
+        rising = h.firm.rising;
+        within = h.firm.within;
+        begun = h.firm.begun;
+        named = h.firm.named;
+        linked = h.firm.linked;
+        one_parent = h.firm.one_parent;
+        none_round = h.firm.none_round;
+      };
       aliases = h.aliases;
       used = used;
     }
@@ -79,7 +96,8 @@ near-let_down n b h =
         go true p = ap Some (eqb-true n m p)
         go false p =
             let zero_here : cond {A = ℕ} (n == m) 1 0 ≡ 0 = rw p refl in
-            absurd (let clash : None ≡ Some m = h.used m there (omega (arith, none, zero_here, sum_by-cons (λ (k : ℕ). cond {A = ℕ} (k == m) 1 0) n b.pins)) in cc)
+            absurd (let clash : None ≡ Some m = h.used m there (omega (arith, none, zero_here, sum_by-cons (λ (k : ℕ). cond {A = ℕ} (k == m) 1 0) n b.pins)) in
+            cc)
 
 -- a strong link that is empty, or another slot
 abbrev pub HoldsNone : Slot → Type 0
@@ -121,12 +139,14 @@ free-more name s slots (p ∷ ps) h k = (
 )
 
 -- the object that was changed, and the others
-own-record : (n : ℕ) (change : Record → Record) → ((r : Record) → (change r).birth ≡ r.birth) → (rs : List Record) (owner : Record) → found_at n rs ≡ Some owner → found_at n (map (edited n change) rs) ≡ Some (change owner)
+own-record : (n : ℕ) (change : Record → Record) → ((r : Record) → (change r).birth ≡ r.birth) → (rs : List Record) (owner : Record) → found_at n rs ≡ Some owner
+    → found_at n (map (edited n change) rs) ≡ Some (change owner)
 own-record n change same rs owner e =
     let own : (owner.birth == n) ≡ true = eq-eqb owner.birth n (found-birth n rs owner e) in
     found-edited n change same n rs ∙ ap (option_map (edited n change)) e ∙ rw (edited, own) refl
 
-pub other-record : (n : ℕ) (change : Record → Record) → ((r : Record) → (change r).birth ≡ r.birth) → (rs : List Record) (x : ℕ) (r : Record) → (x == n) ≡ false → found_at x rs ≡ Some r → found_at x (map (edited n change) rs) ≡ Some r
+pub other-record : (n : ℕ) (change : Record → Record) → ((r : Record) → (change r).birth ≡ r.birth) → (rs : List Record) (x : ℕ) (r : Record) → (x == n) ≡ false
+    → found_at x rs ≡ Some r → found_at x (map (edited n change) rs) ≡ Some r
 other-record n change same rs x r apart e =
     let own : (r.birth == n) ≡ false = ap (λ (k : ℕ). k == n) (found-birth x rs r e) ∙ apart in
     found-edited n change same x rs ∙ ap (option_map (edited n change)) e ∙ rw (edited, own) refl
@@ -141,7 +161,8 @@ found-low k x (y ∷ rs) r h e = go (y.birth == x) refl (found-low k x rs r h.1)
     go false p rest = rest (rw p at e)
 
 -- the child of the clock's name is among the clocks
-clock-found : (slots : List (List ℕ × Slot)) (m : ℕ) → option_and_then child_named (option_map (λ (s : List ℕ × Slot). s.1) (find is_clock_slot slots)) ≡ Some m → among (clocks_in slots) m ≡ true
+clock-found : (slots : List (List ℕ × Slot)) (m : ℕ) → option_and_then child_named (option_map (λ (s : List ℕ × Slot). s.1) (find is_clock_slot slots)) ≡ Some m
+    → among (clocks_in slots) m ≡ true
 clock-found [] m e = absurd (let clash : None ≡ Some m = e in cc)
 clock-found (s ∷ slots) m e = go (is_clock_slot s) refl (clock-found slots m)
   where
@@ -152,7 +173,9 @@ clock-found (s ∷ slots) m e = go (is_clock_slot s) refl (clock-found slots m)
     first (weak t target) k = absurd (let clash : None ≡ Some m = k in cc)
     first (alias j name) k = absurd (let clash : None ≡ Some m = k in cc)
 
-    go : (t : Bool) → is_clock_slot s ≡ t → (option_and_then child_named (option_map (λ (x : List ℕ × Slot). x.1) (find is_clock_slot slots)) ≡ Some m → among (clocks_in slots) m ≡ true) → among (clocks_in (s ∷ slots)) m ≡ true
+    go : (t : Bool) → is_clock_slot s ≡ t
+        → (option_and_then child_named (option_map (λ (x : List ℕ × Slot). x.1) (find is_clock_slot slots)) ≡ Some m → among (clocks_in slots) m ≡ true)
+        → among (clocks_in (s ∷ slots)) m ≡ true
     go true p rest = rw p (first s.1 (rw p at e))
     go false p rest = rw p (rest (rw p at e))
 
@@ -240,8 +263,10 @@ module _ (b : Board) (n : ℕ) (t : TypeId) (absent : record_of b n ≡ None) (n
             found = grown-old c k notes h.near.firm new n h.owner h.found;
             free_name = h.free.0;
             there = ap (λ (x : Option Record). is_some (option_map (λ (y : Record). y.kind) x)) (grown-new c k notes h.near.firm new);
-            no_parent = grown-parents c k notes h.near.firm new (c.born + 1) ∙ absent-parents (kind_of c) (c.born + 1) (ap (option_map (λ (y : Record). y.kind)) (new-absent c k notes h.near.firm new)) c.records h.near.firm.linked;
-            none_back = leads-first (children_of g) (ap (λ (x : Option Record). children_in (option_map_or (λ (y : Record). y.slots) x [])) (grown-new c k notes h.near.firm new) ∙ children-none c k.slots (new-lone c of));
+            no_parent = grown-parents c k notes h.near.firm new (c.born + 1) ∙ absent-parents (kind_of c) (c.born + 1)
+                (ap (option_map (λ (y : Record). y.kind)) (new-absent c k notes h.near.firm new)) c.records h.near.firm.linked;
+            none_back = leads-first (children_of g) (ap (λ (x : Option Record). children_in (option_map_or (λ (y : Record). y.slots) x []))
+                (grown-new c k notes h.near.firm new) ∙ children-none c k.slots (new-lone c of));
             apart = grind (arith, low);
           }
 
@@ -277,7 +302,8 @@ module _ (b : Board) (n : ℕ) (t : TypeId) (absent : record_of b n ≡ None) (n
       named = ap (owned c n) (sym ((bytes_eq-Decides owner (codes "clk")).0 clock)) ∙ e
 
       in_slots : option_and_then child_named (option_map (λ (s : List ℕ × Slot). s.1) (find is_clock_slot h.owner.slots)) ≡ Some m
-      in_slots = sym (ap (λ (o : Option Record). option_and_then child_named (option_map (λ (s : List ℕ × Slot). s.1) (find is_clock_slot (option_map_or (λ (r : Record). r.slots) o [])))) h.found) ∙ named
+      in_slots = sym (ap (λ (o : Option Record). option_and_then child_named
+          (option_map (λ (s : List ℕ × Slot). s.1) (find is_clock_slot (option_map_or (λ (r : Record). r.slots) o [])))) h.found) ∙ named
 
       passes : among (lasting h.owner) m ≡ true
       passes =
@@ -357,7 +383,8 @@ drafts-begun b t h =
       clocked = row-clocks t;
       empty = tt;
       old = grown-old b k notes h.firm new;
-      alone = grown-parents b k notes h.firm new (b.born + 1) ∙ absent-parents (kind_of b) (b.born + 1) (ap (option_map (λ (y : Record). y.kind)) (new-absent b k notes h.firm new)) b.records h.firm.linked;
+      alone = grown-parents b k notes h.firm new (b.born + 1)
+          ∙ absent-parents (kind_of b) (b.born + 1) (ap (option_map (λ (y : Record). y.kind)) (new-absent b k notes h.firm new)) b.records h.firm.linked;
       upward = up;
     }
   where
@@ -380,8 +407,10 @@ drafts-begun b t h =
         before = grown-leads b k notes h.firm new x y e
 
         go : (o : Option Record) → record_of b x ≡ o → b.born + 1 < y
-        go None q = absurd (let clash : false ≡ true = sym (ap (λ (o : Option Record). among (children_in (option_map_or (λ (z : Record). z.slots) o [])) y) q) ∙ before in cc)
-        go (Some r) q = absurd (let high : x ≤ b.born = found-low b.born x b.records r h.firm.within q in let clash : 0 < 0 = omega (arith, high, le) in omega arith)
+        go None q = absurd
+            (let clash : false ≡ true = sym (ap (λ (o : Option Record). among (children_in (option_map_or (λ (z : Record). z.slots) o [])) y) q) ∙ before in cc)
+        go (Some r) q =
+            absurd (let high : x ≤ b.born = found-low b.born x b.records r h.firm.within q in let clash : 0 < 0 = omega (arith, high, le) in omega arith)
 
 -- a board with other pins
 abbrev pub with_pins : List ℕ → Board → Board
@@ -428,11 +457,13 @@ rows-held_up n t ps c = rows-blind (n ∷ c.pins) n t ps c ∙ ap (λ (q : List 
 -- the device as it is made, still held
 pub drafted-drafts : (b : Board) (t : TypeId) → is_open (b.born + 1) ≡ false → Nearly None b → Drafts b (b.born + 1) t [] (held_up (b.born + 1) (drafted b t))
 drafted-drafts b t not_open h =
-    subst (Drafts b (b.born + 1) t []) (rows-held_up (b.born + 1) t (slots_of t) (with_new (fresh (b.born + 1) t) b)) (drafts-rows b (b.born + 1) t absent not_open (slots_of t) (held_up (b.born + 1) (with_new (fresh (b.born + 1) t) b)) (drafts-begun b t h))
+    subst (Drafts b (b.born + 1) t []) (rows-held_up (b.born + 1) t (slots_of t) (with_new (fresh (b.born + 1) t) b))
+    (drafts-rows b (b.born + 1) t absent not_open (slots_of t) (held_up (b.born + 1) (with_new (fresh (b.born + 1) t) b)) (drafts-begun b t h))
   where
     absent : record_of b (b.born + 1) ≡ None
     absent = go (record_of b (b.born + 1)) refl
       where
         go : (o : Option Record) → record_of b (b.born + 1) ≡ o → record_of b (b.born + 1) ≡ None
         go None e = e
-        go (Some r) e = absurd (let high : b.born + 1 ≤ b.born = found-low b.born (b.born + 1) b.records r h.firm.within e in let clash : 0 < 0 = omega (arith, high) in omega arith)
+        go (Some r) e = absurd (let high : b.born + 1 ≤ b.born = found-low b.born (b.born + 1) b.records r h.firm.within e in
+            let clash : 0 < 0 = omega (arith, high) in omega arith)

@@ -9,10 +9,8 @@ use Rattle.qo_model.specs.Board.{Board, Record, Slot, plain, child, strong, weak
 use Rattle.qo_model.specs.References.{holds_it}
 use Rattle.qo_model.specs.Release.{edited, without_hold, with_dropped, drop_slot, next_place, forgotten_in, forgotten, finish}
 use Rattle.qo_model.proofs.EditLemmas.{held-forgotten, StandsAt, stands-at}
-use Rattle.qo_model.proofs.StepLemmas.{drop-record, finish-record, finish-gone}
-use Rattle.qo_sound.proofs.RecordLemmas.{found-birth}
+use Rattle.qo_model.proofs.StepLemmas.{drop-record, finish-record, finish-gone, found-birth, one_of}
 use Rattle.qo_sound.proofs.SlotLemmas.{each_slot}
-use Rattle.qo_sound.proofs.FinishLemmas.{one_of}
 
 -- the slots before a place hold nothing
 abbrev pub EmptyBefore : ℕ → List (List ℕ × Slot) → Type 0
@@ -38,7 +36,8 @@ next-behind (weak t target) i = refl
 next-behind (alias m property) i = refl
 
 -- behind a slot that was let go, those before the next place hold nothing
-pub empty-next : (i : ℕ) (slots : List (List ℕ × Slot)) (s : List ℕ × Slot) → slice_get slots i ≡ Some s → EmptyBefore i slots → EmptyBefore (next_place s.1 i) (without_hold i slots)
+pub empty-next : (i : ℕ) (slots : List (List ℕ × Slot)) (s : List ℕ × Slot) → slice_get slots i ≡ Some s → EmptyBefore i slots
+    → EmptyBefore (next_place s.1 i) (without_hold i slots)
 empty-next i [] s e h = cc
 empty-next zero (x ∷ slots) s e h = subst (λ (y : List ℕ × Slot). EmptyBefore (next_place y.1 zero) (without_hold zero (x ∷ slots))) (same_Some x s e) (go x)
   where
@@ -65,29 +64,35 @@ empty-all x (suc i) (s ∷ slots) e h =
 
 -- the slots of an object on boards
 pub empty-drop : (b : Board) (n i x j : ℕ) → EmptyBefore j (slots_at b x) → EmptyBefore j (slots_at (drop_slot b n i) x)
-empty-drop b n i x j h = subst (λ (o : Option Record). EmptyBefore j (option_map_or (λ (r : Record). r.slots) o [])) (sym (drop-record b n i x)) (go (record_of b x) h)
+empty-drop b n i x j h =
+    subst (λ (o : Option Record). EmptyBefore j (option_map_or (λ (r : Record). r.slots) o [])) (sym (drop-record b n i x)) (go (record_of b x) h)
   where
     at_record : (r : Record) (t : Bool) → (r.birth == n) ≡ t → EmptyBefore j r.slots → EmptyBefore j (edited n (with_dropped i) r).slots
     at_record r true p k = rw (edited, p) (empty-dropped j i r.slots k)
     at_record r false p k = rw (edited, p) k
 
-    go : (o : Option Record) → EmptyBefore j (option_map_or (λ (r : Record). r.slots) o []) → EmptyBefore j (option_map_or (λ (r : Record). r.slots) (option_map (edited n (with_dropped i)) o) [])
+    go : (o : Option Record) → EmptyBefore j (option_map_or (λ (r : Record). r.slots) o [])
+        → EmptyBefore j (option_map_or (λ (r : Record). r.slots) (option_map (edited n (with_dropped i)) o) [])
     go None k = k
     go (Some r) k = at_record r (r.birth == n) refl k
 
-pub empty-drop_next : (b : Board) (n i : ℕ) (s : Slot) → slot_at b n i ≡ Some s → EmptyBefore i (slots_at b n) → EmptyBefore (next_place s i) (slots_at (drop_slot b n i) n)
+pub empty-drop_next : (b : Board) (n i : ℕ) (s : Slot) → slot_at b n i ≡ Some s → EmptyBefore i (slots_at b n)
+    → EmptyBefore (next_place s i) (slots_at (drop_slot b n i) n)
 empty-drop_next b n i s e h =
     let at_place : StandsAt b n i s = stands-at b n i s e in
     let owner : Record = at_place.owner in
     let here : (owner.birth == n) ≡ true = eq-eqb owner.birth n (found-birth n b.records owner at_place.found) in
     let before : EmptyBefore i owner.slots = subst (λ (o : Option Record). EmptyBefore i (option_map_or (λ (r : Record). r.slots) o [])) at_place.found h in
-    let slots : slots_at (drop_slot b n i) n ≡ without_hold i owner.slots = ap (λ (o : Option Record). option_map_or (λ (r : Record). r.slots) o []) (drop-record b n i n ∙ ap (option_map (edited n (with_dropped i))) at_place.found) ∙ rw (edited, here) refl in
-    subst (EmptyBefore (next_place s i)) (sym slots) (subst (λ (y : Slot). EmptyBefore (next_place y i) (without_hold i owner.slots)) at_place.is (empty-next i owner.slots at_place.entry at_place.at before))
+    let slots : slots_at (drop_slot b n i) n ≡ without_hold i owner.slots = ap (λ (o : Option Record). option_map_or (λ (r : Record). r.slots) o [])
+    (drop-record b n i n ∙ ap (option_map (edited n (with_dropped i))) at_place.found) ∙ rw (edited, here) refl in
+    subst (EmptyBefore (next_place s i)) (sym slots) (subst (λ (y : Slot). EmptyBefore (next_place y i) (without_hold i owner.slots)) at_place.is
+    (empty-next i owner.slots at_place.entry at_place.at before))
 
 pub empty-finish : (b : Board) (n x j : ℕ) → EmptyBefore j (slots_at b x) → EmptyBefore j (slots_at (finish b n) x)
 empty-finish b n x j h = go (x == n) refl
   where
-    at_record : (o : Option Record) → EmptyBefore j (option_map_or (λ (r : Record). r.slots) o []) → EmptyBefore j (option_map_or (λ (r : Record). r.slots) (option_map (forgotten n) o) [])
+    at_record : (o : Option Record) → EmptyBefore j (option_map_or (λ (r : Record). r.slots) o [])
+        → EmptyBefore j (option_map_or (λ (r : Record). r.slots) (option_map (forgotten n) o) [])
     at_record None k = k
     at_record (Some r) k = empty-each n j r.slots k
 
@@ -99,4 +104,5 @@ empty-finish b n x j h = go (x == n) refl
     go true p =
         let gone : record_of (finish b n) x ≡ None = ap (record_of (finish b n)) (eqb-true x n p) ∙ finish-gone b n in
         subst (λ (o : Option Record). EmptyBefore j (option_map_or (λ (r : Record). r.slots) o [])) (sym gone) (none j)
-    go false p = subst (λ (o : Option Record). EmptyBefore j (option_map_or (λ (r : Record). r.slots) o [])) (sym (finish-record b n x p)) (at_record (record_of b x) h)
+    go false p =
+        subst (λ (o : Option Record). EmptyBefore j (option_map_or (λ (r : Record). r.slots) o [])) (sym (finish-record b n x p)) (at_record (record_of b x) h)

@@ -1,5 +1,5 @@
 -- What of a board's soundness speaks of no reference is kept by the end of an object that has none.
-use Rattle.std.proofs.Common.{◌≡◌, refl, ap, sym, subst, ◌∙◌, ℕ, ◌≤◌, Bool, true, false, cond, not, ◌==◌, List, [], ◌∷◌, map, filter, sum_by, Option, Some, None, is_some, option_map, arith}
+use Rattle.std.proofs.Common.{◌≡◌, refl, ap, sym, subst, ◌∙◌, ℕ, ◌≤◌, Bool, true, false, not, ◌==◌, List, [], ◌∷◌, map, filter, sum_by, Option, Some, None, is_some, option_map, arith}
 use Rattle.std.specs.List.{AllByRecursion, IsDistinct}
 use Rattle.std.specs.Option.{option_map_or}
 use Rattle.std.specs.Str.{bytes_eq}
@@ -15,14 +15,10 @@ use Rattle.qo_model.specs.Release.{forgotten_in, forgotten, finish}
 use Rattle.qo_model.specs.SoundGraph.{Rises}
 use Rattle.qo_model.specs.Types.{is_a}
 use Rattle.qo_model.proofs.EditLemmas.{sum-filter_le}
-use Rattle.qo_model.proofs.StepLemmas.{finish-record, finish-gone, finish-births}
+use Rattle.qo_model.proofs.StepLemmas.{finish-record, finish-gone, finish-births, one_of}
 use Rattle.qo_sound.proofs.RecordLemmas.{all-both, all-map, all-filter}
 use Rattle.qo_sound.proofs.SlotLemmas.{names-each, children-each, sum-each_same, one_child, child-forgotten, one_child-same}
 use Rattle.qo_sound.proofs.FirmLemmas.{FitsKind, Linked, HasNames, parents_in, Firm, Leads-within, rises-filter}
-
--- one for a slot that holds x, else zero
-abbrev pub one_of : ℕ → List ℕ × Slot → ℕ
-one_of x s = cond {A = ℕ} (holds_it x s.1) 1 0
 
 -- where no slot counts, none holds it
 none-holds : (x : ℕ) (slots : List (List ℕ × Slot)) → sum_by (one_of x) slots ≡ 0 → AllByRecursion (λ (s : List ℕ × Slot). holds_it x s.1 ≡ false) slots
@@ -66,22 +62,28 @@ module _ (n : ℕ) (kinds behind : ℕ → Option TypeId) (same : (x : ℕ) → 
       go false p = rw (forgotten_in, p) (target-fits t m p h)
   slot-linked (alias m name) e h = tt
 
-  slots-linked : (slots : List (List ℕ × Slot)) → sum_by (one_of n) slots ≡ 0 → AllByRecursion (λ (s : List ℕ × Slot). Linked kinds s.1) slots → AllByRecursion (λ (s : List ℕ × Slot). Linked behind s.1) (map (λ (s : List ℕ × Slot). (s.0, forgotten_in n s.1)) slots)
+  slots-linked : (slots : List (List ℕ × Slot)) → sum_by (one_of n) slots ≡ 0 → AllByRecursion (λ (s : List ℕ × Slot). Linked kinds s.1) slots
+      → AllByRecursion (λ (s : List ℕ × Slot). Linked behind s.1) (map (λ (s : List ℕ × Slot). (s.0, forgotten_in n s.1)) slots)
   slots-linked slots e h =
-      all-map (λ (s : List ℕ × Slot). (holds_it n s.1 ≡ false) × Linked kinds s.1) (λ (s : List ℕ × Slot). Linked behind s.1) (λ (s : List ℕ × Slot). (s.0, forgotten_in n s.1)) (λ s k. slot-linked s.1 k.0 k.1) slots (all-both (λ (s : List ℕ × Slot). holds_it n s.1 ≡ false) (λ (s : List ℕ × Slot). Linked kinds s.1) slots (none-holds n slots e) h)
+      all-map (λ (s : List ℕ × Slot). (holds_it n s.1 ≡ false) × Linked kinds s.1) (λ (s : List ℕ × Slot). Linked behind s.1)
+      (λ (s : List ℕ × Slot). (s.0, forgotten_in n s.1)) (λ s k. slot-linked s.1 k.0 k.1) slots
+      (all-both (λ (s : List ℕ × Slot). holds_it n s.1 ≡ false) (λ (s : List ℕ × Slot). Linked kinds s.1) slots (none-holds n slots e) h)
 
 pub finish-leads : (b : Board) (n x y : ℕ) → leads (children_of (finish b n)) x y ≡ true → leads (children_of b) x y ≡ true
 finish-leads b n x y e = go (x == n) refl
   where
-    at_record : (o : Option Record) → among (children_in (option_map_or (λ (r : Record). r.slots) (option_map (forgotten n) o) [])) y ≡ true → among (children_in (option_map_or (λ (r : Record). r.slots) o [])) y ≡ true
+    at_record : (o : Option Record) → among (children_in (option_map_or (λ (r : Record). r.slots) (option_map (forgotten n) o) [])) y ≡ true
+        → among (children_in (option_map_or (λ (r : Record). r.slots) o [])) y ≡ true
     at_record None k = k
     at_record (Some r) k = rw (children-each (forgotten_in n) (child-forgotten n) r.slots) at k
 
     go : (t : Bool) → (x == n) ≡ t → leads (children_of b) x y ≡ true
     go true p =
         let gone : record_of (finish b n) x ≡ None = ap (record_of (finish b n)) (eqb-true x n p) ∙ finish-gone b n in
-        absurd (let clash : false ≡ true = subst (λ (o : Option Record). among (children_in (option_map_or (λ (r : Record). r.slots) o [])) y ≡ true) gone e in cc)
-    go false p = at_record (record_of b x) (subst (λ (o : Option Record). among (children_in (option_map_or (λ (r : Record). r.slots) o [])) y ≡ true) (finish-record b n x p) e)
+        absurd (let clash : false ≡ true = subst (λ (o : Option Record). among (children_in (option_map_or (λ (r : Record). r.slots) o [])) y ≡ true) gone e in
+        cc)
+    go false p = at_record (record_of b x)
+        (subst (λ (o : Option Record). among (children_in (option_map_or (λ (r : Record). r.slots) o [])) y ≡ true) (finish-record b n x p) e)
 
 -- what is known of a record: its links, and that it does not hold n
 abbrev LinkedOnes : Board → Record → Type 0
@@ -98,9 +100,18 @@ firm-finish b n free h =
       within = subst (AllByRecursion (λ m. m ≤ b.born)) (sym (finish-births b n)) (all-filter (λ m. m ≤ b.born) (λ (x : ℕ). not (x == n)) (births b) h.within);
       begun = h.begun;
       named =
-          all-map HasNames HasNames (forgotten n) (λ r k. subst (IsDistinct bytes_eq) (sym (names-each (forgotten_in n) r.slots)) k) (filter (λ (r : Record). not (r.birth == n)) b.records) (all-filter HasNames (λ (r : Record). not (r.birth == n)) b.records h.named);
+          all-map HasNames HasNames (forgotten n) (λ r k. subst (IsDistinct bytes_eq) (sym (names-each (forgotten_in n) r.slots)) k)
+          (filter (λ (r : Record). not (r.birth == n)) b.records) (all-filter HasNames (λ (r : Record). not (r.birth == n)) b.records h.named);
       linked =
-          all-map (Both b n) (λ (r : Record). AllByRecursion (λ (s : List ℕ × Slot). Linked (kind_of (finish b n)) s.1) r.slots) (forgotten n) (λ r k. slots-linked n (kind_of b) (kind_of (finish b n)) (kind-other b n) r.slots k.0 k.1) (filter (λ (r : Record). not (r.birth == n)) b.records) (all-filter (Both b n) (λ (r : Record). not (r.birth == n)) b.records (all-both (λ (r : Record). refs_in n r ≡ 0) (LinkedOnes b) b.records (none-counts (refs_in n) b.records (omega (arith, free))) h.linked));
-      one_parent = λ x. omega (arith, sum-filter_le (parents_in x) (forgotten n) (λ (r : Record). not (r.birth == n)) (λ r. omega (arith, sum-each_same (one_child x) (forgotten_in n) (one_child-same (forgotten_in n) (child-forgotten n) x) r.slots)) b.records, h.one_parent x);
+          all-map (Both b n) (λ (r : Record). AllByRecursion (λ (s : List ℕ × Slot). Linked (kind_of (finish b n)) s.1) r.slots) (forgotten n)
+          (λ r k. slots-linked n (kind_of b) (kind_of (finish b n)) (kind-other b n) r.slots k.0 k.1)
+          (filter (λ (r : Record). not (r.birth == n)) b.records) (all-filter (Both b n) (λ (r : Record). not (r.birth == n)) b.records
+          (all-both (λ (r : Record). refs_in n r ≡ 0) (LinkedOnes b) b.records (none-counts (refs_in n) b.records (omega (arith, free))) h.linked));
+      one_parent = λ x. omega (
+        arith,
+        sum-filter_le (parents_in x) (forgotten n) (λ (r : Record). not (r.birth == n))
+            (λ r. omega (arith, sum-each_same (one_child x) (forgotten_in n) (one_child-same (forgotten_in n) (child-forgotten n) x) r.slots)) b.records,
+        h.one_parent x,
+      );
       none_round = λ m l. h.none_round m (Leads-within (children_of (finish b n)) (children_of b) (finish-leads b n) l);
     }

@@ -16,9 +16,11 @@ use Rattle.qo_model.specs.Paths.{births, child_of, is_child, children_in, childr
 use Rattle.qo_model.specs.Release.{edit, edited, emptied, with_dropped, drop_slot}
 use Rattle.qo_model.specs.SoundGraph.{Rises}
 use Rattle.qo_model.specs.Types.{is_a}
+use Rattle.qo_model.specs.declared.notes.Note.{Note}
 use Rattle.qo_model.proofs.EditLemmas.{sum-edit_le, sum-without_hold_le}
-use Rattle.qo_model.proofs.StepLemmas.{found-edited}
-use Rattle.qo_sound.proofs.RecordLemmas.{births_at, all-filter, all-edited, found-birth}
+use Rattle.qo_model.proofs.GraphLemmas.{births_at}
+use Rattle.qo_model.proofs.StepLemmas.{found-edited, found-birth, map-edited}
+use Rattle.qo_sound.proofs.RecordLemmas.{all-filter, all-edited, all-imply}
 use Rattle.qo_sound.proofs.SlotLemmas.{names_in, distinct-dropped, names-changed, all-dropped, all-changed, children-dropped, children-changed, sum-changed_same, one_child, left-child, one_child-same}
 
 -- the target of a link is there and of the link's type, where `kinds` says the type of each object that is there
@@ -56,6 +58,19 @@ pub record Firm (b : Board) : Type 0 where
   pub one_parent : (x : ℕ) → parents_of b x ≤ 1
   pub none_round : (n : ℕ) → ¬ (Leads (children_of b) n n)
 
+-- births that are taken, and notes
+pub firm-born : (b : Board) (born : ℕ) (notes : List Note) → b.born ≤ born → Firm b → Firm (record b { born = born; notes = notes })
+firm-born b born notes later f =
+    record {
+      rising = f.rising;
+      within = all-imply (λ n. n ≤ b.born) (λ n. n ≤ born) (λ n k. omega (arith, k, later)) (births b) f.within;
+      begun = let low : 8 ≤ b.born = f.begun in omega (arith, low, later);
+      named = f.named;
+      linked = f.linked;
+      one_parent = f.one_parent;
+      none_round = f.none_round;
+    }
+
 -- what leads nowhere else makes no other round
 pub Leads-within : (next wide : ℕ → List ℕ) → ((n m : ℕ) → leads next n m ≡ true → leads wide n m ≡ true) → {n m : ℕ} → Leads next n m → Leads wide n m
 Leads-within next wide is (one {n} {m} e) = one (is n m e)
@@ -76,40 +91,44 @@ module _ (n : ℕ) (change : Record → Record) (same_birth : (r : Record) → (
   edited-births [] = refl
   edited-births (r ∷ rs) = go (r.birth == n) refl (edited-births rs)
     where
-      go : (t : Bool) → (r.birth == n) ≡ t → births_at (map (edited n change) rs) ≡ births_at rs → births_at (map (edited n change) (r ∷ rs)) ≡ births_at (r ∷ rs)
+      go : (t : Bool) → (r.birth == n) ≡ t → births_at (map (edited n change) rs) ≡ births_at rs
+          → births_at (map (edited n change) (r ∷ rs)) ≡ births_at (r ∷ rs)
       go true p rest = rw (edited, p, same_birth, rest) refl
       go false p rest = rw (edited, p, rest) refl
 
   pub edited-kind : (b : Board) (x : ℕ) → kind_of (edit n change b) x ≡ kind_of b x
-  edited-kind b x = ap (option_map (λ (r : Record). r.kind)) (found-edited n change same_birth x b.records) ∙ go (record_of b x)
-    where
-      at_record : (r : Record) (t : Bool) → (r.birth == n) ≡ t → (edited n change r).kind ≡ r.kind
-      at_record r true p = rw (edited, p) (same_kind r)
-      at_record r false p = rw (edited, p) refl
-
-      go : (o : Option Record) → option_map (λ (r : Record). r.kind) (option_map (edited n change) o) ≡ option_map (λ (r : Record). r.kind) o
-      go None = refl
-      go (Some r) = ap Some (at_record r (r.birth == n) refl)
+  edited-kind b x =
+      ap (option_map (λ (r : Record). r.kind)) (found-edited n change same_birth x b.records)
+      ∙ map-edited (λ (r : Record). r.kind) n change same_kind (record_of b x)
 
   pub edited-kinds : (b : Board) → kind_of (edit n change b) ≡ kind_of b
   edited-kinds b = fun_ext (edited-kind b)
 
   -- the children of an edited board
-  pub edited-leads : (b : Board) → ((r : Record) (y : ℕ) → record_of b n ≡ Some r → among (children_in (change r).slots) y ≡ true → among (children_in r.slots) y ≡ true) → (x y : ℕ) → leads (children_of (edit n change b)) x y ≡ true → leads (children_of b) x y ≡ true
-  edited-leads b few x y e = go (record_of b x) refl (subst (λ (o : Option Record). among (children_in (option_map_or (λ (r : Record). r.slots) o [])) y ≡ true) (found-edited n change same_birth x b.records) e)
+  pub edited-leads : (b : Board)
+      → ((r : Record) (y : ℕ) → record_of b n ≡ Some r → among (children_in (change r).slots) y ≡ true → among (children_in r.slots) y ≡ true) → (x y : ℕ)
+      → leads (children_of (edit n change b)) x y ≡ true → leads (children_of b) x y ≡ true
+  edited-leads b few x y e = go (record_of b x) refl (subst (λ (o : Option Record). among (children_in (option_map_or (λ (r : Record). r.slots) o [])) y ≡ true)
+      (found-edited n change same_birth x b.records) e)
     where
-      at_record : (r : Record) → record_of b x ≡ Some r → (t : Bool) → (r.birth == n) ≡ t → among (children_in (edited n change r).slots) y ≡ true → among (children_in r.slots) y ≡ true
+      at_record : (r : Record) → record_of b x ≡ Some r → (t : Bool) → (r.birth == n) ≡ t → among (children_in (edited n change r).slots) y ≡ true
+          → among (children_in r.slots) y ≡ true
       at_record r q true p k =
           let is : x ≡ n = sym (found-birth x b.records r q) ∙ eqb-true r.birth n p in
           few r y (subst (λ (z : ℕ). record_of b z ≡ Some r) is q) (rw (edited, p) at k)
       at_record r q false p k = rw (edited, p) at k
 
-      go : (o : Option Record) → record_of b x ≡ o → among (children_in (option_map_or (λ (r : Record). r.slots) (option_map (edited n change) o) [])) y ≡ true → among (children_in (option_map_or (λ (r : Record). r.slots) o [])) y ≡ true
+      go : (o : Option Record) → record_of b x ≡ o → among (children_in (option_map_or (λ (r : Record). r.slots) (option_map (edited n change) o) [])) y ≡ true
+          → among (children_in (option_map_or (λ (r : Record). r.slots) o [])) y ≡ true
       go None q k = k
       go (Some r) q k = at_record r q (r.birth == n) refl k
 
   -- what is to be shown of an edit
-  pub firm-edit : (b : Board) → Firm b → ((r : Record) → record_of b n ≡ Some r → HasNames r → HasNames (change r)) → ((r : Record) → record_of b n ≡ Some r → AllByRecursion (λ (s : List ℕ × Slot). Linked (kind_of b) s.1) r.slots → AllByRecursion (λ (s : List ℕ × Slot). Linked (kind_of b) s.1) (change r).slots) → ((x : ℕ) (r : Record) → parents_in x (change r) ≤ parents_in x r) → ((r : Record) (y : ℕ) → record_of b n ≡ Some r → among (children_in (change r).slots) y ≡ true → among (children_in r.slots) y ≡ true) → Firm (edit n change b)
+  pub firm-edit : (b : Board) → Firm b → ((r : Record) → record_of b n ≡ Some r → HasNames r → HasNames (change r))
+      → ((r : Record) → record_of b n ≡ Some r → AllByRecursion (λ (s : List ℕ × Slot). Linked (kind_of b) s.1) r.slots
+      → AllByRecursion (λ (s : List ℕ × Slot). Linked (kind_of b) s.1) (change r).slots) → ((x : ℕ) (r : Record) → parents_in x (change r) ≤ parents_in x r)
+      → ((r : Record) (y : ℕ) → record_of b n ≡ Some r → among (children_in (change r).slots) y ≡ true → among (children_in r.slots) y ≡ true)
+      → Firm (edit n change b)
   firm-edit b h names links parents few =
       record {
         rising = subst Rises (sym (edited-births b.records)) h.rising;
@@ -117,7 +136,9 @@ module _ (n : ℕ) (change : Record → Record) (same_birth : (r : Record) → (
         begun = h.begun;
         named = all-edited HasNames HasNames n change b.records h.rising (λ r p k. k) names h.named;
         linked =
-            subst (λ (kinds : ℕ → Option TypeId). AllLinked kinds (map (edited n change) b.records)) (sym (edited-kinds b)) (all-edited (λ (r : Record). AllByRecursion (λ (s : List ℕ × Slot). Linked (kind_of b) s.1) r.slots) (λ (r : Record). AllByRecursion (λ (s : List ℕ × Slot). Linked (kind_of b) s.1) r.slots) n change b.records h.rising (λ r p k. k) links h.linked);
+            subst (λ (kinds : ℕ → Option TypeId). AllLinked kinds (map (edited n change) b.records)) (sym (edited-kinds b))
+            (all-edited (λ (r : Record). AllByRecursion (λ (s : List ℕ × Slot). Linked (kind_of b) s.1) r.slots) (λ (r : Record).
+            AllByRecursion (λ (s : List ℕ × Slot). Linked (kind_of b) s.1) r.slots) n change b.records h.rising (λ r p k. k) links h.linked);
         one_parent = λ x. omega (arith, sum-edit_le (parents_in x) n change (parents x) b.records, h.one_parent x);
         none_round = λ m l. h.none_round m (Leads-within (children_of (edit n change b)) (children_of b) (edited-leads b few) l);
       }
@@ -133,12 +154,17 @@ left-linked kinds (alias m property) left e h = subst (Linked kinds) (same_Some 
 pub firm-drop : (b : Board) (n i : ℕ) → Firm b → Firm (drop_slot b n i)
 unfolding drop_slot
 firm-drop b n i h =
-    firm-edit n (with_dropped i) (λ r. refl) (λ r. refl) b h (λ r e k. distinct-dropped i r.slots k) (λ r e k. all-dropped (Linked (kind_of b)) (left-linked (kind_of b)) i r.slots k) (λ x r. sum-without_hold_le (one_child x) (left-child x) i r.slots) (λ r y e k. children-dropped y i r.slots k)
+    firm-edit n (with_dropped i) (λ r. refl) (λ r. refl) b h (λ r e k. distinct-dropped i r.slots k)
+    (λ r e k. all-dropped (Linked (kind_of b)) (left-linked (kind_of b)) i r.slots k) (λ x r. sum-without_hold_le (one_child x) (left-child x) i r.slots)
+    (λ r y e k. children-dropped y i r.slots k)
 
 -- a slot of n is changed, and names the same child
-pub firm-changed : (g : Slot → Slot) → ((s : Slot) → child_of (g s) ≡ child_of s) → (b : Board) (n i : ℕ) → ((s : Slot) → slot_at b n i ≡ Some s → Linked (kind_of b) s → Linked (kind_of b) (g s)) → Firm b → Firm (edit n (with_changed g i) b)
+pub firm-changed : (g : Slot → Slot) → ((s : Slot) → child_of (g s) ≡ child_of s) → (b : Board) (n i : ℕ)
+    → ((s : Slot) → slot_at b n i ≡ Some s → Linked (kind_of b) s → Linked (kind_of b) (g s)) → Firm b → Firm (edit n (with_changed g i) b)
 firm-changed g same b n i fits h =
-    firm-edit n (with_changed g i) (λ r. refl) (λ r. refl) b h (λ r e k. subst (IsDistinct bytes_eq) (sym (names-changed g i r.slots)) k) (λ r e k. all-changed (Linked (kind_of b)) g i r.slots (λ s at_place old. fits s.1 (at_slot r e s at_place) old) k) (λ x r. omega (arith, sum-changed_same (one_child x) g (one_child-same g same x) i r.slots)) (λ r y e k. rw (children-changed g same i r.slots) at k)
+    firm-edit n (with_changed g i) (λ r. refl) (λ r. refl) b h (λ r e k. subst (IsDistinct bytes_eq) (sym (names-changed g i r.slots)) k)
+    (λ r e k. all-changed (Linked (kind_of b)) g i r.slots (λ s at_place old. fits s.1 (at_slot r e s at_place) old) k)
+    (λ x r. omega (arith, sum-changed_same (one_child x) g (one_child-same g same x) i r.slots)) (λ r y e k. rw (children-changed g same i r.slots) at k)
   where
     at_slot : (r : Record) → record_of b n ≡ Some r → (s : List ℕ × Slot) → slice_get r.slots i ≡ Some s → slot_at b n i ≡ Some s.1
     at_slot r e s at_place = rw (e, at_place) refl

@@ -38,7 +38,7 @@ first-fresh t name (row.Child type) s e = absurd (let clash : None ≡ Some s = 
 first-fresh t name (row.Alias owner property) s e = absurd (let clash : None ≡ Some s = e in cc)
 
 -- the slots of properties
-abbrev slots_for : TypeId → List Property → List (List ℕ × Slot)
+abbrev pub slots_for : TypeId → List Property → List (List ℕ × Slot)
 slots_for t props =
     filter_map (λ (p : Property). option_map (λ (s : Slot). (property_name p.name, s)) (first_slot (λ _. None) t (property_name p.name) p.kind)) props
 
@@ -69,8 +69,10 @@ given-fits b t (Err code) h = tt
 
 given-lone : (b : Board) (s : Slot) (v : Val) → IsFresh s → IsLone b (given_to b s v)
 given-lone b s v (a_value old) = record { no_child = refl; no_alias = λ ns. tt; linked = tt }
-given-lone b s (val.Text path) (holding t) = record { no_child = refl; no_alias = λ ns. tt; linked = given-fits b t (link_target b t path) (target-fits b t path) }
-given-lone b s (val.Text path) (seeing t) = record { no_child = refl; no_alias = λ ns. tt; linked = given-fits b t (link_target b t path) (target-fits b t path) }
+given-lone b s (val.Text path) (holding t) =
+    record { no_child = refl; no_alias = λ ns. tt; linked = given-fits b t (link_target b t path) (target-fits b t path) }
+given-lone b s (val.Text path) (seeing t) =
+    record { no_child = refl; no_alias = λ ns. tt; linked = given-fits b t (link_target b t path) (target-fits b t path) }
 given-lone b s (val.Bool v) (holding t) = fresh-lone b (strong t None) (holding t)
 given-lone b s (val.Int v) (holding t) = fresh-lone b (strong t None) (holding t)
 given-lone b s (val.Uint v) (holding t) = fresh-lone b (strong t None) (holding t)
@@ -88,11 +90,13 @@ slot-lone b props s fresh = go (find (λ (p : Given). bytes_eq p.0 s.0) props) r
     go (Some g) p = rw (slot_given, p) (given-lone b s.1 g.1 fresh)
 
 pub all-lone : (b : Board) (t : TypeId) (props : List Given) → AllByRecursion (λ (s : List ℕ × Slot). IsLone b s.1) (given_slots b t props)
-all-lone b t props = all-map (λ (s : List ℕ × Slot). IsFresh s.1) (λ (s : List ℕ × Slot). IsLone b s.1) (slot_given b props) (slot-lone b props) (fresh_slots t) (all-fresh t (slots_of t))
+all-lone b t props = all-map (λ (s : List ℕ × Slot). IsFresh s.1) (λ (s : List ℕ × Slot). IsLone b s.1) (slot_given b props) (slot-lone b props) (fresh_slots t)
+    (all-fresh t (slots_of t))
 
 -- without given values
 pub new-lone : (b : Board) (t : TypeId) → AllByRecursion (λ (s : List ℕ × Slot). IsLone b s.1) (fresh_slots t)
-new-lone b t = all-imply (λ (s : List ℕ × Slot). IsFresh s.1) (λ (s : List ℕ × Slot). IsLone b s.1) (λ s k. fresh-lone b s.1 k) (fresh_slots t) (all-fresh t (slots_of t))
+new-lone b t =
+    all-imply (λ (s : List ℕ × Slot). IsFresh s.1) (λ (s : List ℕ × Slot). IsLone b s.1) (λ s k. fresh-lone b s.1 k) (fresh_slots t) (all-fresh t (slots_of t))
 
 -- the names of a type's slots differ
 pub fresh-names : (t : TypeId) → IsDistinct bytes_eq (names_in (fresh_slots t))

@@ -15,7 +15,8 @@ use Rattle.qo_sound.specs.Kept.{SoundTree}
 
 -- the opening board with the tags `a` and `b`, whose links `next` name each other
 abbrev held_round : Board
-held_round = behind opening_board (added (codes "tag") (codes "a") [] ∷ added (codes "tag") (codes "b") ((codes "next", val.Text (codes "/objects/a")) ∷ []) ∷ wrote 9 (codes "next") (val.Text (codes "/objects/b")) ∷ [])
+held_round = behind opening_board (added (codes "tag") (codes "a") [] ∷ added (codes "tag") (codes "b") ((codes "next", val.Text (codes "/objects/a")) ∷ [])
+    ∷ wrote 9 (codes "next") (val.Text (codes "/objects/b")) ∷ [])
 
 round-births : births held_round ≡ 1 ∷ 2 ∷ 3 ∷ 4 ∷ 5 ∷ 6 ∷ 7 ∷ 8 ∷ 9 ∷ 10 ∷ []
 unfolding types opening_board steps_to attached drop_slot finish finalise finalise_within let_go pin unpin point set

@@ -41,14 +41,17 @@ unfolding add
 stood-kinds b n a spot c =
     edited-kinds n (with_body_of a.id spot.range) (λ r. refl) (λ r. refl) (addressed_at n spot.range (valued b n a.props spot (joined b n a spot c)))
     ∙ addressed spot.range
-    ∙ set-kinds n (codes "realized") (val.Bool true) (link_named n (codes "parent_bus") spot.bus (set_named n (codes "slot") (val.Uint spot.slot) (edit n (with_given b a.props) (joined b n a spot c))))
+    ∙ set-kinds n (codes "realized") (val.Bool true)
+    (link_named n (codes "parent_bus") spot.bus (set_named n (codes "slot") (val.Uint spot.slot) (edit n (with_given b a.props) (joined b n a spot c))))
     ∙ link-kinds n (codes "parent_bus") spot.bus (set_named n (codes "slot") (val.Uint spot.slot) (edit n (with_given b a.props) (joined b n a spot c)))
     ∙ set-kinds n (codes "slot") (val.Uint spot.slot) (edit n (with_given b a.props) (joined b n a spot c))
     ∙ edited-kinds n (with_given b a.props) (λ r. refl) (λ r. refl) (joined b n a spot c)
-    ∙ edited-kinds spot.bus (with_added (kid_name spot.slot) (strong Device (Some n))) (λ r. refl) (λ r. refl) (add (parent_for a.id) (name_for b a.id) (child n) c)
+    ∙ edited-kinds spot.bus (with_added (kid_name spot.slot) (strong Device (Some n))) (λ r. refl) (λ r. refl)
+    (add (parent_for a.id) (name_for b a.id) (child n) c)
     ∙ edited-kinds (parent_for a.id) (with_added (name_for b a.id) (child n)) (λ r. refl) (λ r. refl) c
   where
-    addressed : (range : Option Range) → kind_of (addressed_at n range (valued b n a.props spot (joined b n a spot c))) ≡ kind_of (valued b n a.props spot (joined b n a spot c))
+    addressed : (range : Option Range)
+        → kind_of (addressed_at n range (valued b n a.props spot (joined b n a spot c))) ≡ kind_of (valued b n a.props spot (joined b n a spot c))
     addressed None = refl
     addressed (Some r) = set-kinds n (codes "addr") (val.Uint r.at) (valued b n a.props spot (joined b n a spot c))
 
@@ -87,7 +90,8 @@ device-kinds b t a spot =
 
 pub plug-kinds : (b : Board) (t : TypeId) (a : Wanted) (spot : Spot) → kind_of (with_plugged b t a spot) ≡ kind_of (drafted b t)
 plug-kinds b t a spot =
-    edited-kinds n (with_path (canonical (plugged (acted_all Realize (n ∷ bus_births n t) (with_device b t a spot)) n) n)) (λ r. refl) (λ r. refl) (plugged (acted_all Realize (n ∷ bus_births n t) (with_device b t a spot)) n)
+    edited-kinds n (with_path (canonical (plugged (acted_all Realize (n ∷ bus_births n t) (with_device b t a spot)) n) n)) (λ r. refl) (λ r. refl)
+    (plugged (acted_all Realize (n ∷ bus_births n t) (with_device b t a spot)) n)
     ∙ plugged-kinds n (acted_all Realize (n ∷ bus_births n t) (with_device b t a spot))
     ∙ all-kinds Realize (n ∷ bus_births n t) (with_device b t a spot)
     ∙ device-kinds b t a spot

@@ -12,6 +12,7 @@ pub mod DraftLemmas
 pub mod EmptyLemmas
 pub mod FinishLemmas
 pub mod FirmLemmas
+pub mod FoundLemmas
 pub mod FreshLemmas
 pub mod FurnishLemmas
 pub mod GivenLemmas
@@ -26,12 +27,14 @@ pub mod NotesKeptLemmas
 pub mod PinnedLemmas
 pub mod PlugComesToLemmas
 pub mod PlugLemmas
+pub mod ReadLemmas
 pub mod RecordLemmas
 pub mod ResetLemmas
 pub mod SeverLemmas
 pub mod SlotLemmas
 pub mod StepsLemmas
 pub mod TargetLemmas
+pub mod TestLemmas
 pub mod TimerlessLemmas
 pub mod UnplugLemmas
 pub mod ViewLemmas

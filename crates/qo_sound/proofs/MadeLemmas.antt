@@ -15,9 +15,10 @@ use Rattle.qo_model.specs.Paths.{births, child_of, children_in, children_of, is_
 use Rattle.qo_model.specs.References.{refs, refs_in}
 use Rattle.qo_model.specs.SoundGraph.{Rises}
 use Rattle.qo_model.specs.Types.{is_a}
+use Rattle.qo_model.proofs.GraphLemmas.{births_at}
 use Rattle.qo_model.proofs.StepLemmas.{found_at}
 use Rattle.qo_model.specs.SoundAliases.{lasting, PassesTo}
-use Rattle.qo_sound.proofs.RecordLemmas.{births_at, all-append, all-imply}
+use Rattle.qo_sound.proofs.RecordLemmas.{all-append, all-imply}
 use Rattle.qo_sound.proofs.SlotLemmas.{one_child}
 use Rattle.qo_sound.proofs.FirmLemmas.{FitsKind, Linked, HasNames, parents_in, parents_of, Firm, Leads-within}
 use Rattle.qo_sound.proofs.FreshLemmas.{IsLone}
@@ -38,7 +39,8 @@ rises-push m [] h k = (tt, tt)
 rises-push m (n ∷ ns) h k = (all-append (λ x. n < x) ns (m ∷ []) h.0 (k.0, tt), rises-push m ns h.1 k.1)
 
 -- where there are more objects, what names one that is there names one that is there
-pub fits-more : (kinds wide : ℕ → Option TypeId) → ((x : ℕ) (k : TypeId) → kinds x ≡ Some k → wide x ≡ Some k) → (t : TypeId) (target : Option ℕ) → FitsKind kinds t target → FitsKind wide t target
+pub fits-more : (kinds wide : ℕ → Option TypeId) → ((x : ℕ) (k : TypeId) → kinds x ≡ Some k → wide x ≡ Some k) → (t : TypeId) (target : Option ℕ)
+    → FitsKind kinds t target → FitsKind wide t target
 fits-more kinds wide more t None h = tt
 fits-more kinds wide more t (Some m) h = go (kinds m) refl h
   where
@@ -94,7 +96,8 @@ module _ (b : Board) (r : Record) (notes : List Note) (firm : Firm b) (new : IsN
   grown-old x y e = grown-found x ∙ ap (λ (o : Option Record). option_or o (found_at x (r ∷ []))) e
 
   pub grown-new : record_of (grown b r notes) (b.born + 1) ≡ Some r
-  grown-new = grown-found (b.born + 1) ∙ ap (λ (o : Option Record). option_or o (found_at (b.born + 1) (r ∷ []))) new-absent ∙ rw (eq-eqb r.birth (b.born + 1) new.birth) refl
+  grown-new = grown-found (b.born + 1) ∙ ap (λ (o : Option Record). option_or o (found_at (b.born + 1) (r ∷ []))) new-absent
+      ∙ rw (eq-eqb r.birth (b.born + 1) new.birth) refl
 
   grown-other : (x : ℕ) → record_of b x ≡ None → (b.born + 1 == x) ≡ false → record_of (grown b r notes) x ≡ None
   grown-other x e apart =
@@ -130,12 +133,20 @@ module _ (b : Board) (r : Record) (notes : List Note) (firm : Firm b) (new : IsN
   pub grown-firm : Firm (grown b r notes)
   grown-firm =
       record {
-        rising = subst Rises (sym births_are) (rises-push (b.born + 1) (births b) firm.rising (all-imply (λ n. n ≤ b.born) (λ n. n < b.born + 1) (λ n h. omega (arith, h)) (births b) firm.within));
-        within = subst (AllByRecursion (λ n. n ≤ b.born + 1)) (sym births_are) (all-append (λ n. n ≤ b.born + 1) (births b) ((b.born + 1) ∷ []) (all-imply (λ n. n ≤ b.born) (λ n. n ≤ b.born + 1) (λ n h. omega (arith, h)) (births b) firm.within) (omega arith, tt));
+        rising = subst Rises (sym births_are) (rises-push (b.born + 1) (births b) firm.rising
+            (all-imply (λ n. n ≤ b.born) (λ n. n < b.born + 1) (λ n h. omega (arith, h)) (births b) firm.within));
+        within = subst (AllByRecursion (λ n. n ≤ b.born + 1)) (sym births_are) (all-append (λ n. n ≤ b.born + 1) (births b) ((b.born + 1) ∷ [])
+            (all-imply (λ n. n ≤ b.born) (λ n. n ≤ b.born + 1) (λ n h. omega (arith, h)) (births b) firm.within) (omega arith, tt));
         begun = let low : 8 ≤ b.born = firm.begun in omega (arith, low);
         named = all-append HasNames b.records (r ∷ []) firm.named (new.names, tt);
         linked =
-            all-append Ones b.records (r ∷ []) (all-imply (λ (x : Record). AllByRecursion (λ (s : List ℕ × Slot). Linked (kind_of b) s.1) x.slots) Ones (λ x h. all-imply (λ (s : List ℕ × Slot). Linked (kind_of b) s.1) (λ (s : List ℕ × Slot). Linked (kind_of (grown b r notes)) s.1) (λ s k. grows-linked (kind_of b) (kind_of (grown b r notes)) grown-kind s.1 k) x.slots h) b.records firm.linked) (all-imply (λ (s : List ℕ × Slot). IsLone b s.1) (λ (s : List ℕ × Slot). Linked (kind_of (grown b r notes)) s.1) (λ s k. grows-linked (kind_of b) (kind_of (grown b r notes)) grown-kind s.1 k.linked) r.slots new.lone, tt);
+            all-append Ones b.records (r ∷ []) (all-imply (λ (x : Record). AllByRecursion (λ (s : List ℕ × Slot). Linked (kind_of b) s.1) x.slots) Ones
+            (λ x h. all-imply (λ (s : List ℕ × Slot). Linked (kind_of b) s.1) (λ (s : List ℕ × Slot). Linked (kind_of (grown b r notes)) s.1)
+            (λ s k. grows-linked (kind_of b) (kind_of (grown b r notes)) grown-kind s.1 k) x.slots h) b.records firm.linked) (
+              all-imply (λ (s : List ℕ × Slot). IsLone b s.1) (λ (s : List ℕ × Slot). Linked (kind_of (grown b r notes)) s.1)
+                  (λ s k. grows-linked (kind_of b) (kind_of (grown b r notes)) grown-kind s.1 k.linked) r.slots new.lone,
+              tt,
+            );
         one_parent = λ x. omega (arith, grown-parents x, firm.one_parent x);
         none_round = λ n l. firm.none_round n (Leads-within (children_of (grown b r notes)) (children_of b) grown-leads l);
       }
@@ -151,7 +162,10 @@ module _ (b : Board) (r : Record) (notes : List Note) (firm : Firm b) (new : IsN
   grown-near h =
       record {
         firm = grown-firm;
-        aliases = all-append HasOwn b.records (r ∷ []) h.aliases (all-imply (λ (s : List ℕ × Slot). IsLone b s.1) (λ (s : List ℕ × Slot). PassesTo (lasting r) s.1) (λ s k. k.no_alias (lasting r)) r.slots new.lone, tt);
+        aliases = all-append HasOwn b.records (r ∷ []) h.aliases (
+          all-imply (λ (s : List ℕ × Slot). IsLone b s.1) (λ (s : List ℕ × Slot). PassesTo (lasting r) s.1) (λ s k. k.no_alias (lasting r)) r.slots new.lone,
+          tt,
+        );
         used = used;
       }
     where

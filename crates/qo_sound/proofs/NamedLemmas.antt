@@ -15,11 +15,10 @@ use Rattle.qo_model.specs.Paths.{births, child_of, children_in, children_of}
 use Rattle.qo_model.specs.References.{refs}
 use Rattle.qo_model.specs.Release.{edit, edited}
 use Rattle.qo_model.specs.SoundGraph.{Rises}
-use Rattle.qo_model.proofs.StepLemmas.{found-edited, live-among}
-use Rattle.qo_sound.proofs.RecordLemmas.{all-append, all-edited, found-birth}
+use Rattle.qo_model.proofs.StepLemmas.{found-edited, live-among, found-birth, one_of}
+use Rattle.qo_sound.proofs.RecordLemmas.{all-append, all-edited}
 use Rattle.qo_sound.proofs.SlotLemmas.{names_in, one_child}
 use Rattle.qo_sound.proofs.FirmLemmas.{Linked, AllLinked, HasNames, parents_of, edited-births, edited-kinds}
-use Rattle.qo_sound.proofs.FinishLemmas.{one_of}
 use Rattle.qo_sound.proofs.WorkLemmas.{HasOwn, Nearly}
 use Rattle.qo_sound.proofs.AddedLemmas.{names-added, own-added, sum-added}
 
@@ -103,7 +102,8 @@ module _ (c : Board) (p n : ℕ) (id : List ℕ) (bare : IsNameless c p n id) (n
       let is : bare.owner ≡ r = same_Some bare.owner r (sym bare.found ∙ e) in
       names-added id (child n) r (subst (λ (x : Record). AllByRecursion (λ name. bytes_eq name id ≡ false) (names_in x.slots)) is bare.free_name) h
 
-  links-kept : (r : Record) → AllByRecursion (λ (s : List ℕ × Slot). Linked (kind_of c) s.1) r.slots → AllByRecursion (λ (s : List ℕ × Slot). Linked (kind_of c) s.1) (with_added id (child n) r).slots
+  links-kept : (r : Record) → AllByRecursion (λ (s : List ℕ × Slot). Linked (kind_of c) s.1) r.slots
+      → AllByRecursion (λ (s : List ℕ × Slot). Linked (kind_of c) s.1) (with_added id (child n) r).slots
   links-kept r h = all-append (λ (s : List ℕ × Slot). Linked (kind_of c) s.1) r.slots ((id, child n) ∷ []) h (bare.there, tt)
 
   pub named-parents : (x : ℕ) → parents_of behind x ≡ parents_of c x + one_child x (id, child n)
@@ -131,19 +131,24 @@ module _ (c : Board) (p n : ℕ) (id : List ℕ) (bare : IsNameless c p n id) (n
       now : in_slots (option_map (edited p (with_added id (child n))) (record_of c x)) ≡ true
       now = ap in_slots (sym (found-edited p (with_added id (child n)) (λ r. refl) x c.records)) ∙ e
 
-      at_record : (r : Record) → record_of c x ≡ Some r → (t : Bool) → (r.birth == p) ≡ t → (u : Bool) → (y == n) ≡ u → in_slots (Some (edited p (with_added id (child n)) r)) ≡ true → Step (children_of c) p n x y
+      at_record : (r : Record) → record_of c x ≡ Some r → (t : Bool) → (r.birth == p) ≡ t → (u : Bool) → (y == n) ≡ u
+          → in_slots (Some (edited p (with_added id (child n)) r)) ≡ true → Step (children_of c) p n x y
       at_record r q true e_p true e_n k = new_one (sym (found-birth x c.records r q) ∙ eqb-true r.birth p e_p) (eqb-true y n e_n)
       at_record r q true e_p false e_n k =
           let pushed : among (children_in (r.slots ++ (id, child n) ∷ [])) y ≡ true = rw (edited, e_p) at k in
-          stayed (ap in_slots q ∙ among-push y n (children_in r.slots) (rw (filter_map-append (λ (s : List ℕ × Slot). child_of s.1) r.slots ((id, child n) ∷ [])) at pushed) e_n)
+          stayed (ap in_slots q
+          ∙ among-push y n (children_in r.slots) (rw (filter_map-append (λ (s : List ℕ × Slot). child_of s.1) r.slots ((id, child n) ∷ [])) at pushed) e_n)
       at_record r q false e_p u e_n k = stayed (ap in_slots q ∙ (rw (edited, e_p) at k))
 
       go : (o : Option Record) → record_of c x ≡ o → Step (children_of c) p n x y
-      go None q = absurd (let clash : false ≡ true = sym (ap (λ (o : Option Record). in_slots (option_map (edited p (with_added id (child n))) o)) q) ∙ now in cc)
-      go (Some r) q = at_record r q (r.birth == p) refl (y == n) refl (sym (ap (λ (o : Option Record). in_slots (option_map (edited p (with_added id (child n))) o)) q) ∙ now)
+      go None q =
+          absurd (let clash : false ≡ true = sym (ap (λ (o : Option Record). in_slots (option_map (edited p (with_added id (child n))) o)) q) ∙ now in cc)
+      go (Some r) q = at_record r q (r.birth == p) refl (y == n) refl
+          (sym (ap (λ (o : Option Record). in_slots (option_map (edited p (with_added id (child n))) o)) q) ∙ now)
 
   no-round : (x : ℕ) → ¬ (Leads (children_of behind) x x)
-  no-round x l = way-round (children_of c) p n x bare.apart bare.none_back (near.firm.none_round x) (way-of (children_of c) (children_of behind) p n named-step l)
+  no-round x l =
+      way-round (children_of c) p n x bare.apart bare.none_back (near.firm.none_round x) (way-of (children_of c) (children_of behind) p n named-step l)
 
   own-kept : (r : Record) → record_of c p ≡ Some r → HasOwn r → HasOwn (with_added id (child n) r)
   own-kept r e h = own-added id (child n) r tt h
@@ -175,7 +180,10 @@ module _ (c : Board) (p n : ℕ) (id : List ℕ) (bare : IsNameless c p n id) (n
               begun = near.firm.begun;
               named = all-edited HasNames HasNames p (with_added id (child n)) c.records near.firm.rising (λ r q k. k) names-kept near.firm.named;
               linked =
-                  subst (λ (kinds : ℕ → Option TypeId). AllLinked kinds behind.records) (sym kinds-same) (all-edited (λ (r : Record). AllByRecursion (λ (s : List ℕ × Slot). Linked (kind_of c) s.1) r.slots) (λ (r : Record). AllByRecursion (λ (s : List ℕ × Slot). Linked (kind_of c) s.1) r.slots) p (with_added id (child n)) c.records near.firm.rising (λ r q k. k) (λ r e k. links-kept r k) near.firm.linked);
+                  subst (λ (kinds : ℕ → Option TypeId). AllLinked kinds behind.records) (sym kinds-same)
+                  (all-edited (λ (r : Record). AllByRecursion (λ (s : List ℕ × Slot). Linked (kind_of c) s.1) r.slots)
+                  (λ (r : Record). AllByRecursion (λ (s : List ℕ × Slot). Linked (kind_of c) s.1) r.slots) p (with_added id (child n)) c.records
+                  near.firm.rising (λ r q k. k) (λ r e k. links-kept r k) near.firm.linked);
               one_parent = one-parent;
               none_round = no-round;
             };

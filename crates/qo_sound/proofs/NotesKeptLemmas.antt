@@ -1,9 +1,8 @@
 -- The law: what keeps the notes of a board in order where devices come and go.
-use Rattle.std.proofs.Common.{◌≡◌, refl, ap, sym, ◌∙◌, ℕ, ◌+◌, ◌<◌, ◌≤◌, leb, Bool, true, false, ◌==◌, List, [], ◌∷◌, ◌++◌, filter, length, codes, Option, Some, None, is_some, option_map, append-nil, arith}
+use Rattle.std.proofs.Common.{◌≡◌, refl, ap, sym, ◌∙◌, ℕ, ◌+◌, ◌<◌, ◌≤◌, Bool, true, false, ◌==◌, List, [], ◌∷◌, ◌++◌, filter, length, codes, Option, Some, None, is_some, option_map, append-nil, arith}
 use Rattle.std.specs.Bool.{⊤}
 use Rattle.std.specs.List.{AllByRecursion}
 use Rattle.std.specs.Option.{option_or}
-use Rattle.std.proofs.lemmas.Bool.{eq-eqb}
 use Rattle.std.proofs.lemmas.List.Elements.{filter-append}
 use Rattle.std.proofs.lemmas.List.Folds.{find-append}
 use Rattle.qo_values.specs.declared.codes.Code.{Code}
@@ -15,7 +14,7 @@ use Rattle.qo_model.specs.Board.{Board, Record, Slot, kind_of}
 use Rattle.qo_model.specs.Changes.{add, fresh}
 use Rattle.qo_model.specs.Clocks.{acted, with_act_on}
 use Rattle.qo_model.specs.Depth.{among}
-use Rattle.qo_model.specs.FinalNotes.{beginning, IsBorn, NotesInOrder}
+use Rattle.qo_model.specs.FinalNotes.{beginning, NotesInOrder}
 use Rattle.qo_model.specs.FinalNotesRuns.{with_act}
 use Rattle.qo_model.specs.Hotplug.{asked, asked_of, device_at, refused, with_asked}
 use Rattle.qo_model.specs.Objects.{init_notes}
@@ -32,12 +31,12 @@ use Rattle.qo_model.specs.declared.properties.Property.{Property}
 use Rattle.qo_model.specs.declared.properties.RowKind.{RowKind}
 use Rattle.qo_model.specs.declared.properties.RowKind.TheVariants as row
 use Rattle.qo_model.proofs.DraftEndsLemmas.{kinds_in}
-use Rattle.qo_model.proofs.FinalNotesGrowthLemmas.{act-keeps, Grown, grown-keeps}
-use Rattle.qo_model.proofs.FinalNotesLemmas.{after-keeps, edit-keeps, edit-kind, kind-live, live-of-kind, pins-keep, same-keep}
+use Rattle.qo_model.proofs.FinalNotesGrowthLemmas.{act-keeps, Grown, grown-keeps, next-absent, next-begins, last-other, last-own, unmapped}
+use Rattle.qo_model.proofs.FinalNotesLemmas.{after-keeps, edit-keeps, edit-kind, kind-live, pins-keep, same-keep}
 use Rattle.qo_model.proofs.StepLemmas.{found_at}
 use Rattle.qo_sound.specs.Kept.{SoundTree}
 use Rattle.qo_sound.specs.NotesKept.{NotesKeptLaw}
-use Rattle.qo_sound.proofs.AttemptNotesLemmas.{buses-within, cut_attempt-keeps, noted-other, noted-own, plug_attempt-keeps}
+use Rattle.qo_sound.proofs.AttemptNotesLemmas.{buses-within, cut_attempt-keeps, noted-other, plug_attempt-keeps}
 use Rattle.qo_sound.proofs.DetachStepsLemmas.{KeepsEnds, KeepsLists, KeepsPins, step-detach, step-pin, step-unrealize}
 use Rattle.qo_sound.proofs.FirmLemmas.{AllLinked}
 use Rattle.qo_sound.proofs.KindsLemmas.{device-kinds}
@@ -56,7 +55,7 @@ changed-birth change same r = ap (λ (x : Record). x.birth) (same r)
 changed-kind : (change : Record → Record) → LeavesAllButSlots change → (r : Record) → (change r).kind ≡ r.kind
 changed-kind change same r = ap (λ (x : Record). x.kind) (same r)
 
-notes-edits : KeepsEdits NotesInOrder
+pub notes-edits : KeepsEdits NotesInOrder
 notes-edits n change same c o = edit-keeps n change (changed-birth change same) (changed-kind change same) c o
 
 notes-pins : KeepsPins NotesInOrder
@@ -66,35 +65,6 @@ notes-ends : KeepsEnds NotesInOrder
 notes-ends m c o = after-keeps c m o
 
 -- an object that is made
-
-or-none : (o : Option Record) → option_or o None ≡ o
-or-none None = refl
-or-none (Some r) = refl
-
-last-other : (rs : List Record) (r : Record) (x : ℕ) → (r.birth == x) ≡ false → found_at x (rs ++ r ∷ []) ≡ found_at x rs
-last-other rs r x e = find-append (λ (y : Record). y.birth == x) rs (r ∷ []) ∙ rw e (or-none (found_at x rs))
-
-last-own : (rs : List Record) (r : Record) → found_at r.birth rs ≡ None → found_at r.birth (rs ++ r ∷ []) ≡ Some r
-last-own rs r e = find-append (λ (y : Record). y.birth == r.birth) rs (r ∷ []) ∙ rw (e, eq-eqb r.birth r.birth refl) refl
-
-unmapped : (o : Option Record) → option_map (λ (r : Record). r.kind) o ≡ None → o ≡ None
-unmapped None e = refl
-unmapped (Some r) e = cc
-
-next-absent : (b : Board) → NotesInOrder b → (o : Option TypeId) → kind_of b (b.born + 1) ≡ o → kind_of b (b.born + 1) ≡ None
-next-absent b o None e = e
-next-absent b o (Some t) e =
-    let born : IsBorn b (b.born + 1) = o.counted (b.born + 1) (live-of-kind b (b.born + 1) t e) in
-    let over : b.born + 1 ≤ b.born = born.1 in
-    absurd (omega arith)
-
-next-begins : (b : Board) (t : TypeId) → NotesInOrder b → notes_on (b.born + 1) (b.notes ++ init_notes (b.born + 1) t) ≡ beginning (b.born + 1) t
-next-begins b t o =
-    let opened : 8 ≤ b.born = o.opened in
-    let later : leb (b.born + 1) 8 ≡ false = grind arith in
-    let unborn : notes_on (b.born + 1) b.notes ≡ [] = o.unborn (b.born + 1) (λ born. let over : b.born + 1 ≤ b.born = born.1 in absurd (omega arith)) in
-    rw (beginning, later) (filter-append (λ (x : Note). x.birth == b.born + 1) b.notes (init_notes (b.born + 1) t)
-    ∙ (λ i. unborn i ++ noted-own (b.born + 1) (λ k. Did (Init k)) (inits t) i))
 
 new-grows : (b : Board) (t : TypeId) (slots : List (List ℕ × Slot)) → NotesInOrder b → Grown b (with_new (new_with b t slots) b) t false
 new-grows b t slots o =
@@ -170,7 +140,8 @@ last-some None r = refl
 last-some (Some x) r = refl
 
 there-new : (n : ℕ) → KeepsNew (λ k. ⊤) (AllThere n)
-there-new n k slots made c h x low high = ap is_some (find-append (λ (y : Record). y.birth == x) c.records (new_with c k slots ∷ [])) ∙ go (c.born + 1 == x) refl
+there-new n k slots made c h x low high = ap is_some (find-append (λ (y : Record). y.birth == x) c.records (new_with c k slots ∷ []))
+    ∙ go (c.born + 1 == x) refl
   where
     go : (u : Bool) → (c.born + 1 == x) ≡ u → is_some (option_or (found_at x c.records) (found_at x (new_with c k slots ∷ []))) ≡ true
     go true p = rw p (last-some (found_at x c.records) (new_with c k slots))

@@ -52,11 +52,15 @@ module _ (q : List ℕ) where
       go None e = rw (link_named, e) refl
       go (Some i) e = rw (link_named, e) refl
 
-  valued-blind : (b : Board) (n : ℕ) (props : List Given) (spot : Spot) (c : Board) → valued b n props spot (with_pins q c) ≡ with_pins q (valued b n props spot c)
+  valued-blind : (b : Board) (n : ℕ) (props : List Given) (spot : Spot) (c : Board)
+      → valued b n props spot (with_pins q c) ≡ with_pins q (valued b n props spot c)
   valued-blind b n props spot c =
-      ap (λ (x : Board). set_named n (codes "realized") (val.Bool true) (link_named n (codes "parent_bus") spot.bus x)) (set-blind n (codes "slot") (val.Uint spot.slot) (edit n (with_given b props) c))
-      ∙ ap (set_named n (codes "realized") (val.Bool true)) (link-blind n (codes "parent_bus") spot.bus (set_named n (codes "slot") (val.Uint spot.slot) (edit n (with_given b props) c)))
-      ∙ set-blind n (codes "realized") (val.Bool true) (link_named n (codes "parent_bus") spot.bus (set_named n (codes "slot") (val.Uint spot.slot) (edit n (with_given b props) c)))
+      ap (λ (x : Board). set_named n (codes "realized") (val.Bool true) (link_named n (codes "parent_bus") spot.bus x))
+      (set-blind n (codes "slot") (val.Uint spot.slot) (edit n (with_given b props) c))
+      ∙ ap (set_named n (codes "realized") (val.Bool true))
+      (link-blind n (codes "parent_bus") spot.bus (set_named n (codes "slot") (val.Uint spot.slot) (edit n (with_given b props) c)))
+      ∙ set-blind n (codes "realized") (val.Bool true)
+      (link_named n (codes "parent_bus") spot.bus (set_named n (codes "slot") (val.Uint spot.slot) (edit n (with_given b props) c)))
 
   addressed-blind : (n : ℕ) (range : Option Range) (c : Board) → addressed_at n range (with_pins q c) ≡ with_pins q (addressed_at n range c)
   addressed-blind n None c = refl
@@ -107,42 +111,54 @@ module _ (q : List ℕ) where
       ∙ ap (told_plug n) (plugged-blind n (acted_all Realize (n ∷ bus_births n t) c))
       ∙ told-blind n (plugged (acted_all Realize (n ∷ bus_births n t) c) n)
 
-  -- the acts behind which an attempt is given up
-  pub passed-blind : (b : Board) (bus n : ℕ) (t : TypeId) (c : Board) → passed b bus n t (with_pins q c) ≡ with_pins q (passed b bus n t c)
-  passed-blind b bus n t c =
-      let buses : List ℕ = bus_births n t in
-      let last : List ℕ = buses ++ n ∷ [] in
-      let exits : List ℕ = if count b bus == 0 then last else [] in
-      let c1 : Board = acted_all Realize (n ∷ buses) c in
-      let c2 : Board = acted_all Enter last c1 in
-      let c3 : Board = acted_all Hold last c2 in
-      ap (λ (x : Board). acted_all Unrealize last (acted_all Exit exits (acted_all Hold last (acted_all Enter last x)))) (all-blind Realize (n ∷ buses) c)
-      ∙ ap (λ (x : Board). acted_all Unrealize last (acted_all Exit exits (acted_all Hold last x))) (all-blind Enter last c1)
-      ∙ ap (λ (x : Board). acted_all Unrealize last (acted_all Exit exits x)) (all-blind Hold last c2)
-      ∙ ap (acted_all Unrealize last) (all-blind Exit exits c3)
-      ∙ all-blind Unrealize last (acted_all Exit exits c3)
-
   all-pins : (act : Act) (ns : List ℕ) (c : Board) → (acted_all act ns c).pins ≡ c.pins
   unfolding acted
   all-pins act [] c = refl
   all-pins act (n ∷ ns) c = all-pins act ns (acted act n 0 c)
 
-  pub passed-pins : (b : Board) (bus n : ℕ) (t : TypeId) (c : Board) → (passed b bus n t c).pins ≡ c.pins
-  passed-pins b bus n t c =
-      let buses : List ℕ = bus_births n t in
-      let last : List ℕ = buses ++ n ∷ [] in
-      let exits : List ℕ = if count b bus == 0 then last else [] in
-      let c1 : Board = acted_all Realize (n ∷ buses) c in
-      let c2 : Board = acted_all Enter last c1 in
-      let c3 : Board = acted_all Hold last c2 in
-      all-pins Unrealize last (acted_all Exit exits c3) ∙ all-pins Exit exits c3 ∙ all-pins Hold last c2 ∙ all-pins Enter last c1 ∙ all-pins Realize (n ∷ buses) c
+  -- the acts behind which an attempt is given up
+  module _ (b : Board) (bus n : ℕ) (t : TypeId) (c : Board) where
+    abbrev buses : List ℕ
+    buses = bus_births n t
+
+    abbrev last : List ℕ
+    last = buses ++ n ∷ []
+
+    abbrev exits : List ℕ
+    exits = if count b bus == 0 then last else []
+
+    abbrev begun : Board
+    begun = acted_all Realize (n ∷ buses) c
+
+    abbrev entered : Board
+    entered = acted_all Enter last begun
+
+    abbrev stopped : Board
+    stopped = acted_all Hold last entered
+
+    pub passed-blind : passed b bus n t (with_pins q c) ≡ with_pins q (passed b bus n t c)
+    passed-blind =
+        ap (λ (x : Board). acted_all Unrealize last (acted_all Exit exits (acted_all Hold last (acted_all Enter last x)))) (all-blind Realize (n ∷ buses) c)
+        ∙ ap (λ (x : Board). acted_all Unrealize last (acted_all Exit exits (acted_all Hold last x))) (all-blind Enter last begun)
+        ∙ ap (λ (x : Board). acted_all Unrealize last (acted_all Exit exits x)) (all-blind Hold last entered)
+        ∙ ap (acted_all Unrealize last) (all-blind Exit exits stopped)
+        ∙ all-blind Unrealize last (acted_all Exit exits stopped)
+
+    pub passed-pins : (passed b bus n t c).pins ≡ c.pins
+    passed-pins =
+        all-pins Unrealize last (acted_all Exit exits stopped) ∙ all-pins Exit exits stopped ∙ all-pins Hold last entered ∙ all-pins Enter last begun
+        ∙ all-pins Realize (n ∷ buses) c
 
   -- all steps but the pin
-  pub steps-blind : (b : Board) (t : TypeId) (a : Wanted) (spot : Spot) → started (b.born + 1) t (counted a.id (clocked (source_for b spot.bus) (b.born + 1) (stood b (b.born + 1) a spot (rows_made (b.born + 1) t (slots_of t) (with_pins q (with_new (fresh (b.born + 1) t) b)))))) ≡ with_pins q (with_plugged b t a spot)
+  pub steps-blind : (b : Board) (t : TypeId) (a : Wanted) (spot : Spot) → started (b.born + 1) t (counted a.id (clocked (source_for b spot.bus) (b.born + 1)
+      (stood b (b.born + 1) a spot (rows_made (b.born + 1) t (slots_of t) (with_pins q (with_new (fresh (b.born + 1) t) b))))))
+      ≡ with_pins q (with_plugged b t a spot)
   steps-blind b t a spot =
-      ap (λ (x : Board). started n t (counted a.id (clocked (source_for b spot.bus) n (stood b n a spot x)))) (rows-blind q n t (slots_of t) (with_new (fresh n t) b))
+      ap (λ (x : Board). started n t (counted a.id (clocked (source_for b spot.bus) n (stood b n a spot x))))
+      (rows-blind q n t (slots_of t) (with_new (fresh n t) b))
       ∙ ap (λ (x : Board). started n t (counted a.id (clocked (source_for b spot.bus) n x))) (stood-blind b n a spot (drafted b t))
-      ∙ ap (λ (x : Board). started n t (counted a.id x)) (source-blind (source_for b spot.bus) (clock_of (stood b n a spot (drafted b t)) n) (stood b n a spot (drafted b t)))
+      ∙ ap (λ (x : Board). started n t (counted a.id x))
+      (source-blind (source_for b spot.bus) (clock_of (stood b n a spot (drafted b t)) n) (stood b n a spot (drafted b t)))
       ∙ ap (started n t) (counted-blind a.id (clocked (source_for b spot.bus) n (stood b n a spot (drafted b t))))
       ∙ started-blind n t (with_device b t a spot)
     where
@@ -156,14 +172,16 @@ let-go c n q pinned is held =
     ap (λ (ps : List ℕ). unpin (with_pins ps c) n) (is ∙ ap (put_in_order n) (sym pinned))
     ∙ unpin-kept c n (subst IsUp (sym pinned) (tt, tt)) held
 
-pub let-free : (c : Board) (n : ℕ) (q : List ℕ) → c.pins ≡ 1 ∷ [] → q ≡ put_in_order n (1 ∷ []) → (refs c n == 0) ≡ true → unpin (with_pins q c) n ≡ finalise c n
+pub let-free : (c : Board) (n : ℕ) (q : List ℕ) → c.pins ≡ 1 ∷ [] → q ≡ put_in_order n (1 ∷ []) → (refs c n == 0) ≡ true
+    → unpin (with_pins q c) n ≡ finalise c n
 unfolding pin
 let-free c n q pinned is free =
     ap (λ (ps : List ℕ). unpin (with_pins ps c) n) (is ∙ ap (put_in_order n) (sym pinned))
     ∙ unpin-free c n (subst IsUp (sym pinned) (tt, tt)) free
 
 -- a device as it is created: made, and its initialisers noted
-pub created : (t : TypeId) (b : Board) → record (make t b) { notes = b.notes ++ init_notes (b.born + 1) t } ≡ with_pins (put_in_order (b.born + 1) b.pins) (with_new (fresh (b.born + 1) t) b)
+pub created : (t : TypeId) (b : Board)
+    → record (make t b) { notes = b.notes ++ init_notes (b.born + 1) t } ≡ with_pins (put_in_order (b.born + 1) b.pins) (with_new (fresh (b.born + 1) t) b)
 unfolding make
 created t b = refl
 

@@ -4,7 +4,7 @@ use Rattle.std.specs.Prelude.{nat_lt, if◌then◌else◌, ◌||◌}
 use Rattle.std.specs.List.{list_any}
 use Rattle.std.specs.Option.{option_map_or, option_or}
 use Rattle.std.specs.Str.{bytes_eq}
-use Rattle.std.proofs.lemmas.Bool.{eqb-true}
+use Rattle.std.proofs.lemmas.Bool.{eqb-true, not-false, not-true}
 use Rattle.std.proofs.lemmas.Option.{same_Some}
 use Rattle.qo_values.specs.Placing.{least}
 use Rattle.qo_values.specs.declared.codes.Code.{Code}
@@ -22,14 +22,13 @@ use Rattle.qo_model.specs.Changes.{add, with_added}
 use Rattle.qo_model.specs.Depth.{leads, Leads, one, more}
 use Rattle.qo_model.specs.Devices.{is_going, kid_name}
 use Rattle.qo_model.specs.Objects.{has_slot, refusal_of}
-use Rattle.qo_model.specs.Paths.{births, attached, canonical, children_of, is_of}
+use Rattle.qo_model.specs.Paths.{attached, canonical, children_of, is_of}
 use Rattle.qo_model.specs.Plug.{Spot, Wanted, acted_all, addressed_at, at_stage, barred_early, barred_late, born_from, bus_barred, bus_births, bus_for, bus_type, code_in, container_barred, counted, cut_attempt, cut_order, device_last, drafted, first_of, id_barred, id_refused, is_free, joined, kind_barred, name_for, notice_barred, number_for, ok_or_zero, parent_for, passed_notes, place_barred, plug, plug_as, plug_attempt, plug_by, plug_late, realize_barred, room_barred, slot_for, spot_of, stood, told_plug, type_barred, types_in, valued, with_body_of, with_device, with_ended, with_given, with_path, with_plugged, with_source}
 use Rattle.qo_model.specs.Release.{edit}
 use Rattle.qo_model.specs.Reset.{is_out, phased, plugged, post}
 use Rattle.qo_model.specs.SoundAliases.{is_open}
 use Rattle.qo_model.specs.Types.{TypeRow, is_a, row_named, types}
-use Rattle.qo_sound.proofs.RecordLemmas.{all-imply}
-use Rattle.qo_sound.proofs.FirmLemmas.{Firm, edited-kinds}
+use Rattle.qo_sound.proofs.FirmLemmas.{Firm, edited-kinds, firm-born}
 use Rattle.qo_sound.proofs.NamedLemmas.{IsNameless, named-near}
 use Rattle.qo_sound.proofs.WorkLemmas.{Nearly}
 use Rattle.qo_sound.proofs.ViewLemmas.{AtRest}
@@ -41,7 +40,8 @@ use Rattle.qo_sound.proofs.GivenLemmas.{held-linked, near-given}
 use Rattle.qo_sound.proofs.UnplugLemmas.{Sits, held-acted, held-set}
 use Rattle.qo_model.specs.Types.{slots_of}
 
--- what is known where an add is not refused before its attempt: the container is there, and its name for the device is free; the bus is there, and its slot is free
+-- what is known where an add is not refused before its attempt: the container is there, and its name for the device is free; the bus is there, and its slot is
+-- free
 pub record IsPlace (b : Board) (t : TypeId) (a : Wanted) (spot : Spot) : Type 0 where
   pub container : is_of b (codes "container") (parent_for a.id) ≡ true
   pub free_name : has_slot b (parent_for a.id) (name_for b a.id) ≡ false
@@ -104,12 +104,15 @@ record Stands (b : Board) (wanted : List ℕ) (m : ℕ) : Type 0 where
 stands-of : (b : Board) (wanted : List ℕ) (m : ℕ) → is_of b wanted m ≡ true → Stands b wanted m
 stands-of b wanted m e = go (record_of b m) refl e
   where
-    go : (o : Option Record) → record_of b m ≡ o → option_map_or (λ (t : TypeId). is_a t wanted) (option_map (λ (r : Record). r.kind) o) false ≡ true → Stands b wanted m
+    go : (o : Option Record) → record_of b m ≡ o → option_map_or (λ (t : TypeId). is_a t wanted) (option_map (λ (r : Record). r.kind) o) false ≡ true
+        → Stands b wanted m
     go None p h = absurd (let clash : false ≡ true = h in cc)
     go (Some r) p h = record { record_is = r; found = p; fits = h }
 
-free-at : (b : Board) (m : ℕ) (name : List ℕ) (r : Record) → record_of b m ≡ Some r → has_slot b m name ≡ false → list_any (λ (s : List ℕ × Slot). bytes_eq s.0 name) r.slots ≡ false
-free-at b m name r e h = sym (ap (λ (o : Option Record). list_any (λ (s : List ℕ × Slot). bytes_eq s.0 name) (option_map_or (λ (y : Record). y.slots) o [])) e) ∙ h
+free-at : (b : Board) (m : ℕ) (name : List ℕ) (r : Record) → record_of b m ≡ Some r → has_slot b m name ≡ false
+    → list_any (λ (s : List ℕ × Slot). bytes_eq s.0 name) r.slots ≡ false
+free-at b m name r e h = sym (ap (λ (o : Option Record). list_any (λ (s : List ℕ × Slot). bytes_eq s.0 name) (option_map_or (λ (y : Record). y.slots) o [])) e)
+    ∙ h
 
 -- the number of accepted adds is beside the tree
 counted-sits : (id : Option (List ℕ)) (c : Board) → Sits (1 ∷ []) c → Sits (1 ∷ []) (counted id c)
@@ -119,7 +122,15 @@ counted-sits None c h =
     record {
       near =
           record {
-            firm = record { rising = g.rising; within = g.within; begun = g.begun; named = g.named; linked = g.linked; one_parent = g.one_parent; none_round = g.none_round };
+            firm = record {
+              rising = g.rising;
+              within = g.within;
+              begun = g.begun;
+              named = g.named;
+              linked = g.linked;
+              one_parent = g.one_parent;
+              none_round = g.none_round;
+            };
             aliases = h.near.aliases;
             used = h.near.used;
           };
@@ -162,7 +173,8 @@ module _ (b : Board) (t : TypeId) (a : Wanted) (spot : Spot) (rest : AtRest b) (
       go : (u : Bool) → (spot.bus == parent_for a.id) ≡ u → (spot.bus == parent_for a.id) ≡ false
       go false p = p
       go true p =
-          let same : bus.record_is ≡ there.record_is = same_Some bus.record_is there.record_is (sym bus.found ∙ ap (record_of b) (eqb-true spot.bus (parent_for a.id) p) ∙ there.found) in
+          let same : bus.record_is ≡ there.record_is =
+          same_Some bus.record_is there.record_is (sym bus.found ∙ ap (record_of b) (eqb-true spot.bus (parent_for a.id) p) ∙ there.found) in
           absurd (no-bus there.record_is.kind t there.fits (subst (λ (r : Record). is_a r.kind (bus_type t) ≡ true) same bus.fits))
 
   -- its name in the container
@@ -171,10 +183,12 @@ module _ (b : Board) (t : TypeId) (a : Wanted) (spot : Spot) (rest : AtRest b) (
       record {
         owner = there.record_is;
         found = d.old (parent_for a.id) there.record_is there.found;
-        free_name = name-free (name_for b a.id) there.record_is.slots (free-at b (parent_for a.id) (name_for b a.id) there.record_is there.found place.free_name);
+        free_name =
+            name-free (name_for b a.id) there.record_is.slots (free-at b (parent_for a.id) (name_for b a.id) there.record_is there.found place.free_name);
         there = ap (λ (o : Option Record). is_some (option_map (λ (r : Record). r.kind) o)) d.found;
         no_parent = d.alone;
-        none_back = λ l. let high : n < parent_for a.id = leads-up (children_of c) n d.upward l (omega arith) in let clash : 0 < 0 = omega (arith, high, parent-low) in omega arith;
+        none_back = λ l. let high : n < parent_for a.id = leads-up (children_of c) n d.upward l (omega arith) in
+            let clash : 0 < 0 = omega (arith, high, parent-low) in omega arith;
         apart = grind (arith, parent-low);
       }
 
@@ -197,16 +211,19 @@ module _ (b : Board) (t : TypeId) (a : Wanted) (spot : Spot) (rest : AtRest b) (
   near2 : Nearly None c2
   near2 =
       near-added None c1 spot.bus (kid_name spot.slot) (strong Device (Some n)) bus.record_is
-      (other-record (parent_for a.id) (with_added (name_for b a.id) (child n)) (λ r. refl) c.records spot.bus bus.record_is bus-apart (d.old spot.bus bus.record_is bus.found))
+      (other-record (parent_for a.id) (with_added (name_for b a.id) (child n)) (λ r. refl) c.records spot.bus bus.record_is bus-apart
+      (d.old spot.bus bus.record_is bus.found))
       (name-free (kid_name spot.slot) bus.record_is.slots (free-at b spot.bus (kid_name spot.slot) bus.record_is bus.found place.free_slot))
       refl
-      (ap (λ (o : Option TypeId). option_map_or (λ (k : TypeId). is_a k (codes "device")) o false) (ap (λ (kinds : ℕ → Option TypeId). kinds n) kind1 ∙ device-kind) ∙ place.device)
+      (ap (λ (o : Option TypeId). option_map_or (λ (k : TypeId). is_a k (codes "device")) o false)
+      (ap (λ (kinds : ℕ → Option TypeId). kinds n) kind1 ∙ device-kind) ∙ place.device)
       tt near1
 
   -- its slots
   wide : (x : ℕ) (k : TypeId) → kind_of b x ≡ Some k → kind_of c2 x ≡ Some k
   unfolding add
-  wide x k e = ap (λ (kinds : ℕ → Option TypeId). kinds x) (edited-kinds spot.bus (with_added (kid_name spot.slot) (strong Device (Some n))) (λ r. refl) (λ r. refl) c1 ∙ kind1) ∙ go (record_of b x) refl e
+  wide x k e = ap (λ (kinds : ℕ → Option TypeId). kinds x)
+      (edited-kinds spot.bus (with_added (kid_name spot.slot) (strong Device (Some n))) (λ r. refl) (λ r. refl) c1 ∙ kind1) ∙ go (record_of b x) refl e
     where
       go : (o : Option Record) → record_of b x ≡ o → option_map (λ (r : Record). r.kind) o ≡ Some k → kind_of c x ≡ Some k
       go None p q = absurd (let clash : None ≡ Some k = q in cc)
@@ -224,10 +241,12 @@ module _ (b : Board) (t : TypeId) (a : Wanted) (spot : Spot) (rest : AtRest b) (
 
   sits-valued : Sits (1 ∷ []) (valued b n a.props spot (joined b n a spot c))
   unfolding add
-  sits-valued = held-set (1 ∷ []) n (codes "realized") (val.Bool true) _ (held-linked (1 ∷ []) n (codes "parent_bus") spot.bus _ (held-set (1 ∷ []) n (codes "slot") (val.Uint spot.slot) _ sits3))
+  sits-valued = held-set (1 ∷ []) n (codes "realized") (val.Bool true)
+      _ (held-linked (1 ∷ []) n (codes "parent_bus") spot.bus _ (held-set (1 ∷ []) n (codes "slot") (val.Uint spot.slot) _ sits3))
 
   sits-stood : Sits (1 ∷ []) (stood b n a spot c)
-  sits-stood = let k : Sits (1 ∷ []) (addressed_at n spot.range (valued b n a.props spot (joined b n a spot c))) = addressed spot.range in record { near = near-same_slots n (with_body_of a.id spot.range) (λ r. refl) (λ r. refl) (λ r. refl) None _ k.near; pins = k.pins }
+  sits-stood = let k : Sits (1 ∷ []) (addressed_at n spot.range (valued b n a.props spot (joined b n a spot c))) = addressed spot.range in
+      record { near = near-same_slots n (with_body_of a.id spot.range) (λ r. refl) (λ r. refl) (λ r. refl) None _ k.near; pins = k.pins }
     where
       addressed : (range : Option Range) → Sits (1 ∷ []) (addressed_at n range (valued b n a.props spot (joined b n a spot c)))
       addressed None = sits-valued
@@ -249,43 +268,35 @@ pub held-phased : (ps : List ℕ) (act : Act) (ns : List ℕ) (c : Board) → Si
 held-phased ps act [] c h = h
 held-phased ps act (m ∷ ns) c h = held-phased ps act ns _ (held-acted ps act m 0 c h)
 
-held-plugged : (ps : List ℕ) (m : ℕ) (c : Board) → Sits ps c → Sits ps (plugged c m)
+pub held-plugged : (ps : List ℕ) (m : ℕ) (c : Board) → Sits ps c → Sits ps (plugged c m)
 unfolding plugged
 held-plugged ps m c h = held-phased ps Exit (filter (is_out c) (post c m)) _ (held-phased ps Hold (post c m) _ (held-phased ps Enter (post c m) c h))
 
 held-told : (ps : List ℕ) (m : ℕ) (c : Board) → Sits ps c → Sits ps (told_plug m c)
 held-told ps m c h =
     record {
-      near = near-beside None (edit m (with_path (canonical c m)) c) c.holds c.pending _ c.notes (near-same_slots m (with_path (canonical c m)) (λ r. refl) (λ r. refl) (λ r. refl) None c h.near);
+      near = near-beside None (edit m (with_path (canonical c m)) c) c.holds c.pending _ c.notes
+          (near-same_slots m (with_path (canonical c m)) (λ r. refl) (λ r. refl) (λ r. refl) None c h.near);
       pins = h.pins;
     }
 
 -- a device that is added
-pub plugged-rest : (b : Board) (t : TypeId) (a : Wanted) (spot : Spot) → AtRest b → is_open (b.born + 1) ≡ false → IsPlace b t a spot → AtRest (with_plugged b t a spot)
+pub plugged-rest : (b : Board) (t : TypeId) (a : Wanted) (spot : Spot) → AtRest b → is_open (b.born + 1) ≡ false → IsPlace b t a spot
+    → AtRest (with_plugged b t a spot)
 plugged-rest b t a spot h shut place =
-    let k : Sits (1 ∷ []) (with_plugged b t a spot) = held-told (1 ∷ []) (b.born + 1) _ (held-plugged (1 ∷ []) (b.born + 1) _ (held-all (1 ∷ []) Realize ((b.born + 1) ∷ bus_births (b.born + 1) t) _ (sits-device b t a spot h shut place))) in
+    let k : Sits (1 ∷ []) (with_plugged b t a spot) = held-told (1 ∷ []) (b.born + 1) _ (held-plugged (1 ∷ []) (b.born + 1)
+    _ (held-all (1 ∷ []) Realize ((b.born + 1) ∷ bus_births (b.born + 1) t) _ (sits-device b t a spot h shut place))) in
     record { used = k.near; pinned = k.pins }
 
 -- attempts take births, and are noted
 pub ended-rest : (b : Board) (made : List (ℕ × TypeId)) (passed : List Note) (ended : List (ℕ × TypeId)) → AtRest b → AtRest (with_ended b made passed ended)
 ended-rest b made passed ended h =
-    let f : Firm b = h.used.firm in
     record {
-      used =
-          record {
-            firm =
-                record {
-                  rising = f.rising;
-                  within = all-imply (λ m. m ≤ b.born) (λ m. m ≤ b.born + length made) (λ m k. omega (arith, k)) (births b) f.within;
-                  begun = let low : 8 ≤ b.born = f.begun in omega (arith, low);
-                  named = f.named;
-                  linked = f.linked;
-                  one_parent = f.one_parent;
-                  none_round = f.none_round;
-                };
-            aliases = h.used.aliases;
-            used = h.used.used;
-          };
+      used = record {
+        firm = firm-born b (b.born + length made) (with_ended b made passed ended).notes (omega arith) h.used.firm;
+        aliases = h.used.aliases;
+        used = h.used.used;
+      };
       pinned = h.pinned;
     }
 
@@ -305,28 +316,26 @@ pub or-none : {T : Type 0} (o p : Option T) → option_or o p ≡ None → (o �
 or-none None p e = (refl, e)
 or-none (Some x) p e = absurd (let clash : Some x ≡ None = e in cc)
 
-stage-none : (stage : ℕ) (o : Option Code) → at_stage stage o ≡ None → o ≡ None
+pub stage-none : (stage : ℕ) (o : Option Code) → at_stage stage o ≡ None → o ≡ None
 stage-none stage None e = refl
 stage-none stage (Some code) e = absurd (let clash : Some (stage, code) ≡ None = e in cc)
 
-flipped : (u : Bool) → not u ≡ false → u ≡ true
-flipped true e = refl
-flipped false e = absurd (let clash : true ≡ false = e in cc)
-
 -- the container
-container-free : (b : Board) (parent : ℕ) (name : List ℕ) → container_barred b parent name ≡ None → (is_of b (codes "container") parent ≡ true) × (has_slot b parent name ≡ false)
+container-free : (b : Board) (parent : ℕ) (name : List ℕ) → container_barred b parent name ≡ None
+    → (is_of b (codes "container") parent ≡ true) × (has_slot b parent name ≡ false)
 container-free b parent name e =
     let after_there : Option Code = if has_slot b parent name then Some E24 else None in
-    let first : (not (is_of b (codes "container") parent) ≡ false) × (after_there ≡ None) = unbarred (not (is_of b (codes "container") parent)) E15 after_there e in
+    let first : (not (is_of b (codes "container") parent) ≡ false) × (after_there ≡ None) =
+    unbarred (not (is_of b (codes "container") parent)) E15 after_there e in
     let second : (has_slot b parent name ≡ false) × (None ≡ None) = unbarred (has_slot b parent name) E24 None first.1 in
-    (flipped (is_of b (codes "container") parent) first.0, second.0)
+    (not-false (is_of b (codes "container") parent) first.0, second.0)
 
 -- the bus
 bus-is : (b : Board) (t : TypeId) (m : ℕ) → bus_barred b t (Some m) ≡ None → is_of b (bus_type t) m ≡ true
 bus-is b t m e =
     let after_it : Option Code = if not (attached b m) || is_going b m then Some E27 else None in
     let first : (not (is_of b (bus_type t) m) ≡ false) × (after_it ≡ None) = unbarred (not (is_of b (bus_type t) m)) E26 after_it e in
-    flipped (is_of b (bus_type t) m) first.0
+    not-false (is_of b (bus_type t) m) first.0
 
 -- the slot
 least-passes : (p : ℕ → Bool) (times first m : ℕ) → least p first times ≡ Some m → p m ≡ true
@@ -338,47 +347,48 @@ least-passes p (suc times) first m e = go (p first) refl (least-passes p times (
     go true q rest = subst (λ (k : ℕ). p k ≡ true) (same_Some first m (rw q at e)) q
     go false q rest = rest (rw q at e)
 
-slot-free : (b : Board) (bus : ℕ) (given : Option ℕ) → code_in (slot_for b bus given) ≡ None → has_slot b bus (kid_name (ok_or_zero (slot_for b bus given))) ≡ false
+slot-free : (b : Board) (bus : ℕ) (given : Option ℕ) → code_in (slot_for b bus given) ≡ None
+    → has_slot b bus (kid_name (ok_or_zero (slot_for b bus given))) ≡ false
 slot-free b bus (Some slot) e = go (nat_lt slot BUS_SLOTS) refl (is_free b bus slot) refl
   where
-    go : (u : Bool) → nat_lt slot BUS_SLOTS ≡ u → (v : Bool) → is_free b bus slot ≡ v → has_slot b bus (kid_name (ok_or_zero (slot_for b bus (Some slot)))) ≡ false
-    go true p true q = rw (slot_for, p, q) (unflipped (has_slot b bus (kid_name slot)) q)
-      where
-        unflipped : (u : Bool) → not u ≡ true → u ≡ false
-        unflipped false k = refl
-        unflipped true k = absurd (let clash : false ≡ true = k in cc)
+    go : (u : Bool) → nat_lt slot BUS_SLOTS ≡ u → (v : Bool) → is_free b bus slot ≡ v
+        → has_slot b bus (kid_name (ok_or_zero (slot_for b bus (Some slot)))) ≡ false
+    go true p true q = rw (slot_for, p, q) (not-true (has_slot b bus (kid_name slot)) q)
     go true p false q = absurd (let clash : Some E29 ≡ None = rw (slot_for, p, q) at e in cc)
     go false p v q = absurd (let clash : Some E28 ≡ None = rw (slot_for, p) at e in cc)
 slot-free b bus None e = go (least (is_free b bus) 0 BUS_SLOTS) refl
   where
-    unflipped : (u : Bool) → not u ≡ true → u ≡ false
-    unflipped false k = refl
-    unflipped true k = absurd (let clash : false ≡ true = k in cc)
-
     go : (o : Option ℕ) → least (is_free b bus) 0 BUS_SLOTS ≡ o → has_slot b bus (kid_name (ok_or_zero (slot_for b bus None))) ≡ false
     go None p = absurd (let clash : Some E30 ≡ None = rw (slot_for, p) at e in cc)
-    go (Some slot) p = rw (slot_for, p) (unflipped (has_slot b bus (kid_name slot)) (least-passes (is_free b bus) BUS_SLOTS 0 slot p))
+    go (Some slot) p = rw (slot_for, p) (not-true (has_slot b bus (kid_name slot)) (least-passes (is_free b bus) BUS_SLOTS 0 slot p))
 
 -- the stages
 
-late-rest : (b : Board) (t : TypeId) (bus : ℕ) (a : Wanted) (refusal : Option (ℕ × Code)) → barred_late b t bus a.props ≡ refusal → AtRest b → is_open (b.born + 1) ≡ false → (barred_late b t bus a.props ≡ None → IsPlace b t a (spot_of b t bus a.props)) → AtRest (plug_late b t bus a refusal).board
+late-rest : (b : Board) (t : TypeId) (bus : ℕ) (a : Wanted) (refusal : Option (ℕ × Code)) → barred_late b t bus a.props ≡ refusal → AtRest b
+    → is_open (b.born + 1) ≡ false → (barred_late b t bus a.props ≡ None → IsPlace b t a (spot_of b t bus a.props)) → AtRest (plug_late b t bus a refusal).board
 late-rest b t bus a (Some refusal) e h shut place = plug_attempt-rest b t bus refusal.0 h
 late-rest b t bus a None e h shut place = plugged-rest b t a (spot_of b t bus a.props) h shut (place e)
 
-pub place-of : (b : Board) (t : TypeId) (bus : ℕ) (a : Wanted) → is_a t (codes "device") ≡ true → bus_for b t a.bus ≡ Some bus → barred_early b t a ≡ None → barred_late b t bus a.props ≡ None → IsPlace b t a (spot_of b t bus a.props)
+pub place-of : (b : Board) (t : TypeId) (bus : ℕ) (a : Wanted) → is_a t (codes "device") ≡ true → bus_for b t a.bus ≡ Some bus → barred_early b t a ≡ None
+    → barred_late b t bus a.props ≡ None → IsPlace b t a (spot_of b t bus a.props)
 place-of b t bus a device chosen early late =
     let bus_stage : Option (ℕ × Code) = at_stage 3 (bus_barred b t (bus_for b t a.bus)) in
     let room_stages : Option (ℕ × Code) = first_of (at_stage 4 (room_barred b t) ∷ []) in
-    let first : (at_stage 2 (id_barred b a.id) ≡ None) × (option_or bus_stage room_stages ≡ None) = or-none (at_stage 2 (id_barred b a.id)) (option_or bus_stage room_stages) early in
+    let first : (at_stage 2 (id_barred b a.id) ≡ None) × (option_or bus_stage room_stages ≡ None) =
+    or-none (at_stage 2 (id_barred b a.id)) (option_or bus_stage room_stages) early in
     let second : (bus_stage ≡ None) × (room_stages ≡ None) = or-none bus_stage room_stages first.1 in
-    let container : (id_refused b a.id ≡ None) × (container_barred b (parent_for a.id) (name_for b a.id) ≡ None) = or-none (id_refused b a.id) (container_barred b (parent_for a.id) (name_for b a.id)) (stage-none 2 (id_barred b a.id) first.0) in
-    let free : (is_of b (codes "container") (parent_for a.id) ≡ true) × (has_slot b (parent_for a.id) (name_for b a.id) ≡ false) = container-free b (parent_for a.id) (name_for b a.id) container.1 in
+    let container : (id_refused b a.id ≡ None) × (container_barred b (parent_for a.id) (name_for b a.id) ≡ None) =
+    or-none (id_refused b a.id) (container_barred b (parent_for a.id) (name_for b a.id)) (stage-none 2 (id_barred b a.id) first.0) in
+    let free : (is_of b (codes "container") (parent_for a.id) ≡ true) × (has_slot b (parent_for a.id) (name_for b a.id) ≡ false) =
+    container-free b (parent_for a.id) (name_for b a.id) container.1 in
     let last_stages : Option (ℕ × Code) = first_of (at_stage 6 (realize_barred b t a.props) ∷ at_stage 8 (notice_barred b) ∷ []) in
     let place_stage : Option (ℕ × Code) = at_stage 5 (place_barred b t bus a.props) in
-    let props : (at_stage 4 (refusal_of b t a.props) ≡ None) × (option_or place_stage last_stages ≡ None) = or-none (at_stage 4 (refusal_of b t a.props)) (option_or place_stage last_stages) late in
+    let props : (at_stage 4 (refusal_of b t a.props) ≡ None) × (option_or place_stage last_stages ≡ None) =
+    or-none (at_stage 4 (refusal_of b t a.props)) (option_or place_stage last_stages) late in
     let here : (place_stage ≡ None) × (last_stages ≡ None) = or-none place_stage last_stages props.1 in
     let slot_code : Option Code = code_in (slot_for b bus (number_for a.props (codes "slot"))) in
-    let slot : (slot_code ≡ None) × (kind_barred b t bus a.props ≡ None) = or-none slot_code (kind_barred b t bus a.props) (stage-none 5 (place_barred b t bus a.props) here.0) in
+    let slot : (slot_code ≡ None) × (kind_barred b t bus a.props ≡ None) =
+    or-none slot_code (kind_barred b t bus a.props) (stage-none 5 (place_barred b t bus a.props) here.0) in
     record {
       container = free.0;
       free_name = free.1;
@@ -387,7 +397,8 @@ place-of b t bus a device chosen early late =
       device = device;
     }
 
-as-rest : (b : Board) (t : TypeId) (a : Wanted) → is_a t (codes "device") ≡ true → AtRest b → is_open (b.born + 1) ≡ false → (o : Option (ℕ × Code)) → barred_early b t a ≡ o → AtRest (plug_as b t a o).board
+as-rest : (b : Board) (t : TypeId) (a : Wanted) → is_a t (codes "device") ≡ true → AtRest b → is_open (b.born + 1) ≡ false → (o : Option (ℕ × Code))
+    → barred_early b t a ≡ o → AtRest (plug_as b t a o).board
 as-rest b t a device h shut (Some refusal) e = h
 as-rest b t a device h shut None e = go (bus_for b t a.bus) refl
   where
@@ -395,12 +406,13 @@ as-rest b t a device h shut None e = go (bus_for b t a.bus) refl
     go None p = rw (plug_as, p) h
     go (Some bus) p = rw (plug_as, p) (late-rest b t bus a (barred_late b t bus a.props) refl h shut (place-of b t bus a device p e))
 
-pub device-of : (row : TypeRow) → (if row.is_abstract then Some E21 else if not (is_a row.id (codes "device")) then Some E22 else None) ≡ None → is_a row.id (codes "device") ≡ true
+pub device-of : (row : TypeRow) → (if row.is_abstract then Some E21 else if not (is_a row.id (codes "device")) then Some E22 else None) ≡ None
+    → is_a row.id (codes "device") ≡ true
 device-of row e =
     let after_it : Option Code = if not (is_a row.id (codes "device")) then Some E22 else None in
     let first : (row.is_abstract ≡ false) × (after_it ≡ None) = unbarred row.is_abstract E21 after_it e in
     let second : (not (is_a row.id (codes "device")) ≡ false) × (None ≡ None) = unbarred (not (is_a row.id (codes "device"))) E22 None first.1 in
-    flipped (is_a row.id (codes "device")) second.0
+    not-false (is_a row.id (codes "device")) second.0
 
 by-rest : (b : Board) (a : Wanted) → AtRest b → is_open (b.born + 1) ≡ false → (o : Option Code) → type_barred a.driver ≡ o → AtRest (plug_by b a o).board
 by-rest b a h shut (Some code) e = h

@@ -7,20 +7,20 @@ use Rattle.std.proofs.lemmas.Option.{same_Some}
 use Rattle.qo_model.specs.Board.{Record}
 use Rattle.qo_model.specs.Release.{edited}
 use Rattle.qo_model.specs.SoundGraph.{Rises}
+use Rattle.qo_model.proofs.GraphLemmas.{births_at}
 use Rattle.qo_model.proofs.StepLemmas.{found_at}
-
-abbrev pub births_at : List Record → List ℕ
-births_at rs = map (λ (r : Record). r.birth) rs
 
 pub all-imply : {A : Type 0} (P Q : A → Type 0) → ((x : A) → P x → Q x) → (xs : List A) → AllByRecursion P xs → AllByRecursion Q xs
 all-imply P Q f [] h = tt
 all-imply P Q f (x ∷ xs) h = (f x h.0, all-imply P Q f xs h.1)
 
-pub all-map : {A B : Type 0} (P : A → Type 0) (Q : B → Type 0) (f : A → B) → ((x : A) → P x → Q (f x)) → (xs : List A) → AllByRecursion P xs → AllByRecursion Q (map f xs)
+pub all-map : {A B : Type 0} (P : A → Type 0) (Q : B → Type 0) (f : A → B) → ((x : A) → P x → Q (f x)) → (xs : List A) → AllByRecursion P xs
+    → AllByRecursion Q (map f xs)
 all-map P Q f is [] h = tt
 all-map P Q f is (x ∷ xs) h = (is x h.0, all-map P Q f is xs h.1)
 
-pub all-unmap : {A B : Type 0} (P : A → Type 0) (Q : B → Type 0) (f : A → B) → ((x : A) → Q (f x) → P x) → (xs : List A) → AllByRecursion Q (map f xs) → AllByRecursion P xs
+pub all-unmap : {A B : Type 0} (P : A → Type 0) (Q : B → Type 0) (f : A → B) → ((x : A) → Q (f x) → P x) → (xs : List A) → AllByRecursion Q (map f xs)
+    → AllByRecursion P xs
 all-unmap P Q f is [] h = tt
 all-unmap P Q f is (x ∷ xs) h = (is x h.0, all-unmap P Q f is xs h.1)
 
@@ -33,7 +33,8 @@ all-filter P p (x ∷ xs) h = go (p x) refl (all-filter P p xs h.1)
     go false q rest = rw q rest
 
 -- of those that pass, where a fact is wanted of these alone
-pub all-passing : {A : Type 0} (P Q : A → Type 0) (p : A → Bool) → ((x : A) → p x ≡ true → P x → Q x) → (xs : List A) → AllByRecursion P xs → AllByRecursion Q (filter p xs)
+pub all-passing : {A : Type 0} (P Q : A → Type 0) (p : A → Bool) → ((x : A) → p x ≡ true → P x → Q x) → (xs : List A) → AllByRecursion P xs
+    → AllByRecursion Q (filter p xs)
 all-passing P Q p is [] h = tt
 all-passing P Q p is (x ∷ xs) h = go (p x) refl (all-passing P Q p is xs h.1)
   where
@@ -50,15 +51,6 @@ pub all-append : {A : Type 0} (P : A → Type 0) (xs ys : List A) → AllByRecur
 all-append P [] ys h k = k
 all-append P (x ∷ xs) ys h k = (h.0, all-append P xs ys h.1 k)
 
--- what is found has the birth
-pub found-birth : (n : ℕ) (rs : List Record) (x : Record) → found_at n rs ≡ Some x → x.birth ≡ n
-found-birth n [] x e = cc
-found-birth n (r ∷ rs) x e = go (r.birth == n) refl (found-birth n rs x)
-  where
-    go : (t : Bool) → (r.birth == n) ≡ t → (found_at n rs ≡ Some x → x.birth ≡ n) → x.birth ≡ n
-    go true p rest = sym (ap (λ (y : Record). y.birth) (same_Some r x (rw p at e))) ∙ eqb-true r.birth n p
-    go false p rest = rest (rw p at e)
-
 -- among births above n there is none that is n
 pub above-none : (n : ℕ) (rs : List Record) → AllByRecursion (λ m. n < m) (births_at rs) → found_at n rs ≡ None
 above-none n [] h = refl
@@ -68,11 +60,15 @@ above-none n (r ∷ rs) h =
     rw differs (above-none n rs h.1)
 
 -- a fact of each, where it is kept by the change at the record that is found, and by each other
-pub all-edited : (P Q : Record → Type 0) (n : ℕ) (change : Record → Record) (rs : List Record) → Rises (births_at rs) → ((r : Record) → (r.birth == n) ≡ false → P r → Q r) → ((r : Record) → found_at n rs ≡ Some r → P r → Q (change r)) → AllByRecursion P rs → AllByRecursion Q (map (edited n change) rs)
+pub all-edited : (P Q : Record → Type 0) (n : ℕ) (change : Record → Record) (rs : List Record) → Rises (births_at rs)
+    → ((r : Record) → (r.birth == n) ≡ false → P r → Q r) → ((r : Record) → found_at n rs ≡ Some r → P r → Q (change r)) → AllByRecursion P rs
+    → AllByRecursion Q (map (edited n change) rs)
 all-edited P Q n change [] up others here h = tt
 all-edited P Q n change (r ∷ rs) up others here h = go (r.birth == n) refl (all-edited P Q n change rs up.1 others)
   where
-    go : (t : Bool) → (r.birth == n) ≡ t → (((x : Record) → found_at n rs ≡ Some x → P x → Q (change x)) → AllByRecursion P rs → AllByRecursion Q (map (edited n change) rs)) → AllByRecursion Q (map (edited n change) (r ∷ rs))
+    go : (t : Bool) → (r.birth == n) ≡ t
+        → (((x : Record) → found_at n rs ≡ Some x → P x → Q (change x)) → AllByRecursion P rs → AllByRecursion Q (map (edited n change) rs))
+        → AllByRecursion Q (map (edited n change) (r ∷ rs))
     go true p rest =
         let none : found_at n rs ≡ None = rw (eqb-true r.birth n p) at (above-none r.birth rs up.0) in
         (rw (edited, p) (here r (rw p refl) h.0), rest (λ x e k. absurd (let clash : None ≡ Some x = sym none ∙ e in cc)) h.1)
@@ -88,11 +84,13 @@ edited-none n change (r ∷ rs) e = go (r.birth == n) refl (edited-none n change
     go false p rest = rw (edited, p) (ap (λ (ys : List Record). r ∷ ys) (rest (rw p at e)))
 
 -- an edit changes a sum by the record that is found alone
-pub sum-edited : (f : Record → ℕ) (n : ℕ) (change : Record → Record) (rs : List Record) → Rises (births_at rs) → (x : Record) → found_at n rs ≡ Some x → sum_by f (map (edited n change) rs) + f x ≡ sum_by f rs + f (change x)
+pub sum-edited : (f : Record → ℕ) (n : ℕ) (change : Record → Record) (rs : List Record) → Rises (births_at rs) → (x : Record) → found_at n rs ≡ Some x
+    → sum_by f (map (edited n change) rs) + f x ≡ sum_by f rs + f (change x)
 sum-edited f n change [] up x e = cc
 sum-edited f n change (r ∷ rs) up x e = go (r.birth == n) refl (sum-edited f n change rs up.1 x)
   where
-    go : (t : Bool) → (r.birth == n) ≡ t → (found_at n rs ≡ Some x → sum_by f (map (edited n change) rs) + f x ≡ sum_by f rs + f (change x)) → sum_by f (map (edited n change) (r ∷ rs)) + f x ≡ sum_by f (r ∷ rs) + f (change x)
+    go : (t : Bool) → (r.birth == n) ≡ t → (found_at n rs ≡ Some x → sum_by f (map (edited n change) rs) + f x ≡ sum_by f rs + f (change x))
+        → sum_by f (map (edited n change) (r ∷ rs)) + f x ≡ sum_by f (r ∷ rs) + f (change x)
     go true p rest =
         let none : found_at n rs ≡ None = rw (eqb-true r.birth n p) at (above-none r.birth rs up.0) in
         let is : r ≡ x = same_Some r x (rw p at e) in
@@ -100,11 +98,14 @@ sum-edited f n change (r ∷ rs) up x e = go (r.birth == n) refl (sum-edited f n
     go false p rest = rw (edited, p) (omega (arith, rest (rw p at e), sum_by-cons f r (map (edited n change) rs), sum_by-cons f r rs))
 
 -- without the record of a birth that has no number, a sum stays
-pub sum-filtered : (f : Record → ℕ) (n : ℕ) (rs : List Record) → Rises (births_at rs) → ((x : Record) → found_at n rs ≡ Some x → f x ≡ 0) → sum_by f (filter (λ (r : Record). not (r.birth == n)) rs) ≡ sum_by f rs
+pub sum-filtered : (f : Record → ℕ) (n : ℕ) (rs : List Record) → Rises (births_at rs) → ((x : Record) → found_at n rs ≡ Some x → f x ≡ 0)
+    → sum_by f (filter (λ (r : Record). not (r.birth == n)) rs) ≡ sum_by f rs
 sum-filtered f n [] up none = refl
 sum-filtered f n (r ∷ rs) up none = go (r.birth == n) refl (sum-filtered f n rs up.1)
   where
-    go : (t : Bool) → (r.birth == n) ≡ t → (((x : Record) → found_at n rs ≡ Some x → f x ≡ 0) → sum_by f (filter (λ (y : Record). not (y.birth == n)) rs) ≡ sum_by f rs) → sum_by f (filter (λ (y : Record). not (y.birth == n)) (r ∷ rs)) ≡ sum_by f (r ∷ rs)
+    go : (t : Bool) → (r.birth == n) ≡ t
+        → (((x : Record) → found_at n rs ≡ Some x → f x ≡ 0) → sum_by f (filter (λ (y : Record). not (y.birth == n)) rs) ≡ sum_by f rs)
+        → sum_by f (filter (λ (y : Record). not (y.birth == n)) (r ∷ rs)) ≡ sum_by f (r ∷ rs)
     go true p rest =
         let gone : found_at n rs ≡ None = rw (eqb-true r.birth n p) at (above-none r.birth rs up.0) in
         rw p (omega (arith, rest (λ x e. absurd (let clash : None ≡ Some x = sym gone ∙ e in cc)), none r (rw p refl), sum_by-cons f r rs))

@@ -3,12 +3,13 @@ use Rattle.std.proofs.Common.{◌≡◌, refl, ◌∙◌, ℕ, zero, suc, List, 
 use Rattle.qo_values.specs.declared.births.TheConstants.{MACHINE_BIRTH}
 use Rattle.qo_values.specs.declared.kinds.Act.{Act}
 use Rattle.qo_values.specs.declared.kinds.Act.TheVariants.{Enter, Hold, Exit}
-use Rattle.qo_model.specs.Board.{Board}
+use Rattle.qo_model.specs.Board.{Board, Record}
 use Rattle.qo_model.specs.Clocks.{acted}
 use Rattle.qo_model.specs.Hotplug.{all_completed, completed, reset_whole}
 use Rattle.qo_model.specs.Release.{without_first}
 use Rattle.qo_model.specs.Reset.{held, is_out, phased, post, pulse, released}
 use Rattle.qo_model.specs.Unplug.{first_of}
+use Rattle.qo_model.specs.declared.notes.Note.{Note}
 use Rattle.qo_sound.specs.DevicesStay.{ResetLeaves}
 use Rattle.qo_sound.proofs.CutLemmas.{near-beside}
 use Rattle.qo_sound.proofs.PlugLemmas.{held-phased}
@@ -55,9 +56,10 @@ reset-rest b h = pulse-rest (all_completed (length b.pending) b) MACHINE_BIRTH (
 
 -- what is beside the objects
 
-acted-leaves : (act : Act) (n : ℕ) (b c : Board) → ResetLeaves b c → ResetLeaves b (acted act n 0 c)
-unfolding acted
-acted-leaves act n b c h =
+-- what has the same beside the objects
+beside-leaves : (b c : Board) (records : List Record) (notes : List Note) (holds : List ℕ) → ResetLeaves b c
+    → ResetLeaves b (record c { records = records; notes = notes; holds = holds })
+beside-leaves b c records notes holds h =
     record {
       anonymous = h.anonymous;
       now = h.now;
@@ -67,24 +69,19 @@ acted-leaves act n b c h =
       rings = h.rings;
       events = h.events;
     }
+
+acted-leaves : (act : Act) (n : ℕ) (b c : Board) → ResetLeaves b c → ResetLeaves b (acted act n 0 c)
+unfolding acted
+acted-leaves act n b c h = let d : Board = acted act n 0 c in beside-leaves b c d.records d.notes c.holds h
 
 phased-leaves : (act : Act) (ns : List ℕ) (b c : Board) → ResetLeaves b c → ResetLeaves b (phased act ns c)
 phased-leaves act [] b c h = h
 phased-leaves act (n ∷ ns) b c h = phased-leaves act ns b (acted act n 0 c) (acted-leaves act n b c h)
 
 holds-leaves : (b c : Board) (holds : List ℕ) → ResetLeaves b c → ResetLeaves b (record c { holds = holds })
-holds-leaves b c holds h =
-    record {
-      anonymous = h.anonymous;
-      now = h.now;
-      running = h.running;
-      pending = h.pending;
-      notices = h.notices;
-      rings = h.rings;
-      events = h.events;
-    }
+holds-leaves b c holds h = beside-leaves b c c.records c.notes holds h
 
-none-leaves : (b : Board) → ResetLeaves b b
+pub none-leaves : (b : Board) → ResetLeaves b b
 none-leaves b = record { anonymous = refl; now = refl; running = refl; pending = refl; notices = refl; rings = refl; events = refl }
 
 pub held-leaves : (b : Board) (n : ℕ) → ResetLeaves b (held b n)

@@ -38,7 +38,15 @@ pub near-pin : (b : Board) (n : ℕ) → Nearly None b → Nearly None (pin b n)
 unfolding pin
 near-pin b n h =
     record {
-      firm = record { rising = h.firm.rising; within = h.firm.within; begun = h.firm.begun; named = h.firm.named; linked = h.firm.linked; one_parent = h.firm.one_parent; none_round = h.firm.none_round };
+      firm = record {
+        rising = h.firm.rising;
+        within = h.firm.within;
+        begun = h.firm.begun;
+        named = h.firm.named;
+        linked = h.firm.linked;
+        one_parent = h.firm.one_parent;
+        none_round = h.firm.none_round;
+      };
       aliases = h.aliases;
       used = λ m there none. h.used m there (omega (arith, none, put-times n m b.pins));
     }
@@ -63,7 +71,15 @@ near-unpin b n e h = rw (unpin, e) (after-firm (without_pin b n) (Some n) free)
     free : Nearly (Some n) (without_pin b n)
     free =
         record {
-          firm = record { rising = h.firm.rising; within = h.firm.within; begun = h.firm.begun; named = h.firm.named; linked = h.firm.linked; one_parent = h.firm.one_parent; none_round = h.firm.none_round };
+          firm = record {
+            rising = h.firm.rising;
+            within = h.firm.within;
+            begun = h.firm.begun;
+            named = h.firm.named;
+            linked = h.firm.linked;
+            one_parent = h.firm.one_parent;
+            none_round = h.firm.none_round;
+          };
           aliases = h.aliases;
           used = used;
         }
@@ -72,7 +88,8 @@ near-severed : (places i n : ℕ) (b : Board) → Nearly None b → Nearly None 
 near-severed zero i n b h = h
 near-severed (suc places) i n b h = go (slot_at b n i) refl (near-severed places (suc i) n)
   where
-    go : (s : Option Slot) → slot_at b n i ≡ s → ((c : Board) → Nearly None c → Nearly None (severed_from places (suc i) n c)) → Nearly None (severed_from (suc places) i n b)
+    go : (s : Option Slot) → slot_at b n i ≡ s → ((c : Board) → Nearly None c → Nearly None (severed_from places (suc i) n c))
+        → Nearly None (severed_from (suc places) i n b)
     go None p rest = rw (severed_from, p) (rest b h)
     go (Some (plain v)) p rest = rw (severed_from, p) (rest b h)
     go (Some (child m)) p rest = rw (severed_from, p) (rest b h)

@@ -22,7 +22,8 @@ names_in slots = map (λ (s : List ℕ × Slot). s.0) slots
 abbrev pub each_slot : (Slot → Slot) → List (List ℕ × Slot) → List (List ℕ × Slot)
 each_slot g slots = map (λ (s : List ℕ × Slot). (s.0, g s.1)) slots
 
-names-dropped : (P : List ℕ → Type 0) (i : ℕ) (slots : List (List ℕ × Slot)) → AllByRecursion P (names_in slots) → AllByRecursion P (names_in (without_hold i slots))
+names-dropped : (P : List ℕ → Type 0) (i : ℕ) (slots : List (List ℕ × Slot)) → AllByRecursion P (names_in slots)
+    → AllByRecursion P (names_in (without_hold i slots))
 names-dropped P i [] h = tt
 names-dropped P zero (s ∷ slots) h = go (emptied s.1) refl
   where
@@ -52,7 +53,8 @@ names-each g [] = refl
 names-each g (s ∷ slots) = ap (λ (ns : List (List ℕ)). s.0 ∷ ns) (names-each g slots)
 
 -- a fact of each slot is kept where one is let go, if it is of what is left
-pub all-dropped : (P : Slot → Type 0) → ((s left : Slot) → emptied s ≡ Some left → P s → P left) → (i : ℕ) (slots : List (List ℕ × Slot)) → AllByRecursion (λ (s : List ℕ × Slot). P s.1) slots → AllByRecursion (λ (s : List ℕ × Slot). P s.1) (without_hold i slots)
+pub all-dropped : (P : Slot → Type 0) → ((s left : Slot) → emptied s ≡ Some left → P s → P left) → (i : ℕ) (slots : List (List ℕ × Slot))
+    → AllByRecursion (λ (s : List ℕ × Slot). P s.1) slots → AllByRecursion (λ (s : List ℕ × Slot). P s.1) (without_hold i slots)
 all-dropped P left_is i [] h = tt
 all-dropped P left_is zero (s ∷ slots) h = go (emptied s.1) refl
   where
@@ -62,7 +64,9 @@ all-dropped P left_is zero (s ∷ slots) h = go (emptied s.1) refl
 all-dropped P left_is (suc i) (s ∷ slots) h = (h.0, all-dropped P left_is i slots h.1)
 
 -- and where one is changed, if it is of the changed one
-pub all-changed : (P : Slot → Type 0) (g : Slot → Slot) (i : ℕ) (slots : List (List ℕ × Slot)) → ((s : List ℕ × Slot) → slice_get slots i ≡ Some s → P s.1 → P (g s.1)) → AllByRecursion (λ (s : List ℕ × Slot). P s.1) slots → AllByRecursion (λ (s : List ℕ × Slot). P s.1) (changed_at g i slots)
+pub all-changed : (P : Slot → Type 0) (g : Slot → Slot) (i : ℕ) (slots : List (List ℕ × Slot))
+    → ((s : List ℕ × Slot) → slice_get slots i ≡ Some s → P s.1 → P (g s.1)) → AllByRecursion (λ (s : List ℕ × Slot). P s.1) slots
+    → AllByRecursion (λ (s : List ℕ × Slot). P s.1) (changed_at g i slots)
 all-changed P g i [] is h = tt
 all-changed P g zero (s ∷ slots) is h = (is s refl h.0, h.1)
 all-changed P g (suc i) (s ∷ slots) is h = (h.0, all-changed P g i slots is h.1)
@@ -78,14 +82,16 @@ children-dropped y zero ((name, alias m property) ∷ slots) e = e
 children-dropped y (suc i) ((name, plain v) ∷ slots) e = children-dropped y i slots e
 children-dropped y (suc i) ((name, child m) ∷ slots) e = go (eqb y m) refl (children-dropped y i slots)
   where
-    go : (t : Bool) → eqb y m ≡ t → (among (children_in (without_hold i slots)) y ≡ true → among (children_in slots) y ≡ true) → among (m ∷ children_in slots) y ≡ true
+    go : (t : Bool) → eqb y m ≡ t → (among (children_in (without_hold i slots)) y ≡ true → among (children_in slots) y ≡ true)
+        → among (m ∷ children_in slots) y ≡ true
     go true p rest = rw p refl
     go false p rest = rw p (rest (rw p at e))
 children-dropped y (suc i) ((name, strong t target) ∷ slots) e = children-dropped y i slots e
 children-dropped y (suc i) ((name, weak t target) ∷ slots) e = children-dropped y i slots e
 children-dropped y (suc i) ((name, alias m property) ∷ slots) e = children-dropped y i slots e
 
-pub children-stay : (i : ℕ) (slots : List (List ℕ × Slot)) (s : List ℕ × Slot) → slice_get slots i ≡ Some s → child_of s.1 ≡ None → children_in (without_hold i slots) ≡ children_in slots
+pub children-stay : (i : ℕ) (slots : List (List ℕ × Slot)) (s : List ℕ × Slot) → slice_get slots i ≡ Some s → child_of s.1 ≡ None
+    → children_in (without_hold i slots) ≡ children_in slots
 children-stay i [] s e none = refl
 children-stay zero ((name, plain v) ∷ slots) s e none = refl
 children-stay zero ((name, child m) ∷ slots) s e none =
@@ -97,30 +103,36 @@ children-stay zero ((name, alias m property) ∷ slots) s e none = refl
 children-stay (suc i) (x ∷ slots) s e none = ap (cons_option (child_of x.1)) (children-stay i slots s e none)
 
 -- they stay where the changed slots name the same children
-pub children-each : (g : Slot → Slot) → ((s : Slot) → child_of (g s) ≡ child_of s) → (slots : List (List ℕ × Slot)) → children_in (each_slot g slots) ≡ children_in slots
+pub children-each : (g : Slot → Slot) → ((s : Slot) → child_of (g s) ≡ child_of s) → (slots : List (List ℕ × Slot))
+    → children_in (each_slot g slots) ≡ children_in slots
 children-each g same [] = refl
 children-each g same (s ∷ slots) = ap₂ cons_option (same s.1) (children-each g same slots)
 
-pub children-changed : (g : Slot → Slot) → ((s : Slot) → child_of (g s) ≡ child_of s) → (i : ℕ) (slots : List (List ℕ × Slot)) → children_in (changed_at g i slots) ≡ children_in slots
+pub children-changed : (g : Slot → Slot) → ((s : Slot) → child_of (g s) ≡ child_of s) → (i : ℕ) (slots : List (List ℕ × Slot))
+    → children_in (changed_at g i slots) ≡ children_in slots
 children-changed g same i [] = refl
 children-changed g same zero (s ∷ slots) = ap (λ (o : Option ℕ). cons_option o (children_in slots)) (same s.1)
 children-changed g same (suc i) (s ∷ slots) = ap (cons_option (child_of s.1)) (children-changed g same i slots)
 
 -- the change of one slot changes a sum by this slot alone
-pub sum-changed : (f : List ℕ × Slot → ℕ) (g : Slot → Slot) (i : ℕ) (slots : List (List ℕ × Slot)) (s : List ℕ × Slot) → slice_get slots i ≡ Some s → sum_by f (changed_at g i slots) + f s ≡ sum_by f slots + f (s.0, g s.1)
+pub sum-changed : (f : List ℕ × Slot → ℕ) (g : Slot → Slot) (i : ℕ) (slots : List (List ℕ × Slot)) (s : List ℕ × Slot) → slice_get slots i ≡ Some s
+    → sum_by f (changed_at g i slots) + f s ≡ sum_by f slots + f (s.0, g s.1)
 sum-changed f g i [] s e = cc
 sum-changed f g zero (x ∷ slots) s e =
     let is : x ≡ s = same_Some x s e in
-    subst (λ (y : List ℕ × Slot). sum_by f ((y.0, g y.1) ∷ slots) + f s ≡ sum_by f (y ∷ slots) + f (s.0, g s.1)) (sym is) (omega (arith, sum_by-cons f (s.0, g s.1) slots, sum_by-cons f s slots))
+    subst (λ (y : List ℕ × Slot). sum_by f ((y.0, g y.1) ∷ slots) + f s ≡ sum_by f (y ∷ slots) + f (s.0, g s.1)) (sym is)
+    (omega (arith, sum_by-cons f (s.0, g s.1) slots, sum_by-cons f s slots))
 sum-changed f g (suc i) (x ∷ slots) s e = omega (arith, sum-changed f g i slots s e, sum_by-cons f x (changed_at g i slots), sum_by-cons f x slots)
 
 -- and no sum, where it changes no slot's number
-pub sum-changed_same : (f : List ℕ × Slot → ℕ) (g : Slot → Slot) → ((s : List ℕ × Slot) → f (s.0, g s.1) ≡ f s) → (i : ℕ) (slots : List (List ℕ × Slot)) → sum_by f (changed_at g i slots) ≡ sum_by f slots
+pub sum-changed_same : (f : List ℕ × Slot → ℕ) (g : Slot → Slot) → ((s : List ℕ × Slot) → f (s.0, g s.1) ≡ f s) → (i : ℕ) (slots : List (List ℕ × Slot))
+    → sum_by f (changed_at g i slots) ≡ sum_by f slots
 sum-changed_same f g same i [] = refl
 sum-changed_same f g same zero (s ∷ slots) = omega (arith, same s, sum_by-cons f (s.0, g s.1) slots, sum_by-cons f s slots)
 sum-changed_same f g same (suc i) (s ∷ slots) = omega (arith, sum-changed_same f g same i slots, sum_by-cons f s (changed_at g i slots), sum_by-cons f s slots)
 
-pub sum-each_same : (f : List ℕ × Slot → ℕ) (g : Slot → Slot) → ((s : List ℕ × Slot) → f (s.0, g s.1) ≡ f s) → (slots : List (List ℕ × Slot)) → sum_by f (each_slot g slots) ≡ sum_by f slots
+pub sum-each_same : (f : List ℕ × Slot → ℕ) (g : Slot → Slot) → ((s : List ℕ × Slot) → f (s.0, g s.1) ≡ f s) → (slots : List (List ℕ × Slot))
+    → sum_by f (each_slot g slots) ≡ sum_by f slots
 sum-each_same f g same [] = refl
 sum-each_same f g same (s ∷ slots) = omega (arith, same s, sum-each_same f g same slots, sum_by-cons f (s.0, g s.1) (each_slot g slots), sum_by-cons f s slots)
 
@@ -161,14 +173,16 @@ is_child-of x (alias m property) = refl
 
 -- a change that names the same children has the same child slots
 pub one_child-same : (g : Slot → Slot) → ((s : Slot) → child_of (g s) ≡ child_of s) → (x : ℕ) (s : List ℕ × Slot) → one_child x (s.0, g s.1) ≡ one_child x s
-one_child-same g same x s = ap (λ (t : Bool). cond {A = ℕ} t 1 0) (is_child-of x (g s.1) ∙ ap (λ (o : Option ℕ). elim o as (λ _. Bool) [ None ↦ false | Some m ↦ m == x ]) (same s.1) ∙ sym (is_child-of x s.1))
+one_child-same g same x s = ap (λ (t : Bool). cond {A = ℕ} t 1 0)
+    (is_child-of x (g s.1) ∙ ap (λ (o : Option ℕ). elim o as (λ _. Bool) [ None ↦ false | Some m ↦ m == x ]) (same s.1) ∙ sym (is_child-of x s.1))
 
 -- the children in slots of the clock's name stay with these changes
 
 abbrev pub clocks_in : List (List ℕ × Slot) → List ℕ
 clocks_in slots = children_in (filter is_clock_slot slots)
 
-pub clocks-cons : (s t : List ℕ × Slot) (xs ys : List (List ℕ × Slot)) → s.0 ≡ t.0 → child_of s.1 ≡ child_of t.1 → clocks_in xs ≡ clocks_in ys → clocks_in (s ∷ xs) ≡ clocks_in (t ∷ ys)
+pub clocks-cons : (s t : List ℕ × Slot) (xs ys : List (List ℕ × Slot)) → s.0 ≡ t.0 → child_of s.1 ≡ child_of t.1 → clocks_in xs ≡ clocks_in ys
+    → clocks_in (s ∷ xs) ≡ clocks_in (t ∷ ys)
 clocks-cons s t xs ys named same rest = go (is_clock_slot t) refl
   where
     go : (b : Bool) → is_clock_slot t ≡ b → clocks_in (s ∷ xs) ≡ clocks_in (t ∷ ys)
@@ -179,11 +193,13 @@ clocks-cons s t xs ys named same rest = go (is_clock_slot t) refl
         let q : is_clock_slot s ≡ false = ap (λ (name : List ℕ). bytes_eq name (codes "clk")) named ∙ p in
         rw (p, q) rest
 
-pub clocks-each : (g : Slot → Slot) → ((s : Slot) → child_of (g s) ≡ child_of s) → (slots : List (List ℕ × Slot)) → clocks_in (each_slot g slots) ≡ clocks_in slots
+pub clocks-each : (g : Slot → Slot) → ((s : Slot) → child_of (g s) ≡ child_of s) → (slots : List (List ℕ × Slot))
+    → clocks_in (each_slot g slots) ≡ clocks_in slots
 clocks-each g same [] = refl
 clocks-each g same (s ∷ slots) = clocks-cons (s.0, g s.1) s (each_slot g slots) slots refl (same s.1) (clocks-each g same slots)
 
-pub clocks-changed : (g : Slot → Slot) → ((s : Slot) → child_of (g s) ≡ child_of s) → (i : ℕ) (slots : List (List ℕ × Slot)) → clocks_in (changed_at g i slots) ≡ clocks_in slots
+pub clocks-changed : (g : Slot → Slot) → ((s : Slot) → child_of (g s) ≡ child_of s) → (i : ℕ) (slots : List (List ℕ × Slot))
+    → clocks_in (changed_at g i slots) ≡ clocks_in slots
 clocks-changed g same i [] = refl
 clocks-changed g same zero (s ∷ slots) = clocks-cons (s.0, g s.1) s slots slots refl (same s.1) refl
 clocks-changed g same (suc i) (s ∷ slots) = clocks-cons s s (changed_at g i slots) slots refl refl (clocks-changed g same i slots)
@@ -201,7 +217,8 @@ clocks-skip s xs (no_child none) = go (is_clock_slot s) refl
     go false p = rw p refl
 clocks-skip s xs (other_name other) = rw other refl
 
-pub clocks-stay : (i : ℕ) (slots : List (List ℕ × Slot)) (s : List ℕ × Slot) → slice_get slots i ≡ Some s → IsNoClock s → clocks_in (without_hold i slots) ≡ clocks_in slots
+pub clocks-stay : (i : ℕ) (slots : List (List ℕ × Slot)) (s : List ℕ × Slot) → slice_get slots i ≡ Some s → IsNoClock s
+    → clocks_in (without_hold i slots) ≡ clocks_in slots
 clocks-stay i [] s e none = refl
 clocks-stay zero (x ∷ slots) s e none = go (emptied x.1) refl
   where

@@ -16,10 +16,10 @@ use Rattle.qo_model.specs.declared.properties.Property.{Property}
 use Rattle.qo_model.specs.declared.properties.RowKind.TheVariants as row
 use Rattle.qo_model.proofs.AttemptLemmas.{IsStar, LowRecord, LowSlot}
 use Rattle.qo_model.proofs.DraftEndsLemmas.{IsDraft, draft-begun, draft-free, draft-low, draft-rows, drafted-cut, drafted-ends, kid-ends, kid-free, kinds_in, unjoined-cut, unjoined-ends}
+use Rattle.qo_model.proofs.GraphLemmas.{births_at}
 use Rattle.qo_model.proofs.StepLemmas.{is_some-map}
 use Rattle.qo_model.proofs.PassedLemmas.{attempt-free, attempt-passed}
 use Rattle.qo_model.proofs.PinLemmas.{IsUp}
-use Rattle.qo_sound.proofs.RecordLemmas.{births_at}
 use Rattle.qo_sound.proofs.FirmLemmas.{AllLinked, Firm, FitsKind, Linked}
 use Rattle.qo_sound.proofs.WorkLemmas.{Nearly}
 use Rattle.qo_sound.proofs.ViewLemmas.{AtRest}
@@ -45,10 +45,14 @@ device-kind b n t c d = ap (option_map (λ (r : Record). r.kind)) d.found ∙ ap
 
 -- the device is there
 plug-live : (b : Board) (t : TypeId) (a : Wanted) (spot : Spot) → AtRest b → is_live (with_plugged b t a spot) (b.born + 1) ≡ true
-plug-live b t a spot h = live-kind (with_plugged b t a spot) (b.born + 1) (kind_of (drafted b t)) t (plug-kinds b t a spot) (device-kind b (b.born + 1) t (held_up (b.born + 1) (drafted b t)) (drafted-drafts b t (shut-above b.born h.used.firm.begun) h.used))
+plug-live b t a spot h = live-kind (with_plugged b t a spot) (b.born + 1) (kind_of (drafted b t)) t (plug-kinds b t a spot)
+    (device-kind b (b.born + 1) t (held_up (b.born + 1) (drafted b t)) (drafted-drafts b t (shut-above b.born h.used.firm.begun) h.used))
 
 -- the device is made, held, and let go where it stands
-pub plug-steps : (b : Board) (t : TypeId) (a : Wanted) (spot : Spot) (q : List ℕ) → q ≡ put_in_order (b.born + 1) (1 ∷ []) → AtRest b → IsPlace b t a spot → unpin (started (b.born + 1) t (counted a.id (clocked (source_for b spot.bus) (b.born + 1) (stood b (b.born + 1) a spot (rows_made (b.born + 1) t (slots_of t) (with_pins q (with_new (fresh (b.born + 1) t) b))))))) (b.born + 1) ≡ with_plugged b t a spot
+pub plug-steps : (b : Board) (t : TypeId) (a : Wanted) (spot : Spot) (q : List ℕ) → q ≡ put_in_order (b.born + 1) (1 ∷ []) → AtRest b → IsPlace b t a spot
+    → unpin (started (b.born + 1) t (counted a.id (clocked (source_for b spot.bus) (b.born + 1)
+    (stood b (b.born + 1) a spot (rows_made (b.born + 1) t (slots_of t) (with_pins q (with_new (fresh (b.born + 1) t) b))))))) (b.born + 1)
+    ≡ with_plugged b t a spot
 plug-steps b t a spot q is h place =
     let rest : AtRest (with_plugged b t a spot) = plugged-rest b t a spot h (shut-above b.born h.used.firm.begun) place in
     ap (λ (x : Board). unpin x (b.born + 1)) (steps-blind q b t a spot)
@@ -79,43 +83,59 @@ low-slot b f (weak t None) h = tt
 low-slot b f (weak t (Some m)) h = low-fits b f t m h
 low-slot b f (alias m name) h = tt
 
-low-slots : (b : Board) → Firm b → (ss : List (List ℕ × Slot)) → AllByRecursion (λ (s : List ℕ × Slot). Linked (kind_of b) s.1) ss → AllByRecursion (λ (s : List ℕ × Slot). LowSlot (b.born + 1) s.1) ss
+low-slots : (b : Board) → Firm b → (ss : List (List ℕ × Slot)) → AllByRecursion (λ (s : List ℕ × Slot). Linked (kind_of b) s.1) ss
+    → AllByRecursion (λ (s : List ℕ × Slot). LowSlot (b.born + 1) s.1) ss
 low-slots b f [] h = tt
 low-slots b f (s ∷ ss) h = (low-slot b f s.1 h.0, low-slots b f ss h.1)
 
-low-records : (b : Board) → Firm b → (rs : List Record) → AllByRecursion (λ m. m ≤ b.born) (births_at rs) → AllLinked (kind_of b) rs → AllByRecursion (LowRecord (b.born + 1)) rs
+low-records : (b : Board) → Firm b → (rs : List Record) → AllByRecursion (λ m. m ≤ b.born) (births_at rs) → AllLinked (kind_of b) rs
+    → AllByRecursion (LowRecord (b.born + 1)) rs
 low-records b f [] w h = tt
-low-records b f (r ∷ rs) w h = let low : r.birth ≤ b.born = w.0 in (record { birth = omega (arith, low); slots = low-slots b f r.slots h.0 }, low-records b f rs w.1 h.1)
+low-records b f (r ∷ rs) w h = let low : r.birth ≤ b.born = w.0 in
+    (record { birth = omega (arith, low); slots = low-slots b f r.slots h.0 }, low-records b f rs w.1 h.1)
 
 low-pins : (b : Board) → AtRest b → AllByRecursion (λ p. p < b.born + 1) b.pins
 low-pins b h = subst (AllByRecursion (λ p. p < b.born + 1)) (sym h.pinned) (let begun : 8 ≤ b.born = h.used.firm.begun in omega (arith, begun), tt)
 
-pub draft-of : (b : Board) (t : TypeId) (ps : List Property) → AtRest b → IsDraft b (b.born + 1) t (kinds_in ps) (rows_made (b.born + 1) t ps (with_new (fresh (b.born + 1) t) b))
-draft-of b t ps h = draft-rows b (b.born + 1) t (low-records b h.used.firm b.records h.used.firm.within h.used.firm.linked) ps [] (with_new (fresh (b.born + 1) t) b) (draft-begun b t)
+pub draft-of : (b : Board) (t : TypeId) (ps : List Property) → AtRest b
+    → IsDraft b (b.born + 1) t (kinds_in ps) (rows_made (b.born + 1) t ps (with_new (fresh (b.born + 1) t) b))
+draft-of b t ps h = draft-rows b (b.born + 1) t (low-records b h.used.firm b.records h.used.firm.within h.used.firm.linked) ps []
+    (with_new (fresh (b.born + 1) t) b) (draft-begun b t)
 
 -- the steps of an attempt: the first properties of a device were made, and it is let go
-given-up : (b : Board) (t : TypeId) (ps : List Property) (q : List ℕ) → q ≡ put_in_order (b.born + 1) (1 ∷ []) → AtRest b → unpin (rows_made (b.born + 1) t ps (with_pins q (with_new (fresh (b.born + 1) t) b))) (b.born + 1) ≡ finalise (rows_made (b.born + 1) t ps (with_new (fresh (b.born + 1) t) b)) (b.born + 1)
+given-up : (b : Board) (t : TypeId) (ps : List Property) (q : List ℕ) → q ≡ put_in_order (b.born + 1) (1 ∷ []) → AtRest b
+    → unpin (rows_made (b.born + 1) t ps (with_pins q (with_new (fresh (b.born + 1) t) b))) (b.born + 1)
+    ≡ finalise (rows_made (b.born + 1) t ps (with_new (fresh (b.born + 1) t) b)) (b.born + 1)
 given-up b t ps q is h =
     let low : AllByRecursion (LowRecord (b.born + 1)) b.records = low-records b h.used.firm b.records h.used.firm.within h.used.firm.linked in
-    let none : refs (rows_made (b.born + 1) t ps (with_new (fresh (b.born + 1) t) b)) (b.born + 1) ≡ 0 = draft-free b t (kinds_in ps) (rows_made (b.born + 1) t ps (with_new (fresh (b.born + 1) t) b)) low (low-pins b h) (draft-of b t ps h) in
+    let none : refs (rows_made (b.born + 1) t ps (with_new (fresh (b.born + 1) t) b)) (b.born + 1) ≡ 0 =
+    draft-free b t (kinds_in ps) (rows_made (b.born + 1) t ps (with_new (fresh (b.born + 1) t) b)) low (low-pins b h) (draft-of b t ps h) in
     ap (λ (x : Board). unpin x (b.born + 1)) (rows-blind q (b.born + 1) t ps (with_new (fresh (b.born + 1) t) b))
-    ∙ let-free (rows_made (b.born + 1) t ps (with_new (fresh (b.born + 1) t) b)) (b.born + 1) q (rows-pins (b.born + 1) t ps (with_new (fresh (b.born + 1) t) b) ∙ h.pinned) is (ap (λ (k : ℕ). k == 0) none)
+    ∙ let-free (rows_made (b.born + 1) t ps (with_new (fresh (b.born + 1) t) b)) (b.born + 1) q
+    (rows-pins (b.born + 1) t ps (with_new (fresh (b.born + 1) t) b) ∙ h.pinned) is (ap (λ (k : ℕ). k == 0) none)
 
 -- all of them, where the attempt is refused before it is realized
-pub attempt-steps : (b : Board) (t : TypeId) (m stage : ℕ) (q : List ℕ) → q ≡ put_in_order (b.born + 1) (1 ∷ []) → (stage == 8) ≡ false → AtRest b → unpin (rows_made (b.born + 1) t (slots_of t) (with_pins q (with_new (fresh (b.born + 1) t) b))) (b.born + 1) ≡ plug_attempt b t m stage
-attempt-steps b t m stage q is early h = given-up b t (slots_of t) q is h ∙ drafted-ends b t m stage (low-records b h.used.firm b.records h.used.firm.within h.used.firm.linked) (low-pins b h) early
+pub attempt-steps : (b : Board) (t : TypeId) (m stage : ℕ) (q : List ℕ) → q ≡ put_in_order (b.born + 1) (1 ∷ []) → (stage == 8) ≡ false → AtRest b
+    → unpin (rows_made (b.born + 1) t (slots_of t) (with_pins q (with_new (fresh (b.born + 1) t) b))) (b.born + 1) ≡ plug_attempt b t m stage
+attempt-steps b t m stage q is early h = given-up b t (slots_of t) q is h
+    ∙ drafted-ends b t m stage (low-records b h.used.firm b.records h.used.firm.within h.used.firm.linked) (low-pins b h) early
 
 -- a first part, where it is cut for want of memory
-pub cut-steps : (b : Board) (t : TypeId) (ps qs : List Property) (q : List ℕ) → q ≡ put_in_order (b.born + 1) (1 ∷ []) → slots_of t ≡ ps ++ qs → AtRest b → unpin (rows_made (b.born + 1) t ps (with_pins q (with_new (fresh (b.born + 1) t) b))) (b.born + 1) ≡ cut_attempt b t (suc (length (kinds_in ps))) true
-cut-steps b t ps qs q is split h = given-up b t ps q is h ∙ drafted-cut b t ps qs split (low-records b h.used.firm b.records h.used.firm.within h.used.firm.linked) (low-pins b h)
+pub cut-steps : (b : Board) (t : TypeId) (ps qs : List Property) (q : List ℕ) → q ≡ put_in_order (b.born + 1) (1 ∷ []) → slots_of t ≡ ps ++ qs → AtRest b
+    → unpin (rows_made (b.born + 1) t ps (with_pins q (with_new (fresh (b.born + 1) t) b))) (b.born + 1) ≡ cut_attempt b t (suc (length (kinds_in ps))) true
+cut-steps b t ps qs q is split h = given-up b t ps q is h
+    ∙ drafted-cut b t ps qs split (low-records b h.used.firm b.records h.used.firm.within h.used.firm.linked) (low-pins b h)
 
 -- all of them, where it is refused because the notices are full: it acts where it stands nowhere, and is let go
-pub passed-steps : (b : Board) (t : TypeId) (m : ℕ) (q : List ℕ) → q ≡ put_in_order (b.born + 1) (1 ∷ []) → AtRest b → unpin (passed b m (b.born + 1) t (rows_made (b.born + 1) t (slots_of t) (with_pins q (with_new (fresh (b.born + 1) t) b)))) (b.born + 1) ≡ plug_attempt b t m 8
+pub passed-steps : (b : Board) (t : TypeId) (m : ℕ) (q : List ℕ) → q ≡ put_in_order (b.born + 1) (1 ∷ [])
+    → AtRest b → unpin (passed b m (b.born + 1) t (rows_made (b.born + 1) t (slots_of t) (with_pins q (with_new (fresh (b.born + 1) t) b)))) (b.born + 1)
+    ≡ plug_attempt b t m 8
 passed-steps b t m q is h =
     let low : AllByRecursion (LowRecord (b.born + 1)) b.records = low-records b h.used.firm b.records h.used.firm.within h.used.firm.linked in
     ap (λ (x : Board). unpin (passed b m (b.born + 1) t x) (b.born + 1)) (rows-blind q (b.born + 1) t (slots_of t) (with_new (fresh (b.born + 1) t) b))
     ∙ ap (λ (x : Board). unpin x (b.born + 1)) (passed-blind q b m (b.born + 1) t (drafted b t))
-    ∙ let-free (passed b m (b.born + 1) t (drafted b t)) (b.born + 1) q (passed-pins q b m (b.born + 1) t (drafted b t) ∙ rows-pins (b.born + 1) t (slots_of t) (with_new (fresh (b.born + 1) t) b) ∙ h.pinned) is (ap (λ (k : ℕ). k == 0) (attempt-free b t m low (low-pins b h)))
+    ∙ let-free (passed b m (b.born + 1) t (drafted b t)) (b.born + 1) q (passed-pins q b m (b.born + 1) t (drafted b t) ∙ rows-pins (b.born + 1) t (slots_of t)
+    (with_new (fresh (b.born + 1) t) b) ∙ h.pinned) is (ap (λ (k : ℕ). k == 0) (attempt-free b t m low (low-pins b h)))
     ∙ attempt-passed b t m low (low-pins b h)
 
 pins-two : (n : ℕ) → 1 ≤ n → put_in_order n (1 ∷ []) ≡ 1 ∷ n ∷ []
@@ -172,7 +192,9 @@ unjoined-steps b t ps p k qs ss c q split is_kid is made star_is h =
     up : IsUp q
     up = subst IsUp (sym two) ((omega arith, tt), (tt, tt))
 
-    first : unpin (with_pins (put_in_order (c.born + 1) q) (with_new (record (fresh (c.born + 1) k) { slots = ss }) (with_pins q c))) (c.born + 1) ≡ with_pins q (record c { born = c.born + 1; notes = c.notes ++ init_notes (c.born + 1) k ++ ending (c.born + 1) k })
+    first : unpin (with_pins (put_in_order (c.born + 1) q) (with_new (record (fresh (c.born + 1) k) { slots = ss }) (with_pins q c))) (c.born + 1)
+        ≡ with_pins q (record c { born = c.born + 1; notes = c.notes ++ init_notes (c.born + 1) k ++ ending (c.born + 1) k })
     first =
-        let-free_up (with_new (record (fresh (c.born + 1) k) { slots = ss }) (with_pins q c)) (c.born + 1) (put_in_order (c.born + 1) q) up refl (ap (λ (x : ℕ). x == 0) (kid-free k ss (with_pins q c) (draft-low b t (kinds_in ps) c low draft) held star_is))
+        let-free_up (with_new (record (fresh (c.born + 1) k) { slots = ss }) (with_pins q c)) (c.born + 1) (put_in_order (c.born + 1) q) up refl
+        (ap (λ (x : ℕ). x == 0) (kid-free k ss (with_pins q c) (draft-low b t (kinds_in ps) c low draft) held star_is))
         ∙ kid-ends k ss (with_pins q c) (draft-low b t (kinds_in ps) c low draft) held star_is

@@ -13,15 +13,19 @@ use Rattle.qo_model.specs.Properties.{link_target}
 use Rattle.qo_sound.proofs.FirmLemmas.{FitsKind}
 
 -- each end of a path is of the wanted type
-ends-of : (b : Board) (wanted : List ℕ) (from : ℕ → Option ℕ) (ns : List ℕ) → AllByRecursion (λ m. is_of b wanted m ≡ true) (filter_map (λ n. option_and_then (only_of b wanted) (from n)) ns)
+ends-of : (b : Board) (wanted : List ℕ) (from : ℕ → Option ℕ) (ns : List ℕ)
+    → AllByRecursion (λ m. is_of b wanted m ≡ true) (filter_map (λ n. option_and_then (only_of b wanted) (from n)) ns)
 ends-of b wanted from [] = tt
 ends-of b wanted from (n ∷ ns) = go (from n) refl (ends-of b wanted from ns)
   where
-    choose : (m : ℕ) → from n ≡ Some m → (t : Bool) → is_of b wanted m ≡ t → AllByRecursion (λ k. is_of b wanted k ≡ true) (filter_map (λ k. option_and_then (only_of b wanted) (from k)) ns) → AllByRecursion (λ k. is_of b wanted k ≡ true) (filter_map (λ k. option_and_then (only_of b wanted) (from k)) (n ∷ ns))
+    choose : (m : ℕ) → from n ≡ Some m → (t : Bool) → is_of b wanted m ≡ t
+        → AllByRecursion (λ k. is_of b wanted k ≡ true) (filter_map (λ k. option_and_then (only_of b wanted) (from k)) ns)
+        → AllByRecursion (λ k. is_of b wanted k ≡ true) (filter_map (λ k. option_and_then (only_of b wanted) (from k)) (n ∷ ns))
     choose m p true q rest = rw (p, only_of, q) (q, rest)
     choose m p false q rest = rw (p, only_of, q) rest
 
-    go : (o : Option ℕ) → from n ≡ o → AllByRecursion (λ k. is_of b wanted k ≡ true) (filter_map (λ k. option_and_then (only_of b wanted) (from k)) ns) → AllByRecursion (λ k. is_of b wanted k ≡ true) (filter_map (λ k. option_and_then (only_of b wanted) (from k)) (n ∷ ns))
+    go : (o : Option ℕ) → from n ≡ o → AllByRecursion (λ k. is_of b wanted k ≡ true) (filter_map (λ k. option_and_then (only_of b wanted) (from k)) ns)
+        → AllByRecursion (λ k. is_of b wanted k ≡ true) (filter_map (λ k. option_and_then (only_of b wanted) (from k)) (n ∷ ns))
     go None p rest = rw p rest
     go (Some m) p rest = choose m p (is_of b wanted m) refl rest
 
@@ -31,7 +35,8 @@ the_one-of P (n ∷ []) h m e = subst P (let same : found n ≡ found m = e in c
 the_one-of P (n ∷ k ∷ ns) h m e = absurd (let clash : several ≡ found m = e in cc)
 
 pub resolved-of : (b : Board) (path wanted : List ℕ) (m : ℕ) → resolve b path wanted ≡ found m → is_of b wanted m ≡ true
-resolved-of b path wanted m e = the_one-of (λ k. is_of b wanted k ≡ true) (ends b path wanted) (ends-of b wanted (λ n. walk b n (components path)) (starts b path)) m e
+resolved-of b path wanted m e =
+    the_one-of (λ k. is_of b wanted k ≡ true) (ends b path wanted) (ends-of b wanted (λ n. walk b n (components path)) (starts b path)) m e
 
 -- what a text gives as a target
 abbrev pub FitsResult : Board → TypeId → Result (Option ℕ) Code → Type 0

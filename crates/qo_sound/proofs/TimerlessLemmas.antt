@@ -7,7 +7,6 @@ use Rattle.qo_values.specs.Bodies.{body_act}
 use Rattle.qo_values.specs.Registers.{Registers, bare, bridge, dimm, fresh_registers, timer, uart}
 use Rattle.qo_values.specs.declared.births.TheConstants.{MACHINE_BIRTH, OBJECTS_BIRTH}
 use Rattle.qo_values.specs.declared.codes.Code.{Code}
-use Rattle.qo_values.specs.declared.codes.Code.TheVariants.{E21, E22}
 use Rattle.qo_values.specs.declared.kinds.Act.{Act}
 use Rattle.qo_values.specs.declared.kinds.Act.TheVariants.{Init, Realize, Unrealize, Enter, Hold, Exit, Pre, Update}
 use Rattle.qo_values.specs.declared.kinds.TypeId.{TypeId}
@@ -32,7 +31,7 @@ use Rattle.qo_model.proofs.ReleaseKeepsLemmas.{after_keeps}
 use Rattle.qo_model.proofs.StepLemmas.{found_at}
 use Rattle.qo_sound.specs.Timerless.{is_timer, makes_timer, Timerless, TimerlessKeptLaw}
 use Rattle.qo_sound.proofs.RecordLemmas.{all-append, all-filter, all-map}
-use Rattle.qo_sound.proofs.AddLemmas.{unbarred}
+use Rattle.qo_sound.proofs.AddLemmas.{creatable}
 use Rattle.qo_sound.proofs.MakeStepsLemmas.{all-any, KeepsActs, KeepsEdits, KeepsNew, new_with, RowPasses, step-acted_all, step-drafted, step-plugged, step-stood}
 use Rattle.qo_sound.proofs.DetachStepsLemmas.{KeepsEnds, KeepsLists, KeepsPins, step-detach, step-pin, step-unrealize}
 use Rattle.qo_sound.proofs.ChangeStepsLemmas.{step-object_del, step-sever, step-write}
@@ -183,16 +182,6 @@ added-timerless : (b : Board) (t : TypeId) (id : List ℕ) (props : List Given) 
 added-timerless b t id props made (Some code) h = h
 added-timerless b t id props made None h =
     all-append NoTimer _ _ (all-map NoTimer NoTimer _ (edited-no_timer OBJECTS_BIRTH _ (λ r k. k)) b.records h) (made, tt)
-
-flipped : (u : Bool) → not u ≡ false → u ≡ true
-flipped true e = refl
-flipped false e = absurd (let clash : true ≡ false = e in cc)
-
-creatable : (b : Board) (row : TypeRow) (id : List ℕ) → barred b row id ≡ None → is_a row.id (codes "user-creatable") ≡ true
-creatable b row id e =
-    let first = unbarred row.is_abstract E21 _ e in
-    let second = unbarred (not (is_a row.id (codes "user-creatable"))) E22 _ first.1 in
-    flipped (is_a row.id (codes "user-creatable")) second.0
 
 object_add-timerless : (b : Board) (driver id : List ℕ) (props : List Given) → Timerless b → Timerless (object_add b driver id props).board
 object_add-timerless b driver id props h = go (row_named driver) refl

@@ -24,8 +24,8 @@ use Rattle.qo_model.specs.SoundAliases.{is_clock_slot, is_open, PassesTo}
 use Rattle.qo_model.specs.Unplug.{apart_within, detach, disconnected, drained, each, first_of, is_bus_slot, is_child_slot, is_named, left_bus, let_go_where, lost_bus, lost_buses, unseen, unseen_named, names_kid, set_named, take_slot, take_where, taken_by, unheld, unnoticed, unrealize, unrealize_turn, unrealized_device, without_all}
 use Rattle.qo_model.proofs.PinLemmas.{IsUp, put-among, put-back, put-up, release-pins, unpin-pins}
 use Rattle.qo_model.proofs.ReleaseLeavesLemmas.{let_go-leaves}
+use Rattle.qo_model.proofs.StepLemmas.{one_of}
 use Rattle.qo_sound.proofs.FirmLemmas.{Linked}
-use Rattle.qo_sound.proofs.FinishLemmas.{one_of}
 use Rattle.qo_sound.proofs.SlotLemmas.{IsNoClock, no_child, other_name}
 use Rattle.qo_sound.proofs.WorkLemmas.{Nearly, after-firm}
 use Rattle.qo_sound.proofs.ViewLemmas.{AtRest}
@@ -44,7 +44,8 @@ pub found-from : (p : List ℕ × Slot → Bool) (i j : ℕ) (slots : List (List
 found-from p i j [] e = cc
 found-from p i j (s ∷ slots) e = go (p s) refl (found-from p (suc i) j slots)
   where
-    go : (t : Bool) → p s ≡ t → (place_from p (suc i) slots ≡ Some j → (k : ℕ) × ((j ≡ k + suc i) × Found p slots k)) → (k : ℕ) × ((j ≡ k + i) × Found p (s ∷ slots) k)
+    go : (t : Bool) → p s ≡ t → (place_from p (suc i) slots ≡ Some j → (k : ℕ) × ((j ≡ k + suc i) × Found p slots k))
+        → (k : ℕ) × ((j ≡ k + i) × Found p (s ∷ slots) k)
     go true q rest = let is : i ≡ j = same_Some i j (rw q at e) in (0, (omega (arith, is), record { entry = s; at = refl; passes = q }))
     go false q rest =
         let (k, (is, found)) = rest (rw q at e) in
@@ -60,7 +61,8 @@ pub slot-of : (b : Board) (n i : ℕ) (s : List ℕ × Slot) → slice_get (slot
 slot-of b n i s e = ap (option_map (λ (x : List ℕ × Slot). x.1)) e
 
 -- a slot found on the record is the one found on the board
-pub on-record : (b : Board) (n i : ℕ) (s x : List ℕ × Slot) (r : Record) → slice_get (slots_at b n) i ≡ Some s → record_of b n ≡ Some r → slice_get r.slots i ≡ Some x → s ≡ x
+pub on-record : (b : Board) (n i : ℕ) (s x : List ℕ × Slot) (r : Record) → slice_get (slots_at b n) i ≡ Some s → record_of b n ≡ Some r
+    → slice_get r.slots i ≡ Some x → s ≡ x
 on-record b n i s x r e q k =
     let own : slots_at b n ≡ r.slots = ap (λ (o : Option Record). option_map_or (λ (y : Record). y.slots) o []) q in
     same_Some s x (sym e ∙ ap (λ (slots : List (List ℕ × Slot)). slice_get slots i) own ∙ k)
@@ -81,14 +83,16 @@ held-where_open ps p n c wide h = go (place_from p 0 (slots_at c n)) refl
     go None e = rw (let_go_where, e) h
     go (Some i) e = rw (let_go_where, e) (held-let_go ps c n i (near-let_go c n i (λ s q. open-last c n i wide) h.near) h)
 
-pub held-where_other : (ps : List ℕ) (p : List ℕ × Slot → Bool) → ((s : List ℕ × Slot) → p s ≡ true → is_clock_slot s ≡ false) → (n : ℕ) (c : Board) → Sits ps c → Sits ps (let_go_where p n c)
+pub held-where_other : (ps : List ℕ) (p : List ℕ × Slot → Bool) → ((s : List ℕ × Slot) → p s ≡ true → is_clock_slot s ≡ false) → (n : ℕ) (c : Board) → Sits ps c
+    → Sits ps (let_go_where p n c)
 held-where_other ps p apart n c h = go (place_from p 0 (slots_at c n)) refl
   where
     go : (o : Option ℕ) → place_from p 0 (slots_at c n) ≡ o → Sits ps (let_go_where p n c)
     go None e = rw (let_go_where, e) h
     go (Some i) e =
         let f : Found p (slots_at c n) i = found-at p i (slots_at c n) e in
-        let other : (r : Record) (s : List ℕ × Slot) → record_of c n ≡ Some r → slice_get r.slots i ≡ Some s → IsNoClock s = λ r s q k. subst IsNoClock (on-record c n i f.entry s r f.at q k) (other_name (apart f.entry f.passes)) in
+        let other : (r : Record) (s : List ℕ × Slot) → record_of c n ≡ Some r → slice_get r.slots i ≡ Some s → IsNoClock s =
+        λ r s q k. subst IsNoClock (on-record c n i f.entry s r f.at q k) (other_name (apart f.entry f.passes)) in
         rw (let_go_where, e) (held-let_go ps c n i (near-let_go c n i (other-lasts c n i other) h.near) h)
 
 -- names that are not the clock's
@@ -107,7 +111,8 @@ bus-apart m s e = go (is_clock_slot s) refl
         no false k = cc
 
 -- a device is held while something is done that keeps the board so
-held-pinned : (ps : List ℕ) → IsUp ps → (d : ℕ) (f : Board → Board) → ((qs : List ℕ) → IsUp qs → (c : Board) → Sits qs c → Sits qs (f c)) → (c : Board) → Sits ps c → Sits ps (unpin (f (pin c d)) d)
+held-pinned : (ps : List ℕ) → IsUp ps → (d : ℕ) (f : Board → Board) → ((qs : List ℕ) → IsUp qs → (c : Board) → Sits qs c → Sits qs (f c)) → (c : Board)
+    → Sits ps c → Sits ps (unpin (f (pin c d)) d)
 held-pinned ps up d f keeps c h =
     record {
       near = near-unpin (f (pin c d)) d there inner.near;
@@ -144,13 +149,18 @@ held-set ps n name v c h = go (place_from (is_named name) 0 (slots_at c n)) refl
     go None e = rw (set_named, e) h
     go (Some i) e =
         let f : Found (is_named name) (slots_at c n) i = found-at (is_named name) i (slots_at c n) e in
-        rw (set_named, e) (record { near = near-changed (with_val v) (gentle-val v) None c n i f.entry.1 (slot-of c n i f.entry f.at) (set-gentle (kind_of c) v f.entry.1) (λ k. set-count k v f.entry.1) h.near; pins = h.pins })
+        rw (set_named, e) (record {
+          near = near-changed (with_val v) (gentle-val v) None c n i f.entry.1 (slot-of c n i f.entry f.at) (set-gentle (kind_of c) v f.entry.1)
+              (λ k. set-count k v f.entry.1) h.near;
+          pins = h.pins;
+        })
 
 pub held-acted : (ps : List ℕ) (act : Act) (n period : ℕ) (c : Board) → Sits ps c → Sits ps (acted act n period c)
 unfolding acted
 held-acted ps act n period c h =
     record {
-      near = near-beside None _ c.holds c.pending c.notices _ (near-same_slots n (with_act_on act c.now period) (λ r. refl) (λ r. refl) (λ r. refl) None c h.near);
+      near =
+          near-beside None _ c.holds c.pending c.notices _ (near-same_slots n (with_act_on act c.now period) (λ r. refl) (λ r. refl) (λ r. refl) None c h.near);
       pins = h.pins;
     }
 
@@ -158,7 +168,8 @@ held-unheld : (ps : List ℕ) (n : ℕ) (c : Board) → Sits ps c → Sits ps (u
 held-unheld ps n c h = record { near = near-beside None c (without_all n c.holds) c.pending c.notices c.notes h.near; pins = h.pins }
 
 held-unnoticed : (ps : List ℕ) (n : ℕ) (c : Board) → Sits ps c → Sits ps (unnoticed n c)
-held-unnoticed ps n c h = record { near = near-beside None c c.holds (without_all n c.pending) (filter (λ (x : Notice). not (x.birth == n)) c.notices) c.notes h.near; pins = h.pins }
+held-unnoticed ps n c h =
+    record { near = near-beside None c c.holds (without_all n c.pending) (filter (λ (x : Notice). not (x.birth == n)) c.notices) c.notes h.near; pins = h.pins }
 
 unseen-gentle : IsGentle unseen
 unseen-gentle = record { children = children; passes = passes }
@@ -198,7 +209,11 @@ held-unseen ps n name c h = go (place_from (is_named name) 0 (slots_at c n)) ref
     go None e = rw (unseen_named, e) h
     go (Some i) e =
         let f : Found (is_named name) (slots_at c n) i = found-at (is_named name) i (slots_at c n) e in
-        rw (unseen_named, e) (record { near = near-changed unseen unseen-gentle None c n i f.entry.1 (slot-of c n i f.entry f.at) (unseen-fits (kind_of c) f.entry.1) (λ k. unseen-count k f.entry.1) h.near; pins = h.pins })
+        rw (unseen_named, e) (record {
+          near = near-changed unseen unseen-gentle None c n i f.entry.1 (slot-of c n i f.entry f.at) (unseen-fits (kind_of c) f.entry.1)
+              (λ k. unseen-count k f.entry.1) h.near;
+          pins = h.pins;
+        })
 
 held-disconnected : (ps : List ℕ) (o : Option ℕ) (c : Board) → Sits ps c → Sits ps (disconnected o c)
 held-disconnected ps None c h = h
@@ -211,14 +226,17 @@ held-each P f keeps (n ∷ ns) c h = held-each P f keeps ns (f n c) (keeps n c h
 -- unrealizing
 
 held-device : (ps : List ℕ) (d : ℕ) (c : Board) → Sits ps c → Sits ps (unrealized_device d c)
-held-device ps d c h = held-unnoticed ps d _ (held-unheld ps d _ (held-set ps d (codes "realized") (val.Bool false) _ (held-disconnected ps (clock_of c d) _ (held-acted ps Unrealize d (device_period c d) c h))))
+held-device ps d c h = held-unnoticed ps d _ (held-unheld ps d
+    _ (held-set ps d (codes "realized") (val.Bool false) _ (held-disconnected ps (clock_of c d) _ (held-acted ps Unrealize d (device_period c d) c h))))
 
 held-turns : (ps : List ℕ) (b : Board) (depth d : ℕ) (c : Board) → Sits ps c → Sits ps (by_depth (unrealize_turn b) (λ d c. c) depth d c)
 held-turns ps b zero d c h = h
 held-turns ps b (suc depth) d c h = turn (held-turns ps b depth)
   where
-    turn : ((k : ℕ) (e : Board) → Sits ps e → Sits ps (by_depth (unrealize_turn b) (λ d c. c) depth k e)) → Sits ps (by_depth (unrealize_turn b) (λ d c. c) (suc depth) d c)
-    turn keeps = held-device ps d _ (held-each (Sits ps) _ (λ m e k. held-unheld ps m _ (held-acted ps Unrealize m 0 _ (held-each (Sits ps) _ keeps (kids_of b m) e k))) (buses_of b d) c h)
+    turn : ((k : ℕ) (e : Board) → Sits ps e → Sits ps (by_depth (unrealize_turn b) (λ d c. c) depth k e))
+        → Sits ps (by_depth (unrealize_turn b) (λ d c. c) (suc depth) d c)
+    turn keeps = held-device ps d _ (held-each (Sits ps)
+        _ (λ m e k. held-unheld ps m _ (held-acted ps Unrealize m 0 _ (held-each (Sits ps) _ keeps (kids_of b m) e k))) (buses_of b d) c h)
 
 pub held-unrealize : (ps : List ℕ) (d : ℕ) (c : Board) → Sits ps c → Sits ps (unrealize c d)
 unfolding unrealize
@@ -226,7 +244,8 @@ held-unrealize ps d c h = held-turns ps c (suc (length (births c))) d c h
 
 -- taking out
 
-held-drained : (P : Board → Type 0) (f : ℕ → Board → Board) → ((n : ℕ) (c : Board) → P c → P (f n c)) → (times m : ℕ) (c : Board) → P c → P (drained f times m c)
+pub held-drained : (P : Board → Type 0) (f : ℕ → Board → Board) → ((n : ℕ) (c : Board) → P c → P (f n c)) → (times m : ℕ) (c : Board) → P c
+    → P (drained f times m c)
 held-drained P f keeps zero m c h = h
 held-drained P f keeps (suc times) m c h = go (first_of (kids_of c m)) refl (held-drained P f keeps times m)
   where
@@ -234,7 +253,8 @@ held-drained P f keeps (suc times) m c h = go (first_of (kids_of c m)) refl (hel
     go None e rest = rw (drained, e) h
     go (Some k) e rest = rw (drained, e) (rest (f k c) (keeps k c h))
 
-held-buses : (P : Board → Type 0) (f : ℕ → Board → Board) (d : ℕ) → ((m : ℕ) (c : Board) → P c → P (lost_bus f d m c)) → (times : ℕ) (c : Board) → P c → P (lost_buses f times d c)
+pub held-buses : (P : Board → Type 0) (f : ℕ → Board → Board) (d : ℕ) → ((m : ℕ) (c : Board) → P c → P (lost_bus f d m c)) → (times : ℕ) (c : Board) → P c
+    → P (lost_buses f times d c)
 held-buses P f d keeps zero c h = h
 held-buses P f d keeps (suc times) c h = go (first_of (buses_of c d)) refl (held-buses P f d keeps times)
   where
@@ -261,10 +281,15 @@ held-taken ps d m c h = go (place_from (names_kid d) 0 (slots_at c m)) refl
         let f : Found (names_kid d) (slots_at c m) i = found-at (names_kid d) i (slots_at c m) e in
         let (t, is) = kid-held d f.entry f.passes in
         let at : slot_at c m i ≡ Some (strong t (Some d)) = slot-of c m i f.entry f.at ∙ ap Some is in
-        let other : (r : Record) (s : List ℕ × Slot) → record_of c m ≡ Some r → slice_get r.slots i ≡ Some s → IsNoClock s = λ r s q k. subst IsNoClock (on-record c m i f.entry s r f.at q k) (no_child (ap child_of is)) in
+        let other : (r : Record) (s : List ℕ × Slot) → record_of c m ≡ Some r → slice_get r.slots i ≡ Some s → IsNoClock s =
+        λ r s q k. subst IsNoClock (on-record c m i f.entry s r f.at q k) (no_child (ap child_of is)) in
         let dropped : Nearly (Some d) (drop_slot c m i) = near-drop c m i (strong t (Some d)) at (other-lasts c m i other (strong t (Some d)) at) h.near in
-        let gone : Nearly (Some d) (cut m i (drop_slot c m i)) = near-cut (Some d) (drop_slot c m i) m i (strong t None) (emptied-at c m i (strong t (Some d)) (strong t None) at refl) refl refl dropped in
-        rw (take_where, e, take_slot, at) (record { near = after-firm (cut m i (drop_slot c m i)) (Some d) gone; pins = release-pins (cut m i (drop_slot c m i)) (Some d) ∙ h.pins })
+        let gone : Nearly (Some d) (cut m i (drop_slot c m i)) =
+        near-cut (Some d) (drop_slot c m i) m i (strong t None) (emptied-at c m i (strong t (Some d)) (strong t None) at refl) refl refl dropped in
+        rw (take_where, e, take_slot, at) (record {
+          near = after-firm (cut m i (drop_slot c m i)) (Some d) gone;
+          pins = release-pins (cut m i (drop_slot c m i)) (Some d) ∙ h.pins;
+        })
 
 held-left_bus : (ps : List ℕ) (d : ℕ) (c : Board) → Sits ps c → Sits ps (left_bus d c)
 held-left_bus ps d c h = go (bus_of c d) refl
@@ -273,17 +298,20 @@ held-left_bus ps d c h = go (bus_of c d) refl
     go None e = rw (left_bus, e) h
     go (Some m) e = rw (left_bus, e) (held-where_other ps (is_named (codes "parent_bus")) (named-apart (codes "parent_bus") refl) d _ (held-taken ps d m c h))
 
-held-out : (ps : List ℕ) (f : ℕ → Board → Board) → ((n : ℕ) (c : Board) → Sits ps c → Sits ps (f n c)) → (d : ℕ) (c : Board) → Sits ps c → Sits ps (taken_by f d c)
+held-out : (ps : List ℕ) (f : ℕ → Board → Board) → ((n : ℕ) (c : Board) → Sits ps c → Sits ps (f n c)) → (d : ℕ) (c : Board) → Sits ps c
+    → Sits ps (taken_by f d c)
 held-out ps f keeps d c h =
     held-where_open ps (is_child_slot d) ANONYMOUS_BIRTH _ refl
     (held-where_open ps (is_child_slot d) PERIPHERAL_BIRTH _ refl
     (held-left_bus ps d _
-    (held-buses (Sits ps) f d (λ m e k. held-where_other ps (is_bus_slot m) (bus-apart m) d _ (held-drained (Sits ps) f keeps (length (slots_at e m)) m e k)) (length (slots_at c d)) c h)))
+    (held-buses (Sits ps) f d (λ m e k. held-where_other ps (is_bus_slot m) (bus-apart m) d _ (held-drained (Sits ps) f keeps (length (slots_at e m)) m e k))
+    (length (slots_at c d)) c h)))
 
 held-apart : (depth : ℕ) (ps : List ℕ) → IsUp ps → (d : ℕ) (c : Board) → Sits ps c → Sits ps (apart_within depth d c)
 unfolding apart_within
 held-apart zero ps up d c h = h
-held-apart (suc depth) ps up d c h = held-pinned ps up d (taken_by (apart_within depth) d) (λ qs high e k. held-out qs (apart_within depth) (held-apart depth qs high) d e k) c h
+held-apart (suc depth) ps up d c h =
+    held-pinned ps up d (taken_by (apart_within depth) d) (λ qs high e k. held-out qs (apart_within depth) (held-apart depth qs high) d e k) c h
 
 -- a device that is detached
 pub detach-rest : (b : Board) (d : ℕ) → AtRest b → AtRest (detach b d)

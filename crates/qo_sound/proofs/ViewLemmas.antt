@@ -1,20 +1,19 @@
 -- A sound tree, as facts of the board itself, and back.
-use Rattle.std.proofs.Common.{◌≡◌, ◌≢◌, refl, ap, sym, subst, ◌∙◌, ℕ, zero, suc, ◌<◌, ◌≤◌, Bool, true, false, ◌==◌, eqb, List, [], ◌∷◌, map, sum_by, count_by, Option, Some, None, is_some, option_map, arith}
+use Rattle.std.proofs.Common.{◌≡◌, ◌≢◌, refl, sym, subst, ◌∙◌, ℕ, zero, suc, ◌<◌, ◌≤◌, Bool, true, false, ◌==◌, eqb, List, [], ◌∷◌, map, sum_by, count_by, Option, Some, None, is_some, option_map, arith}
 use Rattle.std.specs.List.{AllByRecursion, IsDistinct, cons_option}
 use Rattle.std.specs.Str.{bytes_eq}
 use Rattle.std.proofs.lemmas.Bool.{eqb-true, eq-eqb}
 use Rattle.std.proofs.lemmas.List.Sums.{sum_by-cons}
 use Rattle.std.proofs.Math.Path.{fun_ext}
 use Rattle.qo_values.specs.declared.kinds.TypeId.{TypeId}
-use Rattle.qo_model.specs.Board.{Board, Record, Slot, plain, child, strong, weak, alias, kind_of, is_live, held}
+use Rattle.qo_model.specs.Board.{Board, Record, Slot, plain, child, strong, weak, alias, kind_of, is_live}
 use Rattle.qo_model.specs.Depth.{among, Leads}
 use Rattle.qo_model.specs.Paths.{births, child_of, children_in, children_of}
 use Rattle.qo_model.specs.References.{refs}
 use Rattle.qo_model.specs.SoundGraph.{graph_of, without_value, without_values, NamesLive, Rises, SoundGraph}
-use Rattle.qo_model.proofs.CycleLemmas.{all-at}
+use Rattle.qo_model.proofs.CycleLemmas.{all-at, refs-graph_of}
 use Rattle.qo_model.proofs.FinalNotesLemmas.{kind-live}
 use Rattle.qo_model.proofs.GraphLemmas.{births-graph_of, child_of-without_value, children_of-graph_of}
-use Rattle.qo_model.proofs.EditLemmas.{one_is}
 use Rattle.qo_model.proofs.StepLemmas.{found_at, live-among}
 use Rattle.qo_model.specs.SoundAliases.{is_clock_slot, is_open, lasting, PassesTo}
 use Rattle.qo_sound.proofs.SlotLemmas.{clocks_in}
@@ -23,7 +22,6 @@ use Rattle.qo_sound.proofs.RecordLemmas.{all-both, all-map, all-unmap}
 use Rattle.qo_sound.proofs.SlotLemmas.{names-each, one_child, one_child-same, sum-each_same}
 use Rattle.qo_sound.proofs.FirmLemmas.{Linked, AllLinked, HasNames, parents_in, parents_of, Firm}
 use Rattle.qo_sound.proofs.CountLemmas.{parents-from_distinct, distinct-from_parents}
-use Rattle.qo_sound.proofs.FinishLemmas.{one_of}
 use Rattle.qo_sound.proofs.WorkLemmas.{HasOwn, Nearly}
 
 -- a board at rest: each object has references, and birth 1 alone is pinned
@@ -40,28 +38,26 @@ kind-graph_of b x = go b.records
     go [] = refl
     go (r ∷ rs) = choose (r.birth == x) refl (go rs)
       where
-        choose : (t : Bool) → (r.birth == x) ≡ t → option_map (λ (y : Record). y.kind) (found_at x (map without_values rs)) ≡ option_map (λ (y : Record). y.kind) (found_at x rs) → option_map (λ (y : Record). y.kind) (found_at x (map without_values (r ∷ rs))) ≡ option_map (λ (y : Record). y.kind) (found_at x (r ∷ rs))
+        choose : (t : Bool) → (r.birth == x) ≡ t
+            → option_map (λ (y : Record). y.kind) (found_at x (map without_values rs)) ≡ option_map (λ (y : Record). y.kind) (found_at x rs)
+            → option_map (λ (y : Record). y.kind) (found_at x (map without_values (r ∷ rs))) ≡ option_map (λ (y : Record). y.kind) (found_at x (r ∷ rs))
         choose true p rest = rw p refl
         choose false p rest = rw p rest
 
 -- and sums over slots stay that see no plain value
-sum-graph_of : (f : List ℕ × Slot → ℕ) → ((s : List ℕ × Slot) → f (s.0, without_value s.1) ≡ f s) → (rs : List Record) → sum_by (λ (r : Record). sum_by f r.slots) (map without_values rs) ≡ sum_by (λ (r : Record). sum_by f r.slots) rs
+sum-graph_of : (f : List ℕ × Slot → ℕ) → ((s : List ℕ × Slot) → f (s.0, without_value s.1) ≡ f s) → (rs : List Record)
+    → sum_by (λ (r : Record). sum_by f r.slots) (map without_values rs) ≡ sum_by (λ (r : Record). sum_by f r.slots) rs
 sum-graph_of f same [] = refl
-sum-graph_of f same (r ∷ rs) = omega (arith, sum-graph_of f same rs, sum-each_same f without_value same r.slots, sum_by-cons (λ (x : Record). sum_by f x.slots) (without_values r) (map without_values rs), sum_by-cons (λ (x : Record). sum_by f x.slots) r rs)
-
-held-without : (s : Slot) → held (without_value s) ≡ held s
-held-without (plain v) = refl
-held-without (child m) = refl
-held-without (strong t target) = refl
-held-without (weak t target) = refl
-held-without (alias m name) = refl
+sum-graph_of f same (r ∷ rs) = omega (
+  arith,
+  sum-graph_of f same rs,
+  sum-each_same f without_value same r.slots,
+  sum_by-cons (λ (x : Record). sum_by f x.slots) (without_values r) (map without_values rs),
+  sum_by-cons (λ (x : Record). sum_by f x.slots) r rs,
+)
 
 parents-graph_of : (b : Board) (x : ℕ) → sum_by (parents_in x) (map without_values b.records) ≡ parents_of b x
 parents-graph_of b x = sum-graph_of (one_child x) (one_child-same without_value child_of-without_value x) b.records
-
-refs-graph_of : (b : Board) (x : ℕ) → refs (graph_of b) x ≡ refs b x
-unfolding graph_of
-refs-graph_of b x = omega (arith, sum-graph_of (one_of x) (λ s. ap (one_is x) (held-without s.1)) b.records)
 
 -- what a slot names, by types
 names-linked : (g : Board) (s : Slot) → NamesLive g (without_value s) → Linked (kind_of g) s
@@ -74,7 +70,8 @@ names-linked g (weak t (Some n)) h = h
 names-linked g (alias n name) h = tt
 
 -- a child is there
-child-linked : (kinds : ℕ → Option TypeId) (n : ℕ) (slots : List (List ℕ × Slot)) → AllByRecursion (λ (s : List ℕ × Slot). Linked kinds s.1) slots → among (children_in slots) n ≡ true → is_some (kinds n) ≡ true
+child-linked : (kinds : ℕ → Option TypeId) (n : ℕ) (slots : List (List ℕ × Slot)) → AllByRecursion (λ (s : List ℕ × Slot). Linked kinds s.1) slots
+    → among (children_in slots) n ≡ true → is_some (kinds n) ≡ true
 child-linked kinds n [] h e = cc
 child-linked kinds n ((name, plain v) ∷ slots) h e = child-linked kinds n slots h.1 e
 child-linked kinds n ((name, child m) ∷ slots) h e = go (eqb n m) refl (child-linked kinds n slots h.1)
@@ -117,7 +114,8 @@ lasting-child r n e = go (is_open r.birth) refl
     go true p = absurd (let clash : false ≡ true = rw p at e in cc)
     go false p = clocks-child r.slots n (rw p at e)
 
-linked-names : (g : Board) (r : Record) → AllByRecursion (λ (s : List ℕ × Slot). Linked (kind_of g) s.1) r.slots → (s : Slot) → Linked (kind_of g) s → PassesTo (lasting r) s → NamesLive g (without_value s)
+linked-names : (g : Board) (r : Record) → AllByRecursion (λ (s : List ℕ × Slot). Linked (kind_of g) s.1) r.slots → (s : Slot) → Linked (kind_of g) s
+    → PassesTo (lasting r) s → NamesLive g (without_value s)
 linked-names g r all (plain v) h own = tt
 linked-names g r all (child n) h own = sym (kind-live g n) ∙ h
 linked-names g r all (strong t None) h own = tt
@@ -153,7 +151,11 @@ firm-from_sound b h =
       begun = h.begun;
       named = all-unmap HasNames HasNames without_values (λ r k. subst (IsDistinct bytes_eq) (names-each without_value r.slots) k) b.records h.named;
       linked =
-          subst (λ (kinds : ℕ → Option TypeId). AllLinked kinds b.records) (same-kinds b) (all-unmap (λ (r : Record). AllByRecursion (λ (s : List ℕ × Slot). Linked (kind_of (graph_of b)) s.1) r.slots) (λ (r : Record). AllByRecursion (λ (s : List ℕ × Slot). NamesLive (graph_of b) s.1) r.slots) without_values (λ r k. all-unmap (λ (s : List ℕ × Slot). Linked (kind_of (graph_of b)) s.1) (λ (s : List ℕ × Slot). NamesLive (graph_of b) s.1) (λ (s : List ℕ × Slot). (s.0, without_value s.1)) (λ s l. names-linked (graph_of b) s.1 l) r.slots k) b.records h.live);
+          subst (λ (kinds : ℕ → Option TypeId). AllLinked kinds b.records) (same-kinds b)
+          (all-unmap (λ (r : Record). AllByRecursion (λ (s : List ℕ × Slot). Linked (kind_of (graph_of b)) s.1) r.slots)
+          (λ (r : Record). AllByRecursion (λ (s : List ℕ × Slot). NamesLive (graph_of b) s.1) r.slots) without_values
+          (λ r k. all-unmap (λ (s : List ℕ × Slot). Linked (kind_of (graph_of b)) s.1) (λ (s : List ℕ × Slot). NamesLive (graph_of b) s.1)
+          (λ (s : List ℕ × Slot). (s.0, without_value s.1)) (λ s l. names-linked (graph_of b) s.1 l) r.slots k) b.records h.live);
       one_parent = λ x. omega (arith, parents-graph_of b x, parents-from_distinct (map without_values b.records) h.one_parent x);
       none_round = λ n l. h.none_round n (subst (λ (next : ℕ → List ℕ). Leads next n n) (sym (same-children b)) l);
     }
@@ -167,7 +169,11 @@ rest-from_sound b t = record { used = record { firm = firm-from_sound b t.0; ali
     pinned = t.0.pinned
 
     others : (m : ℕ) → is_live b m ≡ true → m ≢ 1 → 0 < refs b m
-    others m there apart = omega (arith, refs-graph_of b m, all-at (λ n. n ≢ 1 → 0 < refs (graph_of b) n) (births (graph_of b)) t.0.referred m (rw (births-graph_of b) (sym (live-among b m) ∙ there)) apart)
+    others m there apart = omega (
+      arith,
+      refs-graph_of b m,
+      all-at (λ n. n ≢ 1 → 0 < refs (graph_of b) n) (births (graph_of b)) t.0.referred m (rw (births-graph_of b) (sym (live-among b m) ∙ there)) apart,
+    )
 
     used : (m : ℕ) → is_live b m ≡ true → refs b m ≡ 0 → None ≡ Some m
     used m there none = go (m == 1) refl
@@ -195,9 +201,12 @@ sound-from_rest b h = (graph, h.used.aliases)
         go zero p = absurd (let clash : None ≡ Some n = h.used.used n there p in cc)
         go (suc k) p = omega (arith, p, refs-graph_of b n)
 
-    slots_live : (r : Record) → AllByRecursion (λ (s : List ℕ × Slot). Linked (kind_of (graph_of b)) s.1) r.slots → HasOwn r → AllByRecursion (λ (s : List ℕ × Slot). NamesLive (graph_of b) s.1) (without_values r).slots
+    slots_live : (r : Record) → AllByRecursion (λ (s : List ℕ × Slot). Linked (kind_of (graph_of b)) s.1) r.slots → HasOwn r
+        → AllByRecursion (λ (s : List ℕ × Slot). NamesLive (graph_of b) s.1) (without_values r).slots
     slots_live r all own =
-        all-map (λ (s : List ℕ × Slot). Linked (kind_of (graph_of b)) s.1 × PassesTo (lasting r) s.1) (λ (s : List ℕ × Slot). NamesLive (graph_of b) s.1) (λ (s : List ℕ × Slot). (s.0, without_value s.1)) (λ s k. linked-names (graph_of b) r all s.1 k.0 k.1) r.slots (all-both (λ (s : List ℕ × Slot). Linked (kind_of (graph_of b)) s.1) (λ (s : List ℕ × Slot). PassesTo (lasting r) s.1) r.slots all own)
+        all-map (λ (s : List ℕ × Slot). Linked (kind_of (graph_of b)) s.1 × PassesTo (lasting r) s.1) (λ (s : List ℕ × Slot). NamesLive (graph_of b) s.1)
+        (λ (s : List ℕ × Slot). (s.0, without_value s.1)) (λ s k. linked-names (graph_of b) r all s.1 k.0 k.1) r.slots
+        (all-both (λ (s : List ℕ × Slot). Linked (kind_of (graph_of b)) s.1) (λ (s : List ℕ × Slot). PassesTo (lasting r) s.1) r.slots all own)
 
     graph : SoundGraph b
     graph =
@@ -205,9 +214,13 @@ sound-from_rest b h = (graph, h.used.aliases)
           rising = subst Rises (sym (births-graph_of b)) h.used.firm.rising;
           within = subst (AllByRecursion (λ n. n ≤ b.born)) (sym (births-graph_of b)) h.used.firm.within;
           begun = h.used.firm.begun;
-          named = all-map HasNames HasNames without_values (λ r k. subst (IsDistinct bytes_eq) (sym (names-each without_value r.slots)) k) b.records h.used.firm.named;
+          named = all-map HasNames HasNames without_values (λ r k. subst (IsDistinct bytes_eq) (sym (names-each without_value r.slots)) k) b.records
+              h.used.firm.named;
           live =
-              all-map (λ (r : Record). AllByRecursion (λ (s : List ℕ × Slot). Linked (kind_of (graph_of b)) s.1) r.slots × HasOwn r) (λ (r : Record). AllByRecursion (λ (s : List ℕ × Slot). NamesLive (graph_of b) s.1) r.slots) without_values (λ r k. slots_live r k.0 k.1) b.records (all-both (λ (r : Record). AllByRecursion (λ (s : List ℕ × Slot). Linked (kind_of (graph_of b)) s.1) r.slots) HasOwn b.records (subst (λ (kinds : ℕ → Option TypeId). AllLinked kinds b.records) (sym (same-kinds b)) h.used.firm.linked) h.used.aliases);
+              all-map (λ (r : Record). AllByRecursion (λ (s : List ℕ × Slot). Linked (kind_of (graph_of b)) s.1) r.slots × HasOwn r)
+              (λ (r : Record). AllByRecursion (λ (s : List ℕ × Slot). NamesLive (graph_of b) s.1) r.slots) without_values (λ r k. slots_live r k.0 k.1)
+              b.records (all-both (λ (r : Record). AllByRecursion (λ (s : List ℕ × Slot). Linked (kind_of (graph_of b)) s.1) r.slots) HasOwn b.records
+              (subst (λ (kinds : ℕ → Option TypeId). AllLinked kinds b.records) (sym (same-kinds b)) h.used.firm.linked) h.used.aliases);
           one_parent = distinct-from_parents (map without_values b.records) (λ x. omega (arith, parents-graph_of b x, h.used.firm.one_parent x));
           none_round = λ n l. h.used.firm.none_round n (subst (λ (next : ℕ → List ℕ). Leads next n n) (same-children b) l);
           pinned = h.pinned;

@@ -15,13 +15,13 @@ use Rattle.qo_model.specs.ReleaseKeeps.{KeepsRelease}
 use Rattle.qo_model.specs.SoundGraph.{Rises}
 use Rattle.qo_model.proofs.EditLemmas.{sum-held, one_is, held-forgotten, sum-without_hold, StandsAt, stands-at}
 use Rattle.qo_model.proofs.ReleaseKeepsLemmas.{after_keeps}
-use Rattle.qo_model.proofs.StepLemmas.{drop-live, drop-refs, finish-live, finish-refs, found_at}
+use Rattle.qo_model.proofs.StepLemmas.{drop-live, drop-refs, finish-live, finish-refs, found_at, found-birth, one_of}
 use Rattle.qo_model.specs.SoundAliases.{is_open, lasting, PassesTo}
 use Rattle.qo_sound.proofs.SlotLemmas.{clocks-each}
-use Rattle.qo_sound.proofs.RecordLemmas.{all-imply, all-map, all-passing, all-edited, found-birth, sum-edited, sum-filtered}
+use Rattle.qo_sound.proofs.RecordLemmas.{all-imply, all-map, all-passing, all-edited, sum-edited, sum-filtered}
 use Rattle.qo_sound.proofs.SlotLemmas.{each_slot, child-forgotten}
 use Rattle.qo_sound.proofs.FirmLemmas.{Firm, firm-drop}
-use Rattle.qo_sound.proofs.FinishLemmas.{one_of, firm-finish}
+use Rattle.qo_sound.proofs.FinishLemmas.{firm-finish}
 use Rattle.qo_sound.proofs.EmptyLemmas.{EmptyBefore, empty-drop, empty-drop_next, empty-all, empty-finish}
 
 -- the objects of the work
@@ -53,7 +53,8 @@ holds-held m s e = go (held s) refl
     go (Some k) p = p ∙ ap Some (eqb-true k m (rw (holds_it, p) at e))
 
 -- where an object loses its last reference by a slot that was let go, the slot held it
-pub dropped-held : (b : Board) → Rises (births b) → (n i : ℕ) (s : Slot) → slot_at b n i ≡ Some s → (m : ℕ) → 0 < refs b m → refs (drop_slot b n i) m ≡ 0 → held s ≡ Some m
+pub dropped-held : (b : Board) → Rises (births b) → (n i : ℕ) (s : Slot) → slot_at b n i ≡ Some s → (m : ℕ) → 0 < refs b m → refs (drop_slot b n i) m ≡ 0
+    → held s ≡ Some m
 unfolding drop_slot
 dropped-held b up n i s e m some none = go (holds_it m s) refl
   where
@@ -63,8 +64,10 @@ dropped-held b up n i s e m some none = go (holds_it m s) refl
         let at_place : StandsAt b n i s = stands-at b n i s e in
         let owner : Record = at_place.owner in
         let zero_here : one_of m at_place.entry ≡ 0 = rw (at_place.is, p) refl in
-        let slots : sum_by (one_of m) owner.slots ≤ refs_in m (with_dropped i owner) = omega (arith, zero_here, sum-without_hold (one_of m) i owner.slots at_place.entry at_place.at) in
-        absurd (let clash : 0 < 0 = omega (arith, slots, some, none, sum-edited (refs_in m) n (with_dropped i) b.records up owner at_place.found) in omega arith)
+        let slots : sum_by (one_of m) owner.slots ≤ refs_in m (with_dropped i owner) =
+        omega (arith, zero_here, sum-without_hold (one_of m) i owner.slots at_place.entry at_place.at) in
+        absurd (let clash : 0 < 0 = omega (arith, slots, some, none, sum-edited (refs_in m) n (with_dropped i) b.records up owner at_place.found) in
+        omega arith)
 
 -- what is not among numbers is not among more
 fewer : (m k : ℕ) (ns : List ℕ) → among (k ∷ ns) m ≡ false → among ns m ≡ false
@@ -91,11 +94,18 @@ dropped b n i work s e h =
     record {
       firm = firm-drop b n i h.firm;
       aliases =
-          all-edited (OwnBut (n ∷ births_of work)) (OwnBut (n ∷ births_of work)) n (with_dropped i) b.records h.firm.rising (λ r p k. k) (λ r q k apart. absurd (let clash : true ≡ false = sym (first-among n (births_of work)) ∙ subst (λ (x : ℕ). among (n ∷ births_of work) x ≡ false) (found-birth n b.records r q) apart in cc)) h.aliases;
+          all-edited (OwnBut (n ∷ births_of work)) (OwnBut (n ∷ births_of work)) n (with_dropped i) b.records h.firm.rising (λ r p k. k)
+          (λ r q k apart. absurd (let clash : true ≡ false =
+          sym (first-among n (births_of work)) ∙ subst (λ (x : ℕ). among (n ∷ births_of work) x ≡ false) (found-birth n b.records r q) apart in
+          cc)) h.aliases;
       free =
-          all-imply (λ (p : ℕ × ℕ). refs b p.0 ≡ 0) (λ (p : ℕ × ℕ). refs (drop_slot b n i) p.0 ≡ 0) (λ p k. omega (arith, k, drop-refs b n i p.0)) ((n, next_place s i) ∷ work) h.free;
-      done =
-          (empty-drop_next b n i s e h.done.0, all-imply (λ (p : ℕ × ℕ). EmptyBefore p.1 (slots_at b p.0)) (λ (p : ℕ × ℕ). EmptyBefore p.1 (slots_at (drop_slot b n i) p.0)) (λ p k. empty-drop b n i p.0 p.1 k) work h.done.1);
+          all-imply (λ (p : ℕ × ℕ). refs b p.0 ≡ 0) (λ (p : ℕ × ℕ). refs (drop_slot b n i) p.0 ≡ 0) (λ p k. omega (arith, k, drop-refs b n i p.0))
+          ((n, next_place s i) ∷ work) h.free;
+      done = (
+        empty-drop_next b n i s e h.done.0,
+        all-imply (λ (p : ℕ × ℕ). EmptyBefore p.1 (slots_at b p.0)) (λ (p : ℕ × ℕ). EmptyBefore p.1 (slots_at (drop_slot b n i) p.0))
+            (λ p k. empty-drop b n i p.0 p.1 k) work h.done.1,
+      );
       used = λ m there none apart. dropped-held b h.firm.rising n i s e m (had m there apart) none;
     }
   where
@@ -107,8 +117,10 @@ dropped b n i work s e h =
         go (suc k) p = omega (arith, p)
 
 -- a slot let go whose object still has references, or that held none
-kept-midst : (b : Board) (n i : ℕ) (work : List (ℕ × ℕ)) (s : Slot) → Midst ((n, i) ∷ work) b → slot_at b n i ≡ Some s → ((m : ℕ) → held s ≡ Some m → 0 < refs (drop_slot b n i) m) → Midst ((n, next_place s i) ∷ work) (drop_slot b n i)
-kept-midst b n i work s h e held_on = let d : Dropped b n i work s = dropped b n i work s e h in record { firm = d.firm; aliases = d.aliases; free = d.free; done = d.done; used = used d }
+kept-midst : (b : Board) (n i : ℕ) (work : List (ℕ × ℕ)) (s : Slot) → Midst ((n, i) ∷ work) b → slot_at b n i ≡ Some s
+    → ((m : ℕ) → held s ≡ Some m → 0 < refs (drop_slot b n i) m) → Midst ((n, next_place s i) ∷ work) (drop_slot b n i)
+kept-midst b n i work s h e held_on = let d : Dropped b n i work s = dropped b n i work s e h in
+    record { firm = d.firm; aliases = d.aliases; free = d.free; done = d.done; used = used d }
   where
     used : Dropped b n i work s → (m : ℕ) → is_live (drop_slot b n i) m ≡ true → refs (drop_slot b n i) m ≡ 0 → among (n ∷ births_of work) m ≡ true
     used d m there none = go (among (n ∷ births_of work) m) refl
@@ -118,12 +130,14 @@ kept-midst b n i work s h e held_on = let d : Dropped b n i work s = dropped b n
         go false p = absurd (let some : 0 < refs (drop_slot b n i) m = held_on m (d.used m there none p) in omega (arith, some, none))
 
 -- and one whose object has none any more
-freed-midst : (b : Board) (n i : ℕ) (work : List (ℕ × ℕ)) (s : Slot) (k : ℕ) → Midst ((n, i) ∷ work) b → slot_at b n i ≡ Some s → held s ≡ Some k → refs (drop_slot b n i) k ≡ 0 → Midst ((k, 0) ∷ (n, next_place s i) ∷ work) (drop_slot b n i)
+freed-midst : (b : Board) (n i : ℕ) (work : List (ℕ × ℕ)) (s : Slot) (k : ℕ) → Midst ((n, i) ∷ work) b → slot_at b n i ≡ Some s → held s ≡ Some k
+    → refs (drop_slot b n i) k ≡ 0 → Midst ((k, 0) ∷ (n, next_place s i) ∷ work) (drop_slot b n i)
 freed-midst b n i work s k h e holds free =
     let d : Dropped b n i work s = dropped b n i work s e h in
     record {
       firm = d.firm;
-      aliases = all-imply (OwnBut (n ∷ births_of work)) (OwnBut (k ∷ n ∷ births_of work)) (λ r own apart. own (fewer r.birth k (n ∷ births_of work) apart)) (drop_slot b n i).records d.aliases;
+      aliases = all-imply (OwnBut (n ∷ births_of work)) (OwnBut (k ∷ n ∷ births_of work)) (λ r own apart. own (fewer r.birth k (n ∷ births_of work) apart))
+          (drop_slot b n i).records d.aliases;
       free = (free, d.free);
       done = (tt, d.done);
       used = used d;
@@ -140,7 +154,9 @@ freed-midst b n i work s k h e holds free =
 
 -- the aliases of an object behind the end of another
 own-forgotten : (n : ℕ) (r : Record) → HasOwn r → HasOwn (forgotten n r)
-own-forgotten n r h = subst (λ (ns : List ℕ). AllByRecursion (λ (s : List ℕ × Slot). PassesTo ns s.1) (each_slot (forgotten_in n) r.slots)) (sym stays) (all-map (λ (s : List ℕ × Slot). PassesTo (lasting r) s.1) (λ (s : List ℕ × Slot). PassesTo (lasting r) s.1) (λ (s : List ℕ × Slot). (s.0, forgotten_in n s.1)) (λ s k. passes s.1 k) r.slots h)
+own-forgotten n r h = subst (λ (ns : List ℕ). AllByRecursion (λ (s : List ℕ × Slot). PassesTo ns s.1) (each_slot (forgotten_in n) r.slots)) (sym stays)
+    (all-map (λ (s : List ℕ × Slot). PassesTo (lasting r) s.1) (λ (s : List ℕ × Slot). PassesTo (lasting r) s.1)
+    (λ (s : List ℕ × Slot). (s.0, forgotten_in n s.1)) (λ s k. passes s.1 k) r.slots h)
   where
     passes : (s : Slot) → PassesTo (lasting r) s → PassesTo (lasting r) (forgotten_in n s)
     passes (plain v) k = tt
@@ -160,9 +176,12 @@ ended-midst b n i work h e =
     record {
       firm = firm-finish b n h.free.0 h.firm;
       aliases =
-          all-map (OwnBut (births_of work)) (OwnBut (births_of work)) (forgotten n) (λ r k apart. own-forgotten n r (k apart)) (filter (λ (r : Record). not (r.birth == n)) b.records) (all-passing (OwnBut (n ∷ births_of work)) (OwnBut (births_of work)) (λ (r : Record). not (r.birth == n)) (λ r p k apart. k (others r p apart)) b.records h.aliases);
+          all-map (OwnBut (births_of work)) (OwnBut (births_of work)) (forgotten n) (λ r k apart. own-forgotten n r (k apart))
+          (filter (λ (r : Record). not (r.birth == n)) b.records) (all-passing (OwnBut (n ∷ births_of work)) (OwnBut (births_of work))
+          (λ (r : Record). not (r.birth == n)) (λ r p k apart. k (others r p apart)) b.records h.aliases);
       free = all-imply (λ (p : ℕ × ℕ). refs b p.0 ≡ 0) (λ (p : ℕ × ℕ). refs (finish b n) p.0 ≡ 0) (λ p k. omega (arith, k, finish-refs b n p.0)) work h.free.1;
-      done = all-imply (λ (p : ℕ × ℕ). EmptyBefore p.1 (slots_at b p.0)) (λ (p : ℕ × ℕ). EmptyBefore p.1 (slots_at (finish b n) p.0)) (λ p k. empty-finish b n p.0 p.1 k) work h.done.1;
+      done = all-imply (λ (p : ℕ × ℕ). EmptyBefore p.1 (slots_at b p.0)) (λ (p : ℕ × ℕ). EmptyBefore p.1 (slots_at (finish b n) p.0))
+          (λ p k. empty-finish b n p.0 p.1 k) work h.done.1;
       used = λ m there none. used m (m == n) refl there none;
     }
   where
@@ -183,13 +202,21 @@ ended-midst b n i work h e =
 
     sum-forgotten : (m : ℕ) (rs : List Record) → sum_by (refs_in m) (map (forgotten n) rs) ≡ sum_by (refs_in m) rs
     sum-forgotten m [] = refl
-    sum-forgotten m (r ∷ rs) = omega (arith, sum-forgotten m rs, sum-held (one_is m) (forgotten_in n) (held-forgotten n) r.slots, sum_by-cons (refs_in m) (forgotten n r) (map (forgotten n) rs), sum_by-cons (refs_in m) r rs)
+    sum-forgotten m (r ∷ rs) = omega (
+      arith,
+      sum-forgotten m rs,
+      sum-held (one_is m) (forgotten_in n) (held-forgotten n) r.slots,
+      sum_by-cons (refs_in m) (forgotten n r) (map (forgotten n) rs),
+      sum_by-cons (refs_in m) r rs,
+    )
 
     same-refs : (m : ℕ) → refs (finish b n) m ≡ refs b m
-    same-refs m = omega (arith, sum-forgotten m (filter (λ (r : Record). not (r.birth == n)) b.records), sum-filtered (refs_in m) n b.records h.firm.rising (unheld m))
+    same-refs m =
+        omega (arith, sum-forgotten m (filter (λ (r : Record). not (r.birth == n)) b.records), sum-filtered (refs_in m) n b.records h.firm.rising (unheld m))
 
     used : (m : ℕ) (t : Bool) → (m == n) ≡ t → is_live (finish b n) m ≡ true → refs (finish b n) m ≡ 0 → among (births_of work) m ≡ true
-    used m true p there none = absurd (let gone : is_live (finish b n) m ≡ false = finish-live b n m ∙ rw p refl in let clash : true ≡ false = sym there ∙ gone in cc)
+    used m true p there none =
+        absurd (let gone : is_live (finish b n) m ≡ false = finish-live b n m ∙ rw p refl in let clash : true ≡ false = sym there ∙ gone in cc)
     used m false p there none =
         let before : is_live b m ≡ true = sym (finish-live b n m ∙ rw p refl) ∙ there in
         let differs : eqb m n ≡ false = p in

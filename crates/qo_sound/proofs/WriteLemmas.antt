@@ -41,14 +41,20 @@ set-pins : (b : Board) (n i : ℕ) (v : Val) → (set n i v b).pins ≡ b.pins
 unfolding set
 set-pins b n i v = refl
 
-relinked-rest : (b : Board) (n i : ℕ) (t : TypeId) (s : Slot) → IsLink t s → slot_at b n i ≡ Some s → (target : Option ℕ) → FitsKind (kind_of b) t target → AtRest b → AtRest (relinked b n i target)
-relinked-rest b n i t s link e target fits h = record { used = near-relinked b n i t s link e target fits h.used; pinned = rw (relinked, e) (release-pins (pointed_at target n i (drop_slot b n i)) (held s)) ∙ pointed-pins b n i target ∙ h.pinned }
+relinked-rest : (b : Board) (n i : ℕ) (t : TypeId) (s : Slot) → IsLink t s → slot_at b n i ≡ Some s → (target : Option ℕ) → FitsKind (kind_of b) t target
+    → AtRest b → AtRest (relinked b n i target)
+relinked-rest b n i t s link e target fits h = record {
+  used = near-relinked b n i t s link e target fits h.used;
+  pinned = rw (relinked, e) (release-pins (pointed_at target n i (drop_slot b n i)) (held s)) ∙ pointed-pins b n i target ∙ h.pinned;
+}
 
-linked-rest : (b : Board) (n i : ℕ) (t : TypeId) (s : Slot) → IsLink t s → slot_at b n i ≡ Some s → (target : Result (Option ℕ) Code) → FitsResult b t target → AtRest b → AtRest (behind_write b (linked b n i target))
+linked-rest : (b : Board) (n i : ℕ) (t : TypeId) (s : Slot) → IsLink t s → slot_at b n i ≡ Some s → (target : Result (Option ℕ) Code) → FitsResult b t target
+    → AtRest b → AtRest (behind_write b (linked b n i target))
 linked-rest b n i t s link e (Ok target) fits h = relinked-rest b n i t s link e target fits h
 linked-rest b n i t s link e (Err code) fits h = h
 
-link_written-rest : (b : Board) (n i : ℕ) (t : TypeId) (s : Slot) → IsLink t s → slot_at b n i ≡ Some s → (v : Val) → AtRest b → AtRest (behind_write b (link_written b n i t v))
+link_written-rest : (b : Board) (n i : ℕ) (t : TypeId) (s : Slot) → IsLink t s → slot_at b n i ≡ Some s → (v : Val) → AtRest b
+    → AtRest (behind_write b (link_written b n i t v))
 link_written-rest b n i t s link e (val.Text path) h = linked-rest b n i t s link e (link_target b t path) (target-fits b t path) h
 link_written-rest b n i t s link e (val.Bool v) h = h
 link_written-rest b n i t s link e (val.Int v) h = h

@@ -40,8 +40,7 @@ use Rattle.qo_sound.proofs.AddLemmas.{unbarred}
 use Rattle.qo_sound.proofs.MakeStepsLemmas.{all-any, KeepsActs, KeepsEdits, step-acted_all, step-plugged, step-set, step-stood}
 use Rattle.qo_sound.proofs.DetachStepsLemmas.{KeepsEnds, KeepsLists, KeepsPins, step-detach, step-pin, step-unrealize}
 use Rattle.qo_sound.proofs.ChangeStepsLemmas.{step-object_del, step-sever, step-write}
-use Rattle.qo_sound.proofs.PlugLemmas.{or-none}
-use Rattle.qo_sound_devices.proofs.AcceptedLemmas.{stage-none}
+use Rattle.qo_sound.proofs.PlugLemmas.{or-none, stage-none}
 use Rattle.qo_sound_devices.proofs.PlugLemmas.{Accepted, behind-plug}
 use Rattle.qo_sound_clocks.specs.RegistersKept.{with_registers}
 use Rattle.qo_sound_clocks.proofs.StepsLemmas.{kept-scaled, kept-set, KeepsNumbers}

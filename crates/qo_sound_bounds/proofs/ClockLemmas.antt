@@ -17,7 +17,9 @@ use Rattle.qo_model.specs.Devices.{bridge_of, bus_of, child_named, clock_of, is_
 use Rattle.qo_model.specs.Paths.{is_of}
 use Rattle.qo_model.specs.Plug.{source_for}
 use Rattle.qo_sound.proofs.FirmLemmas.{Firm}
+use Rattle.qo_sound.proofs.ReadLemmas.{named_in}
 use Rattle.qo_sound.proofs.SlotLemmas.{names_in}
+use Rattle.qo_sound.proofs.TestLemmas.{clash}
 use Rattle.qo_sound_devices.specs.SoundPlaces.{child_entries, child_entry, HasOwner, machines, bridges, listed, owns, owns_it, stands}
 use Rattle.qo_sound_devices.proofs.AttachedLemmas.{owns-listed, parent-is}
 use Rattle.qo_sound_devices.proofs.DropLemmas.{names-at}
@@ -25,12 +27,8 @@ use Rattle.qo_sound_devices.proofs.PlacesLemmas.{child-live}
 use Rattle.qo_sound_devices.proofs.PlugLemmas.{stands-device}
 use Rattle.qo_sound_phases.proofs.BelowLemmas.{Placed}
 use Rattle.qo_sound_phases.proofs.FrameLemmas.{Frame}
-use Rattle.qo_sound_phases.proofs.ListLemmas.{clash}
 use Rattle.qo_sound_phases.proofs.ReachedLemmas.{machine-no_device, machines-listed}
 use Rattle.qo_sound_bounds.specs.SoundSources.{IsDeviceClock, SoundSources}
-
-abbrev named_in : List ℕ → List (List ℕ × Slot) → Option Slot
-named_in name slots = option_map (λ (s : List ℕ × Slot). s.1) (find (λ s. bytes_eq s.0 name) slots)
 
 -- the first entry of a name
 abbrev entry_named : List ℕ → List (List ℕ × ℕ) → Option ℕ

@@ -24,12 +24,12 @@ use Rattle.qo_model.specs.declared.properties.Property.{Property}
 use Rattle.qo_model.specs.declared.properties.RowKind.{RowKind}
 use Rattle.qo_model.specs.declared.properties.RowKind.TheVariants as row
 use Rattle.qo_model.proofs.StepLemmas.{found_at, found-edited}
+use Rattle.qo_sound.proofs.ReadLemmas.{slots_in}
 use Rattle.qo_sound.proofs.RecordLemmas.{all-append, all-imply}
+use Rattle.qo_sound.proofs.TestLemmas.{clash-back}
 use Rattle.qo_sound_devices.proofs.SourceLemmas.{add-other}
-use Rattle.qo_sound_clocks.proofs.FewerLemmas.{slots_in}
 use Rattle.qo_sound_clocks.proofs.LessLemmas.{Slots}
 use Rattle.qo_sound_clocks.proofs.PlugLemmas.{edited-at}
-use Rattle.qo_sound_phases.proofs.ListLemmas.{clash-back}
 
 -- a clock as new, younger than a birth
 pub record IsNewClock (n : ℕ) (c : Board) (m : ℕ) : Type 0 where

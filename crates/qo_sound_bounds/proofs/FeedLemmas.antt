@@ -26,7 +26,9 @@ use Rattle.qo_model.specs.Types.{is_a, slots_of, types}
 use Rattle.qo_model.specs.Unplug.{is_named, set_named}
 use Rattle.qo_model.proofs.StepLemmas.{found-edited}
 use Rattle.qo_sound.proofs.PlugLemmas.{plugged-rest, shut-above}
+use Rattle.qo_sound.proofs.ReadLemmas.{named_in, slots_in}
 use Rattle.qo_sound.proofs.RecordLemmas.{all-map}
+use Rattle.qo_sound.proofs.TestLemmas.{decide, clash}
 use Rattle.qo_sound.proofs.ViewLemmas.{AtRest, rest-from_sound}
 use Rattle.qo_sound_devices.specs.SoundDevices.{SoundDevices}
 use Rattle.qo_sound_devices.specs.SoundPlaces.{child_entries, HasOwner, machines, bridges, owns_it, stands}
@@ -38,13 +40,11 @@ use Rattle.qo_sound_devices.proofs.PlugLemmas.{Accepted, behind-plug}
 use Rattle.qo_sound_devices.proofs.PluggedLemmas.{accepted-joined}
 use Rattle.qo_sound_devices.proofs.SourceLemmas.{add-other, addressed-other, edit-other, link-other, set-other, stood-other}
 use Rattle.qo_sound_devices.proofs.TakeLemmas.{aside-apart}
-use Rattle.qo_sound_clocks.proofs.FewerLemmas.{slots_in}
 use Rattle.qo_sound_clocks.proofs.LessLemmas.{sees, Slots}
 use Rattle.qo_sound_clocks.proofs.PlugLemmas.{Calm, edited-at, Growing, growing-first, growing-rows, growing-stood, rows-quiet}
 use Rattle.qo_sound_clocks.proofs.PluggedLemmas.{growing}
 use Rattle.qo_sound_clocks.proofs.ReadLemmas.{named-reads, Reads, tree-reads}
 use Rattle.qo_sound_phases.proofs.BelowLemmas.{Placed}
-use Rattle.qo_sound_phases.proofs.ListLemmas.{clash, decide}
 use Rattle.qo_sound_phases.proofs.PlugLemmas.{same-acts, told-so}
 use Rattle.qo_sound_phases.proofs.ShapeLemmas.{PhasedSo, phased-so, SameShape, shape-none, shape-records, shape-then}
 use Rattle.qo_sound_bounds.specs.SoundSources.{IsDeviceClock, SoundSources}
@@ -52,9 +52,6 @@ use Rattle.qo_sound_bounds.proofs.ClockLemmas.{clock-live, clock-same, source-br
 use Rattle.qo_sound_bounds.proofs.DraftLemmas.{clock-fitted, clock-given, clock-in, clocks-changed, clock-val, ClockIn, drafted-clock, IsNewClock, young-apart}
 use Rattle.qo_sound_bounds.proofs.SightLemmas.{edit-seen, sees-added}
 use Rattle.qo_sound_bounds.proofs.SourceLemmas.{beside-sources}
-
-abbrev named_in : List ℕ → List (List ℕ × Slot) → Option Slot
-named_in name slots = option_map (λ (s : List ℕ × Slot). s.1) (find (λ s. bytes_eq s.0 name) slots)
 
 -- what follows leaves slots and types
 counted-shape : (id : Option (List ℕ)) (b : Board) → SameShape b (counted id b)

@@ -27,6 +27,7 @@ use Rattle.qo_model.specs.Unplug.{detach, first_of, is_named, set_named}
 use Rattle.qo_model.proofs.StaysLemmas.{changed-stays}
 use Rattle.qo_sound.proofs.DevicesStayLemmas.{devices_stay_lem}
 use Rattle.qo_sound.proofs.RecordLemmas.{all-imply}
+use Rattle.qo_sound.proofs.TestLemmas.{decide, clash, clash-back}
 use Rattle.qo_sound.proofs.ViewLemmas.{rest-from_sound}
 use Rattle.qo_sound_devices.specs.SoundDevices.{SoundDevices}
 use Rattle.qo_sound_devices.specs.SoundLists.{IsOn}
@@ -50,7 +51,7 @@ use Rattle.qo_sound_phases.proofs.DetachLemmas as detaching
 use Rattle.qo_sound_phases.proofs.ForestLemmas.{above, before, Reach}
 use Rattle.qo_sound_phases.proofs.FrameLemmas.{Frame, frame-count, frame-reached}
 use Rattle.qo_sound_phases.proofs.HoldLemmas.{count-less, count-more, count-shape, held-so, HeldSo, one_if, released-so, ReleasedSo}
-use Rattle.qo_sound_phases.proofs.ListLemmas.{among-right, clash, clash-back, decide, one-among}
+use Rattle.qo_sound_phases.proofs.ListLemmas.{among-right, one-among}
 use Rattle.qo_sound_phases.proofs.PlugLemmas.{back, below-new, new-there, reached-old}
 use Rattle.qo_sound_phases.proofs.ReachedLemmas.{reached-live, shape-reached}
 use Rattle.qo_sound_phases.proofs.ShapeLemmas.{counted-same, SameShape, shape-acted, shape-back, shape-count, shape-edit, shape-post, shape-records, shape-then}

@@ -19,7 +19,9 @@ use Rattle.qo_model.specs.Plug.{source_for}
 use Rattle.qo_model.specs.Release.{edit, pin, put_in_order}
 use Rattle.qo_model.specs.Unplug.{apart_within, detach, disconnected, first_of, is_named, set_named, taken_by, unrealize, unrealized_bus, unrealized_device, unseen, unseen_named}
 use Rattle.qo_sound.proofs.KeptLemmas.{sound_kept_lem}
+use Rattle.qo_sound.proofs.ReadLemmas.{named_in}
 use Rattle.qo_sound.proofs.SeverLemmas.{near-pin, pin-pins}
+use Rattle.qo_sound.proofs.TestLemmas.{decide, clash}
 use Rattle.qo_sound.proofs.UnplugLemmas.{held-unrealize, Sits}
 use Rattle.qo_sound.proofs.ViewLemmas.{AtRest, rest-from_sound}
 use Rattle.qo_sound_devices.specs.SoundDevices.{SoundDevices}
@@ -36,15 +38,11 @@ use Rattle.qo_sound_clocks.proofs.ReadLemmas.{named-reads, Reads, tree-reads}
 use Rattle.qo_sound_clocks.proofs.StayLemmas.{acted-slots}
 use Rattle.qo_sound_phases.proofs.BelowLemmas.{one-parent, Placed, placed}
 use Rattle.qo_sound_phases.proofs.DetachLemmas.{frame, kp, lit-stands, unstood}
-use Rattle.qo_sound_phases.proofs.ListLemmas.{clash, decide}
 use Rattle.qo_sound_phases.proofs.UnrealizeLemmas.{unrealize-walk}
 use Rattle.qo_sound_bounds.specs.SoundSources.{IsDeviceClock, SoundSources}
 use Rattle.qo_sound_bounds.proofs.ClockLemmas.{clock-listed, frame-sources}
 use Rattle.qo_sound_bounds.proofs.SightLemmas.{Sight, sight-apart, sight-none, sight-taken_by, sight-unpin}
 use Rattle.qo_sound_bounds.proofs.SourceLemmas.{pulse-sources, set-source}
-
-abbrev named_in : List ℕ → List (List ℕ × Slot) → Option Slot
-named_in name slots = option_map (λ (s : List ℕ × Slot). s.1) (find (λ s. bytes_eq s.0 name) slots)
 
 -- a clock is disconnected
 

@@ -24,11 +24,11 @@ use Rattle.qo_model.specs.Reset.{held, is_out, phased, plugged, post, pulse, rel
 use Rattle.qo_model.specs.Types.{TypeRow, row_named, slots_of, types}
 use Rattle.qo_model.specs.Unplug.{detach, first_of}
 use Rattle.qo_model.proofs.ReleaseKeepsLemmas.{after_keeps}
+use Rattle.qo_sound.proofs.FoundLemmas.{all-found}
 use Rattle.qo_sound.proofs.RecordLemmas.{all-append, all-both, all-filter, all-imply, all-map}
 use Rattle.qo_sound.proofs.MakeStepsLemmas.{any-rows, KeepsEdits, KeepsNew, new_with, step-drafted, step-set, step-stood}
 use Rattle.qo_sound.proofs.DetachStepsLemmas.{KeepsEnds, KeepsLists, KeepsPins, step-detach, step-pin}
 use Rattle.qo_sound.proofs.ChangeStepsLemmas.{step-object_del, step-sever, step-write}
-use Rattle.qo_sound_clocks.proofs.FoundLemmas.{all-found}
 use Rattle.qo_sound_clocks.proofs.StepsLemmas.{KeepsNumbers}
 use Rattle.qo_sound_clocks.specs.RegistersKept.{registers_set, with_registers}
 use Rattle.qo_sound_clocks.specs.SoundTimes.{IsTimely, SoundTimes}

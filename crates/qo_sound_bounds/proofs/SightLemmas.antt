@@ -29,15 +29,14 @@ use Rattle.qo_model.specs.declared.properties.Property.{Property}
 use Rattle.qo_model.specs.declared.properties.RowKind.{RowKind}
 use Rattle.qo_model.specs.declared.properties.RowKind.TheVariants as row
 use Rattle.qo_model.proofs.ReleaseKeepsLemmas.{after_keeps}
-use Rattle.qo_model.proofs.StepLemmas.{drop-record, finish-gone, finish-record, found_at, found-edited, is_some-map}
-use Rattle.qo_sound.proofs.RecordLemmas.{found-birth}
+use Rattle.qo_model.proofs.StepLemmas.{drop-record, finish-gone, finish-record, found_at, found-edited, is_some-map, found-birth}
+use Rattle.qo_sound.proofs.FoundLemmas.{found-append}
+use Rattle.qo_sound.proofs.ReadLemmas.{slots_in}
 use Rattle.qo_sound.proofs.SlotLemmas.{each_slot}
+use Rattle.qo_sound.proofs.TestLemmas.{decide, clash, clash-back}
 use Rattle.qo_sound.proofs.UnplugLemmas.{Found, found-at}
 use Rattle.qo_sound_clocks.proofs.CommandLemmas.{dropped-at, kept-slot, MaySet, position-slot, set-other, SlotFound}
-use Rattle.qo_sound_clocks.proofs.FewerLemmas.{slots_in}
-use Rattle.qo_sound_clocks.proofs.FoundLemmas.{found-append}
 use Rattle.qo_sound_clocks.proofs.LessLemmas.{or-less, or-right, OtherName, sees, sees_it, Slots}
-use Rattle.qo_sound_phases.proofs.ListLemmas.{clash, clash-back, decide}
 
 -- slots that see no less
 

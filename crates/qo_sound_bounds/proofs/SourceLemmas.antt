@@ -23,6 +23,8 @@ use Rattle.qo_model.specs.Release.{without_first}
 use Rattle.qo_model.specs.Reset.{held, is_out, phased, post, pulse, released}
 use Rattle.qo_model.specs.Unplug.{is_named, set_named}
 use Rattle.qo_sound.proofs.KeptLemmas.{sound_kept_lem}
+use Rattle.qo_sound.proofs.ReadLemmas.{named_in, weak-val}
+use Rattle.qo_sound.proofs.TestLemmas.{decide}
 use Rattle.qo_sound_devices.specs.SoundDevices.{SoundDevices}
 use Rattle.qo_sound_devices.specs.SoundPlaces.{child_entry, stands}
 use Rattle.qo_sound_devices.proofs.DevicesLawLemmas.{devices_kept_lem}
@@ -39,15 +41,11 @@ use Rattle.qo_sound_clocks.proofs.StepsLemmas.{kept-scaled, kept-set, KeepsNumbe
 use Rattle.qo_sound_phases.proofs.BelowLemmas.{Placed, placed}
 use Rattle.qo_sound_phases.proofs.CommandLemmas.{frame, keeps}
 use Rattle.qo_sound_phases.proofs.FrameLemmas.{Frame}
-use Rattle.qo_sound_phases.proofs.ListLemmas.{decide}
 use Rattle.qo_sound_phases.proofs.ReachedLemmas.{same-stands}
 use Rattle.qo_sound_phases.proofs.ShapeLemmas.{SameShape, shape-acted, shape-edit}
 use Rattle.qo_sound_bounds.specs.SoundSources.{SoundSources}
 use Rattle.qo_sound_bounds.proofs.ClockLemmas.{frame-sources}
 use Rattle.qo_sound_bounds.proofs.SightLemmas.{changed-seen}
-
-abbrev named_in : List ℕ → List (List ℕ × Slot) → Option Slot
-named_in name slots = option_map (λ (s : List ℕ × Slot). s.1) (find (λ s. bytes_eq s.0 name) slots)
 
 -- what changes no object
 pub beside-sources : (b c : Board) → c.records ≡ b.records → SoundSources b → SoundSources c
@@ -143,13 +141,6 @@ asked-sources b id h = go (device_at b id) refl
     go (Some d) e = rw (asked, e) (asked_of-sources b d h)
 
 -- writes of clocks: a value that is set is no source
-
-weak-val : (v : Val) (s : Slot) → weak_in (with_val v s) ≡ weak_in s
-weak-val v (plain w) = refl
-weak-val v (child m) = refl
-weak-val v (strong t target) = refl
-weak-val v (weak t target) = refl
-weak-val v (alias m property) = refl
 
 pub set-source : (n : ℕ) (name : List ℕ) (v : Val) (b : Board) (k : ℕ) → source_of (set_named n name v b) k ≡ source_of b k
 unfolding set

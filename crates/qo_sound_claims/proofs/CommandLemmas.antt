@@ -30,12 +30,12 @@ use Rattle.qo_model.specs.declared.properties.RowKind.{RowKind}
 use Rattle.qo_model.specs.declared.properties.RowKind.TheVariants as row
 use Rattle.qo_model.proofs.StepLemmas.{found-edited, found_at}
 use Rattle.qo_sound.proofs.AddLemmas.{unbarred}
+use Rattle.qo_sound.proofs.FoundLemmas.{found-append}
 use Rattle.qo_sound.proofs.RecordLemmas.{all-map}
 use Rattle.qo_sound.proofs.UnplugLemmas.{Found, found-at}
 use Rattle.qo_sound_devices.specs.SoundDevices.{SoundDevices}
 use Rattle.qo_sound_devices.proofs.PlugLemmas.{stands-device}
 use Rattle.qo_sound_devices.proofs.SayLemmas.{devices_say_lem}
-use Rattle.qo_sound_clocks.proofs.FoundLemmas.{found-append}
 use Rattle.qo_sound_clocks.proofs.LessLemmas.{Slots}
 use Rattle.qo_sound_claims.proofs.DetachLemmas.{dropped-at}
 use Rattle.qo_sound_claims.proofs.FewerLemmas.{at-record, Fewer, fewer-after, fewer-drop, fewer-let_go, fewer-none, fewer-pin, fewer-slots, fewer-unpin, Harmless, LessRecord, NearAt, record-none, record-slots, spares-harmless, Spares}

@@ -16,9 +16,9 @@ use Rattle.qo_model.specs.Paths.{births, is_child, is_of}
 use Rattle.qo_model.specs.Release.{drop_slot, edit, edited, pin, with_dropped, without_hold}
 use Rattle.qo_model.specs.Types.{is_a, types}
 use Rattle.qo_model.specs.Unplug.{apart_within, detach, drained, first_of, is_bus_slot, is_child_slot, is_named, left_bus, left_parent, let_go_where, lost_bus, lost_buses, names_kid, take_slot, take_where, taken_by, unrealize}
-use Rattle.qo_model.proofs.StepLemmas.{drop-record}
+use Rattle.qo_model.proofs.StepLemmas.{drop-record, found-birth}
 use Rattle.qo_sound.specs.Kept.{SoundTree}
-use Rattle.qo_sound.proofs.RecordLemmas.{found-birth}
+use Rattle.qo_sound.proofs.ReadLemmas.{slots_in}
 use Rattle.qo_sound.proofs.UnplugLemmas.{Found, found-at}
 use Rattle.qo_sound_devices.specs.SoundPlaces.{kid_entry, listed, PlacesBut, stands}
 use Rattle.qo_sound_devices.proofs.LowLemmas.{is-bus_of, kid-of}
@@ -52,9 +52,6 @@ kept-strong i [] own t target e = cc
 kept-strong zero (x ∷ xs) own t target e =
     ap (λ (y : List ℕ × Slot). slice_get (without_hold zero (y ∷ xs)) 0) (same_Some x (own, strong t target) e)
 kept-strong (suc i) (x ∷ xs) own t target e = kept-strong i xs own t target e
-
-slots_in : Option Record → Slots
-slots_in o = option_map_or (λ (r : Record). r.slots) o []
 
 pub dropped-at : (c : Board) (n i : ℕ) (x : List ℕ × Slot) → slice_get (slots_at c n) i ≡ Some x → (r : Record) → record_of (drop_slot c n i) n ≡ Some r
     → without_hold i (slots_at c n) ≡ r.slots

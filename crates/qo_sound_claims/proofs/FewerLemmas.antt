@@ -26,8 +26,8 @@ use Rattle.qo_model.specs.Reset.{phased}
 use Rattle.qo_model.specs.Types.{is_a}
 use Rattle.qo_model.specs.Unplug.{disconnected, each, is_named, let_go_where, set_named, unrealize, unrealize_turn, unrealized_bus, unrealized_device, unseen, unseen_named}
 use Rattle.qo_model.proofs.ReleaseKeepsLemmas.{after_keeps}
-use Rattle.qo_model.proofs.StepLemmas.{drop-record, finish-gone, finish-record, found-edited}
-use Rattle.qo_sound.proofs.RecordLemmas.{found-birth}
+use Rattle.qo_model.proofs.StepLemmas.{drop-record, finish-gone, finish-record, found-edited, found-birth}
+use Rattle.qo_sound.proofs.ReadLemmas.{slots_in}
 use Rattle.qo_sound.proofs.UnplugLemmas.{Found, found-at}
 use Rattle.qo_sound.proofs.WorkLemmas.{births_of}
 use Rattle.qo_sound_devices.proofs.AlikeLemmas.{apart-first, other-record}
@@ -183,9 +183,6 @@ Spares c n i =
 -- as one does that holds nothing by a strong link, or under another name
 abbrev pub Harmless : List ℕ × Slot → Type 0
 Harmless s = (strong_in s.1 ≡ None) ⊎ (is_memdev s.0 ≡ false)
-
-abbrev slots_in : Option Record → Slots
-slots_in o = option_map_or (λ (r : Record). r.slots) o []
 
 pub at-record : (c : Board) (n i : ℕ) (s : List ℕ × Slot) (r : Record) → slice_get (slots_at c n) i ≡ Some s → record_of c n ≡ Some r
     → slice_get r.slots i ≡ Some s

@@ -26,10 +26,9 @@ use Rattle.qo_model.specs.Unplug.{is_named, set_named}
 use Rattle.qo_model.specs.declared.properties.Property.{Property}
 use Rattle.qo_model.specs.declared.properties.RowKind.{RowKind}
 use Rattle.qo_model.specs.declared.properties.RowKind.TheVariants as row
-use Rattle.qo_model.proofs.StepLemmas.{found-edited, found_at}
-use Rattle.qo_sound.proofs.RecordLemmas.{found-birth}
+use Rattle.qo_model.proofs.StepLemmas.{found-edited, found_at, found-birth}
+use Rattle.qo_sound.proofs.FoundLemmas.{found-append}
 use Rattle.qo_sound.proofs.UnplugLemmas.{Found, found-at}
-use Rattle.qo_sound_clocks.proofs.FoundLemmas.{found-append}
 use Rattle.qo_sound_claims.proofs.FewerLemmas.{act-range, at-record, LessRecord, near-none, near-step, NearAt, record-slots}
 use Rattle.qo_sound_claims.proofs.SlotLemmas.{ClaimsLess, is_memdev, less-added, less-filled, less-none, lit_in}
 

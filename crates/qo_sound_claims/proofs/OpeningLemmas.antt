@@ -8,16 +8,14 @@ use Rattle.qo_model.specs.Devices.{is_realized, is_true, plain_in}
 use Rattle.qo_model.specs.Opening.{opening_board}
 use Rattle.qo_model.specs.Paths.{is_of}
 use Rattle.qo_model.specs.Types.{types}
-use Rattle.qo_sound_clocks.proofs.FoundLemmas.{all-found}
+use Rattle.qo_sound.proofs.FoundLemmas.{all-found}
+use Rattle.qo_sound.proofs.ReadLemmas.{named_in}
 use Rattle.qo_sound_claims.specs.SoundClaims.{SoundClaims}
 use Rattle.qo_sound_claims.specs.SoundRings.{SoundRings}
 
 pub opening-rings : SoundRings opening_board
 unfolding opening_board IsDistinct
 opening-rings = record { once = tt; each = tt }
-
-abbrev named_in : List ℕ → List (List ℕ × Slot) → Option Slot
-named_in name slots = option_map (λ (s : List ℕ × Slot). s.1) (find (λ s. bytes_eq s.0 name) slots)
 
 abbrev on_in : List (List ℕ × Slot) → Bool
 on_in slots = option_map_or is_true (option_and_then plain_in (named_in (codes "realized") slots)) false

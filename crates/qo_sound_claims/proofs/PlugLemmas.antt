@@ -24,14 +24,13 @@ use Rattle.qo_model.specs.Paths.{is_of}
 use Rattle.qo_model.specs.Plug.{Spot, Wanted, at_stage, backend_of, barred_late, claims_ring, code_in, dimms, first_of, has_backend, has_ring, is_dimm, kind_barred, notice_barred, number_for, ok_in, place_barred, plug, plug_attempt, range_barred, range_for, range_in, range_of, ranges_of, realize_barred, ring_barred, size_of, spot_of, target_for, text_for, with_plugged}
 use Rattle.qo_model.specs.Properties.{link_target, row_of_property}
 use Rattle.qo_model.specs.Types.{is_a, slots_of, types}
-use Rattle.qo_model.proofs.StepLemmas.{found_at}
+use Rattle.qo_model.proofs.StepLemmas.{found_at, found-birth}
 use Rattle.qo_sound.specs.Kept.{SoundTree}
 use Rattle.qo_sound.proofs.AddLemmas.{unbarred}
 use Rattle.qo_sound.proofs.DevicesStayLemmas.{devices_stay_lem}
 use Rattle.qo_sound.proofs.DraftLemmas.{found-low}
 use Rattle.qo_sound.proofs.FirmLemmas.{Firm}
 use Rattle.qo_sound.proofs.PlugLemmas.{or-none, plugged-rest, shut-above}
-use Rattle.qo_sound.proofs.RecordLemmas.{found-birth}
 use Rattle.qo_sound.proofs.TargetLemmas.{FitsResult, target-fits}
 use Rattle.qo_sound.proofs.ViewLemmas.{AtRest, rest-from_sound, sound-from_rest}
 use Rattle.qo_sound_devices.specs.SoundDevices.{SoundDevices}

@@ -15,18 +15,13 @@ use Rattle.qo_model.specs.Plug.{backend_of}
 use Rattle.qo_model.specs.Types.{is_a}
 use Rattle.qo_sound.specs.Kept.{SoundTree}
 use Rattle.qo_sound.proofs.FirmLemmas.{FitsKind, HasNames, Linked}
+use Rattle.qo_sound.proofs.FoundLemmas.{all-found}
+use Rattle.qo_sound.proofs.ReadLemmas.{named_in, slots_in}
 use Rattle.qo_sound.proofs.SlotLemmas.{names_in}
 use Rattle.qo_sound.proofs.ViewLemmas.{rest-from_sound}
-use Rattle.qo_sound_clocks.proofs.FoundLemmas.{all-found}
 use Rattle.qo_sound_clocks.proofs.LessLemmas.{is_target, plain_of, Slots}
 use Rattle.qo_sound_clocks.proofs.ReadLemmas.{tree-named}
 use Rattle.qo_sound_claims.proofs.SlotLemmas.{is_memdev, lit_in, Names, or-right, points, points_it}
-
-abbrev pub named_in : List ℕ → Slots → Option Slot
-named_in name slots = option_map (λ (s : List ℕ × Slot). s.1) (find (λ s. bytes_eq s.0 name) slots)
-
-abbrev slots_in : Option Record → Slots
-slots_in o = option_map_or (λ (r : Record). r.slots) o []
 
 -- names of one kind
 abbrev is_name : List ℕ → Names

@@ -12,8 +12,8 @@ use Rattle.qo_model.specs.Devices.{is_realized, text_at}
 use Rattle.qo_model.specs.Paths.{is_of}
 use Rattle.qo_model.specs.Plug.{claims_ring, has_ring}
 use Rattle.qo_model.specs.Types.{is_a}
-use Rattle.qo_model.proofs.StepLemmas.{found_at}
-use Rattle.qo_sound.proofs.RecordLemmas.{all-append, all-filter, found-birth}
+use Rattle.qo_model.proofs.StepLemmas.{found_at, found-birth}
+use Rattle.qo_sound.proofs.RecordLemmas.{all-append, all-filter}
 use Rattle.qo_sound_claims.specs.ClaimsKept.{ring_frame}
 use Rattle.qo_sound_claims.specs.SoundBackends.{SoundBackends}
 use Rattle.qo_sound_claims.specs.SoundClaims.{HasRange, is_uart_on, NamesRing, SoundClaims}

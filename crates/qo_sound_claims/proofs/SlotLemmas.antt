@@ -11,6 +11,7 @@ use Rattle.qo_model.specs.Changes.{changed_at, pointed, with_val}
 use Rattle.qo_model.specs.Devices.{is_true, plain_in, strong_in}
 use Rattle.qo_model.specs.Release.{forgotten_in, without_hold}
 use Rattle.qo_model.specs.Unplug.{unseen}
+use Rattle.qo_sound.proofs.ReadLemmas.{plain-forgotten, strong-forgotten, plain-unseen, strong-unseen, plain-pointed}
 use Rattle.qo_sound.proofs.SlotLemmas.{each_slot}
 use Rattle.qo_sound_clocks.proofs.LessLemmas.{is_target, plain_named, plain_of, Slots}
 
@@ -141,22 +142,6 @@ plain-each : (g : Slot → Slot) → ((s : Slot) → plain_in (g s) ≡ plain_in
 plain-each g same name [] = refl
 plain-each g same name (x ∷ xs) = rw (same x.1, plain-each g same name xs) refl
 
-plain-forgotten : (n : ℕ) (s : Slot) → plain_in (forgotten_in n s) ≡ plain_in s
-plain-forgotten n (plain v) = refl
-plain-forgotten n (child m) = refl
-plain-forgotten n (strong t target) = refl
-plain-forgotten n (weak t None) = refl
-plain-forgotten n (weak t (Some m)) = refl
-plain-forgotten n (alias m property) = refl
-
-strong-forgotten : (n : ℕ) (s : Slot) → strong_in (forgotten_in n s) ≡ strong_in s
-strong-forgotten n (plain v) = refl
-strong-forgotten n (child m) = refl
-strong-forgotten n (strong t target) = refl
-strong-forgotten n (weak t None) = refl
-strong-forgotten n (weak t (Some m)) = refl
-strong-forgotten n (alias m property) = refl
-
 pub less-forgotten : (is_dimm is_bus : Bool) (n : ℕ) (xs : Slots) → ClaimsLess is_dimm is_bus xs (each_slot (forgotten_in n) xs)
 less-forgotten is_dimm is_bus n xs =
     less-same is_dimm is_bus xs (each_slot (forgotten_in n) xs)
@@ -257,20 +242,6 @@ points-changed g same p k i [] = refl
 points-changed g same p k zero (x ∷ xs) = rw (same x.1) refl
 points-changed g same p k (suc i) (x ∷ xs) = ap (λ (t : Bool). points_it p k x || t) (points-changed g same p k i xs)
 
-plain-unseen : (s : Slot) → plain_in (unseen s) ≡ plain_in s
-plain-unseen (plain v) = refl
-plain-unseen (child m) = refl
-plain-unseen (strong t target) = refl
-plain-unseen (weak t target) = refl
-plain-unseen (alias m property) = refl
-
-strong-unseen : (s : Slot) → strong_in (unseen s) ≡ strong_in s
-strong-unseen (plain v) = refl
-strong-unseen (child m) = refl
-strong-unseen (strong t target) = refl
-strong-unseen (weak t target) = refl
-strong-unseen (alias m property) = refl
-
 pub less-changed : (is_dimm is_bus : Bool) (g : Slot → Slot) → ((s : Slot) → plain_in (g s) ≡ plain_in s) → ((s : Slot) → strong_in (g s) ≡ strong_in s)
     → (i : ℕ) (xs : Slots) → ClaimsLess is_dimm is_bus xs (changed_at g i xs)
 less-changed is_dimm is_bus g plains strongs i xs =
@@ -338,13 +309,6 @@ less-set is_dimm is_bus v i xs x e other dark =
     lit (inr apart) q = sym (ap (λ (o : Option Val). option_map_or is_true o false) (plain-apart (with_val v) (codes "realized") i xs x e apart)) ∙ q
 
 -- a link of another name is pointed
-
-plain-pointed : (m : ℕ) (s : Slot) → plain_in (pointed m s) ≡ plain_in s
-plain-pointed m (plain v) = refl
-plain-pointed m (child k) = refl
-plain-pointed m (strong t target) = refl
-plain-pointed m (weak t target) = refl
-plain-pointed m (alias k property) = refl
 
 points-apart : (g : Slot → Slot) (p : Names) (k i : ℕ) (xs : Slots) (x : List ℕ × Slot) → slice_get xs i ≡ Some x → p x.0 ≡ false
     → points p k (changed_at g i xs) ≡ points p k xs

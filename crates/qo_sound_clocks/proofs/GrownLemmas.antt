@@ -8,23 +8,14 @@ use Rattle.std.proofs.lemmas.Nat.{le-div}
 use Rattle.qo_model.specs.Board.{Board, Slot, slots_at}
 use Rattle.qo_model.specs.Clocks.{child_period, div_of, mul_of, own_period, period, scaled, scaled_by, source_of, weak_in}
 use Rattle.qo_model.specs.Devices.{number_at, number_in, plain_in}
-use Rattle.qo_model.proofs.PeriodLemmas.{period-fed, period-own}
+use Rattle.qo_model.proofs.PeriodLemmas.{period-fed, period-own, scaled-zero}
+use Rattle.qo_sound.proofs.ReadLemmas.{named_in}
 use Rattle.qo_sound_clocks.specs.SoundClocks.{SoundClocks}
 use Rattle.qo_sound_clocks.proofs.FewerLemmas.{Fewer}
 use Rattle.qo_sound_clocks.proofs.LessLemmas.{Blank, div_in, Less, mul_in, own_in, sees, Slots}
 use Rattle.qo_sound_clocks.proofs.ReadLemmas.{Reads}
 
-abbrev named_in : List ℕ → Slots → Option Slot
-named_in name slots = option_map (λ (s : List ℕ × Slot). s.1) (find (λ s. bytes_eq s.0 name) slots)
-
 -- scales
-
-scaled-none : (mul div : ℕ) → scaled_by mul div 0 ≡ 0
-scaled-none mul div = go (eqb div 0)
-  where
-    go : (t : Bool) → cond t 0 (0 * mul / div) ≡ 0
-    go true = refl
-    go false = let none : 0 * mul ≡ 0 = omega arith in ap (λ (k : ℕ). k / div) none ∙ zero-div div
 
 scaled-more : (mul div p q : ℕ) → p ≤ q → scaled_by mul div p ≤ scaled_by mul div q
 scaled-more mul div p q le = go (eqb div 0) refl
@@ -78,7 +69,7 @@ module _ (b c : Board) (on : Reads b) (now : Reads c) (h : SoundClocks b) where
           by : (o : Option ℕ) → source_of c m ≡ o → child_period c m ≤ child_period b m
           by None e =
               let none : period c m ≡ 0 = period-own c m e ∙ now.own m ∙ blank.own in
-              let child : child_period c m ≡ 0 = ap (scaled_by (mul_of c m) (div_of c m)) none ∙ scaled-none (mul_of c m) (div_of c m) in
+              let child : child_period c m ≡ 0 = ap (scaled_by (mul_of c m) (div_of c m)) none ∙ scaled-zero (mul_of c m) (div_of c m) in
               omega (arith, child)
           by (Some s) e = absurd (let clash : true ≡ false = sym (now.seen m s e) ∙ blank.source s in cc)
 
@@ -149,7 +140,7 @@ module _ (b c : Board) (on : Reads b) (now : Reads c) (h : SoundClocks b) where
         by : Fresh m (slots_at c m) → ((x : ℕ) → x < fuel → child_period c x < 2 ^ 64) → (o : Option ℕ) → source_of c m ≡ o → child_period c m < 2 ^ 64
         by new rest None e =
             let none : period c m ≡ 0 = period-own c m e ∙ now.own m ∙ new.own in
-            let child : child_period c m ≡ 0 = ap (scaled_by (mul_of c m) (div_of c m)) none ∙ scaled-none (mul_of c m) (div_of c m) in
+            let child : child_period c m ≡ 0 = ap (scaled_by (mul_of c m) (div_of c m)) none ∙ scaled-zero (mul_of c m) (div_of c m) in
             omega (arith, child)
         by new rest (Some s) e =
             let older : s < m = new.older s (now.seen m s e) in

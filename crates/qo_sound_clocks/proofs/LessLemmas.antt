@@ -13,6 +13,7 @@ use Rattle.qo_model.specs.Clocks.{weak_in}
 use Rattle.qo_model.specs.Devices.{number_in, plain_in}
 use Rattle.qo_model.specs.Release.{forgotten_in, without_hold}
 use Rattle.qo_model.specs.Unplug.{unseen}
+use Rattle.qo_sound.proofs.ReadLemmas.{plain-forgotten, plain-unseen, plain-pointed}
 use Rattle.qo_sound.proofs.SlotLemmas.{each_slot}
 
 abbrev pub Slots : Type 0
@@ -155,14 +156,6 @@ plain-each : (g : Slot → Slot) → ((s : Slot) → plain_in (g s) ≡ plain_in
 plain-each g same name [] = refl
 plain-each g same name (x ∷ xs) = rw (same x.1, plain-each g same name xs) refl
 
-plain-forgotten : (n : ℕ) (s : Slot) → plain_in (forgotten_in n s) ≡ plain_in s
-plain-forgotten n (plain v) = refl
-plain-forgotten n (child m) = refl
-plain-forgotten n (strong t target) = refl
-plain-forgotten n (weak t None) = refl
-plain-forgotten n (weak t (Some m)) = refl
-plain-forgotten n (alias m property) = refl
-
 and-right : (t u : Bool) → (t && u) ≡ true → u ≡ true
 and-right true u e = e
 and-right false u e = cc
@@ -278,13 +271,6 @@ sees-changed g s less i [] e = e
 sees-changed g s less zero (x ∷ xs) e = or-less (sees_it s (x.0, g x.1)) (sees s xs) (sees_it s x) (sees s xs) (less x) (λ k. k) e
 sees-changed g s less (suc i) (x ∷ xs) e =
     or-less (sees_it s x) (sees s (changed_at g i xs)) (sees_it s x) (sees s xs) (λ k. k) (sees-changed g s less i xs) e
-
-plain-unseen : (s : Slot) → plain_in (unseen s) ≡ plain_in s
-plain-unseen (plain v) = refl
-plain-unseen (child m) = refl
-plain-unseen (strong t target) = refl
-plain-unseen (weak t target) = refl
-plain-unseen (alias m property) = refl
 
 sees-unseen : (s : ℕ) (x : List ℕ × Slot) → sees_it s (x.0, unseen x.1) ≡ true → sees_it s x ≡ true
 sees-unseen s (name, plain v) e = e
@@ -405,13 +391,6 @@ less-added name t none blind xs =
     fewer s (y ∷ ys) e = or-less (sees_it s y) (sees s (ys ++ (name, t) ∷ [])) (sees_it s y) (sees s ys) (λ k. k) (fewer s ys) e
 
 -- a link of another name is pointed
-plain-pointed : (m : ℕ) (s : Slot) → plain_in (pointed m s) ≡ plain_in s
-plain-pointed m (plain v) = refl
-plain-pointed m (child k) = refl
-plain-pointed m (strong t target) = refl
-plain-pointed m (weak t target) = refl
-plain-pointed m (alias k property) = refl
-
 sees-apart : (g : Slot → Slot) (s i : ℕ) (xs : Slots) (x : List ℕ × Slot) → slice_get xs i ≡ Some x → bytes_eq x.0 (codes "source") ≡ false
     → sees s (changed_at g i xs) ≡ true → sees s xs ≡ true
 sees-apart g s i [] x e apart k = k

@@ -1,6 +1,5 @@
 pub mod CommandLemmas
 pub mod FewerLemmas
-pub mod FoundLemmas
 pub mod GrownLemmas
 pub mod KeepLemmas
 pub mod LawLemmas
@@ -15,7 +14,6 @@ pub mod ReadLemmas
 pub mod RegisterLemmas
 pub mod RunLemmas
 pub mod SayLemmas
-pub mod SpreadLemmas
 pub mod StayLemmas
 pub mod StepsLemmas
 pub mod TimesLemmas

@@ -18,12 +18,12 @@ use Rattle.qo_model.specs.Plug.{Spot, Wanted, plug, plug_attempt, source_for, wi
 use Rattle.qo_model.specs.Types.{is_a, types}
 use Rattle.qo_model.specs.Unplug.{set_named}
 use Rattle.qo_sound.specs.Kept.{SoundTree}
+use Rattle.qo_sound.proofs.FoundLemmas.{all-found}
 use Rattle.qo_sound.proofs.KeptLemmas.{sound_kept_lem}
+use Rattle.qo_sound.proofs.ReadLemmas.{slots_in}
 use Rattle.qo_sound_clocks.specs.NumbersKept.{NumbersKeptLaw}
 use Rattle.qo_sound_clocks.specs.SoundNumbers.{NumbersFit, SoundNumbers}
 use Rattle.qo_sound_clocks.proofs.CommandLemmas.{kept-change}
-use Rattle.qo_sound_clocks.proofs.FewerLemmas.{slots_in}
-use Rattle.qo_sound_clocks.proofs.FoundLemmas.{all-found}
 use Rattle.qo_sound_clocks.proofs.LessLemmas.{Blank, div_in, Less, mul_in, own_in, Slots}
 use Rattle.qo_sound_clocks.proofs.PlugLemmas.{Growing}
 use Rattle.qo_sound_clocks.proofs.PluggedLemmas.{growing, kept-plug}

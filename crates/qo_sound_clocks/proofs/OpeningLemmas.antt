@@ -12,12 +12,10 @@ use Rattle.qo_model.specs.Devices.{number_in, plain_in}
 use Rattle.qo_model.specs.Opening.{opening_board}
 use Rattle.qo_model.specs.Types.{types}
 use Rattle.qo_model.proofs.PeriodLemmas.{period-own}
+use Rattle.qo_sound.proofs.FoundLemmas.{all-found}
+use Rattle.qo_sound.proofs.ReadLemmas.{named_in}
 use Rattle.qo_sound_clocks.specs.SoundClocks.{SoundClocks}
-use Rattle.qo_sound_clocks.proofs.FoundLemmas.{all-found}
 use Rattle.qo_sound_clocks.proofs.LessLemmas.{Slots}
-
-abbrev named_in : List ℕ → Slots → Option Slot
-named_in name slots = option_map (λ (s : List ℕ × Slot). s.1) (find (λ s. bytes_eq s.0 name) slots)
 
 abbrev source_in : Slots → Option ℕ
 source_in xs = option_and_then weak_in (named_in (codes "source") xs)

@@ -13,11 +13,11 @@ use Rattle.qo_sound.specs.Kept.{SoundTree}
 use Rattle.qo_sound.proofs.AddLemmas.{unbarred}
 use Rattle.qo_sound.proofs.DraftLemmas.{found-low}
 use Rattle.qo_sound.proofs.FirmLemmas.{Firm, Linked}
+use Rattle.qo_sound.proofs.FoundLemmas.{all-found}
 use Rattle.qo_sound.proofs.KeptLemmas.{sound_kept_lem}
+use Rattle.qo_sound.proofs.ReadLemmas.{slots_in}
 use Rattle.qo_sound.proofs.ViewLemmas.{rest-from_sound}
 use Rattle.qo_sound_clocks.specs.SoundClocks.{SoundClocks}
-use Rattle.qo_sound_clocks.proofs.FewerLemmas.{slots_in}
-use Rattle.qo_sound_clocks.proofs.FoundLemmas.{all-found}
 use Rattle.qo_sound_clocks.proofs.GrownLemmas.{grown-sound, same-sound}
 use Rattle.qo_sound_clocks.proofs.PlugLemmas.{child-in, Growing, growing-all}
 use Rattle.qo_sound_clocks.proofs.ReadLemmas.{tree-reads}

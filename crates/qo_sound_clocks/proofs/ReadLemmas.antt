@@ -12,16 +12,11 @@ use Rattle.qo_model.specs.Clocks.{div_of, mul_of, own_period, source_of, weak_in
 use Rattle.qo_model.specs.Devices.{number_in, plain_in}
 use Rattle.qo_sound.specs.Kept.{SoundTree}
 use Rattle.qo_sound.proofs.FirmLemmas.{HasNames}
+use Rattle.qo_sound.proofs.FoundLemmas.{all-found}
+use Rattle.qo_sound.proofs.ReadLemmas.{named_in, slots_in}
 use Rattle.qo_sound.proofs.SlotLemmas.{names_in}
 use Rattle.qo_sound.proofs.ViewLemmas.{AtRest, rest-from_sound}
-use Rattle.qo_sound_clocks.proofs.FoundLemmas.{all-found}
 use Rattle.qo_sound_clocks.proofs.LessLemmas.{div_in, is_target, mul_in, own_in, plain_of, sees, sees_it, Slots}
-
-abbrev named_in : List ℕ → Slots → Option Slot
-named_in name slots = option_map (λ (s : List ℕ × Slot). s.1) (find (λ s. bytes_eq s.0 name) slots)
-
-abbrev slots_in : Option Record → Slots
-slots_in o = option_map_or (λ (r : Record). r.slots) o []
 
 -- a source is seen
 

@@ -11,6 +11,7 @@ use Rattle.qo_model.proofs.StepLemmas.{found-edited}
 use Rattle.qo_sound.specs.Kept.{SoundTree}
 use Rattle.qo_sound.proofs.CutLemmas.{near-same_slots}
 use Rattle.qo_sound.proofs.FirmLemmas.{Firm}
+use Rattle.qo_sound.proofs.ReadLemmas.{slots_in, named_in}
 use Rattle.qo_sound.proofs.ViewLemmas.{AtRest, rest-from_sound, sound-from_rest}
 use Rattle.qo_sound.proofs.WorkLemmas.{Nearly}
 use Rattle.qo_sound_devices.specs.SoundDevices.{SoundDevices}
@@ -21,13 +22,9 @@ use Rattle.qo_sound_devices.proofs.LowLemmas.{moved-dimmed, stands-dimmed}
 use Rattle.qo_sound_devices.proofs.MovedLemmas.{places-moved}
 use Rattle.qo_sound_devices.proofs.UnrealizeLemmas.{Dims, dims-alike}
 use Rattle.qo_sound_clocks.specs.RegistersKept.{RegistersKeptLaw, registers_set, with_registers}
-use Rattle.qo_sound_clocks.proofs.FewerLemmas.{slots_in}
 use Rattle.qo_sound_clocks.proofs.GrownLemmas.{same-sound}
 use Rattle.qo_sound_clocks.proofs.NumbersLemmas.{same-numbers}
 use Rattle.qo_sound_clocks.proofs.TimesLemmas.{edit-times}
-
-abbrev named_in : List ℕ → List (List ℕ × Slot) → Option Slot
-named_in name slots = option_map (λ (s : List ℕ × Slot). s.1) (find (λ s. bytes_eq s.0 name) slots)
 
 module _ (b : Board) (n : ℕ) (registers : Registers) where
   abbrev set : Board

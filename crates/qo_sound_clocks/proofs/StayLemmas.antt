@@ -1,4 +1,5 @@
--- What leaves the slots of objects keeps what speaks of these alone: acts, holds, and what lies beside the objects. What is kept where objects read no more as clocks, devices that go keep.
+-- What leaves the slots of objects keeps what speaks of these alone: acts, holds, and what lies beside the objects. What is kept where objects read no more as
+-- clocks, devices that go keep.
 use Rattle.std.proofs.Common.{◌≡◌, refl, ap, ◌∙◌, ℕ, zero, suc, Bool, true, false, ◌==◌, List, [], ◌∷◌, ◌++◌, filter, length, Option, Some, None, is_some, option_map}
 use Rattle.qo_values.specs.declared.births.TheConstants.{MACHINE_BIRTH}
 use Rattle.qo_values.specs.declared.kinds.Act.{Act}
@@ -15,7 +16,8 @@ use Rattle.qo_model.specs.Unplug.{detach, first_of}
 use Rattle.qo_model.proofs.StepLemmas.{found-edited, found_at}
 use Rattle.qo_sound.specs.Kept.{SoundTree}
 use Rattle.qo_sound.proofs.KeptLemmas.{sound_kept_lem}
-use Rattle.qo_sound_clocks.proofs.FewerLemmas.{Fewer, fewer-detach, fewer-none, slots_in}
+use Rattle.qo_sound.proofs.ReadLemmas.{slots_in}
+use Rattle.qo_sound_clocks.proofs.FewerLemmas.{Fewer, fewer-detach, fewer-none}
 use Rattle.qo_sound_clocks.proofs.ReadLemmas.{Reads, tree-reads}
 
 -- what is kept where objects read no more as clocks

@@ -32,13 +32,13 @@ use Rattle.qo_model.specs.Reset.{held, is_out, phased, plugged, post, pulse, rel
 use Rattle.qo_model.specs.Types.{TypeRow, row_named, slots_of, types}
 use Rattle.qo_model.specs.Unplug.{detach, first_of}
 use Rattle.qo_model.proofs.ReleaseKeepsLemmas.{after_keeps}
+use Rattle.qo_sound.proofs.FoundLemmas.{all-found}
 use Rattle.qo_sound.proofs.RecordLemmas.{all-append, all-filter, all-imply, all-map}
 use Rattle.qo_sound.proofs.MakeStepsLemmas.{all-any, any-rows, KeepsActs, KeepsEdits, KeepsNew, new_with, step-acted_all, step-drafted, step-plugged, step-set, step-stood}
 use Rattle.qo_sound.proofs.DetachStepsLemmas.{KeepsEnds, KeepsLists, KeepsPins, step-detach, step-pin, step-unrealize}
 use Rattle.qo_sound.proofs.ChangeStepsLemmas.{step-object_del, step-sever, step-write}
 use Rattle.qo_sound_clocks.specs.SoundTimes.{IsTimely, SoundTimes}
 use Rattle.qo_sound_clocks.specs.TimesKept.{TimesKeptLaw}
-use Rattle.qo_sound_clocks.proofs.FoundLemmas.{all-found}
 use Rattle.qo_sound_clocks.proofs.StepsLemmas.{kept-scaled, kept-set, KeepsNumbers}
 
 -- an object that is timely at a moment

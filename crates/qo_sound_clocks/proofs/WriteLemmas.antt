@@ -17,20 +17,16 @@ use Rattle.qo_model.specs.Objects.{place_from}
 use Rattle.qo_model.specs.Paths.{births}
 use Rattle.qo_model.specs.Release.{edited}
 use Rattle.qo_model.specs.Unplug.{is_named, set_named}
-use Rattle.qo_model.proofs.StepLemmas.{found-edited}
+use Rattle.qo_model.proofs.ClockFitLemmas.{fits-new, IsWritten, written-then}
+use Rattle.qo_model.proofs.StepLemmas.{found-edited, found-birth}
 use Rattle.qo_sound.proofs.FirmLemmas.{edited-births}
-use Rattle.qo_sound.proofs.RecordLemmas.{found-birth}
+use Rattle.qo_sound.proofs.ReadLemmas.{slots_in, named_in, weak-val}
 use Rattle.qo_sound.proofs.UnplugLemmas.{Found, found-at}
 use Rattle.qo_sound_clocks.specs.SoundClocks.{SoundClocks}
-use Rattle.qo_sound_clocks.proofs.FewerLemmas.{slots_in}
 use Rattle.qo_sound_clocks.proofs.LessLemmas.{Slots}
-use Rattle.qo_sound_clocks.proofs.SpreadLemmas.{fits-new, IsWritten, written-then}
 use Rattle.qo_sound_clocks.proofs.GrownLemmas.{same-sound}
 use Rattle.qo_sound_clocks.proofs.StayLemmas.{kept-acted}
 use Rattle.qo_sound_clocks.proofs.StepsLemmas.{kept-all, same_ok}
-
-abbrev pub named_in : List ℕ → Slots → Option Slot
-named_in name slots = option_map (λ (s : List ℕ × Slot). s.1) (find (λ s. bytes_eq s.0 name) slots)
 
 abbrev pub plain_at_name : List ℕ → Slots → Option Val
 plain_at_name name xs = option_and_then plain_in (named_in name xs)
@@ -45,13 +41,6 @@ pub record IsSet (name : List ℕ) (v : Val) (xs ys : Slots) : Type 0 where
 
 is_set-none : (name : List ℕ) (v : Val) (xs : Slots) → IsSet name v xs xs
 is_set-none name v xs = record { source = refl; others = λ other e. refl; here = inr refl }
-
-weak-val : (v : Val) (s : Slot) → weak_in (with_val v s) ≡ weak_in s
-weak-val v (plain w) = refl
-weak-val v (child m) = refl
-weak-val v (strong t target) = refl
-weak-val v (weak t target) = refl
-weak-val v (alias m property) = refl
 
 read-same : {A : Type 0} (f : Slot → Option A) (g : Slot → Slot) → ((s : Slot) → f (g s) ≡ f s) → (name : List ℕ) (i : ℕ) (xs : Slots)
     → option_and_then f (named_in name (changed_at g i xs)) ≡ option_and_then f (named_in name xs)

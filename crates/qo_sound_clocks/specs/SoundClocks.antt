@@ -1,4 +1,5 @@
--- When the clocks of a board are sound (docs/devel/clocks.rst, "The clock state", "Connecting two clocks together" and "Clock multiplier and divider settings").
+-- When the clocks of a board are sound (docs/devel/clocks.rst, "The clock state", "Connecting two clocks together" and "Clock multiplier and divider
+-- settings").
 use Rattle.std.specs.Prelude.{◌≡◌, ℕ, ◌<◌, Some}
 use Rattle.qo_model.specs.Board.{Board}
 use Rattle.qo_model.specs.Clocks.{ClocksFit, own_period, source_of}

@@ -1,4 +1,5 @@
--- When the numbers of a board's clocks are sound: each is as wide as its property (docs/devel/clocks.rst, "The clock state" and "Clock multiplier and divider settings").
+-- When the numbers of a board's clocks are sound: each is as wide as its property (docs/devel/clocks.rst, "The clock state" and "Clock multiplier and divider
+-- settings").
 use Rattle.std.specs.Prelude.{ℕ, ◌<◌, ◌^◌}
 use Rattle.qo_model.specs.Board.{Board}
 use Rattle.qo_model.specs.Clocks.{div_of, mul_of, own_period}

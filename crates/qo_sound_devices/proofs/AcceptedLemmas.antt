@@ -2,6 +2,7 @@
 use Rattle.std.proofs.Common.{◌≡◌, refl, ap, sym, ◌∙◌, ℕ, suc, ◌+◌, ◌<◌, ◌≤◌, Bool, true, false, not, ◌||◌, List, [], ◌∷◌, Option, Some, None, codes, arith}
 use Rattle.std.specs.Prelude.{if◌then◌else◌, nat_le}
 use Rattle.std.specs.Option.{option_or}
+use Rattle.std.proofs.lemmas.Bool.{not-false}
 use Rattle.std.proofs.lemmas.Option.{same_Some}
 use Rattle.qo_values.specs.Ids.{is_id}
 use Rattle.qo_values.specs.declared.codes.Code.{Code}
@@ -15,7 +16,7 @@ use Rattle.qo_model.specs.Objects.{Given, refusal_of}
 use Rattle.qo_model.specs.Paths.{attached, is_of}
 use Rattle.qo_model.specs.Plug.{Wanted, at_stage, bus_barred, bus_for, bus_type, code_in, container_barred, drafted, first_of, id_barred, id_refused, kind_barred, name_for, notice_barred, number_for, parent_for, place_barred, realize_barred, room_barred, slot_for, spot_of}
 use Rattle.qo_sound.proofs.AddLemmas.{unbarred}
-use Rattle.qo_sound.proofs.PlugLemmas.{or-none, shut-above}
+use Rattle.qo_sound.proofs.PlugLemmas.{or-none, shut-above, stage-none}
 use Rattle.qo_sound.proofs.ViewLemmas.{AtRest, sound-from_rest}
 use Rattle.qo_sound_devices.specs.SoundPlaces.{HasOwner, id_of, owns, PlacesBut}
 use Rattle.qo_sound_devices.proofs.DraftedLemmas.{drafted-bridge, is_bridge}
@@ -23,14 +24,6 @@ use Rattle.qo_sound_devices.proofs.GoalLemmas.{fits-bus, slot-low}
 use Rattle.qo_sound_devices.proofs.MadeLemmas.{Goal}
 use Rattle.qo_sound_devices.proofs.PlugLemmas.{Accepted, depth-is, id-new}
 use Rattle.qo_sound_devices.proofs.WhereLemmas.{attached-owner, machine-no_device}
-
-pub stage-none : (stage : ℕ) (o : Option Code) → at_stage stage o ≡ None → o ≡ None
-stage-none stage None e = refl
-stage-none stage (Some code) e = absurd (let clash : Some (stage, code) ≡ None = e in cc)
-
-flipped : (u : Bool) → not u ≡ false → u ≡ true
-flipped true e = refl
-flipped false e = absurd (let clash : true ≡ false = e in cc)
 
 neither : (t u : Bool) → t || u ≡ false → t ≡ false
 neither false u e = refl
@@ -80,7 +73,7 @@ bus-attached b t m e =
     let after_it : Option Code = if not (attached b m) || is_going b m then Some E27 else None in
     let first : (not (is_of b (bus_type t) m) ≡ false) × (after_it ≡ None) = unbarred (not (is_of b (bus_type t) m)) E26 after_it e in
     let second : (not (attached b m) || is_going b m ≡ false) × (None ≡ None) = unbarred (not (attached b m) || is_going b m) E27 None first.1 in
-    (flipped (is_of b (bus_type t) m) first.0, flipped (attached b m) (neither (not (attached b m)) (is_going b m) second.0))
+    (not-false (is_of b (bus_type t) m) first.0, not-false (attached b m) (neither (not (attached b m)) (is_going b m) second.0))
 
 -- an id is no device's
 id-free : (b : Board) (i : List ℕ) → id_refused b (Some i) ≡ None → device_named b i ≡ false

@@ -1,16 +1,13 @@
 -- `object-add` keeps places, taken or refused.
-use Rattle.std.proofs.Common.{◌≡◌, refl, ap, ap₂, sym, subst, ◌∙◌, ℕ, ◌+◌, ◌<◌, Bool, true, false, not, ◌||◌, ◌==◌, leb, List, [], ◌∷◌, ◌++◌, length, map, find, filter_map, Option, Some, None, is_some, option_map, option_and_then, arith, codes}
+use Rattle.std.proofs.Common.{◌≡◌, refl, ap, ap₂, sym, subst, ◌∙◌, ℕ, ◌+◌, ◌<◌, Bool, true, false, ◌||◌, ◌==◌, List, [], ◌∷◌, ◌++◌, map, find, filter_map, Option, Some, None, is_some, option_map, option_and_then, arith, codes}
 use Rattle.std.specs.List.{AllByRecursion, cons_option, list_any}
 use Rattle.std.specs.Option.{option_map_or, option_or}
 use Rattle.std.proofs.lemmas.List.Folds.{find-append}
-use Rattle.std.specs.Prelude.{if◌then◌else◌}
 use Rattle.std.specs.Str.{bytes_eq}
 use Rattle.std.proofs.lemmas.Bool.{eqb-true, eq-eqb}
 use Rattle.qo_values.specs.declared.births.TheConstants.{ANONYMOUS_BIRTH, MACHINE_BIRTH, MEMORY_BUS_BIRTH, OBJECTS_BIRTH, PERIPHERAL_BIRTH, ROOT_BUS_BIRTH, SYSTEM_CLOCK_BIRTH}
-use Rattle.qo_values.specs.Ids.{is_id}
 use Rattle.qo_values.specs.Registers.{fresh_registers}
 use Rattle.qo_values.specs.declared.codes.Code.{Code}
-use Rattle.qo_values.specs.declared.codes.Code.TheVariants.{E15, E21, E22, E23, E24, E43}
 use Rattle.qo_values.specs.declared.kinds.TypeId.{TypeId}
 use Rattle.qo_values.specs.declared.kinds.TypeId.TheVariants.{Object, Container, Machine, Device, SlotDevice, SlotUart, SlotTimer, SlotBridge, MemDimm, Bus, SlotBus, MemBus, Clock, MemoryBackend, MemoryBackendRam, Tag}
 use Rattle.qo_values.specs.declared.properties.Val.{Val}
@@ -19,18 +16,19 @@ use Rattle.qo_model.specs.Board.{Board, Record, Slot, plain, child, strong, weak
 use Rattle.qo_model.specs.Changes.{with_added}
 use Rattle.qo_model.specs.Devices.{bus_of, is_realized, is_true, place_on, plain_in, strong_in, number_in}
 use Rattle.qo_model.specs.Opening.{fresh_slots}
-use Rattle.qo_model.specs.Objects.{Given, given_to, slot_given, added_as, added_by, barred, given_slots, has_slot, object_add, refusal_of, with_attempt, with_object}
+use Rattle.qo_model.specs.Objects.{Given, given_to, slot_given, added_as, added_by, barred, given_slots, object_add, refusal_of, with_attempt, with_object}
 use Rattle.qo_model.specs.Paths.{is_of}
 use Rattle.qo_model.specs.Release.{edited}
 use Rattle.qo_model.specs.Types.{TypeRow, is_a, row_named, types}
-use Rattle.qo_model.proofs.StepLemmas.{found_at, found-edited}
-use Rattle.qo_sound.proofs.AddLemmas.{attempt-rest, unbarred}
+use Rattle.qo_model.proofs.StepLemmas.{found_at, found-edited, found-birth}
+use Rattle.qo_sound.proofs.AddLemmas.{attempt-rest, creatable}
 use Rattle.qo_sound.proofs.FirmLemmas.{Firm}
-use Rattle.qo_sound.proofs.RecordLemmas.{all-imply, found-birth}
+use Rattle.qo_sound.proofs.RecordLemmas.{all-imply}
+use Rattle.qo_sound.proofs.TestLemmas.{decide, clash-back}
 use Rattle.qo_sound.proofs.ViewLemmas.{AtRest}
 use Rattle.qo_sound_devices.specs.SoundPlaces.{child_entries, child_entry, HasOwner, machines, bridges, id_of, IsAnonymous, IsAtHome, IsHome, IsKid, IsPeripheral, kid_entries, kid_entry, listed, owns_it, PlacesBut, stands}
 use Rattle.qo_sound_devices.proofs.AlikeLemmas.{alike-record, bodiless}
-use Rattle.qo_sound_devices.proofs.PlacesLemmas.{child-live, Keeps, keeps-none, children-grown, high-absent, MoreChildren, rooted-same, no-more, id-alike, kept-alike, of-alike, of-live, owner-live, path-alike, places-kept, SameBody, stands-live, suits-alike}
+use Rattle.qo_sound_devices.proofs.PlacesLemmas.{child-live, Keeps, keeps-none, children-grown, high-absent, MoreChildren, rooted-same, no-more, id-alike, kept-alike, of-alike, of-live, owner-live, places-kept, SameBody, stands-live, suits-alike, peripheral-alike, anonymous-alike}
 
 -- a board with more objects, of which places do not speak; `/objects` has a child more
 pub record Grown (b c : Board) : Type 0 where
@@ -49,10 +47,6 @@ pub record Grown (b c : Board) : Type 0 where
   pub objects : is_live b OBJECTS_BIRTH ≡ true → child_entries c OBJECTS_BIRTH ≡ child_entries b OBJECTS_BIRTH ++ added ∷ []
   pub no_device : (x : ℕ) → is_live b x ≡ false → is_of c (codes "device") x ≡ false
   pub no_children : (x : ℕ) → is_live b x ≡ false → child_entries c x ≡ []
-
-decide : (t : Bool) → {A : Type 0} → (t ≡ true → A) → (t ≡ false → A) → A
-decide true f g = f refl
-decide false f g = g refl
 
 module _ (depth : ℕ → ℕ) (b c : Board) (g : Grown b c) (firm : Firm b) (h : PlacesBut depth None (λ x. false) b) where
   first : child_entries c 1 ≡ child_entries b 1
@@ -113,8 +107,16 @@ module _ (depth : ℕ → ℕ) (b c : Board) (g : Grown b c) (firm : Firm b) (h 
       record {
         machine = ap (listed MACHINE_BIRTH) first ∙ h.machine;
         objects = ap (listed OBJECTS_BIRTH) first ∙ h.objects;
-        parts =
-            (ap (listed PERIPHERAL_BIRTH) second ∙ h.parts.0, (ap (listed ANONYMOUS_BIRTH) second ∙ h.parts.1.0, (ap (listed ROOT_BUS_BIRTH) second ∙ h.parts.1.1.0, (ap (listed MEMORY_BUS_BIRTH) second ∙ h.parts.1.1.1.0, (ap (listed SYSTEM_CLOCK_BIRTH) second ∙ h.parts.1.1.1.1.0, tt)))));
+        parts = (
+          ap (listed PERIPHERAL_BIRTH) second ∙ h.parts.0,
+          (
+            ap (listed ANONYMOUS_BIRTH) second ∙ h.parts.1.0,
+            (
+              ap (listed ROOT_BUS_BIRTH) second ∙ h.parts.1.1.0,
+              (ap (listed MEMORY_BUS_BIRTH) second ∙ h.parts.1.1.1.0, (ap (listed SYSTEM_CLOCK_BIRTH) second ∙ h.parts.1.1.1.1.0, tt)),
+            ),
+          ),
+        );
         rooted = rooted-same b c (g.body 1 (owner-live b 1 MACHINE_BIRTH h.machine)) first second h.rooted;
         children = children;
         aside =
@@ -132,10 +134,12 @@ module _ (depth : ℕ → ℕ) (b c : Board) (g : Grown b c) (firm : Firm b) (h 
         shallow =
             record {
               top = h.shallow.top;
-              below = λ p q m e on o. h.shallow.below p q m (sym (all-stands p) ∙ e) (sym (g.bus p (there p e)) ∙ on) (sym (ap (list_any (owns_it m)) (own-children p (sym (all-stands p) ∙ e))) ∙ o);
+              below = λ p q m e on o. h.shallow.below p q m (sym (all-stands p) ∙ e) (sym (g.bus p (there p e)) ∙ on)
+                  (sym (ap (list_any (owns_it m)) (own-children p (sym (all-stands p) ∙ e))) ∙ o);
               most = λ q o. h.shallow.most q (owner-back q o);
             };
-        only = λ d e. decide (is_live b d) (λ k. all-stands d ∙ h.only d (sym (g.realized d k) ∙ e)) (λ k. absurd (let clash : true ≡ false = sym e ∙ g.unrealized d k in cc));
+        only = λ d e. decide (is_live b d) (λ k. all-stands d ∙ h.only d (sym (g.realized d k) ∙ e))
+            (λ k. absurd (let clash : true ≡ false = sym e ∙ g.unrealized d k in cc));
         each = λ d e k. g.realized d (there d e) ∙ h.each d (sym (all-stands d) ∙ e) k;
         ids = λ d id e. of-alike b c d (codes "device") (g.body d (named d id e)) ∙ h.ids d id (sym (id-alike b c d (g.body d (named d id e))) ∙ e);
         once = λ d x id e q. h.once d x id (sym (id-alike b c d (g.body d (named d id e))) ∙ e) (sym (id-alike b c x (g.body x (named x id q))) ∙ q);
@@ -145,20 +149,11 @@ module _ (depth : ℕ → ℕ) (b c : Board) (g : Grown b c) (firm : Firm b) (h 
       named d id e = decide (is_live b d) (λ k. k) (λ k. absurd (let clash : None ≡ Some id = sym (g.nameless d k) ∙ e in cc))
 
       one : (e : List ℕ × ℕ) → IsPeripheral b e → IsPeripheral c e
-      one e k =
-          let a : SameBody b c e.1 = g.body e.1 (of-live b (codes "device") e.1 k.device) in
-          record { device = of-alike b c e.1 (codes "device") a ∙ k.device; id = id-alike b c e.1 a ∙ k.id; path = path-alike b c e.1 a ∙ k.path }
+      one e k = peripheral-alike b c e (g.body e.1 (of-live b (codes "device") e.1 k.device)) k
 
       two : (e : List ℕ × ℕ) → IsAnonymous b e → IsAnonymous c e
       two e k =
-          let a : SameBody b c e.1 = g.body e.1 (of-live b (codes "device") e.1 k.device) in
-          let (n, (low, name)) = k.numbered in
-          record {
-            device = of-alike b c e.1 (codes "device") a ∙ k.device;
-            id = id-alike b c e.1 a ∙ k.id;
-            path = path-alike b c e.1 a ∙ k.path;
-            numbered = (n, (subst (λ (x : ℕ). n < x) (sym g.anonymous) low, name));
-          }
+          anonymous-alike b c e (λ n low. subst (λ (x : ℕ). n < x) (sym g.anonymous) low) (g.body e.1 (of-live b (codes "device") e.1 k.device)) k
 
       kids : (q : ℕ) → is_of c (codes "bus") q ≡ true → AllByRecursion (IsKid c q) (kid_entries c q)
       kids q e =
@@ -224,9 +219,6 @@ children-given b props [] = refl
 children-given b props (s ∷ slots) = ap₂ cons_option (child-given b props s) (children-given b props slots)
 
 -- what a user's object is
-never : {A : Type 0} → false ≡ true → A
-never e = absurd cc
-
 abbrev realized_in : List (List ℕ × Slot) → Bool
 realized_in slots =
     option_map_or is_true (option_and_then plain_in (option_map (λ (s : List ℕ × Slot). s.1) (find (λ s. bytes_eq s.0 (codes "realized")) slots))) false
@@ -239,19 +231,19 @@ record IsUsers (b : Board) (t : TypeId) (props : List Given) : Type 0 where
 
 users : (b : Board) (t : TypeId) (props : List Given) → is_a t (codes "user-creatable") ≡ true → IsUsers b t props
 unfolding types
-users b Object props = never
-users b Container props = never
-users b Machine props = never
-users b Device props = never
-users b SlotDevice props = never
-users b SlotUart props = never
-users b SlotTimer props = never
-users b SlotBridge props = never
-users b MemDimm props = never
-users b Bus props = never
-users b SlotBus props = never
-users b MemBus props = never
-users b Clock props = never
+users b Object props = clash-back
+users b Container props = clash-back
+users b Machine props = clash-back
+users b Device props = clash-back
+users b SlotDevice props = clash-back
+users b SlotUart props = clash-back
+users b SlotTimer props = clash-back
+users b SlotBridge props = clash-back
+users b MemDimm props = clash-back
+users b Bus props = clash-back
+users b SlotBus props = clash-back
+users b MemBus props = clash-back
+users b Clock props = clash-back
 users b MemoryBackend props =
     λ e. record { no_bus = refl; no_device = refl; no_children = children-given b props (fresh_slots MemoryBackend); unrealized = refl }
 users b MemoryBackendRam props =
@@ -275,7 +267,8 @@ entries-added f s none [] = ap (λ (o : Option (List ℕ × ℕ)). cons_option o
 entries-added f s none (x ∷ slots) = ap (cons_option (f x)) (entries-added f s none slots)
 
 pub named-added : {A : Type 0} (f : Slot → Option A) (s : List ℕ × Slot) → f s.1 ≡ None → (name : List ℕ) (slots : List (List ℕ × Slot))
-    → option_and_then f (option_map (λ (x : List ℕ × Slot). x.1) (find (λ x. bytes_eq x.0 name) (slots ++ s ∷ []))) ≡ option_and_then f (option_map (λ (x : List ℕ × Slot). x.1) (find (λ x. bytes_eq x.0 name) slots))
+    → option_and_then f (option_map (λ (x : List ℕ × Slot). x.1) (find (λ x. bytes_eq x.0 name) (slots ++ s ∷ [])))
+    ≡ option_and_then f (option_map (λ (x : List ℕ × Slot). x.1) (find (λ x. bytes_eq x.0 name) slots))
 named-added f s none name [] = go (bytes_eq s.0 name) refl
   where
     go : (t : Bool) → bytes_eq s.0 name ≡ t → option_and_then f (option_map (λ (x : List ℕ × Slot). x.1) (find (λ x. bytes_eq x.0 name) (s ∷ []))) ≡ None
@@ -284,8 +277,10 @@ named-added f s none name [] = go (bytes_eq s.0 name) refl
 named-added f s none name (x ∷ slots) = go (bytes_eq x.0 name) refl (named-added f s none name slots)
   where
     go : (t : Bool) → bytes_eq x.0 name ≡ t
-        → option_and_then f (option_map (λ (x : List ℕ × Slot). x.1) (find (λ x. bytes_eq x.0 name) (slots ++ s ∷ []))) ≡ option_and_then f (option_map (λ (x : List ℕ × Slot). x.1) (find (λ x. bytes_eq x.0 name) slots))
-        → option_and_then f (option_map (λ (x : List ℕ × Slot). x.1) (find (λ x. bytes_eq x.0 name) (x ∷ slots ++ s ∷ []))) ≡ option_and_then f (option_map (λ (x : List ℕ × Slot). x.1) (find (λ x. bytes_eq x.0 name) (x ∷ slots)))
+        → option_and_then f (option_map (λ (x : List ℕ × Slot). x.1) (find (λ x. bytes_eq x.0 name) (slots ++ s ∷ [])))
+        ≡ option_and_then f (option_map (λ (x : List ℕ × Slot). x.1) (find (λ x. bytes_eq x.0 name) slots))
+        → option_and_then f (option_map (λ (x : List ℕ × Slot). x.1) (find (λ x. bytes_eq x.0 name) (x ∷ slots ++ s ∷ [])))
+        ≡ option_and_then f (option_map (λ (x : List ℕ × Slot). x.1) (find (λ x. bytes_eq x.0 name) (x ∷ slots)))
     go true p rest = rw p refl
     go false p rest = rw p rest
 
@@ -364,13 +359,15 @@ module _ (b : Board) (t : TypeId) (id : List ℕ) (props : List Given) (its : Is
         unrealized = read-new (λ (o : Option Record). realized_in (option_map_or (λ (y : Record). y.slots) o [])) false refl its.unrealized;
         nameless = read-new (option_and_then (λ (y : Record). y.device_id)) None refl refl;
         no_bus =
-            read-new (λ (o : Option Record). option_map_or (λ (k : TypeId). is_a k (codes "bus")) (option_map (λ (y : Record). y.kind) o) false) false refl its.no_bus;
+            read-new (λ (o : Option Record). option_map_or (λ (k : TypeId). is_a k (codes "bus")) (option_map (λ (y : Record). y.kind) o) false) false refl
+            its.no_bus;
         anonymous = refl;
         added = (id, b.born + 1);
         added_new = high-absent b firm (b.born + 1) (omega arith);
         objects = objects;
         no_device =
-            read-new (λ (o : Option Record). option_map_or (λ (k : TypeId). is_a k (codes "device")) (option_map (λ (y : Record). y.kind) o) false) false refl its.no_device;
+            read-new (λ (o : Option Record). option_map_or (λ (k : TypeId). is_a k (codes "device")) (option_map (λ (y : Record). y.kind) o) false) false refl
+            its.no_device;
         no_children = read-new (λ (o : Option Record). filter_map child_entry (option_map_or (λ (y : Record). y.slots) o [])) [] refl its.no_children;
       }
     where
@@ -412,22 +409,9 @@ pub attempt-places : (depth : ℕ → ℕ) (b : Board) (t : TypeId) → AtRest b
     → PlacesBut depth None (λ x. false) (with_attempt b t)
 attempt-places depth b t rest h =
     places-kept b (with_attempt b t)
-    (kept-alike b (with_attempt b t) (attempt-rest b t rest).used.firm (owner-live b 1 MACHINE_BIRTH h.machine) refl (λ x e. alike-record b (with_attempt b t) x refl)) depth None
+    (kept-alike b (with_attempt b t) (attempt-rest b t rest).used.firm (owner-live b 1 MACHINE_BIRTH h.machine) refl
+    (λ x e. alike-record b (with_attempt b t) x refl)) depth None
     (λ x. false) h
-
-creatable : (b : Board) (row : TypeRow) (id : List ℕ) → barred b row id ≡ None → is_a row.id (codes "user-creatable") ≡ true
-creatable b row id e =
-    let after_place : Option Code = if leb 4096 (length b.records) then Some E43 else None in
-    let after_name : Option Code = if has_slot b OBJECTS_BIRTH id then Some E24 else after_place in
-    let after_there : Option Code = if not (is_live b OBJECTS_BIRTH) then Some E15 else after_name in
-    let after_id : Option Code = if not (is_id id) then Some E23 else after_there in
-    let after_type : Option Code = if not (is_a row.id (codes "user-creatable")) then Some E22 else after_id in
-    let type_fits : (row.is_abstract ≡ false) × (after_type ≡ None) = unbarred row.is_abstract E21 after_type e in
-    turn (is_a row.id (codes "user-creatable")) (unbarred (not (is_a row.id (codes "user-creatable"))) E22 after_id type_fits.1).0
-  where
-    turn : (t : Bool) → not t ≡ false → t ≡ true
-    turn true k = refl
-    turn false k = absurd (let clash : true ≡ false = k in cc)
 
 added_as-places : (depth : ℕ → ℕ) (b : Board) (t : TypeId) (id : List ℕ) (props : List Given) (refusal : Option Code)
     → is_a t (codes "user-creatable") ≡ true → AtRest b → PlacesBut depth None (λ x. false) b → Keeps depth b (added_as b t id props refusal).board

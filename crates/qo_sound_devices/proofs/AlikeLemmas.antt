@@ -13,6 +13,7 @@ use Rattle.qo_model.specs.Release.{after, drop_slot, edited, finalise, finish, f
 use Rattle.qo_model.specs.ReleaseKeeps.{KeepsRelease}
 use Rattle.qo_model.proofs.ReleaseKeepsLemmas.{after_keeps}
 use Rattle.qo_model.proofs.StepLemmas.{drop-live, drop-record, finish-live, finish-record}
+use Rattle.qo_sound.proofs.ReadLemmas.{named_in, slots_in, plain-forgotten, strong-forgotten}
 use Rattle.qo_sound.proofs.SlotLemmas.{each_slot}
 use Rattle.qo_sound.proofs.WorkLemmas.{births_of}
 use Rattle.qo_sound_devices.specs.SoundPlaces.{child_entries, child_entry, kid_entries, kid_entry}
@@ -44,12 +45,6 @@ alike-then b c d x h k =
       body = k.body ∙ h.body;
     }
 
-abbrev slots_in : Option Record → List (List ℕ × Slot)
-slots_in o = option_map_or (λ (r : Record). r.slots) o []
-
-abbrev named_in : List ℕ → List (List ℕ × Slot) → Option Slot
-named_in name slots = option_map (λ (s : List ℕ × Slot). s.1) (find (λ s. bytes_eq s.0 name) slots)
-
 abbrev bus_in : List (List ℕ × Slot) → Option ℕ
 bus_in slots = option_and_then strong_in (named_in (codes "parent_bus") slots)
 
@@ -71,16 +66,20 @@ pub alike-slots : (b c : Board) (x : ℕ) → AlikeSlots (slots_at b x) (slots_a
     → option_map bodiless (record_of c x) ≡ option_map bodiless (record_of b x) → Alike b c x
 alike-slots b c x h same = record { children = h.children; kids = h.kids; bus = h.bus; place = h.place; realized = h.realized; body = same }
 
-pub alike-record : (b c : Board) (x : ℕ) → record_of c x ≡ record_of b x → Alike b c x
-alike-record b c x e =
+pub alike-same : (b c : Board) (x : ℕ) → slots_at c x ≡ slots_at b x → option_map bodiless (record_of c x) ≡ option_map bodiless (record_of b x)
+    → Alike b c x
+alike-same b c x slots same =
     record {
-      children = ap (λ (o : Option Record). filter_map child_entry (slots_in o)) e;
-      kids = ap (λ (o : Option Record). filter_map kid_entry (slots_in o)) e;
-      bus = ap (λ (o : Option Record). bus_in (slots_in o)) e;
-      place = ap (λ (o : Option Record). place_in (slots_in o)) e;
-      realized = ap (λ (o : Option Record). realized_in (slots_in o)) e;
-      body = ap (option_map bodiless) e;
+      children = ap (filter_map child_entry) slots;
+      kids = ap (filter_map kid_entry) slots;
+      bus = ap bus_in slots;
+      place = ap place_in slots;
+      realized = ap realized_in slots;
+      body = same;
     }
+
+pub alike-record : (b c : Board) (x : ℕ) → record_of c x ≡ record_of b x → Alike b c x
+alike-record b c x e = alike-same b c x (ap slots_in e) (ap (option_map bodiless) e)
 
 -- a change of each slot that leaves entries, plain values and strong links
 pub entries-each : (f : List ℕ × Slot → Option (List ℕ × ℕ)) (g : Slot → Slot) → ((s : List ℕ × Slot) → f (s.0, g s.1) ≡ f s)
@@ -98,23 +97,7 @@ named-each f g same name (s ∷ slots) = go (bytes_eq s.0 name) refl (named-each
     go true p rest = rw p (same s.1)
     go false p rest = rw p rest
 
-plain-forgotten : (n : ℕ) (s : Slot) → plain_in (forgotten_in n s) ≡ plain_in s
-plain-forgotten n (plain v) = refl
-plain-forgotten n (child m) = refl
-plain-forgotten n (strong t target) = refl
-plain-forgotten n (weak t None) = refl
-plain-forgotten n (weak t (Some m)) = refl
-plain-forgotten n (alias m property) = refl
-
-strong-forgotten : (n : ℕ) (s : Slot) → strong_in (forgotten_in n s) ≡ strong_in s
-strong-forgotten n (plain v) = refl
-strong-forgotten n (child m) = refl
-strong-forgotten n (strong t target) = refl
-strong-forgotten n (weak t None) = refl
-strong-forgotten n (weak t (Some m)) = refl
-strong-forgotten n (alias m property) = refl
-
-child-entry-forgotten : (n : ℕ) (s : List ℕ × Slot) → child_entry (s.0, forgotten_in n s.1) ≡ child_entry s
+pub child-entry-forgotten : (n : ℕ) (s : List ℕ × Slot) → child_entry (s.0, forgotten_in n s.1) ≡ child_entry s
 child-entry-forgotten n (name, plain v) = refl
 child-entry-forgotten n (name, child m) = refl
 child-entry-forgotten n (name, strong t target) = refl

@@ -9,10 +9,10 @@ use Rattle.qo_values.specs.declared.births.TheConstants.{ANONYMOUS_BIRTH, MACHIN
 use Rattle.qo_model.specs.Board.{Board, Record, record_of}
 use Rattle.qo_model.specs.Devices.{bus_of, clock_name, is_realized}
 use Rattle.qo_model.specs.Paths.{is_of}
-use Rattle.qo_model.proofs.StepLemmas.{found_at}
-use Rattle.qo_sound.proofs.RecordLemmas.{found-birth}
+use Rattle.qo_model.proofs.StepLemmas.{found_at, found-birth}
+use Rattle.qo_sound.proofs.FoundLemmas.{all-found}
 use Rattle.qo_sound_devices.specs.SoundPlaces.{child_entries, HasOwner, machines, bridges, id_of, IsAnonymous, IsAtHome, IsHome, IsKid, IsRooted, IsPeripheral, kid_entries, listed, owns_it, SoundPlaces, stands}
-use Rattle.qo_sound_devices.proofs.PlacesLemmas.{all-found, all-listed, or-cases}
+use Rattle.qo_sound_devices.proofs.PlacesLemmas.{all-listed, or-cases}
 
 -- a fact of the bus of a device, if it is on one
 abbrev pub OnBus : (ℕ → Type 0) → Option ℕ → Type 0
@@ -41,10 +41,12 @@ id_entries b = filter_map id_entry b.records
 pub record Checked (b : Board) : Type 0 where
   pub machine : listed MACHINE_BIRTH (child_entries b 1) ≡ true
   pub objects : listed OBJECTS_BIRTH (child_entries b 1) ≡ true
-  pub parts : AllByRecursion (λ n. listed n (child_entries b MACHINE_BIRTH) ≡ true) (PERIPHERAL_BIRTH ∷ ANONYMOUS_BIRTH ∷ ROOT_BUS_BIRTH ∷ MEMORY_BUS_BIRTH ∷ SYSTEM_CLOCK_BIRTH ∷ [])
+  pub parts : AllByRecursion (λ n. listed n (child_entries b MACHINE_BIRTH) ≡ true)
+      (PERIPHERAL_BIRTH ∷ ANONYMOUS_BIRTH ∷ ROOT_BUS_BIRTH ∷ MEMORY_BUS_BIRTH ∷ SYSTEM_CLOCK_BIRTH ∷ [])
   pub located : IsRooted b
   pub children : AllByRecursion (λ (r : Record). AllByRecursion (IsAtHome b r.birth) (child_entries b r.birth)) b.records
-  pub aside : AllByRecursion (λ n. stands b n ≡ false) (1 ∷ MACHINE_BIRTH ∷ PERIPHERAL_BIRTH ∷ ANONYMOUS_BIRTH ∷ ROOT_BUS_BIRTH ∷ MEMORY_BUS_BIRTH ∷ OBJECTS_BIRTH ∷ [])
+  pub aside : AllByRecursion (λ n. stands b n ≡ false)
+      (1 ∷ MACHINE_BIRTH ∷ PERIPHERAL_BIRTH ∷ ANONYMOUS_BIRTH ∷ ROOT_BUS_BIRTH ∷ MEMORY_BUS_BIRTH ∷ OBJECTS_BIRTH ∷ [])
   pub peripheral : AllByRecursion (IsPeripheral b) (child_entries b PERIPHERAL_BIRTH)
   pub anonymous : AllByRecursion (IsAnonymous b) (child_entries b ANONYMOUS_BIRTH)
   pub kids : AllByRecursion (λ (r : Record). is_of b (codes "bus") r.birth ≡ true → AllByRecursion (IsKid b r.birth) (kid_entries b r.birth)) b.records
@@ -119,13 +121,16 @@ checked-sound b h = (
     shallow =
         record {
           top = h.top;
-          below = λ p q m e on o. of-owned h.depth q m (child_entries b p) (on-bus (λ k. AllByRecursion (IsDeeper h.depth k) (child_entries b p)) (bus_of b p) q on (standing p e).below) o;
+          below = λ p q m e on o. of-owned h.depth q m (child_entries b p)
+              (on-bus (λ k. AllByRecursion (IsDeeper h.depth k) (child_entries b p)) (bus_of b p) q on (standing p e).below) o;
           most = most;
         };
     only = of-records b (λ n. is_realized b n ≡ true → stands b n ≡ true) (λ n e q. absurd (let clash : false ≡ true = rw e at q in cc)) h.only;
     each = λ d e apart. (standing d e).each;
-    ids = λ d id. of-records b (λ n. (its : List ℕ) → id_of b n ≡ Some its → is_of b (codes "device") n ≡ true) (λ n e its q. absurd (let clash : None ≡ Some its = rw e at q in cc)) h.ids d id;
-    once = λ d x id e q. at-id b (λ (u : List ℕ × ℕ). id ≡ u.0 → d ≡ u.1) x id (at-id b (λ (u : List ℕ × ℕ). AllByRecursion (λ (v : List ℕ × ℕ). u.0 ≡ v.0 → u.1 ≡ v.1) (id_entries b)) d id h.once e) q refl;
+    ids = λ d id. of-records b (λ n. (its : List ℕ) → id_of b n ≡ Some its → is_of b (codes "device") n ≡ true)
+        (λ n e its q. absurd (let clash : None ≡ Some its = rw e at q in cc)) h.ids d id;
+    once = λ d x id e q. at-id b (λ (u : List ℕ × ℕ). id ≡ u.0 → d ≡ u.1) x id
+        (at-id b (λ (u : List ℕ × ℕ). AllByRecursion (λ (v : List ℕ × ℕ). u.0 ≡ v.0 → u.1 ≡ v.1) (id_entries b)) d id h.once e) q refl;
   },
 )
   where

@@ -64,7 +64,8 @@ pub goes-pins : (depth : ℕ → ℕ) (left : Option ℕ) (out : ℕ → Bool) (
     → Goes depth left out b (record b { pins = ps })
 goes-pins depth left out b ps f pinned h =
     goes-kept depth left out b (record b { pins = ps })
-    (kept-alike b (record b { pins = ps }) firm (owner-live b 1 MACHINE_BIRTH h.machine) refl (λ x there. alike-record b (record b { pins = ps }) x refl)) pinned h
+    (kept-alike b (record b { pins = ps }) firm (owner-live b 1 MACHINE_BIRTH h.machine) refl (λ x there. alike-record b (record b { pins = ps }) x refl))
+    pinned h
   where
     firm : Firm (record b { pins = ps })
     firm =
@@ -125,7 +126,8 @@ object_del-places depth b id rest h = go (place_from (is_object_named id) 0 (slo
     go None e = rw (object_del, e) (keeps-none depth b h)
     go (Some i) e =
         let f : Found (is_object_named id) (slots_at b OBJECTS_BIRTH) i = found-at (is_object_named id) i (slots_at b OBJECTS_BIRTH) e in
-        rw (object_del, e) (keeps-goes depth b (let_go b OBJECTS_BIRTH i) (goes-let_go depth None (λ d. false) b OBJECTS_BIRTH i rest.used.firm (near-deleted b i rest.used).firm (ap (λ (ps : List ℕ). among ps 1) rest.pinned)
+        rw (object_del, e) (keeps-goes depth b (let_go b OBJECTS_BIRTH i) (goes-let_go depth None (λ d. false) b OBJECTS_BIRTH i rest.used.firm
+        (near-deleted b i rest.used).firm (ap (λ (ps : List ℕ). among ps 1) rest.pinned)
         (λ s k q. absurd (let clash : false ≡ true = sym apart ∙ q in cc))
         (λ s k q. absurd (let clash : false ≡ true = sym apart ∙ q in cc))
         (λ s k q o. subst (λ (x : List ℕ × Slot). kid_entry x ≡ None) (same_Some f.entry s (sym f.at ∙ k)) (is-child id f.entry f.passes))
@@ -172,7 +174,7 @@ severed-all depth (suc places) i n b c h = go (slot_at c n i) refl (severed-all 
     go (Some (weak t target)) p rest = rw (severed_from, p) (rest c h)
     go (Some (alias m property)) p rest = rw (severed_from, p) (rest c h)
 
-put-one : (n : ℕ) → among (put_in_order n (1 ∷ [])) 1 ≡ true
+pub put-one : (n : ℕ) → among (put_in_order n (1 ∷ [])) 1 ≡ true
 put-one n = go (leb 1 n) refl
   where
     go : (t : Bool) → leb 1 n ≡ t → among (put_in_order n (1 ∷ [])) 1 ≡ true

@@ -3,7 +3,7 @@ use Rattle.std.proofs.Common.{inl, nat_eq, ◌≡◌, refl, ap, ap₂, sym, subs
 use Rattle.std.specs.List.{cons_option, list_any}
 use Rattle.std.specs.Option.{option_map_or}
 use Rattle.std.specs.Str.{bytes_eq}
-use Rattle.std.proofs.lemmas.Bool.{eqb-true, eq-eqb}
+use Rattle.std.proofs.lemmas.Bool.{eqb-true, eq-eqb, false_from_ne_true}
 use Rattle.std.proofs.lemmas.Option.{same_Some}
 use Rattle.std.proofs.Math.Bool.{or-true}
 use Rattle.qo_values.specs.declared.births.TheConstants.{ANONYMOUS_BIRTH, MACHINE_BIRTH, MEMORY_BUS_BIRTH, OBJECTS_BIRTH, PERIPHERAL_BIRTH, ROOT_BUS_BIRTH}
@@ -25,7 +25,7 @@ use Rattle.qo_sound_devices.proofs.AlikeLemmas.{alike-record}
 use Rattle.qo_sound_devices.proofs.AttachedLemmas.{owns-listed, parent-is}
 use Rattle.qo_sound_devices.proofs.CommandLemmas.{Goes, goes-after, goes-pins}
 use Rattle.qo_sound_devices.proofs.DropLemmas.{edited-slots, names-at, strong-dropped}
-use Rattle.qo_sound_devices.proofs.LeaveLemmas.{false-of, IsUnlisted, Left, Stay, stay-kept, stay-then, unlisted-steps}
+use Rattle.qo_sound_devices.proofs.LeaveLemmas.{IsUnlisted, Left, Stay, stay-kept, stay-then, unlisted-steps}
 use Rattle.qo_sound_devices.proofs.LowLemmas.{faded_by, is-bus_of, IsBusOf, kid-of, kids-listed, room, unrealize-all, unrealize-dimmed, unrealize-only, unrealize-places, stands-dimmed}
 use Rattle.qo_sound_devices.proofs.MovedLemmas.{within-listed}
 use Rattle.qo_sound_devices.proofs.PartLemmas.{bus-left, Loose, ownless-steps, parent-left, Parted, slot-is, stay-let_go, steps-let_go, unrealized-steps}
@@ -84,7 +84,7 @@ no-kid ((name, strong t (Some m)) ∷ slots) e = absurd (let clash : Some m ≡ 
 no-kid ((name, weak t target) ∷ slots) e = no-kid slots e
 no-kid ((name, alias m property) ∷ slots) e = no-kid slots e
 
-first-among : (ns : List ℕ) (m : ℕ) → first_of ns ≡ Some m → among ns m ≡ true
+pub first-among : (ns : List ℕ) (m : ℕ) → first_of ns ≡ Some m → among ns m ≡ true
 first-among [] m e = cc
 first-among (n ∷ ns) m e = let own : eqb m n ≡ true = eq-eqb m n (sym (same_Some n m e)) in rw own refl
 
@@ -152,7 +152,8 @@ none-owned m k ((name, child n) ∷ slots) e = go (is_bus_slot m (name, child n)
 -- the kids of an unrealized device are unrealized
 abbrev pub IsClosed : Board → Type 0
 IsClosed c =
-    (p m k : ℕ) → stands c p ≡ true → owns c p m ≡ true → is_of c (codes "bus") m ≡ true → listed k (kid_entries c m) ≡ true → is_realized c p ≡ false → is_realized c k ≡ false
+    (p m k : ℕ) → stands c p ≡ true → owns c p m ≡ true → is_of c (codes "bus") m ≡ true → listed k (kid_entries c m) ≡ true → is_realized c p ≡ false
+    → is_realized c k ≡ false
 
 pub stood-steps : (b c : Board) → Steps b c → (x : ℕ) → stands c x ≡ true → stands b x ≡ true
 stood-steps b c s x e =
@@ -186,7 +187,7 @@ above-stay depth d q b c on h =
     record {
       on = λ x p e o low.
           let differs : (d == x) ≡ false =
-          false-of (d == x)
+          false_from_ne_true (d == x)
           (λ k.
           let its : q ≡ p = same_Some q p (sym on ∙ ap (bus_of b) (eqb-true d x k) ∙ o) in
           let same_depth : depth q ≡ depth p = ap depth its in absurd (omega (arith, same_depth, low))) in
@@ -198,7 +199,7 @@ above-all depth left out l b c h s =
     record {
       on = λ x q e o low.
           let differs : (1 == x) ≡ false =
-          false-of (1 == x) (λ k. let clash : true ≡ false = sym e ∙ ap (stands b) (sym (eqb-true 1 x k)) ∙ h.aside.0 in absurd cc) in
+          false_from_ne_true (1 == x) (λ k. let clash : true ≡ false = sym e ∙ ap (stands b) (sym (eqb-true 1 x k)) ∙ h.aside.0 in absurd cc) in
           (h_on x q e o differs);
     }
   where
@@ -221,14 +222,16 @@ lit-stay : (d : ℕ) (b c : Board) → is_realized b d ≡ false → Stay d b c 
 lit-stay d b c dim s =
     record {
       on =
-          λ x e lit. s.stands_on x (false-of (d == x) (λ k. let clash : true ≡ false = sym lit ∙ ap (is_realized b) (sym (eqb-true d x k)) ∙ dim in absurd cc)) e;
+          λ x e lit. s.stands_on x (false_from_ne_true (d == x) (λ k. let clash : true ≡ false = sym lit ∙ ap (is_realized b) (sym (eqb-true d x k)) ∙ dim in
+          absurd cc)) e;
     }
 
 lit-all : (depth : ℕ → ℕ) (left : Option ℕ) (out : ℕ → Bool) (b c : Board) → PlacesBut depth left out b → Stay 1 b c → Lit b c
 lit-all depth left out b c h s =
     record {
       on =
-          λ x e lit. s.stands_on x (false-of (1 == x) (λ k. let clash : true ≡ false = sym e ∙ ap (stands b) (sym (eqb-true 1 x k)) ∙ h.aside.0 in absurd cc)) e;
+          λ x e lit. s.stands_on x (false_from_ne_true (1 == x) (λ k. let clash : true ≡ false = sym e ∙ ap (stands b) (sym (eqb-true 1 x k)) ∙ h.aside.0 in
+          absurd cc)) e;
     }
 
 pub record TakenOut (depth : ℕ → ℕ) (out : ℕ → Bool) (ps : List ℕ) (d q : ℕ) (b c : Board) : Type 0 where
@@ -241,7 +244,8 @@ pub record TakenOut (depth : ℕ → ℕ) (out : ℕ → Bool) (ps : List ℕ) (
 -- what takes out an unrealized device that is deep enough, or for which the recursion is
 abbrev pub Takes : (ℕ → ℕ) → (ℕ → Bool) → ℕ → (ℕ → Board → Board) → Type 0
 Takes depth out n f =
-    (ps : List ℕ) → IsUp ps → (d q : ℕ) (b : Board) → Mid depth out None ps b → IsClosed b → stands b d ≡ true → bus_of b d ≡ Some q → is_realized b d ≡ false → 9 ≤ n + depth q → TakenOut depth out ps d q b
+    (ps : List ℕ) → IsUp ps → (d q : ℕ) (b : Board) → Mid depth out None ps b → IsClosed b → stands b d ≡ true → bus_of b d ≡ Some q → is_realized b d ≡ false
+    → 9 ≤ n + depth q → TakenOut depth out ps d q b
     (f d b)
 
 record Drained (depth : ℕ → ℕ) (out : ℕ → Bool) (ps : List ℕ) (m : ℕ) (b c : Board) : Type 0 where
@@ -287,7 +291,8 @@ module _ (depth : ℕ → ℕ) (out : ℕ → Bool) (n : ℕ) (f : ℕ → Board
   drain m deep (suc times) b h closed bus dim few = go (first_of (kids_of b m)) refl (drain m deep times)
     where
       go : (o : Option ℕ) → first_of (kids_of b m) ≡ o
-          → ((c : Board) → Mid depth out None ps c → IsClosed c → (is_live c m ≡ true → is_of c (codes "bus") m ≡ true) → ((k : ℕ) → listed k (kid_entries c m) ≡ true → is_realized c k ≡ false) → length (kid_entries c m) ≤ times → Drained depth out ps m c (drained f times m c))
+          → ((c : Board) → Mid depth out None ps c → IsClosed c → (is_live c m ≡ true → is_of c (codes "bus") m ≡ true) → ((k : ℕ) → listed k (kid_entries c m)
+          ≡ true → is_realized c k ≡ false) → length (kid_entries c m) ≤ times → Drained depth out ps m c (drained f times m c))
           → Drained depth out ps m b (drained f (suc times) m b)
       go None e rest =
           rw (drained, e)
@@ -300,7 +305,7 @@ module _ (depth : ℕ → ℕ) (out : ℕ → Bool) (n : ℕ) (f : ℕ → Board
           let s : Steps b (f k b) = one.went.steps in
           let isc : is_live (f k b) m ≡ true → is_of (f k b) (codes "bus") m ≡ true = λ live. of-alike b (f k b) m (codes "bus") (s.body m live) ∙ is in
           let away : listed k (kid_entries (f k b) m) ≡ false =
-          false-of (listed k (kid_entries (f k b) m))
+          false_from_ne_true (listed k (kid_entries (f k b) m))
           (λ l. let clash : true ≡ false = sym l ∙ one.unlisted m (isc (listed-owner (f k b) k m l)) in absurd cc) in
           let fewer : suc (length (kid_entries (f k b) m)) ≤ length (kid_entries b m) = within-shorter (λ (x : List ℕ × ℕ). x.1 == k) (s.kids m) away has in
           let last : Drained depth out ps m (f k b) (drained f times m (f k b)) =
@@ -391,7 +396,8 @@ module _ (depth : ℕ → ℕ) (out : ℕ → Bool) (n : ℕ) (f : ℕ → Board
 
           aside : among (1 ∷ MACHINE_BIRTH ∷ PERIPHERAL_BIRTH ∷ ANONYMOUS_BIRTH ∷ ROOT_BUS_BIRTH ∷ MEMORY_BUS_BIRTH ∷ OBJECTS_BIRTH ∷ []) d ≡ false
           aside =
-              aside-apart c (1 ∷ MACHINE_BIRTH ∷ PERIPHERAL_BIRTH ∷ ANONYMOUS_BIRTH ∷ ROOT_BUS_BIRTH ∷ MEMORY_BUS_BIRTH ∷ OBJECTS_BIRTH ∷ []) k.places.aside d on_here.0
+              aside-apart c (1 ∷ MACHINE_BIRTH ∷ PERIPHERAL_BIRTH ∷ ANONYMOUS_BIRTH ∷ ROOT_BUS_BIRTH ∷ MEMORY_BUS_BIRTH ∷ OBJECTS_BIRTH ∷ []) k.places.aside d
+              on_here.0
 
           shelf : (y : ℕ)
               → among (1 ∷ MACHINE_BIRTH ∷ PERIPHERAL_BIRTH ∷ ANONYMOUS_BIRTH ∷ ROOT_BUS_BIRTH ∷ MEMORY_BUS_BIRTH ∷ OBJECTS_BIRTH ∷ []) y ≡ true
@@ -399,7 +405,8 @@ module _ (depth : ℕ → ℕ) (out : ℕ → Bool) (n : ℕ) (f : ℕ → Board
           shelf =
               for-each depth out None ps c k d i r owner.1 s at
               (λ y.
-              among (1 ∷ MACHINE_BIRTH ∷ PERIPHERAL_BIRTH ∷ ANONYMOUS_BIRTH ∷ ROOT_BUS_BIRTH ∷ MEMORY_BUS_BIRTH ∷ OBJECTS_BIRTH ∷ []) y ≡ true → child_entries x y ≡ child_entries c y)
+              among (1 ∷ MACHINE_BIRTH ∷ PERIPHERAL_BIRTH ∷ ANONYMOUS_BIRTH ∷ ROOT_BUS_BIRTH ∷ MEMORY_BUS_BIRTH ∷ OBJECTS_BIRTH ∷ []) y ≡ true
+              → child_entries x y ≡ child_entries c y)
               (λ y u a z. a.children) (λ z. absurd (let clash : true ≡ false = sym z ∙ aside in cc))
 
           same-bus : (y : ℕ) → bus_of x y ≡ bus_of c y
@@ -412,7 +419,8 @@ module _ (depth : ℕ → ℕ) (out : ℕ → Bool) (n : ℕ) (f : ℕ → Board
           stay_first : Stay 1 c x
           stay_first =
               record {
-                stands_on = λ y u z. ap₂ (λ (xs ys : List (List ℕ × ℕ)). listed y xs || listed y ys) (shelf PERIPHERAL_BIRTH refl) (shelf ANONYMOUS_BIRTH refl) ∙ z;
+                stands_on =
+                    λ y u z. ap₂ (λ (xs ys : List (List ℕ × ℕ)). listed y xs || listed y ys) (shelf PERIPHERAL_BIRTH refl) (shelf ANONYMOUS_BIRTH refl) ∙ z;
                 bus_on = λ y w u z o. same-bus y ∙ o;
               }
 
@@ -453,7 +461,8 @@ module _ (depth : ℕ → ℕ) (out : ℕ → Bool) (n : ℕ) (f : ℕ → Board
   buses d q deep (suc times) b h closed e on dim few = go (first_of (buses_of b d)) refl (buses d q deep times)
     where
       go : (o : Option ℕ) → first_of (buses_of b d) ≡ o
-          → ((c : Board) → Mid depth out None ps c → IsClosed c → stands c d ≡ true → bus_of c d ≡ Some q → is_realized c d ≡ false → length (child_entries c d) ≤ times → LostAll depth out ps d q c (lost_buses f times d c))
+          → ((c : Board) → Mid depth out None ps c → IsClosed c → stands c d ≡ true → bus_of c d ≡ Some q → is_realized c d ≡ false
+          → length (child_entries c d) ≤ times → LostAll depth out ps d q c (lost_buses f times d c))
           → LostAll depth out ps d q b (lost_buses f (suc times) d b)
       go None p rest =
           rw (lost_buses, p)
@@ -547,7 +556,8 @@ steps-pin b d = steps-alike b (pin b d) refl (λ x e. alike-record b (pin b d) x
 places-pin : (depth : ℕ → ℕ) (out : ℕ → Bool) (ps : List ℕ) (b : Board) (d : ℕ) → Mid depth out None ps b → PlacesBut depth None out (pin b d)
 unfolding pin
 places-pin depth out ps b d h =
-    (goes-pins depth None out b (put_in_order d b.pins) h.sits.near.firm (put-keeps d 1 b.pins (ap (λ (qs : List ℕ). among qs 1) h.sits.pins ∙ h.one)) h.places).places
+    (goes-pins depth None out b (put_in_order d b.pins) h.sits.near.firm (put-keeps d 1 b.pins (ap (λ (qs : List ℕ). among qs 1) h.sits.pins ∙ h.one))
+    h.places).places
 
 above-pin : (depth : ℕ → ℕ) (l : ℕ) (b : Board) (d : ℕ) → Above depth l b (pin b d)
 unfolding pin
@@ -643,7 +653,8 @@ pinned-out depth out n f takes ps up d q b h closed e on dim deep = result
 
     inner : TakenOut depth out (put_in_order d ps) d q p c
     inner =
-        taken depth out n f takes (put_in_order d ps) (put-up d ps up) d q p mid (closed-steps b p mid.sits.near.firm (steps-pin b d) closed) here_on.0 here_on.1
+        taken depth out n f takes (put_in_order d ps) (put-up d ps up) d q p mid (closed-steps b p mid.sits.near.firm (steps-pin b d) closed) here_on.0
+        here_on.1
         (unrealized-steps b p d (steps-pin b d) dim) deep
 
     last : Unpinned depth out ps c (unpin c d)
@@ -656,7 +667,8 @@ pinned-out depth out n f takes ps up d q b h closed e on dim deep = result
           above =
               above-then depth (depth q) b p (unpin c d) (above-pin depth (depth q) b d)
               (above-then depth (depth q) p c (unpin c d) inner.above (above-all depth None out (depth q) c (unpin c d) inner.went.mid.places last.stay));
-          gone = false-of (stands (unpin c d) d) (λ k. let clash : true ≡ false = sym (stood-steps c (unpin c d) last.steps d k) ∙ inner.gone in absurd cc);
+          gone = false_from_ne_true (stands (unpin c d) d) (λ k. let clash : true ≡ false = sym (stood-steps c (unpin c d) last.steps d k) ∙ inner.gone in
+              absurd cc);
           unlisted = unlisted-steps c (unpin c d) d last.steps inner.unlisted;
           lit =
               lit-then b p (unpin c d) mid.sits.near.firm (steps-pin b d) (lit-pin b d)
@@ -681,12 +693,12 @@ turned b d x y a here = a
 turned b d x y a (down m k im ik u) = turned b d k y (further x m a (is-bus_of b x m im).owned (is-bus_of b x m im).bus (kids-listed k (slots_at b m) ik)) u
 
 -- below what is below a device are others
-under-more : (b : Board) (d x m k : ℕ) → Under b d x → among (buses_of b x) m ≡ true → among (kids_of b m) k ≡ true → Under b d k
+pub under-more : (b : Board) (d x m k : ℕ) → Under b d x → among (buses_of b x) m ≡ true → among (kids_of b m) k ≡ true → Under b d k
 under-more b d x m k here im ik = down m k im ik here
 under-more b d x m k (down n j jn jk u) im ik = down n j jn jk (under-more b j x m k u im ik)
 
 -- what is owned is gone over
-owned-bus : (b : Board) (q : ℕ) → is_of b (codes "bus") q ≡ true → (slots : List (List ℕ × Slot))
+pub owned-bus : (b : Board) (q : ℕ) → is_of b (codes "bus") q ≡ true → (slots : List (List ℕ × Slot))
     → list_any (owns_it q) (filter_map child_entry slots) ≡ true → among (filter_map (bus_in b) slots) q ≡ true
 owned-bus b q is [] e = cc
 owned-bus b q is ((name, plain v) ∷ slots) e = owned-bus b q is slots e
@@ -708,7 +720,7 @@ owned-bus b q is ((name, child k) ∷ slots) e = go (is_of b (codes "bus") k) re
     go false x u w true v rest = absurd (let clash : false ≡ true = sym x ∙ ap (is_of b (codes "bus")) (eqb-true k q v) ∙ is in cc)
     go false x u w false v rest = rw x (rest (rw v at e))
 
-listed-kid : (k : ℕ) (slots : List (List ℕ × Slot)) → listed k (filter_map kid_entry slots) ≡ true
+pub listed-kid : (k : ℕ) (slots : List (List ℕ × Slot)) → listed k (filter_map kid_entry slots) ≡ true
     → among (filter_map (λ (s : List ℕ × Slot). strong_in s.1) slots) k ≡ true
 listed-kid k [] e = cc
 listed-kid k ((name, plain v) ∷ slots) e = listed-kid k slots e
@@ -772,7 +784,8 @@ module _ (depth : ℕ → ℕ) (b : Board) (d : ℕ) (rest : AtRest b) (h : Plac
       let kid : listed k (kid_entries (pin b d) m) ≡ true = sym (ap (listed k) (dims.kids m)) ∙ l in
       dark k (under-more (pin b d) d x m k under (owned-bus (pin b d) m bus (slots_at (pin b d) x) own) (listed-kid k (slots_at (pin b d) m) kid))
 
-  taken_out : TakenOut depth (faded_by (pin b d) (unrealize (pin b d) d)) (put_in_order d (1 ∷ [])) d home.bus (unrealize (pin b d) d) (taken_by (apart_within (length (births b))) d (unrealize (pin b d) d))
+  taken_out : TakenOut depth (faded_by (pin b d) (unrealize (pin b d) d)) (put_in_order d (1 ∷ [])) d home.bus (unrealize (pin b d) d)
+      (taken_by (apart_within (length (births b))) d (unrealize (pin b d) d))
   taken_out =
       taken depth (faded_by (pin b d) (unrealize (pin b d) d)) (length (births b)) (apart_within (length (births b)))
       (takes-apart depth (faded_by (pin b d) (unrealize (pin b d) d)) (length (births b))) (put_in_order d (1 ∷ [])) (put-up d (1 ∷ []) (tt, tt)) d home.bus
@@ -783,7 +796,8 @@ module _ (depth : ℕ → ℕ) (b : Board) (d : ℕ) (rest : AtRest b) (h : Plac
   abbrev x : Board
   x = taken_by (apart_within (length (births b))) d (unrealize (pin b d) d)
 
-  last : Unpinned depth (faded_by (pin b d) (unrealize (pin b d) d)) (1 ∷ []) (taken_by (apart_within (length (births b))) d (unrealize (pin b d) d)) (unpin (taken_by (apart_within (length (births b))) d (unrealize (pin b d) d)) d)
+  last : Unpinned depth (faded_by (pin b d) (unrealize (pin b d) d)) (1 ∷ []) (taken_by (apart_within (length (births b))) d (unrealize (pin b d) d))
+      (unpin (taken_by (apart_within (length (births b))) d (unrealize (pin b d) d)) d)
   last =
       unpinned depth (faded_by (pin b d) (unrealize (pin b d) d)) (1 ∷ []) (tt, tt) refl
       (taken_by (apart_within (length (births b))) d (unrealize (pin b d) d)) d taken_out.went.mid
@@ -795,7 +809,7 @@ module _ (depth : ℕ → ℕ) (b : Board) (d : ℕ) (rest : AtRest b) (h : Plac
   behind = steps-then (unrealize (pin b d) d) x z taken_out.went.steps last.steps
 
   gone : stands z d ≡ false
-  gone = false-of (stands z d) (λ k. let clash : true ≡ false = sym (stood-steps x z last.steps d k) ∙ taken_out.gone in absurd cc)
+  gone = false_from_ne_true (stands z d) (λ k. let clash : true ≡ false = sym (stood-steps x z last.steps d k) ∙ taken_out.gone in absurd cc)
 
   -- who was below the device stood, and stands no more
   below-stood : (y : ℕ) → Above_it (pin b d) d y → stands (pin b d) y ≡ true

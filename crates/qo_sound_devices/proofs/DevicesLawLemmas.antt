@@ -50,7 +50,7 @@ notice_read-below b h = go b.notices refl
     go [] e = rw (notice_read, e) h
     go (notice ∷ others) e = rw (notice_read, e) (read-below b notice others e h)
 
-stepped-below : (b : Board) (step : Step) → SoundDevices b → SoundDevices (stepped b step)
+pub stepped-below : (b : Board) (step : Step) → SoundDevices b → SoundDevices (stepped b step)
 stepped-below b (commands change) h = changed-below b change h
 stepped-below b (adds a) h = plugged-below b a h
 stepped-below b (cuts t i joined) h = cut-below b t i joined h

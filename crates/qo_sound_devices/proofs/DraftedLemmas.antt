@@ -1,5 +1,5 @@
 -- A new device is made, property by property: what was there stays as it was, and what is new is realized nowhere, has no kids and no id.
-use Rattle.std.proofs.Common.{◌≡◌, refl, rules, ap, sym, subst, ◌∙◌, ℕ, ◌+◌, ◌<◌, ◌≤◌, Bool, true, false, not, ◌&&◌, ◌||◌, ◌==◌, List, [], ◌∷◌, ◌++◌, filter_map, find, Option, Some, None, is_some, option_map, option_and_then, codes, arith}
+use Rattle.std.proofs.Common.{◌≡◌, refl, rules, ap, sym, subst, ◌∙◌, ℕ, ◌+◌, ◌<◌, ◌≤◌, Bool, true, false, not, ◌&&◌, ◌||◌, ◌==◌, List, [], ◌∷◌, ◌++◌, filter_map, Option, Some, None, is_some, option_map, option_and_then, codes, arith}
 use Rattle.std.specs.Bool.{⊤}
 use Rattle.std.specs.Prelude.{if◌then◌else◌}
 use Rattle.std.specs.List.{AllByRecursion, cons_option, list_any}
@@ -13,7 +13,7 @@ use Rattle.qo_values.specs.declared.kinds.TypeId.TheVariants.{Object, Container,
 use Rattle.qo_model.specs.Board.{Board, Record, Slot, plain, child, strong, weak, alias, record_of, kind_of, is_live, slots_at}
 use Rattle.qo_model.specs.Changes.{add, fresh, with_added}
 use Rattle.qo_model.specs.Devices.{clock_name, is_true, plain_in}
-use Rattle.qo_model.specs.Opening.{first_slot, first_value, fresh_record}
+use Rattle.qo_model.specs.Opening.{first_value, fresh_record}
 use Rattle.qo_model.specs.Paths.{child_of, is_of}
 use Rattle.qo_model.specs.Plug.{aliased, drafted, owned, row_made, rows_made, with_new}
 use Rattle.qo_model.specs.Release.{edited}
@@ -26,11 +26,14 @@ use Rattle.qo_model.specs.declared.properties.RowKind.TheVariants as row
 use Rattle.qo_model.proofs.StepLemmas.{found_at, found-edited}
 use Rattle.qo_sound.proofs.DraftLemmas.{Drafts, drafted-drafts, held_up}
 use Rattle.qo_sound.proofs.FirmLemmas.{Firm}
+use Rattle.qo_sound.proofs.FreshLemmas.{slots_for}
+use Rattle.qo_sound.proofs.ReadLemmas.{named_in}
 use Rattle.qo_sound.proofs.RecordLemmas.{all-append, all-imply}
+use Rattle.qo_sound.proofs.TestLemmas.{decide}
 use Rattle.qo_sound.proofs.WorkLemmas.{Nearly}
 use Rattle.qo_sound_devices.specs.SoundPlaces.{child_entries, child_entry, id_of, kid_entry, listed, owns, owns_it}
 use Rattle.qo_sound_devices.proofs.AlikeLemmas.{other-record}
-use Rattle.qo_sound_devices.proofs.JoinedLemmas.{choose, IsFurther}
+use Rattle.qo_sound_devices.proofs.JoinedLemmas.{IsFurther}
 use Rattle.qo_sound_devices.proofs.MadeLemmas.{added-body, added-other, Made}
 use Rattle.qo_sound_devices.proofs.PlacesLemmas.{high-absent, id-alike, kind-alike}
 
@@ -44,9 +47,6 @@ BlankSlot b (name, alias m property) = ⊤
 
 abbrev pub IsBlank : Board → List (List ℕ × Slot) → Type 0
 IsBlank b slots = AllByRecursion (BlankSlot b) slots
-
-abbrev named_in : List ℕ → List (List ℕ × Slot) → Option Slot
-named_in name slots = option_map (λ (s : List ℕ × Slot). s.1) (find (λ s. bytes_eq s.0 name) slots)
 
 blank-plain : (b : Board) (s : List ℕ × Slot) → BlankSlot b s → option_map_or is_true (plain_in s.1) false ≡ false
 blank-plain b (name, plain v) h = h
@@ -165,10 +165,6 @@ rows-blank Clock = search rules
 rows-blank MemoryBackend = search rules
 rows-blank MemoryBackendRam = search rules
 rows-blank Tag = search rules
-
-abbrev slots_for : TypeId → List Property → List (List ℕ × Slot)
-slots_for t props =
-    filter_map (λ (p : Property). option_map (λ (s : Slot). (property_name p.name, s)) (first_slot (λ _. None) t (property_name p.name) p.kind)) props
 
 first-blank : (b : Board) (t : TypeId) (ps : List Property) → RowsBlank t ps → IsBlank b (slots_for t ps)
 first-blank b t [] h = tt
@@ -356,7 +352,7 @@ module _ (b : Board) (firm : Firm b) (n : ℕ) (absent : is_live b n ≡ false) 
       old : (x : ℕ) → is_live b x ≡ true → record_of (add n name s c) x ≡ record_of b x
       old x e =
           let apart : (x == n) ≡ false =
-          choose (x == n) {A = (x == n) ≡ false} (λ p. absurd (let clash : true ≡ false = sym e ∙ ap (is_live b) (eqb-true x n p) ∙ absent in cc))
+          decide (x == n) {A = (x == n) ≡ false} (λ p. absurd (let clash : true ≡ false = sym e ∙ ap (is_live b) (eqb-true x n p) ∙ absent in cc))
           (λ p. p) in
           found x ∙ other-record n x (with_added name s) c refl apart (record_of c x) refl ∙ h.old x e
 
@@ -421,7 +417,8 @@ module _ (b : Board) (firm : Firm b) (n : ℕ) (absent : is_live b n ≡ false) 
       (λ m is.
       let own : c.born + 1 ≡ m = same_Some (c.born + 1) m (ap child_of is) in
       record { kind = type; of = ap (kind_of made) (sym own) ∙ new-kind c type h; fits = fits-heir t name type k })
-      (draft-new b n t c (fresh_record (c.born + 1) type) (first-blank b type (slots_of type) (rows-blank type)) (first-childless type (slots_of type)) refl refl h)
+      (draft-new b n t c (fresh_record (c.born + 1) type) (first-blank b type (slots_of type) (rows-blank type)) (first-childless type (slots_of type)) refl
+      refl h)
   draft-row name (row.Alias owner property) c k h = draft-aliased c name (property_name property) (owned c n (property_name owner)) h
 
   draft-rows : (ps : List Property) (c : Board) → RowsBlank t ps → Draft b n t c → Draft b n t (rows_made n t ps c)
@@ -445,7 +442,7 @@ module _ (b : Board) (t : TypeId) (shut : is_open (b.born + 1) ≡ false) (near 
 
   further : is_a t (codes "device") ≡ true → (x : ℕ) → is_live b x ≡ false → AllByRecursion (IsFurther (drafted b t) x) (child_entries (drafted b t) x)
   further device x e =
-      choose (x == b.born + 1) {A = AllByRecursion (IsFurther (drafted b t) x) (child_entries (drafted b t) x)}
+      decide (x == b.born + 1) {A = AllByRecursion (IsFurther (drafted b t) x) (child_entries (drafted b t) x)}
       (λ p. subst (λ (y : ℕ). AllByRecursion (IsFurther (drafted b t) y) (child_entries (drafted b t) y)) (sym (eqb-true x (b.born + 1) p)) own)
       (λ p. subst (AllByRecursion (IsFurther (drafted b t) x)) (sym (h.childless x e p)) tt)
     where
@@ -457,7 +454,7 @@ module _ (b : Board) (t : TypeId) (shut : is_open (b.born + 1) ≡ false) (near 
         ap (λ (o : Option TypeId). option_map_or (λ (u : TypeId). is_a u (codes "device")) o false) k.of ∙ k.fits.no_device,
         λ is. (
           is_device,
-          choose (bytes_eq y.0 clock_name) {A = bytes_eq y.0 clock_name ≡ false}
+          decide (bytes_eq y.0 clock_name) {A = bytes_eq y.0 clock_name ≡ false}
               (λ p.
               absurd
               (let clash : true ≡ false =

@@ -1,5 +1,5 @@
 -- Places behind an edit of one object, and behind a slot of it that is let go.
-use Rattle.std.proofs.Common.{◌⊎◌, inl, inr, ◌≡◌, refl, ap, sym, subst, ◌∙◌, ℕ, zero, suc, Bool, true, false, ◌==◌, List, [], ◌∷◌, find, filter_map, slice_get, Option, Some, None, is_some, option_map, option_and_then, codes}
+use Rattle.std.proofs.Common.{◌⊎◌, inl, inr, ◌≡◌, refl, ap, sym, subst, ◌∙◌, ℕ, zero, suc, Bool, true, false, ◌==◌, List, [], ◌∷◌, filter_map, slice_get, Option, Some, None, is_some, option_map, option_and_then, codes}
 use Rattle.std.specs.List.{AllByRecursion, cons_option, IsDistinct}
 use Rattle.std.specs.Option.{option_map_or}
 use Rattle.std.specs.Str.{bytes_eq}
@@ -11,13 +11,14 @@ use Rattle.qo_model.specs.Board.{Board, Record, Slot, plain, child, strong, weak
 use Rattle.qo_model.specs.Devices.{bus_of, is_realized, is_true, number_in, place_on, plain_in, strong_in}
 use Rattle.qo_model.specs.Paths.{child_of, is_of}
 use Rattle.qo_model.specs.Release.{drop_slot, edit, edited, with_dropped, without_hold}
-use Rattle.qo_model.proofs.StepLemmas.{found-edited, is_some-map}
-use Rattle.qo_sound.proofs.RecordLemmas.{found-birth}
+use Rattle.qo_model.proofs.StepLemmas.{found-edited, is_some-map, found-birth, map-edited}
+use Rattle.qo_sound.proofs.FoundLemmas.{all-found}
+use Rattle.qo_sound.proofs.ReadLemmas.{named_in}
 use Rattle.qo_sound.proofs.SlotLemmas.{names_in}
 use Rattle.qo_sound.proofs.FirmLemmas.{Firm, firm-drop, HasNames}
 use Rattle.qo_sound_devices.specs.SoundPlaces.{child_entries, child_entry, HasOwner, kid_entries, kid_entry, stands}
 use Rattle.qo_sound_devices.proofs.AlikeLemmas.{bodiless, Alike, alike-record, other-record}
-use Rattle.qo_sound_devices.proofs.PlacesLemmas.{all-found, Kept, keeper, more, nothing, same, Within, within-all, within-same}
+use Rattle.qo_sound_devices.proofs.PlacesLemmas.{Kept, keeper, more, nothing, same, Within, within-all, within-same}
 
 -- what is shown of the object that is edited
 pub record KeptAt (b c : Board) (n : ℕ) : Type 0 where
@@ -29,17 +30,10 @@ pub record KeptAt (b c : Board) (n : ℕ) : Type 0 where
   pub fewer : is_of b (codes "bus") n ≡ true → Within (kid_entries c n) (kid_entries b n)
   pub within : Within (child_entries c n) (child_entries b n)
 
-module _ (n : ℕ) (change : Record → Record) (same_birth : (r : Record) → (change r).birth ≡ r.birth) (same_body : (r : Record) → bodiless (change r) ≡ bodiless r) (b : Board) where
+module _ (n : ℕ) (change : Record → Record) (same_birth : (r : Record) → (change r).birth ≡ r.birth)
+    (same_body : (r : Record) → bodiless (change r) ≡ bodiless r) (b : Board) where
   edit-body : (x : ℕ) → option_map bodiless (record_of (edit n change b) x) ≡ option_map bodiless (record_of b x)
-  edit-body x = ap (option_map bodiless) (found-edited n change same_birth x b.records) ∙ go (record_of b x)
-    where
-      at_record : (r : Record) (t : Bool) → (r.birth == n) ≡ t → bodiless (edited n change r) ≡ bodiless r
-      at_record r true p = rw (edited, p) (same_body r)
-      at_record r false p = rw (edited, p) refl
-
-      go : (o : Option Record) → option_map bodiless (option_map (edited n change) o) ≡ option_map bodiless o
-      go None = refl
-      go (Some r) = ap Some (at_record r (r.birth == n) refl)
+  edit-body x = ap (option_map bodiless) (found-edited n change same_birth x b.records) ∙ map-edited bodiless n change same_body (record_of b x)
 
   edit-live : (x : ℕ) → is_live (edit n change b) x ≡ is_live b x
   edit-live x = ap is_some (found-edited n change same_birth x b.records) ∙ is_some-map (edited n change) (record_of b x)
@@ -59,8 +53,10 @@ module _ (n : ℕ) (change : Record → Record) (same_birth : (r : Record) → (
         bus = λ x there. at_each x (λ m. stands b m ≡ true → bus_of (edit n change b) m ≡ bus_of b m) (λ a e. a.bus) h.bus;
         place = λ x there. at_each x (λ m. stands b m ≡ true → place_on (edit n change b) m ≡ place_on b m) (λ a e. a.place) h.place;
         children = λ x there. at_each x (λ m. keeper b m ≡ true → child_entries (edit n change b) m ≡ child_entries b m) (λ a e. a.children) h.children;
-        kids = λ x there. at_each x (λ m. is_of b (codes "bus") m ≡ true → HasOwner b m → kid_entries (edit n change b) m ≡ kid_entries b m) (λ a e o. a.kids) h.kids;
-        fewer = λ x there. at_each x (λ m. is_of b (codes "bus") m ≡ true → Within (kid_entries (edit n change b) m) (kid_entries b m)) (λ a e. within-same a.kids) h.fewer;
+        kids = λ x there.
+            at_each x (λ m. is_of b (codes "bus") m ≡ true → HasOwner b m → kid_entries (edit n change b) m ≡ kid_entries b m) (λ a e o. a.kids) h.kids;
+        fewer = λ x there.
+            at_each x (λ m. is_of b (codes "bus") m ≡ true → Within (kid_entries (edit n change b) m) (kid_entries b m)) (λ a e. within-same a.kids) h.fewer;
         within = λ x there. at_each x (λ m. Within (child_entries (edit n change b) m) (child_entries b m)) (λ a. within-same a.children) h.within;
       }
     where
@@ -72,9 +68,6 @@ module _ (n : ℕ) (change : Record → Record) (same_birth : (r : Record) → (
           go false p = other (edit-alike x p)
 
 -- slots of which one was let go
-
-abbrev named_in : List ℕ → List (List ℕ × Slot) → Option Slot
-named_in name slots = option_map (λ (s : List ℕ × Slot). s.1) (find (λ s. bytes_eq s.0 name) slots)
 
 pub none-named : (name own : List ℕ) → own ≡ name → (slots : List (List ℕ × Slot)) → AllByRecursion (λ m. bytes_eq own m ≡ false) (names_in slots)
     → named_in name slots ≡ None
@@ -183,7 +176,7 @@ kids-kept zero ((name, strong t (Some m)) ∷ slots) s e none =
 kids-kept zero ((name, weak t target) ∷ slots) s e none = refl
 kids-kept zero ((name, alias m property) ∷ slots) s e none = refl
 
-within-cons : (o : Option (List ℕ × ℕ)) {xs ys : List (List ℕ × ℕ)} → Within xs ys → Within (cons_option o xs) (cons_option o ys)
+pub within-cons : (o : Option (List ℕ × ℕ)) {xs ys : List (List ℕ × ℕ)} → Within xs ys → Within (cons_option o xs) (cons_option o ys)
 within-cons None w = w
 within-cons (Some x) w = same x w
 
@@ -250,11 +243,13 @@ kept-drop b firm root n i s r e at link kind_of_slot none = kept-edit n (with_dr
     here =
         record {
           realized = ap (λ (o : Option Val). option_map_or is_true o false) (same_plain (codes "realized"));
-          bus = λ k. ap (λ (x : List (List ℕ × Slot)). option_and_then strong_in (named_in (codes "parent_bus") x)) now ∙ strong-dropped (codes "parent_bus") i r.slots names s at (link k) ∙ sym (ap (λ (x : List (List ℕ × Slot)). option_and_then strong_in (named_in (codes "parent_bus") x)) was);
+          bus = λ k. ap (λ (x : List (List ℕ × Slot)). option_and_then strong_in (named_in (codes "parent_bus") x)) now ∙ strong-dropped (codes "parent_bus") i
+              r.slots names s at (link k) ∙ sym (ap (λ (x : List (List ℕ × Slot)). option_and_then strong_in (named_in (codes "parent_bus") x)) was);
           place = λ k. ap (option_and_then number_in) (same_plain (codes "slot"));
           children = λ k. ap (filter_map child_entry) now ∙ children-kept i r.slots s at (kind_of_slot k) ∙ sym (ap (filter_map child_entry) was);
           kids = λ k o. ap (filter_map kid_entry) now ∙ kids-kept i r.slots s at (none k o) ∙ sym (ap (filter_map kid_entry) was);
-          fewer = λ k. subst (λ (xs : List (List ℕ × ℕ)). Within xs (kid_entries b n)) (sym (ap (filter_map kid_entry) now)) (subst (λ (ys : List (List ℕ × ℕ)). Within (filter_map kid_entry (without_hold i r.slots)) ys) (sym (ap (filter_map kid_entry) was)) (kids-fewer i r.slots));
+          fewer = λ k. subst (λ (xs : List (List ℕ × ℕ)). Within xs (kid_entries b n)) (sym (ap (filter_map kid_entry) now)) (subst (λ (ys : List (List ℕ × ℕ)).
+              Within (filter_map kid_entry (without_hold i r.slots)) ys) (sym (ap (filter_map kid_entry) was)) (kids-fewer i r.slots));
           within =
               subst (λ (xs : List (List ℕ × ℕ)). Within xs (child_entries b n)) (sym (ap (filter_map child_entry) now))
               (subst (λ (ys : List (List ℕ × ℕ)). Within (filter_map child_entry (without_hold i r.slots)) ys) (sym (ap (filter_map child_entry) was))

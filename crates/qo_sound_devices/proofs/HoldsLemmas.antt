@@ -20,17 +20,18 @@ use Rattle.qo_model.specs.Release.{edit}
 use Rattle.qo_model.specs.Types.{is_a, types}
 use Rattle.qo_model.specs.Unplug.{is_named, set_named}
 use Rattle.qo_sound.proofs.FirmLemmas.{Firm}
+use Rattle.qo_sound.proofs.ReadLemmas.{named_in}
 use Rattle.qo_sound.proofs.UnplugLemmas.{Found, found-at}
 use Rattle.qo_sound_devices.proofs.DropLemmas.{edited-slots}
-use Rattle.qo_sound_devices.proofs.PlainLemmas.{named_in, stay-add, stay-given}
+use Rattle.qo_sound_devices.proofs.PlainLemmas.{stay-add, stay-given}
 use Rattle.qo_sound_devices.proofs.RealizedLemmas.{rows-stay}
-use Rattle.qo_sound_devices.proofs.UnrealizeLemmas.{first-changed, mild-val, named-other, none-found, other-name, reads}
+use Rattle.qo_sound_devices.proofs.UnrealizeLemmas.{first-changed, named-other, none-found, other-name, reads}
 
 -- a slot under a name
 abbrev SlotIs : List ℕ → Slot → List (List ℕ × Slot) → Type 0
 SlotIs name s slots = named_in name slots ≡ Some s
 
-slot-none : (name : List ℕ) (s : Slot) → SlotIs name s [] → ⊥
+pub slot-none : (name : List ℕ) (s : Slot) → SlotIs name s [] → ⊥
 slot-none name s e = absurd (let clash : None ≡ Some s = e in cc)
 
 slot-more : (name : List ℕ) (s : Slot) (y : List ℕ × Slot) (slots : List (List ℕ × Slot)) → SlotIs name s slots → SlotIs name s (slots ++ y ∷ [])
@@ -103,8 +104,9 @@ slot-set n name own v apart c = go (place_from (is_named own) 0 (slots_at c n)) 
     go (Some i) e =
         let f : Found (is_named own) (slots_at c n) i = found-at (is_named own) i (slots_at c n) e in
         rw (set_named, e)
-        (reads (with_val v) (mild-val v) n i c (named_in name)
-        (λ slots q. named-other (with_val v) name i slots f.entry (ap (λ (x : List (List ℕ × Slot)). slice_get x i) (sym q) ∙ f.at) (other-name own name apart f.entry f.passes)) n)
+        (reads (with_val v) n i c (named_in name)
+        (λ slots q. named-other (with_val v) name i slots f.entry (ap (λ (x : List (List ℕ × Slot)). slice_get x i) (sym q) ∙ f.at)
+        (other-name own name apart f.entry f.passes)) n)
 
 -- its own link is filled
 slot-linked : (n : ℕ) (name : List ℕ) (m : ℕ) (s : Slot) (c : Board) → SlotIs name s (slots_at c n)
@@ -126,7 +128,8 @@ slot-linked n name m s c h = go (place_from (is_named name) 0 (slots_at c n)) re
     go None e = absurd (let clash : None ≡ Some s = sym (none-found name (slots_at c n) 0 e) ∙ h in cc)
     go (Some i) e = rw (link_named, e) (there i e (record_of c n) refl)
 
-module _ (b : Board) (t : TypeId) (firm : Firm b) (device : is_a t (codes "device") ≡ true) (a : Wanted) (spot : Spot) (given : refusal_of b t a.props ≡ None) where
+module _ (b : Board) (t : TypeId) (firm : Firm b) (device : is_a t (codes "device") ≡ true) (a : Wanted) (spot : Spot)
+    (given : refusal_of b t a.props ≡ None) where
   abbrev n : ℕ
   n = b.born + 1
 
@@ -155,7 +158,9 @@ module _ (b : Board) (t : TypeId) (firm : Firm b) (device : is_a t (codes "devic
           → SlotIs (codes "parent_bus") (strong Bus None) (slots ++ y ∷ [])
       more = slot-more (codes "parent_bus") (strong Bus None)
 
-  pub holds-bus : is_of (set_named (b.born + 1) (codes "slot") (val.Uint spot.slot) (edit (b.born + 1) (with_given b a.props) (joined b (b.born + 1) a spot (drafted b t)))) (codes "bus") spot.bus ≡ true
+  pub holds-bus :
+      is_of (set_named (b.born + 1) (codes "slot") (val.Uint spot.slot) (edit (b.born + 1) (with_given b a.props) (joined b (b.born + 1) a spot (drafted b t))))
+      (codes "bus") spot.bus ≡ true
       → bus_of (valued b (b.born + 1) a.props spot (joined b (b.born + 1) a spot (drafted b t))) (b.born + 1) ≡ Some spot.bus
   holds-bus is =
       ap (option_and_then strong_in)

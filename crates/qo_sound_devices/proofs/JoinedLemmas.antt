@@ -19,9 +19,10 @@ use Rattle.qo_model.specs.Plug.{bus_type}
 use Rattle.qo_model.specs.Types.{is_a, types}
 use Rattle.qo_sound.proofs.FirmLemmas.{Firm}
 use Rattle.qo_sound.proofs.RecordLemmas.{all-append, all-imply}
+use Rattle.qo_sound.proofs.TestLemmas.{decide}
 use Rattle.qo_sound_devices.specs.SoundPlaces.{child_entries, HasOwner, machines, bridges, id_of, IsAnonymous, IsAtHome, on_device, IsHome, IsKid, IsPeripheral, IsShallow, kid_entries, listed, owns, owns_it, path_of, PlacesBut, stands}
 use Rattle.qo_sound_devices.proofs.AttachedLemmas.{owns-listed}
-use Rattle.qo_sound_devices.proofs.PlacesLemmas.{child-live, children-grown, id-alike, MoreChildren, rooted-same, no-more, of-alike, of-live, owner-live, path-alike, SameBody, stands-live, suits-alike}
+use Rattle.qo_sound_devices.proofs.PlacesLemmas.{child-live, children-grown, id-alike, MoreChildren, rooted-same, no-more, of-alike, of-live, owner-live, SameBody, stands-live, suits-alike, peripheral-alike, anonymous-alike}
 
 -- the entry of a device with an id, and of one without
 abbrev pub named_entry : Option (List ℕ) → ℕ → List (List ℕ × ℕ)
@@ -133,10 +134,6 @@ further-same c d same x children h =
           k.1 (sym (same (codes "bus") e.1) ∙ is) in (same (codes "device") x ∙ its.0, its.1),
     )
 
-pub choose : (t : Bool) → {A : Type 0} → (t ≡ true → A) → (t ≡ false → A) → A
-choose true f g = f refl
-choose false f g = g refl
-
 any-append : (d : ℕ) (xs ys : List (List ℕ × ℕ)) → listed d (xs ++ ys) ≡ listed d xs || listed d ys
 any-append d [] ys = refl
 any-append d (x ∷ xs) ys = go (x.1 == d) refl (any-append d xs ys)
@@ -148,7 +145,7 @@ any-append d (x ∷ xs) ys = go (x.1 == d) refl (any-append d xs ys)
 own-listed : (name : List ℕ) (n : ℕ) → listed n ((name, n) ∷ []) ≡ true
 own-listed name n = rw (eq-eqb n n refl) refl
 
-only-listed : (name : List ℕ) (n d : ℕ) → listed d ((name, n) ∷ []) ≡ true → d ≡ n
+pub only-listed : (name : List ℕ) (n d : ℕ) → listed d ((name, n) ∷ []) ≡ true → d ≡ n
 only-listed name n d e = sym (eqb-true n d (sym (or-false (n == d)) ∙ e))
 
 never-among : (b : Board) (d : ℕ) (ns : List ℕ) → AllByRecursion (λ x. stands b x ≡ false) ns → stands b d ≡ true → among ns d ≡ false
@@ -159,7 +156,8 @@ never-among b d (x ∷ ns) h e = go (eqb d x) refl (never-among b d ns h.1 e)
     go true p rest = absurd (let clash : false ≡ true = sym h.0 ∙ sym (ap (stands b) (eqb-true d x p)) ∙ e in cc)
     go false p rest = rw p rest
 
-module _ (depth : ℕ → ℕ) (b : Board) (n bus slot : ℕ) (id : Option (List ℕ)) (t : TypeId) (c : Board) (j : Joined depth b n bus slot id t (done b bus slot id) c) (firm : Firm b) (h : PlacesBut depth None (λ x. false) b) where
+module _ (depth : ℕ → ℕ) (b : Board) (n bus slot : ℕ) (id : Option (List ℕ)) (t : TypeId) (c : Board)
+    (j : Joined depth b n bus slot id t (done b bus slot id) c) (firm : Firm b) (h : PlacesBut depth None (λ x. false) b) where
   live-machine : is_live b MACHINE_BIRTH ≡ true
   live-machine = child-live b firm 1 MACHINE_BIRTH h.machine
 
@@ -171,7 +169,8 @@ module _ (depth : ℕ → ℕ) (b : Board) (n bus slot : ℕ) (id : Option (List
 
   -- who stands
   stands-is : (d : ℕ)
-      → stands c d ≡ (listed d (child_entries b PERIPHERAL_BIRTH) || listed d (named_entry id n)) || (listed d (child_entries b ANONYMOUS_BIRTH) || listed d (numbered_entry b id n))
+      → stands c d ≡ (listed d (child_entries b PERIPHERAL_BIRTH) || listed d (named_entry id n))
+      || (listed d (child_entries b ANONYMOUS_BIRTH) || listed d (numbered_entry b id n))
   stands-is d =
       ap₂ (λ (xs ys : List (List ℕ × ℕ)). listed d xs || listed d ys) j.third j.fourth
       ∙ ap₂ (λ (x y : Bool). x || y) (any-append d (child_entries b PERIPHERAL_BIRTH) (named_entry id n))
@@ -211,7 +210,7 @@ module _ (depth : ℕ → ℕ) (b : Board) (n bus slot : ℕ) (id : Option (List
 
   by-stand : (d : ℕ) → stands c d ≡ true → {A : Type 0} → (stands b d ≡ true → A) → (d ≡ n → A) → A
   by-stand d e f g =
-      choose (stands b d) f
+      decide (stands b d) f
       (λ k.
       g
       (entry-only id d
@@ -262,7 +261,7 @@ module _ (depth : ℕ → ℕ) (b : Board) (n bus slot : ℕ) (id : Option (List
   deeper-old : (q : ℕ) → is_live b q ≡ true → deeper q ≡ depth q
   deeper-old q e =
       ap (λ (u : Bool). if u then suc (depth bus) else depth q)
-      (choose (owns c n q) {A = owns c n q ≡ false}
+      (decide (owns c n q) {A = owns c n q ≡ false}
       (λ k. absurd (let clash : true ≡ false = sym e ∙ j.heirs q (owns-listed q (child_entries c n) k) in cc)) (λ k. k))
 
   deeper-new : (q : ℕ) → owns c n q ≡ true → deeper q ≡ suc (depth bus)
@@ -271,8 +270,10 @@ module _ (depth : ℕ → ℕ) (b : Board) (n bus slot : ℕ) (id : Option (List
   shallow : IsShallow deeper c
   shallow =
       record {
-        top =
-            (deeper-old ROOT_BUS_BIRTH (child-live b firm MACHINE_BIRTH ROOT_BUS_BIRTH h.parts.1.1.0) ∙ h.shallow.top.0, (deeper-old MEMORY_BUS_BIRTH (child-live b firm MACHINE_BIRTH MEMORY_BUS_BIRTH h.parts.1.1.1.0) ∙ h.shallow.top.1.0, tt));
+        top = (
+          deeper-old ROOT_BUS_BIRTH (child-live b firm MACHINE_BIRTH ROOT_BUS_BIRTH h.parts.1.1.0) ∙ h.shallow.top.0,
+          (deeper-old MEMORY_BUS_BIRTH (child-live b firm MACHINE_BIRTH MEMORY_BUS_BIRTH h.parts.1.1.1.0) ∙ h.shallow.top.1.0, tt),
+        );
         below = below;
         most = λ q o. by-owner q o
             (λ k.
@@ -305,14 +306,14 @@ module _ (depth : ℕ → ℕ) (b : Board) (n bus slot : ℕ) (id : Option (List
       (all-imply (IsPeripheral b) (IsPeripheral c) one (child_entries b PERIPHERAL_BIRTH) h.peripheral) (own id j.its_id j.its_path))
     where
       one : (e : List ℕ × ℕ) → IsPeripheral b e → IsPeripheral c e
-      one e k =
-          let a : SameBody b c e.1 = j.body e.1 (of-live b (codes "device") e.1 k.device) in
-          record { device = of-alike b c e.1 (codes "device") a ∙ k.device; id = id-alike b c e.1 a ∙ k.id; path = path-alike b c e.1 a ∙ k.path }
+      one e k = peripheral-alike b c e (j.body e.1 (of-live b (codes "device") e.1 k.device)) k
 
       own : (o : Option (List ℕ)) → id_of c n ≡ o → path_of c n ≡ Some (path_behind b o) → AllByRecursion (IsPeripheral c) (named_entry o n)
       own None e p = tt
-      own (Some i) e p =
-          (record { device = ap (λ (k : Option TypeId). option_map_or (λ (x : TypeId). is_a x (codes "device")) k false) j.kind ∙ j.device; id = e; path = p }, tt)
+      own (Some i) e p = (
+        record { device = ap (λ (k : Option TypeId). option_map_or (λ (x : TypeId). is_a x (codes "device")) k false) j.kind ∙ j.device; id = e; path = p },
+        tt,
+      )
 
   anonymous : AllByRecursion (IsAnonymous c) (child_entries c ANONYMOUS_BIRTH)
   anonymous =
@@ -326,20 +327,21 @@ module _ (depth : ℕ → ℕ) (b : Board) (n bus slot : ℕ) (id : Option (List
 
       one : (e : List ℕ × ℕ) → IsAnonymous b e → IsAnonymous c e
       one e k =
-          let a : SameBody b c e.1 = j.body e.1 (of-live b (codes "device") e.1 k.device) in
-          let (m, (less, name)) = k.numbered in
-          record {
-            device = of-alike b c e.1 (codes "device") a ∙ k.device;
-            id = id-alike b c e.1 a ∙ k.id;
-            path = path-alike b c e.1 a ∙ k.path;
-            numbered = (m, (subst (λ (x : ℕ). m < x) (sym j.anonymous) (grows id m b.anonymous less), name));
-          }
+          anonymous-alike b c e (λ m less. subst (λ (x : ℕ). m < x) (sym j.anonymous) (grows id m b.anonymous less))
+          (j.body e.1 (of-live b (codes "device") e.1 k.device)) k
 
       own : (o : Option (List ℕ)) → id_of c n ≡ o → path_of c n ≡ Some (path_behind b o) → c.anonymous ≡ count_behind o b.anonymous
           → AllByRecursion (IsAnonymous c) (numbered_entry b o n)
       own (Some i) e p k = tt
-      own None e p k =
-          (record { device = ap (λ (x : Option TypeId). option_map_or (λ (y : TypeId). is_a y (codes "device")) x false) j.kind ∙ j.device; id = e; path = p; numbered = (b.anonymous, (omega (arith, k), refl)) }, tt)
+      own None e p k = (
+        record {
+          device = ap (λ (x : Option TypeId). option_map_or (λ (y : TypeId). is_a y (codes "device")) x false) j.kind ∙ j.device;
+          id = e;
+          path = p;
+          numbered = (b.anonymous, (omega (arith, k), refl));
+        },
+        tt,
+      )
 
   -- kids
   old-kid : (q : ℕ) → is_live b q ≡ true → (x : List ℕ × ℕ) → IsKid b q x → IsKid c q x
@@ -366,13 +368,13 @@ module _ (depth : ℕ → ℕ) (b : Board) (n bus slot : ℕ) (id : Option (List
       }
 
   kids : (q : ℕ) → is_of c (codes "bus") q ≡ true → AllByRecursion (IsKid c q) (kid_entries c q)
-  kids q e = choose (is_live b q) old (λ k. subst (AllByRecursion (IsKid c q)) (sym (j.no_kids q k e)) tt)
+  kids q e = decide (is_live b q) old (λ k. subst (AllByRecursion (IsKid c q)) (sym (j.no_kids q k e)) tt)
     where
       old : is_live b q ≡ true → AllByRecursion (IsKid c q) (kid_entries c q)
       old k =
           let before : AllByRecursion (IsKid c q) (kid_entries b q) =
           all-imply (IsKid b q) (IsKid c q) (old-kid q k) (kid_entries b q) (h.kids q (sym (of-alike b c q (codes "bus") (j.body q k)) ∙ e)) in
-          choose (q == bus) (λ is. own (eqb-true q bus is) before) (λ apart. subst (AllByRecursion (IsKid c q)) (sym (j.kids_same q k apart)) before)
+          decide (q == bus) (λ is. own (eqb-true q bus is) before) (λ apart. subst (AllByRecursion (IsKid c q)) (sym (j.kids_same q k apart)) before)
         where
           own : q ≡ bus → AllByRecursion (IsKid c q) (kid_entries b q) → AllByRecursion (IsKid c q) (kid_entries c q)
           own is before =
@@ -383,7 +385,7 @@ module _ (depth : ℕ → ℕ) (b : Board) (n bus slot : ℕ) (id : Option (List
 
   kid-on : (q d : ℕ) → is_live b q ≡ true → listed d (kid_entries b q) ≡ true → listed d (kid_entries c q) ≡ true
   kid-on q d e k =
-      choose (q == bus) {A = listed d (kid_entries c q) ≡ true}
+      decide (q == bus) {A = listed d (kid_entries c q) ≡ true}
       (λ p.
       let is : q ≡ bus = eqb-true q bus p in
       subst (λ (m : ℕ). listed d (kid_entries c m) ≡ true) (sym is)
@@ -427,19 +429,19 @@ module _ (depth : ℕ → ℕ) (b : Board) (n bus slot : ℕ) (id : Option (List
 
   only : (d : ℕ) → is_realized c d ≡ true → stands c d ≡ true
   only d e =
-      choose (is_live b d) {A = stands c d ≡ true}
+      decide (is_live b d) {A = stands c d ≡ true}
       (λ k. old-stands d (h.only d (sym (j.realized d k) ∙ e)))
       (λ k.
-      choose (d == n) {A = stands c d ≡ true} (λ is. subst (λ (x : ℕ). stands c x ≡ true) (sym (eqb-true d n is)) new-stands)
+      decide (d == n) {A = stands c d ≡ true} (λ is. subst (λ (x : ℕ). stands c x ≡ true) (sym (eqb-true d n is)) new-stands)
       (λ apart. absurd (let clash : true ≡ false = sym e ∙ j.unrealized d k apart in cc)))
 
   -- ids
   by-id : (d : ℕ) (i : List ℕ) → id_of c d ≡ Some i → {A : Type 0} → (is_live b d ≡ true → id_of b d ≡ Some i → A) → (d ≡ n → id ≡ Some i → A) → A
   by-id d i e {A} f g =
-      choose (is_live b d)
+      decide (is_live b d)
       (λ k. f k (sym (id-alike b c d (j.body d k)) ∙ e))
       (λ k.
-      choose (d == n) (λ is. g (eqb-true d n is) (sym j.its_id ∙ sym (ap (id_of c) (eqb-true d n is)) ∙ e))
+      decide (d == n) (λ is. g (eqb-true d n is) (sym j.its_id ∙ sym (ap (id_of c) (eqb-true d n is)) ∙ e))
       (λ apart. absurd (let clash : None ≡ Some i = sym (j.nameless d k apart) ∙ e in cc)))
 
   new-device : is_of c (codes "device") n ≡ true
@@ -489,7 +491,7 @@ module _ (depth : ℕ → ℕ) (b : Board) (n bus slot : ℕ) (id : Option (List
 
   none-stands : (m : ℕ) → is_live b m ≡ true → stands b m ≡ false → stands c m ≡ false
   none-stands m live e =
-      choose (stands c m) {A = stands c m ≡ false}
+      decide (stands c m) {A = stands c m ≡ false}
       (λ k.
       by-stand m k (λ s. absurd (let clash : true ≡ false = sym s ∙ e in cc))
       (λ is. absurd (let clash : true ≡ false = sym live ∙ ap (is_live b) is ∙ j.absent in cc)))
@@ -500,8 +502,16 @@ module _ (depth : ℕ → ℕ) (b : Board) (n bus slot : ℕ) (id : Option (List
       record {
         machine = ap (listed MACHINE_BIRTH) first ∙ h.machine;
         objects = ap (listed OBJECTS_BIRTH) first ∙ h.objects;
-        parts =
-            (ap (listed PERIPHERAL_BIRTH) second ∙ h.parts.0, (ap (listed ANONYMOUS_BIRTH) second ∙ h.parts.1.0, (ap (listed ROOT_BUS_BIRTH) second ∙ h.parts.1.1.0, (ap (listed MEMORY_BUS_BIRTH) second ∙ h.parts.1.1.1.0, (ap (listed SYSTEM_CLOCK_BIRTH) second ∙ h.parts.1.1.1.1.0, tt)))));
+        parts = (
+          ap (listed PERIPHERAL_BIRTH) second ∙ h.parts.0,
+          (
+            ap (listed ANONYMOUS_BIRTH) second ∙ h.parts.1.0,
+            (
+              ap (listed ROOT_BUS_BIRTH) second ∙ h.parts.1.1.0,
+              (ap (listed MEMORY_BUS_BIRTH) second ∙ h.parts.1.1.1.0, (ap (listed SYSTEM_CLOCK_BIRTH) second ∙ h.parts.1.1.1.1.0, tt)),
+            ),
+          ),
+        );
         rooted = rooted-same b c (j.body 1 (owner-live b 1 MACHINE_BIRTH h.machine)) first second h.rooted;
         children = at_home;
         aside = (

@@ -3,7 +3,7 @@ use Rattle.std.proofs.Common.{inl, inr, ◌≡◌, ◌≢◌, refl, ap, ap₂, s
 use Rattle.std.specs.List.{AllByRecursion, cons_option, IsDistinct}
 use Rattle.std.specs.Option.{option_map_or}
 use Rattle.std.specs.Str.{bytes_eq}
-use Rattle.std.proofs.lemmas.Bool.{eqb-true, eq-eqb}
+use Rattle.std.proofs.lemmas.Bool.{eqb-true, eq-eqb, false_from_ne_true}
 use Rattle.std.proofs.lemmas.Option.{same_Some}
 use Rattle.std.proofs.lemmas.Slice.Eq.{bytes_eq-Decides}
 use Rattle.qo_values.specs.declared.births.TheConstants.{ANONYMOUS_BIRTH, MACHINE_BIRTH, PERIPHERAL_BIRTH}
@@ -66,7 +66,8 @@ unnamed name [] k e = refl
 unnamed name (s ∷ slots) k e = go (is_named name s) refl (unnamed name slots (suc k))
   where
     go : (t : Bool) → is_named name s ≡ t
-        → (place_from (is_named name) (suc k) slots ≡ None → option_and_then strong_in (option_map (λ (s : List ℕ × Slot). s.1) (find (λ s. bytes_eq s.0 name) slots)) ≡ None)
+        → (place_from (is_named name) (suc k) slots ≡ None
+        → option_and_then strong_in (option_map (λ (s : List ℕ × Slot). s.1) (find (λ s. bytes_eq s.0 name) slots)) ≡ None)
         → option_and_then strong_in (option_map (λ (s : List ℕ × Slot). s.1) (find (λ s. bytes_eq s.0 name) (s ∷ slots))) ≡ None
     go true p rest = absurd (let clash : Some k ≡ None = rw p at e in cc)
     go false p rest = rw p (rest (rw p at e))
@@ -121,15 +122,11 @@ none-kid d k ((name, strong t (Some m)) ∷ slots) e = go (m == d) refl (none-ki
 abbrev pub IsUnlisted : Board → ℕ → Type 0
 IsUnlisted c d = (q : ℕ) → is_of c (codes "bus") q ≡ true → listed d (kid_entries c q) ≡ false
 
-pub false-of : (t : Bool) → (t ≡ true → ⊥) → t ≡ false
-false-of false f = refl
-false-of true f = absurd (f refl)
-
 pub unlisted-steps : (b c : Board) (d : ℕ) → Steps b c → IsUnlisted b d → IsUnlisted c d
 unlisted-steps b c d s h q is =
     let live : is_live c q ≡ true = of-live c (codes "bus") q is in
     let was : is_of b (codes "bus") q ≡ true = sym (of-alike b c q (codes "bus") (s.body q live)) ∙ is in
-    false-of (listed d (kid_entries c q)) (λ e. let clash : true ≡ false = sym (within-listed d (s.kids q) e) ∙ h q was in absurd cc)
+    false_from_ne_true (listed d (kid_entries c q)) (λ e. let clash : true ≡ false = sym (within-listed d (s.kids q) e) ∙ h q was in absurd cc)
 
 -- others stand as before, on the same bus
 pub record Stay (d : ℕ) (b c : Board) : Type 0 where
@@ -245,7 +242,8 @@ taken-kid depth out ps b h d m e on = go (place_from (names_kid d) 0 (slots_at b
         hold p x isb differs =
             for-each depth out None ps b h m i r owner.1 f.entry at (λ y. listed x (kid_entries b y) ≡ true → listed x (kid_entries c y) ≡ true)
             (λ y k a l. ap (listed x) a.kids ∙ l)
-            (λ l. dropped-read depth out None ps b h m i r owner.1 f.entry at (λ ss. listed x (filter_map kid_entry ss)) (any-kid_dropped (λ (z : List ℕ × ℕ). z.1 == x) i r.slots f.entry (f.entry.0, d) at entry (false-of (d == x) (λ k. differs (eqb-true d x k)))) ∙ l) p
+            (λ l. dropped-read depth out None ps b h m i r owner.1 f.entry at (λ ss. listed x (filter_map kid_entry ss)) (any-kid_dropped
+            (λ (z : List ℕ × ℕ). z.1 == x) i r.slots f.entry (f.entry.0, d) at entry (false_from_ne_true (d == x) (λ k. differs (eqb-true d x k)))) ∙ l) p
 
         first : PlacesBut depth (Some d) out c
         first = link-dropped depth out None ps b h m i r owner.1 f.entry at d none (λ x. inl (λ z. cc)) (λ x k. same-bus x) (λ p x isb l. same-bus x) hold
@@ -261,7 +259,7 @@ taken-kid depth out ps b h d m e on = go (place_from (names_kid d) 0 (slots_at b
             (λ y. is_of b (codes "bus") y ≡ true → (y == m) ≡ (p == m) → listed d (kid_entries c y) ≡ false)
             (λ y k a ib same_y.
             ap (listed d) a.kids
-            ∙ false-of (listed d (kid_entries b y))
+            ∙ false_from_ne_true (listed d (kid_entries b y))
             (λ l.
             let clash : y ≡ m = same_Some y m (sym (kid-of depth None out b h.places y d ib l).1 ∙ on) in
             absurd (let both : true ≡ false = sym (eq-eqb y m clash) ∙ k in cc)))
@@ -299,7 +297,8 @@ taken-kid depth out ps b h d m e on = go (place_from (names_kid d) 0 (slots_at b
 
         second : Kept c (cut m i c) × Steps c (cut m i c)
         second =
-            cut-kept c (owner-live c 1 MACHINE_BIRTH first.machine) m i near_first.firm near_second.firm here.owner here.found here.entry here.at typed.0 here.is
+            cut-kept c (owner-live c 1 MACHINE_BIRTH first.machine) m i near_first.firm near_second.firm here.owner here.found here.entry here.at typed.0
+            here.is
 
         places_second : PlacesBut depth (Some d) out (cut m i c)
         places_second = places-kept c (cut m i c) second.0 depth (Some d) out first

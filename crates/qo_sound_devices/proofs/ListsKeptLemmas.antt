@@ -113,7 +113,8 @@ named-child d name (s ∷ slots) e = go (bytes_eq s.0 name) refl (named-child d 
     there (own, alias j property) k = k
 
     go : (t : Bool) → bytes_eq s.0 name ≡ t
-        → (option_and_then child_of (option_map (λ (y : List ℕ × Slot). y.1) (find (λ y. bytes_eq y.0 name) slots)) ≡ Some d → listed d (filter_map child_entry slots) ≡ true)
+        → (option_and_then child_of (option_map (λ (y : List ℕ × Slot). y.1) (find (λ y. bytes_eq y.0 name) slots)) ≡ Some d
+        → listed d (filter_map child_entry slots) ≡ true)
         → listed d (filter_map child_entry (s ∷ slots)) ≡ true
     go true p rest = here s (rw p at e)
     go false p rest = there s (rest (rw p at e))

@@ -1,7 +1,7 @@
 -- Lists of devices that are kept, where fewer are in them and those that stay in them stay in their places.
 use Rattle.std.proofs.Common.{nat_eq, ◌≡◌, refl, ℕ, ◌≤◌, Bool, true, false, ◌||◌, ◌==◌, eqb, List, [], ◌∷◌, filter, length, None, arith}
 use Rattle.std.specs.List.{AllByRecursion, IsDistinct, list_any}
-use Rattle.std.proofs.lemmas.Bool.{eq-eqb}
+use Rattle.std.proofs.lemmas.Bool.{eq-eqb, or_left}
 use Rattle.std.proofs.Math.Bool.{or-true}
 use Rattle.qo_values.specs.declared.limits.TheConstants.{NOTICES_MAX}
 use Rattle.qo_model.specs.Board.{Board, Notice}
@@ -20,7 +20,7 @@ abbrev pub named : Board → ℕ → Bool
 named b d = among b.pending d || told b.notices d
 
 -- each member is among all
-members : (xs : List ℕ) → AllByRecursion (λ x. among xs x ≡ true) xs
+pub members : (xs : List ℕ) → AllByRecursion (λ x. among xs x ≡ true) xs
 members [] = tt
 members (x ∷ xs) =
     (rw (eq-eqb x x refl) refl, all-imply (λ y. among xs y ≡ true) (λ y. among (x ∷ xs) y ≡ true) (λ y k. rw k (or-true (eqb y x))) xs (members xs))
@@ -53,15 +53,11 @@ pub record Fewer (b c : Board) : Type 0 where
   pub pending : Within c.pending b.pending
   pub notices : Within c.notices b.notices
 
-or-left : (t u : Bool) → t ≡ true → t || u ≡ true
-or-left true u e = refl
-or-left false u e = absurd (let clash : false ≡ true = e in cc)
-
 pub lists-fewer : (b c : Board) → Fewer b c → ((x : ℕ) → named c x ≡ true → IsOn b x → IsOn c x) → SoundLists b → SoundLists c
 lists-fewer b c f stay h =
     record {
       pending =
-          all-imply (λ x. (among c.pending x ≡ true) × IsOn b x) (IsOn c) (λ x k. stay x (or-left (among c.pending x) (told c.notices x) k.0) k.1) c.pending
+          all-imply (λ x. (among c.pending x ≡ true) × IsOn b x) (IsOn c) (λ x k. stay x (or_left (among c.pending x) (told c.notices x) k.0) k.1) c.pending
           (all-both (λ x. among c.pending x ≡ true) (IsOn b) c.pending (members c.pending) (all-within (IsOn b) f.pending h.pending));
       once = within-distinct f.pending h.once;
       notices =

@@ -143,9 +143,34 @@ room-of (x ∷ xs) ns a h = omega (arith, room-of xs (without_all x ns) a.1 (sta
 pub room : (depth : ℕ → ℕ) (left : Option ℕ) (out : ℕ → Bool) (b : Board) → Firm b → PlacesBut depth left out b → 8 ≤ length (births b)
 unfolding IsApart
 room depth left out b firm h =
-    room-of (1 ∷ 2 ∷ 3 ∷ 4 ∷ 5 ∷ 6 ∷ 7 ∷ 8 ∷ []) (births b)
-    ((refl, (refl, (refl, (refl, (refl, (refl, (refl, tt))))))), ((refl, (refl, (refl, (refl, (refl, (refl, tt)))))), ((refl, (refl, (refl, (refl, (refl, tt))))), ((refl, (refl, (refl, (refl, tt)))), ((refl, (refl, (refl, tt))), ((refl, (refl, tt)), ((refl, tt), (tt, tt))))))))
-    (there 1 (owner-live b 1 2 h.machine), (there 2 (child-live b firm 1 2 h.machine), (there 3 (child-live b firm 2 3 h.parts.0), (there 4 (child-live b firm 2 4 h.parts.1.0), (there 5 (child-live b firm 2 5 h.parts.1.1.1.1.0), (there 6 (child-live b firm 2 6 h.parts.1.1.0), (there 7 (child-live b firm 2 7 h.parts.1.1.1.0), (there 8 (child-live b firm 1 8 h.objects), tt))))))))
+    room-of (1 ∷ 2 ∷ 3 ∷ 4 ∷ 5 ∷ 6 ∷ 7 ∷ 8 ∷ []) (births b) (
+      (refl, (refl, (refl, (refl, (refl, (refl, (refl, tt))))))),
+      (
+        (refl, (refl, (refl, (refl, (refl, (refl, tt)))))),
+        (
+          (refl, (refl, (refl, (refl, (refl, tt))))),
+          ((refl, (refl, (refl, (refl, tt)))), ((refl, (refl, (refl, tt))), ((refl, (refl, tt)), ((refl, tt), (tt, tt))))),
+        ),
+      ),
+    ) (
+      there 1 (owner-live b 1 2 h.machine),
+      (
+        there 2 (child-live b firm 1 2 h.machine),
+        (
+          there 3 (child-live b firm 2 3 h.parts.0),
+          (
+            there 4 (child-live b firm 2 4 h.parts.1.0),
+            (
+              there 5 (child-live b firm 2 5 h.parts.1.1.1.1.0),
+              (
+                there 6 (child-live b firm 2 6 h.parts.1.1.0),
+                (there 7 (child-live b firm 2 7 h.parts.1.1.1.0), (there 8 (child-live b firm 1 8 h.objects), tt)),
+              ),
+            ),
+          ),
+        ),
+      ),
+    )
   where
     there : (x : ℕ) → is_live b x ≡ true → among (births b) x ≡ true
     there x e = sym (live-among b x) ∙ e

@@ -19,17 +19,13 @@ use Rattle.qo_model.specs.Release.{edited}
 use Rattle.qo_model.specs.Types.{is_a}
 use Rattle.qo_model.proofs.StepLemmas.{found-edited}
 use Rattle.qo_sound.proofs.FirmLemmas.{Firm}
+use Rattle.qo_sound.proofs.ReadLemmas.{named_in, slots_in}
+use Rattle.qo_sound.proofs.TestLemmas.{decide}
 use Rattle.qo_sound_devices.specs.SoundPlaces.{child_entries, child_entry, HasOwner, id_of, kid_entries, kid_entry, listed, owns, owns_it, path_of, PlacesBut}
 use Rattle.qo_sound_devices.proofs.AddLemmas.{entries-added, entry-added, named-added}
 use Rattle.qo_sound_devices.proofs.AlikeLemmas.{Alike, alike-record, bodiless, other-record}
-use Rattle.qo_sound_devices.proofs.JoinedLemmas.{choose, further-same, IsFurther, Joined, named_entry, Now, numbered_entry}
+use Rattle.qo_sound_devices.proofs.JoinedLemmas.{further-same, IsFurther, Joined, named_entry, Now, numbered_entry}
 use Rattle.qo_sound_devices.proofs.PlacesLemmas.{child-live, id-alike, kind-alike, of-alike, of-live, SameBody}
-
-abbrev named_in : List ℕ → List (List ℕ × Slot) → Option Slot
-named_in name slots = option_map (λ (s : List ℕ × Slot). s.1) (find (λ s. bytes_eq s.0 name) slots)
-
-abbrev slots_in : Option Record → List (List ℕ × Slot)
-slots_in o = option_map_or (λ (r : Record). r.slots) o []
 
 other-added : (s : List ℕ × Slot) (name : List ℕ) → bytes_eq s.0 name ≡ false → (slots : List (List ℕ × Slot))
     → named_in name (slots ++ s ∷ []) ≡ named_in name slots
@@ -48,7 +44,7 @@ module _ (c : Board) (m : ℕ) (name : List ℕ) (s : Slot) where
   added-read {A} f same x = ap (λ (o : Option Record). f (slots_in o)) (found-edited m (with_added name s) (λ r. refl) x c.records) ∙ go (record_of c x)
     where
       one : (r : Record) → f (edited m (with_added name s) r).slots ≡ f r.slots
-      one r = choose (r.birth == m) {A = f (edited m (with_added name s) r).slots ≡ f r.slots} (λ p. rw (edited, p) (same r.slots)) (λ p. rw (edited, p) refl)
+      one r = decide (r.birth == m) {A = f (edited m (with_added name s) r).slots ≡ f r.slots} (λ p. rw (edited, p) (same r.slots)) (λ p. rw (edited, p) refl)
 
       go : (o : Option Record) → f (slots_in (option_map (edited m (with_added name s)) o)) ≡ f (slots_in o)
       go None = refl
@@ -59,7 +55,7 @@ module _ (c : Board) (m : ℕ) (name : List ℕ) (s : Slot) where
   added-body x = ap (option_map bodiless) (found-edited m (with_added name s) (λ r. refl) x c.records) ∙ go (record_of c x)
     where
       one : (r : Record) → bodiless (edited m (with_added name s) r) ≡ bodiless r
-      one r = choose (r.birth == m) {A = bodiless (edited m (with_added name s) r) ≡ bodiless r} (λ p. rw (edited, p) refl) (λ p. rw (edited, p) refl)
+      one r = decide (r.birth == m) {A = bodiless (edited m (with_added name s) r) ≡ bodiless r} (λ p. rw (edited, p) refl) (λ p. rw (edited, p) refl)
 
       go : (o : Option Record) → option_map bodiless (option_map (edited m (with_added name s)) o) ≡ option_map bodiless o
       go None = refl
@@ -113,7 +109,8 @@ pub record Goal (depth : ℕ → ℕ) (b : Board) (n bus slot : ℕ) (id : Optio
 abbrev pub now_at : ℕ → Board → Now
 now_at n c = record { its = id_of c n; path = path_of c n; count = c.anonymous; on = bus_of c n; at = place_on c n; realized = is_realized c n }
 
-module _ (depth : ℕ → ℕ) (b : Board) (n bus slot : ℕ) (id : Option (List ℕ)) (t : TypeId) (c : Board) (m : Made b n t c) (g : Goal depth b n bus slot id t c) (firm : Firm b) (h : PlacesBut depth None (λ x. false) b) where
+module _ (depth : ℕ → ℕ) (b : Board) (n bus slot : ℕ) (id : Option (List ℕ)) (t : TypeId) (c : Board) (m : Made b n t c) (g : Goal depth b n bus slot id t c)
+    (firm : Firm b) (h : PlacesBut depth None (λ x. false) b) where
   abbrev parent : ℕ
   parent = parent_for id
 
@@ -131,12 +128,12 @@ module _ (depth : ℕ → ℕ) (b : Board) (n bus slot : ℕ) (id : Option (List
 
   differs : (x : ℕ) → is_live b x ≡ true → (x == n) ≡ false
   differs x e =
-      choose (x == n) {A = (x == n) ≡ false} (λ p. absurd (let clash : true ≡ false = sym e ∙ ap (is_live b) (eqb-true x n p) ∙ m.absent in cc))
+      decide (x == n) {A = (x == n) ≡ false} (λ p. absurd (let clash : true ≡ false = sym e ∙ ap (is_live b) (eqb-true x n p) ∙ m.absent in cc))
       (λ p. p)
 
   apart-from : (x y : ℕ) → is_live b x ≡ false → is_live b y ≡ true → (x == y) ≡ false
   apart-from x y e k =
-      choose (x == y) {A = (x == y) ≡ false} (λ p. absurd (let clash : false ≡ true = sym e ∙ ap (is_live b) (eqb-true x y p) ∙ k in cc)) (λ p. p)
+      decide (x == y) {A = (x == y) ≡ false} (λ p. absurd (let clash : false ≡ true = sym e ∙ ap (is_live b) (eqb-true x y p) ∙ k in cc)) (λ p. p)
 
   bus-live : is_live b bus ≡ true
   bus-live = of-live b (codes "bus") bus g.is_bus
@@ -274,7 +271,8 @@ module _ (depth : ℕ → ℕ) (b : Board) (n bus slot : ℕ) (id : Option (List
         unrealized = λ x e apart. realized2 x ∙ m.unrealized x e;
         nameless = λ x e apart. id-alike c c2 x (body2 x) ∙ m.nameless x e;
         no_kids = λ x e is. kids-other x (apart-from x bus e bus-live) ∙ m.no_kids x e;
-        further = λ x e. further-same c c2 (λ own y. of-alike c c2 y own (body2 y)) x (children-other x (apart-from x parent e (parent-live id))) (m.further x e);
+        further =
+            λ x e. further-same c c2 (λ own y. of-alike c c2 y own (body2 y)) x (children-other x (apart-from x parent e (parent-live id))) (m.further x e);
         kind = kind-alike c c2 n (body2 n) ∙ m.kind;
         device = g.device;
         its_id = refl;

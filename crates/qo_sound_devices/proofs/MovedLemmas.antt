@@ -11,7 +11,7 @@ use Rattle.qo_model.specs.Paths.{is_of}
 use Rattle.qo_sound.proofs.FirmLemmas.{Firm}
 use Rattle.qo_sound.proofs.RecordLemmas.{all-both, all-imply}
 use Rattle.qo_sound_devices.specs.SoundPlaces.{child_entries, HasOwner, machines, bridges, IsAnonymous, IsHome, IsKid, IsPeripheral, IsShallow, kid_entries, listed, owns, PlacesBut, stands}
-use Rattle.qo_sound_devices.proofs.PlacesLemmas.{all-within, bus-listed, child-live, children-there, children-within, rooted-same, id-alike, id-live, IsThere, kid-live, linked-at, more, nothing, of-alike, of-live, or-cases, path-alike, realized-live, same, SameBody, stands-live, suits-alike, Within}
+use Rattle.qo_sound_devices.proofs.PlacesLemmas.{all-within, bus-listed, child-live, children-there, children-within, rooted-same, id-alike, id-live, IsThere, kid-live, linked-at, more, nothing, of-alike, of-live, or-cases, realized-live, same, SameBody, stands-live, suits-alike, Within, peripheral-alike, anonymous-alike}
 
 pub within-listed : (d : ℕ) {xs ys : List (List ℕ × ℕ)} → Within xs ys → listed d xs ≡ true → listed d ys ≡ true
 within-listed d (nothing ys) e = cc
@@ -25,8 +25,10 @@ within-listed d (more {xs} {ys} y w) e = rw (within-listed d w e) (or-true (y.1 
 -- each entry is listed
 pub all-in : (es : List (List ℕ × ℕ)) → AllByRecursion (λ (e : List ℕ × ℕ). listed e.1 es ≡ true) es
 all-in [] = tt
-all-in (x ∷ es) =
-    (rw (eq-eqb x.1 x.1 refl) refl, all-imply (λ (e : List ℕ × ℕ). listed e.1 es ≡ true) (λ (e : List ℕ × ℕ). listed e.1 (x ∷ es) ≡ true) (λ e k. rw k (or-true (x.1 == e.1))) es (all-in es))
+all-in (x ∷ es) = (
+  rw (eq-eqb x.1 x.1 refl) refl,
+  all-imply (λ (e : List ℕ × ℕ). listed e.1 es ≡ true) (λ (e : List ℕ × ℕ). listed e.1 (x ∷ es) ≡ true) (λ e k. rw k (or-true (x.1 == e.1))) es (all-in es),
+)
 
 -- a step: fewer devices stand, on fewer buses, and what stays is as before, but that `left` may have left its bus
 pub record Moved (left : Option ℕ) (b c : Board) : Type 0 where
@@ -48,7 +50,10 @@ pub record Moved (left : Option ℕ) (b c : Board) : Type 0 where
   pub owned : (x q : ℕ) → stands c x ≡ true → bus_of c x ≡ Some q → HasOwner b q → HasOwner c q
   pub owns_back : (p q : ℕ) → stands c p ≡ true → owns c p q ≡ true → owns b p q ≡ true
 
-module _ (b c : Board) (depth : ℕ → ℕ) (left before : Option ℕ) (out out_before : ℕ → Bool) (m : Moved left b c) (h : PlacesBut depth before out_before b) (apart : (x : ℕ) → stands c x ≡ true → left ≢ Some x → before ≢ Some x) (only : (x : ℕ) → is_live c x ≡ true → is_realized c x ≡ true → stands b x ≡ true → stands c x ≡ true) (each : (x : ℕ) → stands c x ≡ true → out x ≡ false → is_realized c x ≡ true) where
+module _ (b c : Board) (depth : ℕ → ℕ) (left before : Option ℕ) (out out_before : ℕ → Bool) (m : Moved left b c) (h : PlacesBut depth before out_before b)
+    (apart : (x : ℕ) → stands c x ≡ true → left ≢ Some x → before ≢ Some x)
+    (only : (x : ℕ) → is_live c x ≡ true → is_realized c x ≡ true → stands b x ≡ true → stands c x ≡ true)
+    (each : (x : ℕ) → stands c x ≡ true → out x ≡ false → is_realized c x ≡ true) where
   machine : listed MACHINE_BIRTH (child_entries c 1) ≡ true
   machine = ap (listed MACHINE_BIRTH) (m.fixed 1 m.root refl) ∙ h.machine
 
@@ -83,13 +88,7 @@ module _ (b c : Board) (depth : ℕ → ℕ) (left before : Option ℕ) (out out
       (children-there c (slots_at c PERIPHERAL_BIRTH) (linked-at c m.firm PERIPHERAL_BIRTH)) (all-within (IsPeripheral b) peripherals h.peripheral))
     where
       one : (e : List ℕ × ℕ) → IsThere c e × IsPeripheral b e → IsPeripheral c e
-      one e k =
-          let a : SameBody b c e.1 = m.body e.1 k.0 in
-          record {
-            device = of-alike b c e.1 (codes "device") a ∙ k.1.device;
-            id = id-alike b c e.1 a ∙ k.1.id;
-            path = path-alike b c e.1 a ∙ k.1.path;
-          }
+      one e k = peripheral-alike b c e (m.body e.1 k.0) k.1
 
   anonymous : AllByRecursion (IsAnonymous c) (child_entries c ANONYMOUS_BIRTH)
   anonymous =
@@ -98,15 +97,7 @@ module _ (b c : Board) (depth : ℕ → ℕ) (left before : Option ℕ) (out out
       (children-there c (slots_at c ANONYMOUS_BIRTH) (linked-at c m.firm ANONYMOUS_BIRTH)) (all-within (IsAnonymous b) anonymouses h.anonymous))
     where
       one : (e : List ℕ × ℕ) → IsThere c e × IsAnonymous b e → IsAnonymous c e
-      one e k =
-          let a : SameBody b c e.1 = m.body e.1 k.0 in
-          let (n, (low, name)) = k.1.numbered in
-          record {
-            device = of-alike b c e.1 (codes "device") a ∙ k.1.device;
-            id = id-alike b c e.1 a ∙ k.1.id;
-            path = path-alike b c e.1 a ∙ k.1.path;
-            numbered = (n, (subst (λ (x : ℕ). n < x) (sym m.anonymous) low, name));
-          }
+      one e k = anonymous-alike b c e (λ n low. subst (λ (x : ℕ). n < x) (sym m.anonymous) low) (m.body e.1 k.0) k.1
 
   kids : (q : ℕ) → is_of c (codes "bus") q ≡ true → AllByRecursion (IsKid c q) (kid_entries c q)
   kids q e =
@@ -156,8 +147,13 @@ module _ (b c : Board) (depth : ℕ → ℕ) (left before : Option ℕ) (out out
       record {
         machine = machine;
         objects = ap (listed OBJECTS_BIRTH) (m.fixed 1 m.root refl) ∙ h.objects;
-        parts =
-            (part PERIPHERAL_BIRTH h.parts.0, (part ANONYMOUS_BIRTH h.parts.1.0, (part ROOT_BUS_BIRTH h.parts.1.1.0, (part MEMORY_BUS_BIRTH h.parts.1.1.1.0, (part SYSTEM_CLOCK_BIRTH h.parts.1.1.1.1.0, tt)))));
+        parts = (
+          part PERIPHERAL_BIRTH h.parts.0,
+          (
+            part ANONYMOUS_BIRTH h.parts.1.0,
+            (part ROOT_BUS_BIRTH h.parts.1.1.0, (part MEMORY_BUS_BIRTH h.parts.1.1.1.0, (part SYSTEM_CLOCK_BIRTH h.parts.1.1.1.1.0, tt))),
+          ),
+        );
         rooted = rooted-same b c (m.body 1 m.root) (m.fixed 1 m.root refl) (m.fixed MACHINE_BIRTH machine-live refl) h.rooted;
         children = children-within b c m.firm m.body m.within h.children;
         aside =

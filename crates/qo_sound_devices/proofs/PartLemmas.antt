@@ -3,7 +3,7 @@ use Rattle.std.proofs.Common.{◌⊎◌, inl, inr, ◌≡◌, ◌≢◌, refl, a
 use Rattle.std.specs.List.{AllByRecursion}
 use Rattle.std.specs.Option.{option_map_or}
 use Rattle.std.specs.Str.{bytes_eq}
-use Rattle.std.proofs.lemmas.Bool.{eqb-true, eq-eqb}
+use Rattle.std.proofs.lemmas.Bool.{eqb-true, eq-eqb, false_from_ne_true}
 use Rattle.std.proofs.lemmas.Option.{same_Some}
 use Rattle.qo_values.specs.declared.births.TheConstants.{ANONYMOUS_BIRTH, MACHINE_BIRTH, PERIPHERAL_BIRTH}
 use Rattle.qo_model.specs.Board.{Board, Record, Slot, plain, child, strong, weak, alias, record_of, is_live, slots_at, slot_at, held}
@@ -17,14 +17,15 @@ use Rattle.qo_model.specs.SoundAliases.{is_open}
 use Rattle.qo_model.proofs.ReleaseLemmas.{found-within}
 use Rattle.qo_sound.proofs.FirmLemmas.{Firm, parents_in}
 use Rattle.qo_sound.proofs.SlotLemmas.{one_child}
+use Rattle.qo_sound.proofs.TestLemmas.{decide}
 use Rattle.qo_sound.proofs.UnplugLemmas.{Found, found-at, held-where_open, held-where_other, named-apart, Sits}
 use Rattle.qo_sound_devices.specs.SoundPlaces.{child_entries, child_entry, IsKid, kid_entries, kid_entry, listed, owns, owns_it, PlacesBut, stands}
-use Rattle.qo_sound_devices.proofs.DropLemmas.{edited-slots, names-at, strong-dropped}
-use Rattle.qo_sound_devices.proofs.LeaveLemmas.{all-at, false-of, first-found, IsUnlisted, Left, Stay, stay-kept, stay-none, stay-then, strong-gone, Taken, taken-kid, unlisted-steps, unnamed}
+use Rattle.qo_sound_devices.proofs.DropLemmas.{edited-slots, names-at}
+use Rattle.qo_sound_devices.proofs.LeaveLemmas.{all-at, first-found, IsUnlisted, Left, Stay, stay-kept, stay-none, stay-then, strong-gone, Taken, taken-kid, unlisted-steps, unnamed}
 use Rattle.qo_sound_devices.proofs.MovedLemmas.{within-listed}
 use Rattle.qo_sound_devices.proofs.PlacesLemmas.{after-kept, child-live, Kept, of-alike, of-live, owner-live, realized-live, stands-live}
 use Rattle.qo_sound_devices.proofs.StepsLemmas.{Steps, steps-after, steps-then, within-any}
-use Rattle.qo_sound_devices.proofs.TakeLemmas.{any-child_dropped, child-dropped, child-gone, dropped, dropped-read, for-each, is-child_slot, IsChildSlot, link-dropped, link-stands, Mid, none-listed, record-at, Went, went-let_go, went-none}
+use Rattle.qo_sound_devices.proofs.TakeLemmas.{child-dropped, child-gone, dropped, for-each, is-child_slot, IsChildSlot, link-dropped, link-stands, Mid, none-listed, record-at, Went, went-let_go, went-none, bus-stays, listed-stays}
 
 pub none-of : {A : Type 0} (o : Option A) → ((x : A) → o ≡ Some x → ⊥) → o ≡ None
 none-of None f = refl
@@ -63,6 +64,11 @@ pub slot-is : (b : Board) (n i : ℕ) (r : Record) (s : List ℕ × Slot) → re
 slot-is b n i r s found at =
     ap (λ (o : Option Record). option_map (λ (x : List ℕ × Slot). x.1) (slice_get (option_map_or (λ (x : Record). x.slots) o []) i)) found
     ∙ ap (option_map (λ (x : List ℕ × Slot). x.1)) at
+
+-- who is not d differs from it
+is-or-differs : (d x : ℕ) → Some d ≢ Some x ⊎ (d ≡ x)
+is-or-differs d x =
+    decide (d == x) (λ p. inr (eqb-true d x p)) (λ p. inl (λ z. let clash : true ≡ false = sym (eq-eqb d x (same_Some d x z)) ∙ p in absurd cc))
 
 -- the link to its bus is let go
 unlinked : (depth : ℕ → ℕ) (out : ℕ → Bool) (ps : List ℕ) (d m : ℕ) (b c : Board) → Taken depth out ps d m b c
@@ -114,13 +120,6 @@ unlinked depth out ps d m b c t = go (place_from (is_named (codes "parent_bus"))
         same-bus : (x : ℕ) → d ≢ x → bus_of e x ≡ bus_of c x
         same-bus = for-each depth out (Some d) ps c h d i r owner.1 s at (λ y. d ≢ y → bus_of e y ≡ bus_of c y) (λ y p a k. a.bus) (λ k. absurd (k refl))
 
-        was : (x : ℕ) → Some d ≢ Some x ⊎ (d ≡ x)
-        was x = choose (d == x) refl
-          where
-            choose : (u : Bool) → (d == x) ≡ u → Some d ≢ Some x ⊎ (d ≡ x)
-            choose true p = inr (eqb-true d x p)
-            choose false p = inl (λ z. let clash : true ≡ false = sym (eq-eqb d x (same_Some d x z)) ∙ p in absurd cc)
-
         kid : (p x : ℕ) → is_of c (codes "bus") p ≡ true → listed x (kid_entries e p) ≡ true → bus_of e x ≡ bus_of c x
         kid p x isb l =
             same-bus x
@@ -146,7 +145,7 @@ unlinked depth out ps d m b c t = go (place_from (is_named (codes "parent_bus"))
             (λ y u a ib l. ap (listed x) a.kids ∙ l) (λ ib l. absurd (no_bus ib)) p isb
 
         places : PlacesBut depth (Some d) out e
-        places = link-dropped depth out (Some d) ps c h d i r owner.1 s at d is.no_child was same-bus kid hold
+        places = link-dropped depth out (Some d) ps c h d i r owner.1 s at d is.no_child (is-or-differs d) same-bus kid hold
 
         sits_here : Sits ps (let_go c d i)
         sits_here = rw (let_go_where, q) at sits
@@ -168,7 +167,8 @@ unlinked depth out ps d m b c t = go (place_from (is_named (codes "parent_bus"))
         stay_first : Stay d c e
         stay_first =
             record {
-              stands_on = λ x p k. ap₂ (λ (xs ys : List (List ℕ × ℕ)). listed x xs || listed x ys) (link-stands depth out (Some d) ps c h d i r owner.1 s at is.no_child PERIPHERAL_BIRTH) (link-stands depth out (Some d) ps c h d i r owner.1 s at is.no_child ANONYMOUS_BIRTH) ∙ k;
+              stands_on = λ x p k. ap₂ (λ (xs ys : List (List ℕ × ℕ)). listed x xs || listed x ys) (link-stands depth out (Some d) ps c h d i r owner.1 s
+                  at is.no_child PERIPHERAL_BIRTH) (link-stands depth out (Some d) ps c h d i r owner.1 s at is.no_child ANONYMOUS_BIRTH) ∙ k;
               bus_on = λ x p u k o. same-bus x (λ z. let clash : true ≡ false = sym (eq-eqb d x z) ∙ u in absurd cc) ∙ o;
             }
 
@@ -199,10 +199,10 @@ pub ownless-steps : (b c : Board) (d : ℕ) → Steps b c → ((q : ℕ) → is_
 ownless-steps b c d s h q is =
     let live : is_live c q ≡ true = of-live c (codes "bus") q is in
     let was : is_of b (codes "bus") q ≡ true = sym (of-alike b c q (codes "bus") (s.body q live)) ∙ is in
-    false-of (owns c d q) (λ e. let clash : true ≡ false = sym (within-any (owns_it q) (s.children d) e) ∙ h q was in absurd cc)
+    false_from_ne_true (owns c d q) (λ e. let clash : true ≡ false = sym (within-any (owns_it q) (s.children d) e) ∙ h q was in absurd cc)
 
 pub unrealized-steps : (b c : Board) (d : ℕ) → Steps b c → is_realized b d ≡ false → is_realized c d ≡ false
-unrealized-steps b c d s h = false-of (is_realized c d) (λ e. let clash : true ≡ false = sym e ∙ s.realized d (realized-live c d e) ∙ h in absurd cc)
+unrealized-steps b c d s h = false_from_ne_true (is_realized c d) (λ e. let clash : true ≡ false = sym e ∙ s.realized d (realized-live c d e) ∙ h in absurd cc)
 
 loose-steps : (b c : Board) (d : ℕ) → Steps b c → Loose d b → Loose d c
 loose-steps b c d s h =
@@ -262,15 +262,8 @@ shelved depth out ps d b h n shelf wide live loose = go (place_from (is_child_sl
         step : Steps b c
         step = dropped depth out (Some d) ps b h n i r owner.1 s at
 
-        was : (x : ℕ) → Some d ≢ Some x ⊎ (d ≡ x)
-        was x = choose (d == x) refl
-          where
-            choose : (u : Bool) → (d == x) ≡ u → Some d ≢ Some x ⊎ (d ≡ x)
-            choose true p = inr (eqb-true d x p)
-            choose false p = inl (λ z. let clash : true ≡ false = sym (eq-eqb d x (same_Some d x z)) ∙ p in absurd cc)
-
         places : PlacesBut depth (Some d) out c
-        places = child-dropped depth out (Some d) ps b h n i r owner.1 s at d shelf is was loose.off loose.unrealized loose.ownless loose.unlisted
+        places = child-dropped depth out (Some d) ps b h n i r owner.1 s at d shelf is (is-or-differs d) loose.off loose.unrealized loose.ownless loose.unlisted
 
         sits_here : Sits ps (let_go b n i)
         sits_here = rw (let_go_where, q) at sits
@@ -281,25 +274,15 @@ shelved depth out ps d b h n shelf wide live loose = go (place_from (is_child_sl
         behind : Went depth out (Some d) ps b (let_go b n i)
         behind = went-let_go depth out (Some d) ps b h n i r owner.1 s at (Some d) sits_here places
 
-        listed_on : (x : ℕ) → (d == x) ≡ false → (y : ℕ) → listed x (child_entries c y) ≡ listed x (child_entries b y)
-        listed_on x differs =
-            for-each depth out (Some d) ps b h n i r owner.1 s at (λ y. listed x (child_entries c y) ≡ listed x (child_entries b y))
-            (λ y p a. ap (listed x) a.children)
-            (dropped-read depth out (Some d) ps b h n i r owner.1 s at (λ ss. listed x (filter_map child_entry ss))
-            (any-child_dropped (λ (e : List ℕ × ℕ). e.1 == x) i r.slots s (s.0, d) at is.entry differs))
-
-        same-bus : (x : ℕ) → bus_of c x ≡ bus_of b x
-        same-bus =
-            for-each depth out (Some d) ps b h n i r owner.1 s at (λ y. bus_of c y ≡ bus_of b y) (λ y p a. a.bus)
-            (dropped-read depth out (Some d) ps b h n i r owner.1 s at
-            (λ ss. option_and_then strong_in (option_map (λ (y : List ℕ × Slot). y.1) (find (λ y. bytes_eq y.0 (codes "parent_bus")) ss)))
-            (strong-dropped (codes "parent_bus") i r.slots (names-at b firm n r owner.1) s at (inl is.some)))
-
         stay_first : Stay d b c
         stay_first =
             record {
-              stands_on = λ x p k. ap₂ (λ (t u : Bool). t || u) (listed_on x p PERIPHERAL_BIRTH) (listed_on x p ANONYMOUS_BIRTH) ∙ k;
-              bus_on = λ x p u k o. same-bus x ∙ o;
+              stands_on = λ x p k.
+                  ap₂ (λ (t u : Bool). t || u)
+                  (listed-stays depth out (Some d) ps b h n i r owner.1 s at d is x p PERIPHERAL_BIRTH)
+                  (listed-stays depth out (Some d) ps b h n i r owner.1 s at d is x p ANONYMOUS_BIRTH)
+                  ∙ k;
+              bus_on = λ x p u k o. bus-stays depth out (Some d) ps b h n i r owner.1 s at d is x ∙ o;
             }
 
         few : sum_by (one_child d) r.slots ≤ 1
@@ -317,7 +300,7 @@ shelved depth out ps d b h n shelf wide live loose = go (place_from (is_child_sl
               stay = stay-let_go depth out (Some d) (Some d) ps b h n i d s.1 slot sits_here.near.firm places stay_first;
               loose = loose-steps b (let_go b n i) d behind.steps loose;
               gone =
-                  false-of (listed d (child_entries (let_go b n i) n))
+                  false_from_ne_true (listed d (child_entries (let_go b n i) n))
                   (λ k. let clash : true ≡ false = sym (within-listed d ((steps-let_go b n i s.1 slot).children n) k) ∙ gone_first in absurd cc);
             })
 
@@ -358,7 +341,7 @@ parent-left depth out ps d b h loose =
 
     still : listed d (child_entries e PERIPHERAL_BIRTH) ≡ false
     still =
-        false-of (listed d (child_entries e PERIPHERAL_BIRTH))
+        false_from_ne_true (listed d (child_entries e PERIPHERAL_BIRTH))
         (λ k. let clash : true ≡ false = sym (within-listed d (two.went.steps.children PERIPHERAL_BIRTH) k) ∙ one.gone in absurd cc)
 
     gone : stands e d ≡ false

@@ -1,35 +1,31 @@
 -- The path of a device that is added is the one below its container.
-use Rattle.std.proofs.Common.{◌≡◌, refl, ap, sym, ◌∙◌, ℕ, ◌+◌, true, false, ◌==◌, ◌&&◌, List, [], ◌∷◌, ◌++◌, filter, Option, Some, None, option_map, codes}
+use Rattle.std.proofs.Common.{◌≡◌, refl, ap, sym, ◌∙◌, ℕ, ◌+◌, true, false, ◌==◌, ◌&&◌, List, [], ◌∷◌, ◌++◌, Option, Some, None, option_map, codes}
 use Rattle.std.specs.Str.{bytes_eq}
 use Rattle.std.proofs.lemmas.Bool.{eqb-true, eq-eqb}
 use Rattle.std.proofs.lemmas.Slice.Eq.{bytes_eq-Decides}
 use Rattle.std.proofs.Math.Bool.{or-true}
 use Rattle.qo_values.specs.declared.births.TheConstants.{ANONYMOUS_BIRTH, MACHINE_BIRTH, PERIPHERAL_BIRTH}
-use Rattle.qo_values.specs.declared.kinds.Act.TheVariants.{Realize, Enter, Hold, Exit}
+use Rattle.qo_values.specs.declared.kinds.Act.TheVariants.{Realize}
 use Rattle.qo_values.specs.declared.kinds.TypeId.{TypeId}
 use Rattle.qo_model.specs.Board.{Board, is_live}
 use Rattle.qo_model.specs.Devices.{anonymous_name}
 use Rattle.qo_model.specs.Paths.{canonical, place_of, steps_to, steps_turn}
 use Rattle.qo_model.specs.Plug.{Spot, Wanted, bus_births, clocked, drafted, source_for, stood, with_device}
-use Rattle.qo_model.specs.Reset.{is_out, plugged, post}
 use Rattle.qo_model.specs.SoundGraph.{SoundGraph}
 use Rattle.qo_model.proofs.TreeLemmas.{paths_lem}
 use Rattle.qo_sound.proofs.FirmLemmas.{Firm}
-use Rattle.qo_sound.proofs.PlugLemmas.{IsPlace, held-all, held-phased, shut-above, sits-device}
+use Rattle.qo_sound.proofs.PlugLemmas.{IsPlace, held-all, shut-above, sits-device, held-plugged}
+use Rattle.qo_sound.proofs.TestLemmas.{decide}
 use Rattle.qo_sound.proofs.UnplugLemmas.{Sits}
 use Rattle.qo_sound.proofs.ViewLemmas.{AtRest, sound-from_rest}
 use Rattle.qo_sound_devices.specs.SoundPlaces.{child_entries, has_entry, IsRooted, PlacesBut}
-use Rattle.qo_sound_devices.proofs.JoinedLemmas.{choose, Joined, named_entry, numbered_entry, Now, path_behind}
+use Rattle.qo_sound_devices.proofs.JoinedLemmas.{Joined, named_entry, numbered_entry, Now, path_behind}
 use Rattle.qo_sound_devices.proofs.MadeLemmas.{Goal}
 use Rattle.qo_sound_devices.proofs.PlacesLemmas.{child-live, owner-live, rooted-same}
 use Rattle.qo_sound_devices.proofs.StartedLemmas.{acting, dims-acting, joined-counted, joined-dims}
 use Rattle.qo_sound_devices.proofs.StoodLemmas.{joined-stood}
 use Rattle.qo_sound_devices.proofs.SourceLemmas.{holds-source}
 use Rattle.qo_sound_devices.proofs.WhereLemmas.{place-named}
-
-held-plugged : (ps : List ℕ) (m : ℕ) (c : Board) → Sits ps c → Sits ps (plugged c m)
-unfolding plugged
-held-plugged ps m c h = held-phased ps Exit (filter (is_out c) (post c m)) _ (held-phased ps Hold (post c m) _ (held-phased ps Enter (post c m) c h))
 
 -- the last entry is there
 has-last : (name : List ℕ) (x : ℕ) (es : List (List ℕ × ℕ)) → has_entry (name, x) (es ++ (name, x) ∷ []) ≡ true
@@ -64,7 +60,8 @@ module _ (e : Board) (sound : SoundGraph e) (firm : Firm e) where
         steps-below ANONYMOUS_BIRTH x name (codes "/machine/peripheral-anon") apart there
         (steps-below MACHINE_BIRTH ANONYMOUS_BIRTH (codes "peripheral-anon") (codes "/machine") refl rooted.anonymous machine-steps)
 
-module _ (depth : ℕ → ℕ) (b : Board) (t : TypeId) (a : Wanted) (spot : Spot) (rest : AtRest b) (h : PlacesBut depth None (λ x. false) b) (goal : Goal depth b (b.born + 1) spot.bus spot.slot a.id t (drafted b t)) (place : IsPlace b t a spot) where
+module _ (depth : ℕ → ℕ) (b : Board) (t : TypeId) (a : Wanted) (spot : Spot) (rest : AtRest b) (h : PlacesBut depth None (λ x. false) b)
+    (goal : Goal depth b (b.born + 1) spot.bus spot.slot a.id t (drafted b t)) (place : IsPlace b t a spot) where
   abbrev n : ℕ
   n = b.born + 1
 
@@ -115,7 +112,7 @@ module _ (depth : ℕ → ℕ) (b : Board) (t : TypeId) (a : Wanted) (spot : Spo
 
   not_root : (n == 1) ≡ false
   not_root =
-      choose (n == 1) {A = (n == 1) ≡ false}
+      decide (n == 1) {A = (n == 1) ≡ false}
       (λ p. absurd (let clash : false ≡ true = sym standing.joined.absent ∙ ap (is_live b) (eqb-true n 1 p) ∙ root_live in cc)) (λ p. p)
 
   pub holds-path : canonical (acting (b.born + 1) t (with_device b t a spot)) (b.born + 1) ≡ Some (path_behind b a.id)

@@ -21,7 +21,8 @@ use Rattle.qo_model.specs.Types.{is_a}
 use Rattle.std.proofs.Math.Bool.{or-true}
 use Rattle.qo_model.proofs.ReleaseKeepsLemmas.{after_keeps}
 use Rattle.qo_model.proofs.ReleaseLeavesLemmas.{release_leaves}
-use Rattle.qo_model.proofs.StepLemmas.{drop-live, finish-live, found_at, is_some-map}
+use Rattle.qo_model.proofs.StepLemmas.{drop-live, finish-live, is_some-map}
+use Rattle.qo_sound.proofs.FoundLemmas.{all-found}
 use Rattle.qo_sound.proofs.WorkLemmas.{births_of}
 use Rattle.qo_sound.proofs.RecordLemmas.{all-append, all-both, all-imply}
 use Rattle.qo_sound.proofs.DraftLemmas.{found-low}
@@ -71,14 +72,6 @@ path-alike b c x h =
     ∙ join-map (λ (r : Record). r.kept_path) (record_of b x)
 
 -- what is named is there
-
-pub all-found : (P : Record → Type 0) (n : ℕ) (rs : List Record) → AllByRecursion P rs → (r : Record) → found_at n rs ≡ Some r → P r
-all-found P n [] h r e = cc
-all-found P n (x ∷ rs) h r e = go (x.birth == n) refl (all-found P n rs h.1 r)
-  where
-    go : (t : Bool) → (x.birth == n) ≡ t → (found_at n rs ≡ Some r → P r) → P r
-    go true p rest = subst P (same_Some x r (rw p at e)) h.0
-    go false p rest = rest (rw p at e)
 
 pub linked-at : (c : Board) → Firm c → (n : ℕ) → AllByRecursion (λ (s : List ℕ × Slot). Linked (kind_of c) s.1) (slots_at c n)
 linked-at c h n = go (record_of c n) refl
@@ -171,7 +164,8 @@ bus-listed q (s ∷ slots) e = go (bytes_eq s.0 (codes "parent_bus")) refl (bus-
     there (name, alias m property) k = k
 
     go : (t : Bool) → bytes_eq s.0 (codes "parent_bus") ≡ t
-        → (option_and_then strong_in (option_map (λ (s : List ℕ × Slot). s.1) (find (λ s. bytes_eq s.0 (codes "parent_bus")) slots)) ≡ Some q → listed q (filter_map kid_entry slots) ≡ true)
+        → (option_and_then strong_in (option_map (λ (s : List ℕ × Slot). s.1) (find (λ s. bytes_eq s.0 (codes "parent_bus")) slots)) ≡ Some q
+        → listed q (filter_map kid_entry slots) ≡ true)
         → listed q (filter_map kid_entry (s ∷ slots)) ≡ true
     go true p rest = here s (rw p at e)
     go false p rest = there s (rest (rw p at e))
@@ -331,6 +325,21 @@ high-absent b firm x high = go (record_of b x) refl
     go None e = ap is_some e
     go (Some r) e = absurd (let low : x ≤ b.born = found-low b.born x b.records r firm.within e in let clash : 0 < 0 = omega (arith, low, high) in omega arith)
 
+-- what stands in a container stays so, where its body stays
+pub peripheral-alike : (b c : Board) (e : List ℕ × ℕ) → SameBody b c e.1 → IsPeripheral b e → IsPeripheral c e
+peripheral-alike b c e a k =
+    record { device = of-alike b c e.1 (codes "device") a ∙ k.device; id = id-alike b c e.1 a ∙ k.id; path = path-alike b c e.1 a ∙ k.path }
+
+pub anonymous-alike : (b c : Board) (e : List ℕ × ℕ) → ((n : ℕ) → n < b.anonymous → n < c.anonymous) → SameBody b c e.1 → IsAnonymous b e → IsAnonymous c e
+anonymous-alike b c e raised a k =
+    let (n, (low, name)) = k.numbered in
+    record {
+      device = of-alike b c e.1 (codes "device") a ∙ k.device;
+      id = id-alike b c e.1 a ∙ k.id;
+      path = path-alike b c e.1 a ∙ k.path;
+      numbered = (n, (raised n low, name));
+    }
+
 module _ (b c : Board) (kept : Kept b c) (depth : ℕ → ℕ) (left : Option ℕ) (out : ℕ → Bool) (h : PlacesBut depth left out b) where
   machine : listed MACHINE_BIRTH (child_entries c 1) ≡ true
   machine = ap (listed MACHINE_BIRTH) (kept.children 1 kept.root refl) ∙ h.machine
@@ -370,13 +379,7 @@ module _ (b c : Board) (kept : Kept b c) (depth : ℕ → ℕ) (left : Option �
       (subst (AllByRecursion (IsPeripheral b)) (sym peripherals) h.peripheral))
     where
       one : (e : List ℕ × ℕ) → IsThere c e × IsPeripheral b e → IsPeripheral c e
-      one e k =
-          let a : SameBody b c e.1 = kept.body e.1 k.0 in
-          record {
-            device = of-alike b c e.1 (codes "device") a ∙ k.1.device;
-            id = id-alike b c e.1 a ∙ k.1.id;
-            path = path-alike b c e.1 a ∙ k.1.path;
-          }
+      one e k = peripheral-alike b c e (kept.body e.1 k.0) k.1
 
   anonymous : AllByRecursion (IsAnonymous c) (child_entries c ANONYMOUS_BIRTH)
   anonymous =
@@ -386,15 +389,7 @@ module _ (b c : Board) (kept : Kept b c) (depth : ℕ → ℕ) (left : Option �
       (subst (AllByRecursion (IsAnonymous b)) (sym anonymouses) h.anonymous))
     where
       one : (e : List ℕ × ℕ) → IsThere c e × IsAnonymous b e → IsAnonymous c e
-      one e k =
-          let a : SameBody b c e.1 = kept.body e.1 k.0 in
-          let (n, (low, name)) = k.1.numbered in
-          record {
-            device = of-alike b c e.1 (codes "device") a ∙ k.1.device;
-            id = id-alike b c e.1 a ∙ k.1.id;
-            path = path-alike b c e.1 a ∙ k.1.path;
-            numbered = (n, (subst (λ (m : ℕ). n < m) (sym kept.anonymous) low, name));
-          }
+      one e k = anonymous-alike b c e (λ n low. subst (λ (x : ℕ). n < x) (sym kept.anonymous) low) (kept.body e.1 k.0) k.1
 
   kids : (q : ℕ) → is_of c (codes "bus") q ≡ true → AllByRecursion (IsKid c q) (kid_entries c q)
   kids q e =
@@ -440,7 +435,8 @@ module _ (b c : Board) (kept : Kept b c) (depth : ℕ → ℕ) (left : Option �
   shallow =
       record {
         top = h.shallow.top;
-        below = λ p q m e on o. h.shallow.below p q m (stood p e) (sym (kept.bus p (there p e) (stood p e)) ∙ on) (sym (ap (list_any (owns_it m)) (kept.children p (there p e) (keeps p e))) ∙ o);
+        below = λ p q m e on o. h.shallow.below p q m (stood p e) (sym (kept.bus p (there p e) (stood p e)) ∙ on)
+            (sym (ap (list_any (owns_it m)) (kept.children p (there p e) (keeps p e))) ∙ o);
         most = λ q o. h.shallow.most q (owner-back q o);
       }
 
@@ -449,8 +445,13 @@ module _ (b c : Board) (kept : Kept b c) (depth : ℕ → ℕ) (left : Option �
       record {
         machine = machine;
         objects = ap (listed OBJECTS_BIRTH) (kept.children 1 kept.root refl) ∙ h.objects;
-        parts =
-            (part PERIPHERAL_BIRTH h.parts.0, (part ANONYMOUS_BIRTH h.parts.1.0, (part ROOT_BUS_BIRTH h.parts.1.1.0, (part MEMORY_BUS_BIRTH h.parts.1.1.1.0, (part SYSTEM_CLOCK_BIRTH h.parts.1.1.1.1.0, tt)))));
+        parts = (
+          part PERIPHERAL_BIRTH h.parts.0,
+          (
+            part ANONYMOUS_BIRTH h.parts.1.0,
+            (part ROOT_BUS_BIRTH h.parts.1.1.0, (part MEMORY_BUS_BIRTH h.parts.1.1.1.0, (part SYSTEM_CLOCK_BIRTH h.parts.1.1.1.1.0, tt))),
+          ),
+        );
         rooted = rooted-same b c (kept.body 1 kept.root) (kept.children 1 kept.root refl) (kept.children MACHINE_BIRTH machine-live refl) h.rooted;
         children = children-within b c kept.firm kept.body kept.within h.children;
         aside =
@@ -467,7 +468,8 @@ module _ (b c : Board) (kept : Kept b c) (depth : ℕ → ℕ) (left : Option �
         ids = λ d id e.
             let a : SameBody b c d = kept.body d (id-live c d id e) in
             of-alike b c d (codes "device") a ∙ h.ids d id (sym (id-alike b c d a) ∙ e);
-        once = λ d x id e q. h.once d x id (sym (id-alike b c d (kept.body d (id-live c d id e))) ∙ e) (sym (id-alike b c x (kept.body x (id-live c x id q))) ∙ q);
+        once =
+            λ d x id e q. h.once d x id (sym (id-alike b c d (kept.body d (id-live c d id e))) ∙ e) (sym (id-alike b c x (kept.body x (id-live c x id q))) ∙ q);
       }
 
 -- places are kept, and the same devices stand

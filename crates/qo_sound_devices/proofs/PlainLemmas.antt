@@ -18,10 +18,8 @@ use Rattle.qo_model.specs.declared.properties.RowKind.{RowKind}
 use Rattle.qo_model.specs.declared.properties.RowKind.TheVariants as row
 use Rattle.qo_model.specs.Unplug.{is_named, set_named}
 use Rattle.qo_model.proofs.StepLemmas.{found_at, found-edited}
-use Rattle.qo_sound_devices.proofs.JoinedLemmas.{choose}
-
-abbrev pub named_in : List ℕ → List (List ℕ × Slot) → Option Slot
-named_in name slots = option_map (λ (s : List ℕ × Slot). s.1) (find (λ s. bytes_eq s.0 name) slots)
+use Rattle.qo_sound.proofs.ReadLemmas.{named_in}
+use Rattle.qo_sound.proofs.TestLemmas.{decide}
 
 abbrev pub PlainIn : List ℕ → List (List ℕ × Slot) → Type 0
 PlainIn name slots = is_some (option_and_then plain_in (named_in name slots)) ≡ true
@@ -87,7 +85,7 @@ kept-edit name n m change same_birth keeps c e =
     go : (o : Option Record) → PlainIn name (option_map_or (λ (r : Record). r.slots) o [])
         → PlainIn name (option_map_or (λ (r : Record). r.slots) (option_map (edited m change) o) [])
     go None k = k
-    go (Some r) k = choose (r.birth == m) {A = PlainIn name (edited m change r).slots} (λ p. rw (edited, p) (keeps r k)) (λ p. rw (edited, p) k)
+    go (Some r) k = decide (r.birth == m) {A = PlainIn name (edited m change r).slots} (λ p. rw (edited, p) (keeps r k)) (λ p. rw (edited, p) k)
 
 pub kept-given_at : (name : List ℕ) (n : ℕ) (b : Board) (props : List Given) (c : Board) → PlainIn name (slots_at c n)
     → PlainIn name (slots_at (edit n (with_given b props) c) n)
@@ -127,7 +125,8 @@ kept-link name n own m c e = go (place_from (is_named own) 0 (slots_at c n)) ref
         (kept-edit name n n (with_changed (fitted c m) i) (λ r. refl) (λ r h. kept-changed name (fitted c m) (fitted-plain c m) i r.slots h) c e)
 
 -- a fact of the slots of an object that stays with a slot more behind them
-module _ (P : List (List ℕ × Slot) → Type 0) (never : P [] → ⊥) (more : (y : List ℕ × Slot) (slots : List (List ℕ × Slot)) → P slots → P (slots ++ y ∷ [])) where
+module _ (P : List (List ℕ × Slot) → Type 0) (never : P [] → ⊥)
+    (more : (y : List ℕ × Slot) (slots : List (List ℕ × Slot)) → P slots → P (slots ++ y ∷ [])) where
   stay-edit : (n m : ℕ) (change : Record → Record) → ((r : Record) → (change r).birth ≡ r.birth) → ((r : Record) → P r.slots → P (change r).slots) → (c : Board)
       → P (slots_at c n) → P (slots_at (edit m change c) n)
   stay-edit n m change same_birth keeps c e =
@@ -137,7 +136,7 @@ module _ (P : List (List ℕ × Slot) → Type 0) (never : P [] → ⊥) (more :
       go : (o : Option Record) → P (option_map_or (λ (r : Record). r.slots) o [])
           → P (option_map_or (λ (r : Record). r.slots) (option_map (edited m change) o) [])
       go None k = k
-      go (Some r) k = choose (r.birth == m) {A = P (edited m change r).slots} (λ p. rw (edited, p) (keeps r k)) (λ p. rw (edited, p) k)
+      go (Some r) k = decide (r.birth == m) {A = P (edited m change r).slots} (λ p. rw (edited, p) (keeps r k)) (λ p. rw (edited, p) k)
 
   pub stay-add : (n m : ℕ) (own : List ℕ) (s : Slot) (c : Board) → P (slots_at c n) → P (slots_at (add m own s c) n)
   unfolding add

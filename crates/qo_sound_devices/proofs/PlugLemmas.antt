@@ -51,7 +51,8 @@ pub record Accepted (b : Board) (t : TypeId) (bus : ℕ) (a : Wanted) : Type 0 w
   pub place : IsPlace b t a (spot_of b t bus a.props)
 
 -- a fact of the board behind an add: as it was, behind an attempt, or behind a device that was added
-module _ (P : Board → Type 0) (b : Board) (a : Wanted) (same : P b) (attempt : (t : TypeId) (bus stage : ℕ) → P (plug_attempt b t bus stage)) (taken : (t : TypeId) (bus : ℕ) → Accepted b t bus a → P (with_plugged b t a (spot_of b t bus a.props))) where
+module _ (P : Board → Type 0) (b : Board) (a : Wanted) (same : P b) (attempt : (t : TypeId) (bus stage : ℕ) → P (plug_attempt b t bus stage))
+    (taken : (t : TypeId) (bus : ℕ) → Accepted b t bus a → P (with_plugged b t a (spot_of b t bus a.props))) where
   by-late : (t : TypeId) (bus : ℕ) (o : Option (ℕ × Code)) → barred_late b t bus a.props ≡ o
       → (barred_late b t bus a.props ≡ None → Accepted b t bus a) → P (plug_late b t bus a o).board
   by-late t bus (Some refusal) e accepted = attempt t bus refusal.0

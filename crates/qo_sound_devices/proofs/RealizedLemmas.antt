@@ -26,10 +26,11 @@ use Rattle.qo_model.specs.Unplug.{is_named, set_named}
 use Rattle.qo_model.proofs.StepLemmas.{found-edited}
 use Rattle.qo_sound.proofs.FirmLemmas.{Firm}
 use Rattle.qo_sound.proofs.MadeLemmas.{grown-new}
+use Rattle.qo_sound.proofs.ReadLemmas.{named_in}
 use Rattle.qo_sound.proofs.UnplugLemmas.{Found, found-at}
 use Rattle.qo_sound_devices.proofs.DropLemmas.{edited-slots}
-use Rattle.qo_sound_devices.proofs.PlainLemmas.{kept-append, kept-given_at, kept-link, kept-set, named_in, PlainIn, stay-add, stay-rows}
-use Rattle.qo_sound_devices.proofs.UnrealizeLemmas.{first-changed, mild-val, named-changed, named-other, none-found, other-name, reads}
+use Rattle.qo_sound_devices.proofs.PlainLemmas.{kept-append, kept-given_at, kept-link, kept-set, PlainIn, stay-add, stay-rows}
+use Rattle.qo_sound_devices.proofs.UnrealizeLemmas.{first-changed, named-changed, named-other, none-found, other-name, reads}
 
 -- the rows of a device begin so
 abbrev first_rows : List Property
@@ -116,8 +117,9 @@ set-other n name own v apart c = go (place_from (is_named own) 0 (slots_at c n))
     go (Some i) e =
         let f : Found (is_named own) (slots_at c n) i = found-at (is_named own) i (slots_at c n) e in
         rw (set_named, e)
-        (reads (with_val v) (mild-val v) n i c (λ slots. option_and_then plain_in (named_in name slots))
-        (λ slots q. ap (option_and_then plain_in) (named-other (with_val v) name i slots f.entry (ap (λ (x : List (List ℕ × Slot)). slice_get x i) (sym q) ∙ f.at) (other-name own name apart f.entry f.passes))) n)
+        (reads (with_val v) n i c (λ slots. option_and_then plain_in (named_in name slots))
+        (λ slots q. ap (option_and_then plain_in) (named-other (with_val v) name i slots f.entry
+        (ap (λ (x : List (List ℕ × Slot)). slice_get x i) (sym q) ∙ f.at) (other-name own name apart f.entry f.passes))) n)
 
 fitted-same : (b : Board) (m : ℕ) (s : Slot) → plain_in (fitted b m s) ≡ plain_in s
 fitted-same b m (plain w) = refl
@@ -133,7 +135,8 @@ link-other : (n : ℕ) (name own : List ℕ) (m : ℕ) (c : Board)
 link-other n name own m c = go (place_from (is_named own) 0 (slots_at c n)) refl
   where
     there : (i : ℕ) (o : Option Record) → record_of c n ≡ o
-        → option_and_then plain_in (named_in name (slots_at (edit n (with_changed (fitted c m) i) c) n)) ≡ option_and_then plain_in (named_in name (slots_at c n))
+        → option_and_then plain_in (named_in name (slots_at (edit n (with_changed (fitted c m) i) c) n))
+        ≡ option_and_then plain_in (named_in name (slots_at c n))
     there i None q =
         ap (λ (o : Option Record). option_and_then plain_in (named_in name (option_map_or (λ (r : Record). r.slots) o [])))
         (found-edited n (with_changed (fitted c m) i) (λ r. refl) n c.records ∙ ap (option_map (edited n (with_changed (fitted c m) i))) q ∙ sym q)
@@ -185,7 +188,8 @@ module _ (b : Board) (t : TypeId) (firm : Firm b) (device : is_a t (codes "devic
   -- what is so behind the first rows stays so, where it stays so with a slot more behind
   pub rows-stay : (P : List (List ℕ × Slot) → Type 0) → (P [] → ⊥) → ((y : List ℕ × Slot) (slots : List (List ℕ × Slot)) → P slots → P (slots ++ y ∷ []))
       → P
-      ((codes "type", plain (first_value t first.TypeName)) ∷ (codes "realized", plain (first_value t (first.Bool false))) ∷ (codes "parent_bus", strong Bus None) ∷ (codes "slot", plain (first_value t first.Nothing)) ∷ []) → P
+      ((codes "type", plain (first_value t first.TypeName)) ∷ (codes "realized", plain (first_value t (first.Bool false)))
+      ∷ (codes "parent_bus", strong Bus None) ∷ (codes "slot", plain (first_value t first.Nothing)) ∷ []) → P
       (slots_at (drafted b t) (b.born + 1))
   rows-stay P never more begins =
       subst (λ (ps : List Property). P (slots_at (rows_made n t ps c0) n)) (sym (device-rows t device))

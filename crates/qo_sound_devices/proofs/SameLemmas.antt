@@ -91,7 +91,7 @@ given_up-below b t bus stage h =
     }
 
 -- a removal that is asked for, or refused, and a notice that is read
-asked-tree : (b : Board) (id : List ℕ) → SoundTree b → SoundTree (asked b id).board
+pub asked-tree : (b : Board) (id : List ℕ) → SoundTree b → SoundTree (asked b id).board
 asked-tree b id h = go (device_at b id) refl
   where
     of : (d : ℕ) → SoundTree (asked_of b d).board

@@ -1,5 +1,5 @@
 -- What the soundness of devices says of them, from the facts of places.
-use Rattle.std.proofs.Common.{◌≡◌, refl, ap, sym, subst, ◌∙◌, ℕ, ◌≤◌, Bool, true, false, ◌==◌, List, [], ◌∷◌, filter_map, find, Option, Some, None, option_map, option_and_then, codes, arith}
+use Rattle.std.proofs.Common.{◌≡◌, refl, ap, sym, subst, ◌∙◌, ℕ, ◌≤◌, Bool, true, false, ◌==◌, List, [], ◌∷◌, filter_map, Option, Some, None, option_and_then, codes, arith}
 use Rattle.std.specs.List.{AllByRecursion, IsDistinct}
 use Rattle.std.specs.Option.{option_map_or}
 use Rattle.std.specs.Str.{bytes_eq}
@@ -11,6 +11,7 @@ use Rattle.qo_model.specs.Board.{Board, Record, Slot, plain, child, strong, weak
 use Rattle.qo_model.specs.Devices.{depth_of, is_realized, strong_at, strong_in}
 use Rattle.qo_model.specs.Paths.{attached, canonical, is_of}
 use Rattle.qo_sound.proofs.FirmLemmas.{Firm}
+use Rattle.qo_sound.proofs.ReadLemmas.{named_in}
 use Rattle.qo_sound.proofs.SlotLemmas.{names_in}
 use Rattle.qo_sound.proofs.ViewLemmas.{AtRest, rest-from_sound}
 use Rattle.qo_sound_devices.specs.DevicesSay.{DevicesSayLaw, IsOnBus}
@@ -24,9 +25,6 @@ use Rattle.qo_sound_devices.proofs.PlugLemmas.{depth-is}
 use Rattle.qo_sound_devices.proofs.WhereLemmas.{attached-owner, attached-stands, Entry, entry-of, machine-no_device}
 
 -- the link of a name, where names differ
-abbrev named_in : List ℕ → List (List ℕ × Slot) → Option Slot
-named_in name slots = option_map (λ (s : List ℕ × Slot). s.1) (find (λ s. bytes_eq s.0 name) slots)
-
 other-name : (own name : List ℕ) (d : ℕ) (slots : List (List ℕ × Slot)) → AllByRecursion (λ m. bytes_eq own m ≡ false) (names_in slots)
     → has_entry (name, d) (filter_map kid_entry slots) ≡ true → bytes_eq own name ≡ false
 other-name own name d [] h e = cc
@@ -137,9 +135,11 @@ module _ (b : Board) (h : SoundDevices b) where
   says-path : (d : ℕ) → is_realized b d ≡ true → path_of b d ≡ canonical b d
   says-path d lit =
       or-cases (listed d (child_entries b PERIPHERAL_BIRTH)) (listed d (child_entries b ANONYMOUS_BIRTH)) stood
-      (λ l. let k : Entry (IsPeripheral b) d (child_entries b PERIPHERAL_BIRTH) = entry-of (IsPeripheral b) d (child_entries b PERIPHERAL_BIRTH) h.places.1.peripheral l in
+      (λ l. let k : Entry (IsPeripheral b) d (child_entries b PERIPHERAL_BIRTH) =
+      entry-of (IsPeripheral b) d (child_entries b PERIPHERAL_BIRTH) h.places.1.peripheral l in
       k.holds.path ∙ sym (rw not_root (peripheral-steps b h.tree.0 rest.used.firm h.places.1.rooted d k.name not_root k.there)))
-      (λ l. let k : Entry (IsAnonymous b) d (child_entries b ANONYMOUS_BIRTH) = entry-of (IsAnonymous b) d (child_entries b ANONYMOUS_BIRTH) h.places.1.anonymous l in
+      (λ l. let k : Entry (IsAnonymous b) d (child_entries b ANONYMOUS_BIRTH) =
+      entry-of (IsAnonymous b) d (child_entries b ANONYMOUS_BIRTH) h.places.1.anonymous l in
       k.holds.path ∙ sym (rw not_root (anonymous-steps b h.tree.0 rest.used.firm h.places.1.rooted d k.name not_root k.there)))
     where
       stood : stands b d ≡ true

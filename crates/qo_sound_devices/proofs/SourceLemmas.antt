@@ -1,5 +1,5 @@
 -- The clock of a device that is added gets its source, which changes nothing that places speak of.
-use Rattle.std.proofs.Common.{◌≡◌, refl, ap, sym, subst, ◌∙◌, ℕ, zero, suc, ◌+◌, Bool, true, false, ◌==◌, List, [], ◌∷◌, filter_map, find, slice_get, Option, Some, None, option_map, option_and_then, codes, arith}
+use Rattle.std.proofs.Common.{◌≡◌, refl, ap, sym, subst, ◌∙◌, ℕ, zero, suc, ◌+◌, Bool, true, false, ◌==◌, List, [], ◌∷◌, filter_map, slice_get, Option, Some, None, option_and_then, codes, arith}
 use Rattle.std.specs.List.{cons_option}
 use Rattle.std.specs.Option.{option_map_or}
 use Rattle.std.specs.Str.{bytes_eq}
@@ -18,26 +18,24 @@ use Rattle.qo_model.specs.Devices.{child_named, clock_of, is_true, kid_name, num
 use Rattle.qo_model.specs.Objects.{place_from}
 use Rattle.qo_model.specs.Paths.{is_of}
 use Rattle.qo_model.specs.Plug.{Spot, Wanted, addressed_at, clocked, drafted, fitted, joined, link_named, name_for, parent_for, source_for, stood, valued, with_body_of, with_given, with_source}
-use Rattle.qo_model.specs.Release.{edit, edited}
+use Rattle.qo_model.specs.Release.{edit}
 use Rattle.qo_model.specs.Types.{is_a}
 use Rattle.qo_model.specs.Unplug.{is_named, set_named}
 use Rattle.qo_model.proofs.StepLemmas.{found-edited}
 use Rattle.qo_sound.proofs.PlugLemmas.{shut-above}
+use Rattle.qo_sound.proofs.ReadLemmas.{named_in}
+use Rattle.qo_sound.proofs.TestLemmas.{decide}
 use Rattle.qo_sound.proofs.UnplugLemmas.{Found, found-at, found-from}
 use Rattle.qo_sound.proofs.ViewLemmas.{AtRest}
 use Rattle.qo_sound_devices.specs.SoundPlaces.{child_entries, child_entry, kid_entry, listed, PlacesBut}
-use Rattle.qo_sound_devices.proofs.AlikeLemmas.{bodiless, other-record}
+use Rattle.qo_sound_devices.proofs.AlikeLemmas.{other-record}
 use Rattle.qo_sound_devices.proofs.DraftedLemmas.{drafted-source, may_see}
-use Rattle.qo_sound_devices.proofs.DropLemmas.{edited-slots}
-use Rattle.qo_sound_devices.proofs.JoinedLemmas.{choose, IsFurther, Joined}
+use Rattle.qo_sound_devices.proofs.JoinedLemmas.{IsFurther, Joined}
 use Rattle.qo_sound_devices.proofs.MadeLemmas.{Goal, now_at}
-use Rattle.qo_sound_devices.proofs.PlacesLemmas.{child-live, of-live, SameBody}
+use Rattle.qo_sound_devices.proofs.PlacesLemmas.{child-live, of-live}
 use Rattle.qo_sound_devices.proofs.StoodLemmas.{child-fitted, joined-stood}
-use Rattle.qo_sound_devices.proofs.UnrealizeLemmas.{Dims, dims-none, entries-changed, named-other, other-name}
+use Rattle.qo_sound_devices.proofs.UnrealizeLemmas.{Dims, dims-none, entries-changed, named-other, other-name, reads, bodies}
 use Rattle.qo_sound_devices.proofs.WhereLemmas.{entry-of}
-
-abbrev named_in : List ℕ → List (List ℕ × Slot) → Option Slot
-named_in name slots = option_map (λ (s : List ℕ × Slot). s.1) (find (λ s. bytes_eq s.0 name) slots)
 
 -- the slot at the first place of a name is the one of that name
 place-slot : (name : List ℕ) (slots : List (List ℕ × Slot)) (k j i : ℕ) → place_from (is_named name) k slots ≡ Some j → j ≡ i + k → (s : List ℕ × Slot)
@@ -47,7 +45,8 @@ place-slot name (x ∷ slots) k j i e is s at = go (is_named name x) refl i is a
   where
     go : (t : Bool) → is_named name x ≡ t → (m : ℕ) → j ≡ m + k → slice_get (x ∷ slots) m ≡ Some s
         →
-        ((n : ℕ) → place_from (is_named name) (suc k) slots ≡ Some j → j ≡ n + suc k → (y : List ℕ × Slot) → slice_get slots n ≡ Some y → named_in name slots ≡ Some y.1)
+        ((n : ℕ) → place_from (is_named name) (suc k) slots ≡ Some j → j ≡ n + suc k → (y : List ℕ × Slot) → slice_get slots n ≡ Some y
+        → named_in name slots ≡ Some y.1)
         → named_in name (x ∷ slots) ≡ Some s.1
     go true p zero q here rest = rw p (ap (λ (y : List ℕ × Slot). Some y.1) (same_Some x s here))
     go true p (suc m) q here rest = absurd (let same : k ≡ j = same_Some k j (rw p at e) in omega (arith, same, q))
@@ -72,43 +71,6 @@ entries-at f g zero (x ∷ slots) s at same =
     ap (λ (o : Option (List ℕ × ℕ)). cons_option o (filter_map f slots)) (subst (λ (y : List ℕ × Slot). f (y.0, g y.1) ≡ f y) (sym (same_Some x s at)) same)
 entries-at f g (suc i) (x ∷ slots) s at same = ap (cons_option (f x)) (entries-at f g i slots s at same)
 
--- what is read of slots where one slot is changed
-module _ (g : Slot → Slot) (n i : ℕ) (b : Board) where
-  abbrev c : Board
-  c = edit n (with_changed g i) b
-
-  reads-at : {A : Type 0} (f : List (List ℕ × Slot) → A)
-      → ((slots : List (List ℕ × Slot)) → slots_at b n ≡ slots → f (changed_at g i slots) ≡ f slots) → (x : ℕ)
-      → f (slots_at (edit n (with_changed g i) b) x) ≡ f (slots_at b x)
-  reads-at f same x = go (x == n) refl
-    where
-      at_owner : (o : Option Record) → record_of b n ≡ o → f (slots_at c n) ≡ f (slots_at b n)
-      at_owner None e =
-          let was : slots_at b n ≡ [] = ap (λ (o : Option Record). option_map_or (λ (r : Record). r.slots) o []) e in
-          let now : slots_at c n ≡ [] =
-          ap (λ (o : Option Record). option_map_or (λ (r : Record). r.slots) o [])
-          (found-edited n (with_changed g i) (λ r. refl) n b.records ∙ ap (option_map (edited n (with_changed g i))) e) in
-          ap f (now ∙ sym was)
-      at_owner (Some r) e =
-          let was : slots_at b n ≡ r.slots = ap (λ (o : Option Record). option_map_or (λ (y : Record). y.slots) o []) e in
-          ap f (edited-slots b n (with_changed g i) (λ y. refl) r e) ∙ same r.slots was ∙ sym (ap f was)
-
-      go : (t : Bool) → (x == n) ≡ t → f (slots_at c x) ≡ f (slots_at b x)
-      go true p = subst (λ (m : ℕ). f (slots_at c m) ≡ f (slots_at b m)) (sym (eqb-true x n p)) (at_owner (record_of b n) refl)
-      go false p =
-          ap (λ (o : Option Record). f (option_map_or (λ (r : Record). r.slots) o []))
-          (found-edited n (with_changed g i) (λ r. refl) x b.records ∙ other-record n x (with_changed g i) b refl p (record_of b x) refl)
-
-  bodies-at : (x : ℕ) → SameBody b (edit n (with_changed g i) b) x
-  bodies-at x = ap (option_map bodiless) (found-edited n (with_changed g i) (λ r. refl) x b.records) ∙ go (record_of b x)
-    where
-      one : (r : Record) → bodiless (edited n (with_changed g i) r) ≡ bodiless r
-      one r = choose (r.birth == n) {A = bodiless (edited n (with_changed g i) r) ≡ bodiless r} (λ p. rw (edited, p) refl) (λ p. rw (edited, p) refl)
-
-      go : (o : Option Record) → option_map bodiless (option_map (edited n (with_changed g i)) o) ≡ option_map bodiless o
-      go None = refl
-      go (Some r) = ap Some (one r)
-
 dims-source : (n m : ℕ) (c : Board) → may_see (named_in (codes "source") (slots_at c n)) ≡ true → Dims c (link_named n (codes "source") m c)
 dims-source n m c e = go (place_from (is_named (codes "source")) 0 (slots_at c n)) refl
   where
@@ -118,14 +80,14 @@ dims-source n m c e = go (place_from (is_named (codes "source")) 0 (slots_at c n
         rw (link_named, p) (record {
           dimmed =
               record {
-                body = bodies-at g n i c;
-                children = reads-at g n i c (filter_map child_entry) (λ slots q. entries-changed child_entry g (child-fitted c m) i slots);
-                kids = reads-at g n i c (filter_map kid_entry) (λ slots q. entries-at kid_entry g i slots f.entry (here slots q) (kid-fitted c m f.entry sees));
+                body = bodies g n i c;
+                children = reads g n i c (filter_map child_entry) (λ slots q. entries-changed child_entry g (child-fitted c m) i slots);
+                kids = reads g n i c (filter_map kid_entry) (λ slots q. entries-at kid_entry g i slots f.entry (here slots q) (kid-fitted c m f.entry sees));
                 bus =
-                    reads-at g n i c (λ slots. option_and_then strong_in (named_in (codes "parent_bus") slots))
+                    reads g n i c (λ slots. option_and_then strong_in (named_in (codes "parent_bus") slots))
                     (λ slots q. ap (option_and_then strong_in) (other (codes "parent_bus") refl slots q));
                 place =
-                    reads-at g n i c (λ slots. option_and_then number_in (option_and_then plain_in (named_in (codes "slot") slots)))
+                    reads g n i c (λ slots. option_and_then number_in (option_and_then plain_in (named_in (codes "slot") slots)))
                     (λ slots q. ap (λ (o : Option Slot). option_and_then number_in (option_and_then plain_in o)) (other (codes "slot") refl slots q));
                 fading = λ x k. sym (realized x) ∙ k;
                 anonymous = refl;
@@ -150,9 +112,10 @@ dims-source n m c e = go (place_from (is_named (codes "source")) 0 (slots_at c n
         other name apart slots q = named-other g name i slots f.entry (here slots q) (other-name (codes "source") name apart f.entry f.passes)
 
         realized : (x : ℕ)
-            → option_map_or is_true (option_and_then plain_in (named_in (codes "realized") (slots_at (edit n (with_changed g i) c) x))) false ≡ option_map_or is_true (option_and_then plain_in (named_in (codes "realized") (slots_at c x))) false
+            → option_map_or is_true (option_and_then plain_in (named_in (codes "realized") (slots_at (edit n (with_changed g i) c) x))) false
+            ≡ option_map_or is_true (option_and_then plain_in (named_in (codes "realized") (slots_at c x))) false
         realized =
-            reads-at g n i c (λ slots. option_map_or is_true (option_and_then plain_in (named_in (codes "realized") slots)) false)
+            reads g n i c (λ slots. option_map_or is_true (option_and_then plain_in (named_in (codes "realized") slots)) false)
             (λ slots q. ap (λ (o : Option Slot). option_map_or is_true (option_and_then plain_in o) false) (other (codes "realized") refl slots q))
 
 -- other objects stay where one is edited
@@ -227,7 +190,8 @@ clock-listed m (s ∷ slots) e = go (bytes_eq s.0 (codes "clk")) refl (clock-lis
     go true p rest = here s (rw p at e)
     go false p rest = there s (rest (rw p at e))
 
-module _ (depth : ℕ → ℕ) (b : Board) (t : TypeId) (a : Wanted) (spot : Spot) (rest : AtRest b) (h : PlacesBut depth None (λ x. false) b) (goal : Goal depth b (b.born + 1) spot.bus spot.slot a.id t (drafted b t)) where
+module _ (depth : ℕ → ℕ) (b : Board) (t : TypeId) (a : Wanted) (spot : Spot) (rest : AtRest b) (h : PlacesBut depth None (λ x. false) b)
+    (goal : Goal depth b (b.born + 1) spot.bus spot.slot a.id t (drafted b t)) where
   abbrev n : ℕ
   n = b.born + 1
 
@@ -252,7 +216,7 @@ module _ (depth : ℕ → ℕ) (b : Board) (t : TypeId) (a : Wanted) (spot : Spo
 
       apart : (y : ℕ) → is_live b y ≡ true → (m == y) ≡ false
       apart y k =
-          choose (m == y) {A = (m == y) ≡ false} (λ p. absurd (let clash : false ≡ true = sym m_new ∙ ap (is_live b) (eqb-true m y p) ∙ k in cc))
+          decide (m == y) {A = (m == y) ≡ false} (λ p. absurd (let clash : false ≡ true = sym m_new ∙ ap (is_live b) (eqb-true m y p) ∙ k in cc))
           (λ p. p)
 
       bus_live : is_live b spot.bus ≡ true
@@ -266,7 +230,7 @@ module _ (depth : ℕ → ℕ) (b : Board) (t : TypeId) (a : Wanted) (spot : Spo
       is_device = ap (λ (o : Option TypeId). option_map_or (λ (k : TypeId). is_a k (codes "device")) o false) j.kind ∙ goal.device
 
       not_it : is_live b m ≡ false → (m == n) ≡ false
-      not_it new = choose (m == n) {A = (m == n) ≡ false}
+      not_it new = decide (m == n) {A = (m == n) ≡ false}
           (λ p.
           absurd
           (let clash : false ≡ true =

@@ -1,8 +1,7 @@
 -- The steps by which a device that was made comes to stand in its place: what each leaves of what places speak of.
-use Rattle.std.proofs.Common.{◌≡◌, refl, ap, sym, subst, ◌∙◌, ℕ, suc, Bool, true, false, ◌==◌, List, [], ◌∷◌, filter, filter_map, find, Option, Some, None, option_map, option_and_then, codes}
+use Rattle.std.proofs.Common.{◌≡◌, refl, ap, sym, subst, ◌∙◌, ℕ, suc, Bool, true, false, ◌==◌, List, [], ◌∷◌, filter, filter_map, Option, Some, None, option_map, option_and_then, codes}
 use Rattle.std.specs.List.{list_any}
 use Rattle.std.specs.Option.{option_map_or}
-use Rattle.std.specs.Str.{bytes_eq}
 use Rattle.std.proofs.lemmas.Bool.{eqb-true, eq-eqb}
 use Rattle.qo_values.specs.declared.births.TheConstants.{ANONYMOUS_BIRTH, MACHINE_BIRTH, PERIPHERAL_BIRTH}
 use Rattle.qo_values.specs.declared.kinds.Act.{Act}
@@ -17,12 +16,13 @@ use Rattle.qo_model.specs.Plug.{acted_all, bus_births, counted, started, told_pl
 use Rattle.qo_model.specs.Release.{edit, edited}
 use Rattle.qo_model.specs.Reset.{is_out, phased, plugged, post}
 use Rattle.qo_model.specs.Types.{is_a}
-use Rattle.qo_model.proofs.StepLemmas.{found-edited}
+use Rattle.qo_model.proofs.StepLemmas.{found-edited, found-birth}
 use Rattle.qo_sound.proofs.FirmLemmas.{Firm}
-use Rattle.qo_sound.proofs.RecordLemmas.{found-birth}
+use Rattle.qo_sound.proofs.ReadLemmas.{named_in}
+use Rattle.qo_sound.proofs.TestLemmas.{decide}
 use Rattle.qo_sound_devices.specs.SoundPlaces.{child_entries, child_entry, id_of, kid_entries, listed, owns_it, path_of, PlacesBut}
 use Rattle.qo_sound_devices.proofs.AlikeLemmas.{Alike, alike-record, other-record}
-use Rattle.qo_sound_devices.proofs.JoinedLemmas.{choose, count_behind, device-no_bus, done, further-same, Joined, Now, path_behind}
+use Rattle.qo_sound_devices.proofs.JoinedLemmas.{count_behind, device-no_bus, done, further-same, Joined, Now, path_behind}
 use Rattle.qo_sound_devices.proofs.PlacesLemmas.{child-live, id-alike, kind-alike, of-alike, of-live, path-alike}
 use Rattle.qo_sound_devices.proofs.UnrealizeLemmas.{Dims, dims-acted, dims-alike, dims-none, dims-then}
 
@@ -131,11 +131,11 @@ module _ (depth : ℕ → ℕ) (b : Board) (n bus slot : ℕ) (id : Option (List
     where
       differs : (x : ℕ) → is_live b x ≡ true → (x == n) ≡ false
       differs x e =
-          choose (x == n) {A = (x == n) ≡ false} (λ p. absurd (let clash : true ≡ false = sym e ∙ ap (is_live b) (eqb-true x n p) ∙ j.absent in cc))
+          decide (x == n) {A = (x == n) ≡ false} (λ p. absurd (let clash : true ≡ false = sym e ∙ ap (is_live b) (eqb-true x n p) ∙ j.absent in cc))
           (λ p. p)
 
       at_each : (P : ℕ → Type 0) → ((x : ℕ) → Alike c d x → P x) → P n → (x : ℕ) → P x
-      at_each P other its x = choose (x == n) {A = P x} (λ p. subst P (sym (eqb-true x n p)) its) (λ p. other x (k.others x p))
+      at_each P other its x = decide (x == n) {A = P x} (λ p. subst P (sym (eqb-true x n p)) its) (λ p. other x (k.others x p))
 
       same_types : (name : List ℕ) (y : ℕ) → is_of d name y ≡ is_of c name y
       same_types name =
@@ -150,7 +150,7 @@ module _ (depth : ℕ → ℕ) (b : Board) (n bus slot : ℕ) (id : Option (List
 
       no_kids : (x : ℕ) → is_live b x ≡ false → is_of d (codes "bus") x ≡ true → kid_entries d x ≡ []
       no_kids x e p =
-          choose (x == n) {A = kid_entries d x ≡ []}
+          decide (x == n) {A = kid_entries d x ≡ []}
           (λ q. absurd (let clash : true ≡ false = sym p ∙ ap (is_of d (codes "bus")) (eqb-true x n q) ∙ own in cc))
           (λ q. (k.others x q).kids ∙ j.no_kids x e (sym (of-alike c d x (codes "bus") (k.others x q).body) ∙ p))
 
@@ -192,7 +192,8 @@ joined-counted depth b n bus slot id t now c None j =
     }
 
 -- an edit of the device that leaves its slots
-module _ (c : Board) (n : ℕ) (change : Record → Record) (same_birth : (r : Record) → (change r).birth ≡ r.birth) (same_slots : (r : Record) → (change r).slots ≡ r.slots) (same_kind : (r : Record) → (change r).kind ≡ r.kind) where
+module _ (c : Board) (n : ℕ) (change : Record → Record) (same_birth : (r : Record) → (change r).birth ≡ r.birth)
+    (same_slots : (r : Record) → (change r).slots ≡ r.slots) (same_kind : (r : Record) → (change r).kind ≡ r.kind) where
   reads : {A : Type 0} (f : Option Record → A) → ((r : Record) → f (Some (edited n change r)) ≡ f (Some r))
       → f (record_of (edit n change c) n) ≡ f (record_of c n)
   reads f same = ap f (found-edited n change same_birth n c.records) ∙ go (record_of c n)
@@ -202,10 +203,10 @@ module _ (c : Board) (n : ℕ) (change : Record → Record) (same_birth : (r : R
       go (Some r) = same r
 
   own-slots : (r : Record) → (edited n change r).slots ≡ r.slots
-  own-slots r = choose (r.birth == n) {A = (edited n change r).slots ≡ r.slots} (λ p. rw (edited, p) (same_slots r)) (λ p. rw (edited, p) refl)
+  own-slots r = decide (r.birth == n) {A = (edited n change r).slots ≡ r.slots} (λ p. rw (edited, p) (same_slots r)) (λ p. rw (edited, p) refl)
 
   own-kind : (r : Record) → (edited n change r).kind ≡ r.kind
-  own-kind r = choose (r.birth == n) {A = (edited n change r).kind ≡ r.kind} (λ p. rw (edited, p) (same_kind r)) (λ p. rw (edited, p) refl)
+  own-kind r = decide (r.birth == n) {A = (edited n change r).kind ≡ r.kind} (λ p. rw (edited, p) (same_kind r)) (λ p. rw (edited, p) refl)
 
   pub edit-slots : slots_at (edit n change c) n ≡ slots_at c n
   edit-slots = reads (λ (o : Option Record). option_map_or (λ (r : Record). r.slots) o []) own-slots
@@ -213,7 +214,8 @@ module _ (c : Board) (n : ℕ) (change : Record → Record) (same_birth : (r : R
   pub edit-beside : Beside n c (edit n change c)
   edit-beside =
       record {
-        others = λ x apart. alike-record c (edit n change c) x (found-edited n change same_birth x c.records ∙ other-record n x change c refl apart (record_of c x) refl);
+        others = λ x apart.
+            alike-record c (edit n change c) x (found-edited n change same_birth x c.records ∙ other-record n x change c refl apart (record_of c x) refl);
         children = ap (filter_map child_entry) edit-slots;
         kind = reads (option_map (λ (r : Record). r.kind)) (λ r. ap Some (own-kind r));
       }
@@ -236,10 +238,22 @@ dims-acting n t c =
     let ran : Board = acted_all Realize (n ∷ bus_births n t) c in
     dims-then c ran (acting n t c) (dims-all Realize (n ∷ bus_births n t) c) (dims-plugged n ran)
 
-abbrev named_in : List ℕ → List (List ℕ × Slot) → Option Slot
-named_in name slots = option_map (λ (s : List ℕ × Slot). s.1) (find (λ s. bytes_eq s.0 name) slots)
-
 module _ (depth : ℕ → ℕ) (b : Board) (n bus slot : ℕ) (id : Option (List ℕ)) (t : TypeId) (firm : Firm b) (h : PlacesBut depth None (λ x. false) b) where
+  -- how it is now, where its slots stay
+  now-same : (now : Now) (its path : Option (List ℕ)) (c d : Board) → Joined depth b n bus slot id t now c → d.anonymous ≡ c.anonymous
+      → slots_at d n ≡ slots_at c n → id_of d n ≡ its → path_of d n ≡ path → IsNow n (record now { its = its; path = path }) d
+  now-same now its path c d j count slots its_id its_path =
+      record {
+        its_id = its_id;
+        its_path = its_path;
+        anonymous = count ∙ j.anonymous;
+        on = ap (λ (ss : List (List ℕ × Slot)). option_and_then strong_in (named_in (codes "parent_bus") ss)) slots ∙ j.on;
+        at = ap (λ (ss : List (List ℕ × Slot)). option_and_then number_in (option_and_then plain_in (named_in (codes "slot") ss))) slots ∙ j.at;
+        realized =
+            ap (λ (ss : List (List ℕ × Slot)). option_map_or is_true (option_and_then plain_in (named_in (codes "realized") ss)) false) slots
+            ∙ j.stands_realized;
+      }
+
   -- its path is kept, and the guest is told
   pub joined-told : (now : Now) (c : Board) → Joined depth b n bus slot id t now c
       → Joined depth b n bus slot id t (record now { path = canonical c n }) (told_plug n c)
@@ -254,20 +268,11 @@ module _ (depth : ℕ → ℕ) (b : Board) (n bus slot : ℕ) (id : Option (List
 
       is : IsNow n (record now { path = canonical c n }) (edit n (with_path (canonical c n)) c)
       is =
-          record {
-            its_id =
-                edit-own c n (with_path (canonical c n)) (λ r. refl) (λ r. refl) (λ r. refl) (λ (r : Record). r.device_id) now.its t j.kind
-                (λ r e. sym (ap (option_and_then (λ (x : Record). x.device_id)) e) ∙ j.its_id);
-            its_path =
-                edit-own c n (with_path (canonical c n)) (λ r. refl) (λ r. refl) (λ r. refl) (λ (r : Record). r.kept_path) (canonical c n) t j.kind
-                (λ r e. refl);
-            anonymous = j.anonymous;
-            on = ap (λ (ss : List (List ℕ × Slot)). option_and_then strong_in (named_in (codes "parent_bus") ss)) slots ∙ j.on;
-            at = ap (λ (ss : List (List ℕ × Slot)). option_and_then number_in (option_and_then plain_in (named_in (codes "slot") ss))) slots ∙ j.at;
-            realized =
-                ap (λ (ss : List (List ℕ × Slot)). option_map_or is_true (option_and_then plain_in (named_in (codes "realized") ss)) false) slots
-                ∙ j.stands_realized;
-          }
+          now-same now now.its (canonical c n) c (edit n (with_path (canonical c n)) c) j refl slots
+          (edit-own c n (with_path (canonical c n)) (λ r. refl) (λ r. refl) (λ r. refl) (λ (r : Record). r.device_id) now.its t j.kind
+          (λ r e. sym (ap (option_and_then (λ (x : Record). x.device_id)) e) ∙ j.its_id))
+          (edit-own c n (with_path (canonical c n)) (λ r. refl) (λ r. refl) (λ r. refl) (λ (r : Record). r.kept_path) (canonical c n) t j.kind
+          (λ r e. refl))
 
   -- what it is besides its slots
   pub joined-body : (now : Now) (c : Board) (range : Option Range) → Joined depth b n bus slot id t now c
@@ -281,18 +286,10 @@ module _ (depth : ℕ → ℕ) (b : Board) (n bus slot : ℕ) (id : Option (List
 
       is : IsNow n (record now { its = id }) (edit n (with_body_of id range) c)
       is =
-          record {
-            its_id = edit-own c n (with_body_of id range) (λ r. refl) (λ r. refl) (λ r. refl) (λ (r : Record). r.device_id) id t j.kind (λ r e. refl);
-            its_path =
-                edit-own c n (with_body_of id range) (λ r. refl) (λ r. refl) (λ r. refl) (λ (r : Record). r.kept_path) now.path t j.kind
-                (λ r e. sym (ap (option_and_then (λ (x : Record). x.kept_path)) e) ∙ j.its_path);
-            anonymous = j.anonymous;
-            on = ap (λ (ss : List (List ℕ × Slot)). option_and_then strong_in (named_in (codes "parent_bus") ss)) slots ∙ j.on;
-            at = ap (λ (ss : List (List ℕ × Slot)). option_and_then number_in (option_and_then plain_in (named_in (codes "slot") ss))) slots ∙ j.at;
-            realized =
-                ap (λ (ss : List (List ℕ × Slot)). option_map_or is_true (option_and_then plain_in (named_in (codes "realized") ss)) false) slots
-                ∙ j.stands_realized;
-          }
+          now-same now id now.path c (edit n (with_body_of id range) c) j refl slots
+          (edit-own c n (with_body_of id range) (λ r. refl) (λ r. refl) (λ r. refl) (λ (r : Record). r.device_id) id t j.kind (λ r e. refl))
+          (edit-own c n (with_body_of id range) (λ r. refl) (λ r. refl) (λ r. refl) (λ (r : Record). r.kept_path) now.path t j.kind
+          (λ r e. sym (ap (option_and_then (λ (x : Record). x.kept_path)) e) ∙ j.its_path))
 
   -- it acts, goes through the phases, and its path is kept
   pub joined-started : (now : Now) (c : Board) → Joined depth b n bus slot id t now c

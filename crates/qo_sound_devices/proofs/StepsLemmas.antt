@@ -1,5 +1,5 @@
 -- Steps that only take away: objects, entries and links.
-use Rattle.std.proofs.Common.{◌≡◌, ◌≢◌, refl, ap, sym, subst, ◌∙◌, ℕ, zero, suc, Bool, true, false, ◌==◌, List, [], ◌∷◌, find, filter_map, remove, slice_get, Option, Some, None, is_some, option_map, option_and_then, codes}
+use Rattle.std.proofs.Common.{◌≡◌, ◌≢◌, refl, ap, sym, subst, ◌∙◌, ℕ, zero, suc, Bool, true, false, ◌==◌, List, [], ◌∷◌, filter_map, remove, slice_get, Option, Some, None, is_some, option_map, option_and_then, codes}
 use Rattle.std.specs.List.{cons_option, IsDistinct, list_any}
 use Rattle.std.specs.Option.{option_map_or}
 use Rattle.std.specs.Str.{bytes_eq}
@@ -14,8 +14,9 @@ use Rattle.qo_model.specs.Depth.{among}
 use Rattle.qo_model.specs.Devices.{bus_of, is_realized, is_true, number_in, place_on, plain_in, strong_in}
 use Rattle.qo_model.specs.Paths.{is_of}
 use Rattle.qo_model.specs.Release.{after, edit, edited, finalise, without_hold}
-use Rattle.qo_model.proofs.StepLemmas.{found-edited, is_some-map}
+use Rattle.qo_model.proofs.StepLemmas.{found-edited, is_some-map, map-edited}
 use Rattle.qo_sound.proofs.FirmLemmas.{Firm}
+use Rattle.qo_sound.proofs.ReadLemmas.{named_in}
 use Rattle.qo_sound.proofs.SlotLemmas.{names_in}
 use Rattle.qo_sound_devices.specs.SoundPlaces.{child_entries, child_entry, HasOwner, kid_entries, kid_entry, listed, owns_it, stands}
 use Rattle.qo_sound_devices.proofs.AlikeLemmas.{after-alike, Alike, alike-record, bodiless, other-record}
@@ -84,8 +85,12 @@ steps-alike b c anonymous alike =
       realized = λ x e. (alike x e).realized;
       place = λ x e. (alike x e).place;
       bus = λ x q e. read_bus x q (record_of c x) refl e;
-      children = λ x. read (λ y. Within (child_entries c y) (child_entries b y)) x (λ e. within-same (alike x e).children) (λ e. subst (λ (xs : List (List ℕ × ℕ)). Within xs (child_entries b x)) (sym (ap (λ (o : Option Record). filter_map child_entry (option_map_or (λ (r : Record). r.slots) o [])) e)) (nothing (child_entries b x)));
-      kids = λ x. read (λ y. Within (kid_entries c y) (kid_entries b y)) x (λ e. within-same (alike x e).kids) (λ e. subst (λ (xs : List (List ℕ × ℕ)). Within xs (kid_entries b x)) (sym (ap (λ (o : Option Record). filter_map kid_entry (option_map_or (λ (r : Record). r.slots) o [])) e)) (nothing (kid_entries b x)));
+      children = λ x. read (λ y. Within (child_entries c y) (child_entries b y)) x (λ e. within-same (alike x e).children)
+          (λ e. subst (λ (xs : List (List ℕ × ℕ)). Within xs (child_entries b x))
+          (sym (ap (λ (o : Option Record). filter_map child_entry (option_map_or (λ (r : Record). r.slots) o [])) e)) (nothing (child_entries b x)));
+      kids = λ x. read (λ y. Within (kid_entries c y) (kid_entries b y)) x (λ e. within-same (alike x e).kids)
+          (λ e. subst (λ (xs : List (List ℕ × ℕ)). Within xs (kid_entries b x))
+          (sym (ap (λ (o : Option Record). filter_map kid_entry (option_map_or (λ (r : Record). r.slots) o [])) e)) (nothing (kid_entries b x)));
       anonymous = anonymous;
     }
   where
@@ -104,9 +109,6 @@ pub steps-after : (b : Board) (o : Option ℕ) → Steps b (after finalise b o)
 steps-after b o = steps-alike b (after finalise b o) (after-anonymous b o) (after-alike b o)
 
 -- slots, of which some was taken away
-
-abbrev named_in : List ℕ → List (List ℕ × Slot) → Option Slot
-named_in name slots = option_map (λ (s : List ℕ × Slot). s.1) (find (λ s. bytes_eq s.0 name) slots)
 
 pub record SlotSteps (xs ys : List (List ℕ × Slot)) : Type 0 where
   pub children : Within (filter_map child_entry ys) (filter_map child_entry xs)
@@ -182,7 +184,8 @@ entries-removed f zero (x ∷ slots) s e none = ap (λ (o : Option (List ℕ × 
 entries-removed f (suc i) (x ∷ slots) s e none = ap (cons_option (f x)) (entries-removed f i slots s e none)
 
 -- an edit of slots
-module _ (b : Board) (n : ℕ) (change : Record → Record) (same_birth : (r : Record) → (change r).birth ≡ r.birth) (same_body : (r : Record) → bodiless (change r) ≡ bodiless r) (r : Record) (found : record_of b n ≡ Some r) where
+module _ (b : Board) (n : ℕ) (change : Record → Record) (same_birth : (r : Record) → (change r).birth ≡ r.birth)
+    (same_body : (r : Record) → bodiless (change r) ≡ bodiless r) (r : Record) (found : record_of b n ≡ Some r) where
   abbrev c : Board
   c = edit n change b
 
@@ -210,24 +213,21 @@ module _ (b : Board) (n : ℕ) (change : Record → Record) (same_birth : (r : R
       go false p = other x (apart-alike x p)
 
   bodies : (x : ℕ) → SameBody b c x
-  bodies x = at_each (SameBody b c) (λ y a. a.body) (ap (option_map bodiless) (found-edited n change same_birth n b.records) ∙ go (record_of b n)) x
-    where
-      at_record : (y : Record) (t : Bool) → (y.birth == n) ≡ t → bodiless (edited n change y) ≡ bodiless y
-      at_record y true p = rw (edited, p) (same_body y)
-      at_record y false p = rw (edited, p) refl
-
-      go : (o : Option Record) → option_map bodiless (option_map (edited n change) o) ≡ option_map bodiless o
-      go None = refl
-      go (Some y) = ap Some (at_record y (y.birth == n) refl)
+  bodies x = ap (option_map bodiless) (found-edited n change same_birth x b.records) ∙ map-edited bodiless n change same_body (record_of b x)
 
   pub steps-edit : SlotSteps r.slots (change r).slots → Steps b (edit n change b)
   steps-edit h =
       record {
         live = λ x e. sym (edit-live x) ∙ e;
         body = λ x e. bodies x;
-        realized = λ x e. at_each (λ y. is_realized c y ≡ is_realized b y) (λ y a. a.realized) (at-slots (λ ss. option_map_or is_true (option_and_then plain_in (named_in (codes "realized") ss)) false) (ap (λ (o : Option Val). option_map_or is_true o false) (h.plains (codes "realized")))) x;
-        place = λ x e. at_each (λ y. place_on c y ≡ place_on b y) (λ y a. a.place) (at-slots (λ ss. option_and_then number_in (option_and_then plain_in (named_in (codes "slot") ss))) (ap (option_and_then number_in) (h.plains (codes "slot")))) x;
-        bus = λ x q. at_each (λ y. bus_of c y ≡ Some q → bus_of b y ≡ Some q) (λ y a e. sym a.bus ∙ e) (λ e. ap (λ ss. option_and_then strong_in (named_in (codes "parent_bus") ss)) was ∙ h.strongs (codes "parent_bus") q (sym (ap (λ ss. option_and_then strong_in (named_in (codes "parent_bus") ss)) now) ∙ e)) x;
+        realized = λ x e. at_each (λ y. is_realized c y ≡ is_realized b y) (λ y a. a.realized)
+            (at-slots (λ ss. option_map_or is_true (option_and_then plain_in (named_in (codes "realized") ss)) false)
+            (ap (λ (o : Option Val). option_map_or is_true o false) (h.plains (codes "realized")))) x;
+        place = λ x e. at_each (λ y. place_on c y ≡ place_on b y) (λ y a. a.place) (at-slots (λ ss.
+            option_and_then number_in (option_and_then plain_in (named_in (codes "slot") ss))) (ap (option_and_then number_in) (h.plains (codes "slot")))) x;
+        bus = λ x q. at_each (λ y. bus_of c y ≡ Some q → bus_of b y ≡ Some q) (λ y a e. sym a.bus ∙ e)
+            (λ e. ap (λ ss. option_and_then strong_in (named_in (codes "parent_bus") ss)) was
+            ∙ h.strongs (codes "parent_bus") q (sym (ap (λ ss. option_and_then strong_in (named_in (codes "parent_bus") ss)) now) ∙ e)) x;
         children =
             at_each (λ y. Within (child_entries c y) (child_entries b y)) (λ y a. within-same a.children)
             (subst (λ (xs : List (List ℕ × ℕ)). Within xs (child_entries b n)) (sym (ap (filter_map child_entry) now))

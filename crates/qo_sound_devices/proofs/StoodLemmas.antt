@@ -13,15 +13,16 @@ use Rattle.qo_model.specs.Paths.{canonical}
 use Rattle.qo_model.specs.Plug.{Spot, Wanted, addressed_at, clocked, drafted, fitted, joined, link_named, source_for, stood, valued, with_device, with_given, with_plugged}
 use Rattle.qo_model.specs.Release.{edit, edited}
 use Rattle.qo_model.specs.Unplug.{is_named, set_named}
-use Rattle.qo_model.proofs.StepLemmas.{found-edited}
+use Rattle.qo_model.proofs.StepLemmas.{found-edited, map-edited}
 use Rattle.qo_sound.proofs.FirmLemmas.{Firm}
 use Rattle.qo_sound.proofs.PlugLemmas.{shut-above}
+use Rattle.qo_sound.proofs.TestLemmas.{decide}
 use Rattle.qo_sound.proofs.ViewLemmas.{AtRest}
 use Rattle.qo_sound_devices.specs.SoundPlaces.{child_entry, path_of, PlacesBut}
 use Rattle.qo_sound_devices.proofs.AddLemmas.{children-given}
 use Rattle.qo_sound_devices.proofs.AlikeLemmas.{alike-none, alike-record, other-record}
 use Rattle.qo_sound_devices.proofs.DraftedLemmas.{drafted-made}
-use Rattle.qo_sound_devices.proofs.JoinedLemmas.{choose, done, Joined, Now, path_behind}
+use Rattle.qo_sound_devices.proofs.JoinedLemmas.{done, Joined, Now, path_behind}
 use Rattle.qo_sound_devices.proofs.MadeLemmas.{Goal, joined-wanted, now_at}
 use Rattle.qo_sound_devices.proofs.RealizedLemmas.{valued-at, valued-realized}
 use Rattle.qo_sound_devices.proofs.StartedLemmas.{acting, Beside, IsNow, joined-beside, joined-body, joined-counted, joined-dims, started-joined}
@@ -35,24 +36,23 @@ beside-slots : (n : ℕ) (change : Record → Record) → ((r : Record) → (cha
     → ((r : Record) → filter_map child_entry (change r).slots ≡ filter_map child_entry r.slots) → (c : Board) → Beside n c (edit n change c)
 beside-slots n change same_birth same_kind same c =
     record {
-      others = λ x apart. alike-record c (edit n change c) x (found-edited n change same_birth x c.records ∙ other-record n x change c refl apart (record_of c x) refl);
+      others = λ x apart.
+          alike-record c (edit n change c) x (found-edited n change same_birth x c.records ∙ other-record n x change c refl apart (record_of c x) refl);
       children =
           ap (λ (o : Option Record). filter_map child_entry (option_map_or (λ (r : Record). r.slots) o []))
           (found-edited n change same_birth n c.records)
           ∙ slots (record_of c n);
-      kind = ap (option_map (λ (r : Record). r.kind)) (found-edited n change same_birth n c.records) ∙ kinds (record_of c n);
+      kind = ap (option_map (λ (r : Record). r.kind)) (found-edited n change same_birth n c.records)
+          ∙ map-edited (λ (r : Record). r.kind) n change same_kind (record_of c n);
     }
   where
     slots : (o : Option Record)
-        → filter_map child_entry (option_map_or (λ (r : Record). r.slots) (option_map (edited n change) o) []) ≡ filter_map child_entry (option_map_or (λ (r : Record). r.slots) o [])
+        → filter_map child_entry (option_map_or (λ (r : Record). r.slots) (option_map (edited n change) o) [])
+        ≡ filter_map child_entry (option_map_or (λ (r : Record). r.slots) o [])
     slots None = refl
     slots (Some r) =
-        choose (r.birth == n) {A = filter_map child_entry (edited n change r).slots ≡ filter_map child_entry r.slots} (λ p. rw (edited, p) (same r))
+        decide (r.birth == n) {A = filter_map child_entry (edited n change r).slots ≡ filter_map child_entry r.slots} (λ p. rw (edited, p) (same r))
         (λ p. rw (edited, p) refl)
-
-    kinds : (o : Option Record) → option_map (λ (r : Record). r.kind) (option_map (edited n change) o) ≡ option_map (λ (r : Record). r.kind) o
-    kinds None = refl
-    kinds (Some r) = ap Some (choose (r.birth == n) {A = (edited n change r).kind ≡ r.kind} (λ p. rw (edited, p) (same_kind r)) (λ p. rw (edited, p) refl))
 
 pub child-fitted : (b : Board) (m : ℕ) (s : List ℕ × Slot) → child_entry (s.0, fitted b m s.1) ≡ child_entry s
 child-fitted b m (name, plain v) = refl
@@ -107,7 +107,8 @@ link-count n name m c = go (place_from (is_named name) 0 (slots_at c n)) refl
 read-now : (n : ℕ) (d : Board) → IsNow n (now_at n d) d
 read-now n d = record { its_id = refl; its_path = refl; anonymous = refl; on = refl; at = refl; realized = refl }
 
-module _ (depth : ℕ → ℕ) (b : Board) (t : TypeId) (a : Wanted) (spot : Spot) (rest : AtRest b) (h : PlacesBut depth None (λ x. false) b) (goal : Goal depth b (b.born + 1) spot.bus spot.slot a.id t (drafted b t)) where
+module _ (depth : ℕ → ℕ) (b : Board) (t : TypeId) (a : Wanted) (spot : Spot) (rest : AtRest b) (h : PlacesBut depth None (λ x. false) b)
+    (goal : Goal depth b (b.born + 1) spot.bus spot.slot a.id t (drafted b t)) where
   abbrev n : ℕ
   n = b.born + 1
 
@@ -121,11 +122,14 @@ module _ (depth : ℕ → ℕ) (b : Board) (t : TypeId) (a : Wanted) (spot : Spo
   step now c d k j = joined-beside depth b n spot.bus spot.slot a.id t None (λ x. false) firm h now (now_at n d) c d k (read-now n d) j
 
   -- the device stands in its container and at its bus
-  pub joined-drafted : Joined depth b (b.born + 1) spot.bus spot.slot a.id t (now_at (b.born + 1) (joined b (b.born + 1) a spot (drafted b t))) (joined b (b.born + 1) a spot (drafted b t))
+  pub joined-drafted : Joined depth b (b.born + 1) spot.bus spot.slot a.id t (now_at (b.born + 1) (joined b (b.born + 1) a spot (drafted b t)))
+      (joined b (b.born + 1) a spot (drafted b t))
   joined-drafted = joined-wanted depth b n a spot t (drafted b t) (drafted-made b t (shut-above b.born rest.used.firm.begun) rest.used goal.device) goal firm h
 
   -- with the values given and its slot
-  pub joined-slotted : Joined depth b (b.born + 1) spot.bus spot.slot a.id t (now_at (b.born + 1) (set_named (b.born + 1) (codes "slot") (val.Uint spot.slot) (edit (b.born + 1) (with_given b a.props) (joined b (b.born + 1) a spot (drafted b t))))) (set_named (b.born + 1) (codes "slot") (val.Uint spot.slot) (edit (b.born + 1) (with_given b a.props) (joined b (b.born + 1) a spot (drafted b t))))
+  pub joined-slotted : Joined depth b (b.born + 1) spot.bus spot.slot a.id t (now_at (b.born + 1)
+      (set_named (b.born + 1) (codes "slot") (val.Uint spot.slot) (edit (b.born + 1) (with_given b a.props) (joined b (b.born + 1) a spot (drafted b t)))))
+      (set_named (b.born + 1) (codes "slot") (val.Uint spot.slot) (edit (b.born + 1) (with_given b a.props) (joined b (b.born + 1) a spot (drafted b t))))
   joined-slotted =
       let c : Board = joined b n a spot (drafted b t) in
       let c3 : Board = edit n (with_given b a.props) c in
@@ -133,7 +137,9 @@ module _ (depth : ℕ → ℕ) (b : Board) (t : TypeId) (a : Wanted) (spot : Spo
       (step (now_at n c) c c3 (beside-given b n a.props c) joined-drafted)
 
   -- with its values
-  pub joined-valued : Joined depth b (b.born + 1) spot.bus spot.slot a.id t (now_at (b.born + 1) (valued b (b.born + 1) a.props spot (joined b (b.born + 1) a spot (drafted b t)))) (valued b (b.born + 1) a.props spot (joined b (b.born + 1) a spot (drafted b t)))
+  pub joined-valued : Joined depth b
+      (b.born + 1) spot.bus spot.slot a.id t (now_at (b.born + 1) (valued b (b.born + 1) a.props spot (joined b (b.born + 1) a spot (drafted b t))))
+      (valued b (b.born + 1) a.props spot (joined b (b.born + 1) a spot (drafted b t)))
   joined-valued =
       let c : Board = joined b n a spot (drafted b t) in
       let c3 : Board = edit n (with_given b a.props) c in
@@ -146,7 +152,9 @@ module _ (depth : ℕ → ℕ) (b : Board) (t : TypeId) (a : Wanted) (spot : Spo
   has_values = valued b (b.born + 1) a.props spot (joined b (b.born + 1) a spot (drafted b t))
 
   -- and with its address and its id
-  pub joined-stood : Joined depth b (b.born + 1) spot.bus spot.slot a.id t (record (now_at (b.born + 1) (valued b (b.born + 1) a.props spot (joined b (b.born + 1) a spot (drafted b t)))) { its = a.id }) (stood b (b.born + 1) a spot (drafted b t))
+  pub joined-stood : Joined depth b (b.born + 1)
+      spot.bus spot.slot a.id t (record (now_at (b.born + 1) (valued b (b.born + 1) a.props spot (joined b (b.born + 1) a spot (drafted b t)))) { its = a.id })
+      (stood b (b.born + 1) a spot (drafted b t))
   joined-stood =
       joined-body depth b n spot.bus spot.slot a.id t firm h (now_at n has_values) (addressed_at n spot.range has_values) spot.range
       (joined-dims depth b n spot.bus spot.slot a.id t (now_at n has_values) has_values (addressed_at n spot.range has_values)
@@ -174,17 +182,29 @@ module _ (depth : ℕ → ℕ) (b : Board) (t : TypeId) (a : Wanted) (spot : Spo
     stands_so : Now
     stands_so = record { its = a.id; path = path_of has_values n; count = b.anonymous; on = Some spot.bus; at = Some spot.slot; realized = true }
 
-    joined-so : IsJoined (record { its = a.id; path = path_of has_values n; count = b.anonymous; on = Some spot.bus; at = Some spot.slot; realized = true }) (stood b n a spot (drafted b t))
+    joined-so : IsJoined (record { its = a.id; path = path_of has_values n; count = b.anonymous; on = Some spot.bus; at = Some spot.slot; realized = true })
+        (stood b n a spot (drafted b t))
     joined-so =
         subst
         (λ (x : Bool).
         IsJoined (record { its = a.id; path = path_of has_values n; count = b.anonymous; on = Some spot.bus; at = Some spot.slot; realized = x })
         (stood b n a spot (drafted b t)))
         (valued-realized b t firm goal.device a spot)
-        (subst (λ (x : Option ℕ). IsJoined (record { its = a.id; path = path_of has_values n; count = b.anonymous; on = Some spot.bus; at = x; realized = is_realized has_values n }) (stood b n a spot (drafted b t))) (valued-at b t firm goal.device a spot)
-        (subst (λ (x : Option ℕ). IsJoined (record { its = a.id; path = path_of has_values n; count = b.anonymous; on = x; at = place_on has_values n; realized = is_realized has_values n }) (stood b n a spot (drafted b t))) k.on
+        (subst (λ (x : Option ℕ).
+        IsJoined (record { its = a.id; path = path_of has_values n; count = b.anonymous; on = Some spot.bus; at = x; realized = is_realized has_values n })
+        (stood b n a spot (drafted b t))) (valued-at b t firm goal.device a spot)
+        (subst (λ (x : Option ℕ). IsJoined
+        (record { its = a.id; path = path_of has_values n; count = b.anonymous; on = x; at = place_on has_values n; realized = is_realized has_values n })
+        (stood b n a spot (drafted b t))) k.on
         (subst
-        (λ (x : ℕ). IsJoined (record { its = a.id; path = path_of has_values n; count = x; on = bus_of has_values n; at = place_on has_values n; realized = is_realized has_values n }) (stood b n a spot (drafted b t))) uncounted joined-stood)))
+        (λ (x : ℕ). IsJoined (record {
+          its = a.id;
+          path = path_of has_values n;
+          count = x;
+          on = bus_of has_values n;
+          at = place_on has_values n;
+          realized = is_realized has_values n;
+        }) (stood b n a spot (drafted b t))) uncounted joined-stood)))
 
     pub plugged-joined : Joined depth b (b.born + 1) spot.bus spot.slot a.id t (done b spot.bus spot.slot a.id) (with_plugged b t a spot)
     plugged-joined =

@@ -21,6 +21,7 @@ use Rattle.qo_model.specs.Unplug.{is_child_slot}
 use Rattle.qo_model.proofs.EditLemmas.{left_of, sum-without_hold}
 use Rattle.qo_model.proofs.StepLemmas.{drop-record, is_some-map}
 use Rattle.qo_sound.proofs.FirmLemmas.{Firm, firm-drop}
+use Rattle.qo_sound.proofs.ReadLemmas.{named_in}
 use Rattle.qo_sound.proofs.SlotLemmas.{names_in, one_child}
 use Rattle.qo_sound.proofs.UnplugLemmas.{Sits}
 use Rattle.qo_sound_devices.specs.SoundPlaces.{child_entries, child_entry, HasOwner, machines, bridges, IsHome, kid_entries, kid_entry, listed, owns, owns_it, PlacesBut, stands}
@@ -117,7 +118,8 @@ any-kid_dropped p zero (x ∷ slots) s e at is no_more = go x (ap kid_entry (sam
     go (name, alias m property) q = absurd (let clash : None ≡ Some e = q in cc)
 
 -- a slot of one object that is let go
-module _ (depth : ℕ → ℕ) (out : ℕ → Bool) (left : Option ℕ) (ps : List ℕ) (b : Board) (h : Mid depth out left ps b) (n i : ℕ) (r : Record) (found : record_of b n ≡ Some r) (s : List ℕ × Slot) (at : slice_get r.slots i ≡ Some s) where
+module _ (depth : ℕ → ℕ) (out : ℕ → Bool) (left : Option ℕ) (ps : List ℕ) (b : Board) (h : Mid depth out left ps b) (n i : ℕ) (r : Record)
+    (found : record_of b n ≡ Some r) (s : List ℕ × Slot) (at : slice_get r.slots i ≡ Some s) where
   firm : Firm b
   firm = h.sits.near.firm
 
@@ -150,6 +152,33 @@ module _ (depth : ℕ → ℕ) (out : ℕ → Bool) (left : Option ℕ) (ps : Li
       go : (t : Bool) → (x == n) ≡ t → P x
       go true p = subst P (sym (eqb-true x n p)) here
       go false p = other x p (dropped-alike x p)
+
+  -- a child slot that is let go leaves the buses of all, the kids of buses, and where all but its child are listed
+  pub bus-stays : (m : ℕ) → IsChildSlot m s → (x : ℕ) → bus_of (drop_slot b n i) x ≡ bus_of b x
+  bus-stays m is =
+      for-each (λ y. bus_of (drop_slot b n i) y ≡ bus_of b y) (λ y p a. a.bus)
+      (dropped-read (λ ss. option_and_then strong_in (named_in (codes "parent_bus") ss))
+      (strong-dropped (codes "parent_bus") i r.slots (names-at b firm n r found) s at (inl is.some)))
+
+  kids-stay : (m : ℕ) → IsChildSlot m s → (x : ℕ) → kid_entries (drop_slot b n i) x ≡ kid_entries b x
+  kids-stay m is =
+      for-each (λ y. kid_entries (drop_slot b n i) y ≡ kid_entries b y) (λ y p a. a.kids)
+      (dropped-read (filter_map kid_entry) (kids-kept i r.slots s at is.no_kid))
+
+  pub listed-stays : (m : ℕ) → IsChildSlot m s → (x : ℕ) → (m == x) ≡ false → (y : ℕ)
+      → listed x (child_entries (drop_slot b n i) y) ≡ listed x (child_entries b y)
+  listed-stays m is x differs =
+      for-each (λ y. listed x (child_entries (drop_slot b n i) y) ≡ listed x (child_entries b y)) (λ y p a. ap (listed x) a.children)
+      (dropped-read (λ ss. listed x (filter_map child_entry ss))
+      (any-child_dropped (λ (e : List ℕ × ℕ). e.1 == x) i r.slots s (s.0, m) at is.entry differs))
+
+  -- who is not d does not leave its bus, where d alone may
+  stays-on : (d : ℕ) → ((x : ℕ) → left ≢ Some x ⊎ (d ≡ x)) → (x : ℕ) → stands (drop_slot b n i) x ≡ true → Some d ≢ Some x → left ≢ Some x
+  stays-on d was x k differs = go (was x)
+    where
+      go : left ≢ Some x ⊎ (d ≡ x) → left ≢ Some x
+      go (inl a) = a
+      go (inr a) = absurd (differs (ap Some a))
 
   -- the places behind it, from those of the board without the slot
   pub went-let_go : (now : Option ℕ) → Sits ps (let_go b n i) → PlacesBut depth now out (drop_slot b n i) → Went depth out now ps b (let_go b n i)
@@ -189,20 +218,12 @@ module _ (depth : ℕ → ℕ) (out : ℕ → Bool) (left : Option ℕ) (ps : Li
       child-same x =
           for-each
           (λ y.
-          among (1 ∷ MACHINE_BIRTH ∷ PERIPHERAL_BIRTH ∷ ANONYMOUS_BIRTH ∷ ROOT_BUS_BIRTH ∷ MEMORY_BUS_BIRTH ∷ OBJECTS_BIRTH ∷ []) y ≡ true → child_entries c y ≡ child_entries b y)
+          among (1 ∷ MACHINE_BIRTH ∷ PERIPHERAL_BIRTH ∷ ANONYMOUS_BIRTH ∷ ROOT_BUS_BIRTH ∷ MEMORY_BUS_BIRTH ∷ OBJECTS_BIRTH ∷ []) y ≡ true
+          → child_entries c y ≡ child_entries b y)
           (λ y p a k. a.children) (λ k. absurd (let clash : true ≡ false = sym k ∙ aside in cc)) x
 
       same-stands : (x : ℕ) → stands c x ≡ stands b x
       same-stands x = ap₂ (λ (xs ys : List (List ℕ × ℕ)). listed x xs || listed x ys) (child-same PERIPHERAL_BIRTH refl) (child-same ANONYMOUS_BIRTH refl)
-
-      same-bus : (x : ℕ) → bus_of c x ≡ bus_of b x
-      same-bus =
-          for-each (λ y. bus_of c y ≡ bus_of b y) (λ y p a. a.bus)
-          (dropped-read (λ ss. option_and_then strong_in (option_map (λ (y : List ℕ × Slot). y.1) (find (λ y. bytes_eq y.0 (codes "parent_bus")) ss)))
-          (strong-dropped (codes "parent_bus") i r.slots (names-at b firm n r found) s at (inl is.some)))
-
-      same-kids : (x : ℕ) → kid_entries c x ≡ kid_entries b x
-      same-kids = for-each (λ y. kid_entries c y ≡ kid_entries b y) (λ y p a. a.kids) (dropped-read (filter_map kid_entry) (kids-kept i r.slots s at is.no_kid))
 
       still-owns : (q : ℕ) → (m == q) ≡ false → (p : ℕ) → owns b p q ≡ true → owns c p q ≡ true
       still-owns q apart =
@@ -220,16 +241,16 @@ module _ (depth : ℕ → ℕ) (out : ℕ → Bool) (left : Option ℕ) (ps : Li
           go false u = bridges p (same-stands p ∙ t) (still-owns q u p o)
           go true u =
               let home : IsHome b x = h.places.home x (sym (same-stands x) ∙ k) (rw lone (λ z. cc)) in
-              let its : home.bus ≡ m = same_Some home.bus m (sym home.on ∙ sym (same-bus x) ∙ on ∙ ap Some (sym (eqb-true m q u))) in
+              let its : home.bus ≡ m = same_Some home.bus m (sym home.on ∙ sym (bus-stays m is x) ∙ on ∙ ap Some (sym (eqb-true m q u))) in
               absurd (let clash : false ≡ true = sym (ap (listed x) none) ∙ subst (λ (y : ℕ). listed x (kid_entries b y) ≡ true) its home.kid in cc)
 
       moved : Moved None b c
       moved =
           moved-steps None b c (firm-drop b n i firm) dropped-root dropped
           (λ x k. child-same x (wider x k))
-          (λ x k apart. same-bus x)
-          (λ q x isb l. (same-stands x ∙ (kid-of depth left out b h.places q x isb (sym (ap (listed x) (same-kids q)) ∙ l)).0, same-bus x))
-          (λ q x isb apart l. ap (listed x) (same-kids q) ∙ l)
+          (λ x k apart. bus-stays m is x)
+          (λ q x isb l. (same-stands x ∙ (kid-of depth left out b h.places q x isb (sym (ap (listed x) (kids-stay m is q)) ∙ l)).0, bus-stays m is x))
+          (λ q x isb apart l. ap (listed x) (kids-stay m is q) ∙ l)
           owned
         where
           wider : (x : ℕ) → among (1 ∷ MACHINE_BIRTH ∷ []) x ≡ true
@@ -254,7 +275,7 @@ module _ (depth : ℕ → ℕ) (out : ℕ → Bool) (left : Option ℕ) (ps : Li
       → ((q x : ℕ) → is_of b (codes "bus") q ≡ true → d ≢ x → listed x (kid_entries b q) ≡ true → listed x (kid_entries (drop_slot b n i) q) ≡ true)
       → PlacesBut depth (Some d) out (drop_slot b n i)
   link-dropped d none was same_bus kid hold =
-      places-moved b c depth (Some d) left out out moved h.places apart (λ x there k w. same-stands x ∙ w)
+      places-moved b c depth (Some d) left out out moved h.places (stays-on d was) (λ x there k w. same-stands x ∙ w)
       (λ x k a. dropped.realized x (stands-live c (firm-drop b n i firm) x k) ∙ h.places.each x (sym (same-stands x) ∙ k) a)
     where
       c : Board
@@ -262,13 +283,6 @@ module _ (depth : ℕ → ℕ) (out : ℕ → Bool) (left : Option ℕ) (ps : Li
 
       same-stands : (x : ℕ) → stands c x ≡ stands b x
       same-stands x = ap₂ (λ (xs ys : List (List ℕ × ℕ)). listed x xs || listed x ys) (link-stands none PERIPHERAL_BIRTH) (link-stands none ANONYMOUS_BIRTH)
-
-      apart : (x : ℕ) → stands c x ≡ true → Some d ≢ Some x → left ≢ Some x
-      apart x k differs = go (was x)
-        where
-          go : left ≢ Some x ⊎ (d ≡ x) → left ≢ Some x
-          go (inl a) = a
-          go (inr a) = absurd (differs (ap Some a))
 
       owned : (q : ℕ) → HasOwner b q → HasOwner c q
       owned q (machines o) = machines o
@@ -289,42 +303,20 @@ module _ (depth : ℕ → ℕ) (out : ℕ → Bool) (left : Option ℕ) (ps : Li
       → ((q : ℕ) → is_of b (codes "bus") q ≡ true → owns b d q ≡ false) → ((q : ℕ) → is_of b (codes "bus") q ≡ true → listed d (kid_entries b q) ≡ false)
       → PlacesBut depth (Some d) out (drop_slot b n i)
   child-dropped d shelf is was off unrealized ownless unlisted =
-      places-moved b c depth (Some d) left out out moved h.places apart only
+      places-moved b c depth (Some d) left out out moved h.places (stays-on d was) only
       (λ x k a. dropped.realized x (stands-live c (firm-drop b n i firm) x k) ∙ h.places.each x (stood x k) a)
     where
       c : Board
       c = drop_slot b n i
 
-      listed-same : (x : ℕ) → (d == x) ≡ false → (y : ℕ) → listed x (child_entries c y) ≡ listed x (child_entries b y)
-      listed-same x differs =
-          for-each (λ y. listed x (child_entries c y) ≡ listed x (child_entries b y)) (λ y p a. ap (listed x) a.children)
-          (dropped-read (λ ss. listed x (filter_map child_entry ss))
-          (any-child_dropped (λ (e : List ℕ × ℕ). e.1 == x) i r.slots s (s.0, d) at is.entry differs))
-
       same-stands : (x : ℕ) → (d == x) ≡ false → stands c x ≡ stands b x
-      same-stands x differs = ap₂ (λ (t u : Bool). t || u) (listed-same x differs PERIPHERAL_BIRTH) (listed-same x differs ANONYMOUS_BIRTH)
+      same-stands x differs = ap₂ (λ (t u : Bool). t || u) (listed-stays d is x differs PERIPHERAL_BIRTH) (listed-stays d is x differs ANONYMOUS_BIRTH)
 
       stood : (x : ℕ) → stands c x ≡ true → stands b x ≡ true
       stood x k =
           or-cases (listed x (child_entries c PERIPHERAL_BIRTH)) (listed x (child_entries c ANONYMOUS_BIRTH)) k
           (λ e. rw (within-listed x (dropped.children PERIPHERAL_BIRTH) e) refl)
           (λ e. rw (within-listed x (dropped.children ANONYMOUS_BIRTH) e) (or-true (listed x (child_entries b PERIPHERAL_BIRTH))))
-
-      same-bus : (x : ℕ) → bus_of c x ≡ bus_of b x
-      same-bus =
-          for-each (λ y. bus_of c y ≡ bus_of b y) (λ y p a. a.bus)
-          (dropped-read (λ ss. option_and_then strong_in (option_map (λ (y : List ℕ × Slot). y.1) (find (λ y. bytes_eq y.0 (codes "parent_bus")) ss)))
-          (strong-dropped (codes "parent_bus") i r.slots (names-at b firm n r found) s at (inl is.some)))
-
-      same-kids : (x : ℕ) → kid_entries c x ≡ kid_entries b x
-      same-kids = for-each (λ y. kid_entries c y ≡ kid_entries b y) (λ y p a. a.kids) (dropped-read (filter_map kid_entry) (kids-kept i r.slots s at is.no_kid))
-
-      apart : (x : ℕ) → stands c x ≡ true → Some d ≢ Some x → left ≢ Some x
-      apart x k differs = go (was x)
-        where
-          go : left ≢ Some x ⊎ (d ≡ x) → left ≢ Some x
-          go (inl a) = a
-          go (inr a) = absurd (differs (ap Some a))
 
       only : (x : ℕ) → is_live c x ≡ true → is_realized c x ≡ true → stands b x ≡ true → stands c x ≡ true
       only x there k e = go (d == x) refl
@@ -371,7 +363,7 @@ module _ (depth : ℕ → ℕ) (out : ℕ → Bool) (left : Option ℕ) (ps : Li
           go true u = at_home (was x)
             where
               on_before : bus_of b x ≡ Some q
-              on_before = sym (same-bus x) ∙ on
+              on_before = sym (bus-stays d is x) ∙ on
 
               at_home : left ≢ Some x ⊎ (d ≡ x) → HasOwner c q
               at_home (inr a) = absurd (let clash : None ≡ Some q = sym off ∙ ap (bus_of b) a ∙ on_before in cc)
@@ -382,10 +374,10 @@ module _ (depth : ℕ → ℕ) (out : ℕ → Bool) (left : Option ℕ) (ps : Li
                   absurd (let clash : true ≡ false = sym o ∙ ap (λ (y : ℕ). owns b y q) (sym (eqb-true d p u)) ∙ ownless q bus in cc)
 
       kid : (q x : ℕ) → is_of b (codes "bus") q ≡ true → listed x (kid_entries c q) ≡ true → (stands c x ≡ true) × (bus_of c x ≡ bus_of b x)
-      kid q x isb l = (go (d == x) refl, same-bus x)
+      kid q x isb l = (go (d == x) refl, bus-stays d is x)
         where
           before : listed x (kid_entries b q) ≡ true
-          before = sym (ap (listed x) (same-kids q)) ∙ l
+          before = sym (ap (listed x) (kids-stay d is q)) ∙ l
 
           go : (t : Bool) → (d == x) ≡ t → stands c x ≡ true
           go false p = same-stands x p ∙ (kid-of depth left out b h.places q x isb before).0
@@ -393,8 +385,8 @@ module _ (depth : ℕ → ℕ) (out : ℕ → Bool) (left : Option ℕ) (ps : Li
 
       moved : Moved (Some d) b c
       moved =
-          moved-steps (Some d) b c (firm-drop b n i firm) dropped-root dropped fixed (λ x k a. same-bus x) kid
-          (λ q x isb a l. ap (listed x) (same-kids q) ∙ l) owned
+          moved-steps (Some d) b c (firm-drop b n i firm) dropped-root dropped fixed (λ x k a. bus-stays d is x) kid
+          (λ q x isb a l. ap (listed x) (kids-stay d is q) ∙ l) owned
 
 -- an empty link is removed
 pub cut-kept : (b : Board) → is_live b 1 ≡ true → (n i : ℕ) → Firm b → Firm (cut n i b) → (r : Record) → record_of b n ≡ Some r → (s : List ℕ × Slot)
@@ -416,11 +408,13 @@ cut-kept b root n i firm firm_behind r found s at t is =
     child_none = ap (λ (x : Slot). child_entry (s.0, x)) is
 
     plains : (name : List ℕ)
-        → option_and_then plain_in (option_map (λ (y : List ℕ × Slot). y.1) (find (λ y. bytes_eq y.0 name) (remove r.slots i))) ≡ option_and_then plain_in (option_map (λ (y : List ℕ × Slot). y.1) (find (λ y. bytes_eq y.0 name) r.slots))
+        → option_and_then plain_in (option_map (λ (y : List ℕ × Slot). y.1) (find (λ y. bytes_eq y.0 name) (remove r.slots i)))
+        ≡ option_and_then plain_in (option_map (λ (y : List ℕ × Slot). y.1) (find (λ y. bytes_eq y.0 name) r.slots))
     plains name = removed-same plain_in name i r.slots names s at (none_in plain_in refl)
 
     strongs : (name : List ℕ)
-        → option_and_then strong_in (option_map (λ (y : List ℕ × Slot). y.1) (find (λ y. bytes_eq y.0 name) (remove r.slots i))) ≡ option_and_then strong_in (option_map (λ (y : List ℕ × Slot). y.1) (find (λ y. bytes_eq y.0 name) r.slots))
+        → option_and_then strong_in (option_map (λ (y : List ℕ × Slot). y.1) (find (λ y. bytes_eq y.0 name) (remove r.slots i)))
+        ≡ option_and_then strong_in (option_map (λ (y : List ℕ × Slot). y.1) (find (λ y. bytes_eq y.0 name) r.slots))
     strongs name = removed-same strong_in name i r.slots names s at (none_in strong_in refl)
 
     slots : SlotSteps r.slots (remove r.slots i)
@@ -444,8 +438,10 @@ cut-kept b root n i firm firm_behind r found s at t is =
               option_map_or is_true
               (option_and_then plain_in (option_map (λ (y : List ℕ × Slot). y.1) (find (λ y. bytes_eq y.0 (codes "realized")) ss))) false)
               (ap (λ (o : Option Val). option_map_or is_true o false) (plains (codes "realized")));
-          bus = λ k. reads (λ ss. option_and_then strong_in (option_map (λ (y : List ℕ × Slot). y.1) (find (λ y. bytes_eq y.0 (codes "parent_bus")) ss))) (strongs (codes "parent_bus"));
-          place = λ k. reads (λ ss. option_and_then number_in (option_and_then plain_in (option_map (λ (y : List ℕ × Slot). y.1) (find (λ y. bytes_eq y.0 (codes "slot")) ss)))) (ap (option_and_then number_in) (plains (codes "slot")));
+          bus = λ k. reads (λ ss. option_and_then strong_in (option_map (λ (y : List ℕ × Slot). y.1) (find (λ y. bytes_eq y.0 (codes "parent_bus")) ss)))
+              (strongs (codes "parent_bus"));
+          place = λ k. reads (λ ss. option_and_then number_in (option_and_then plain_in
+              (option_map (λ (y : List ℕ × Slot). y.1) (find (λ y. bytes_eq y.0 (codes "slot")) ss)))) (ap (option_and_then number_in) (plains (codes "slot")));
           children = λ k. reads (filter_map child_entry) (entries-removed child_entry i r.slots s at child_none);
           kids = λ k o. reads (filter_map kid_entry) (entries-removed kid_entry i r.slots s at kid);
           fewer = λ k. within-same (reads (filter_map kid_entry) (entries-removed kid_entry i r.slots s at kid));
@@ -538,7 +534,8 @@ kid-gone d (suc i) name (x ∷ slots) s distinct h at is = choose x distinct h (
         further None k rest = rest k
         further (Some z) k rest = rest k.1
     named-here zero (y ∷ ys) e a =
-        (subst (λ (o : Option (List ℕ × ℕ)). AllByRecursion (λ (e : List ℕ × ℕ). e.1 ≡ d → e.0 ≡ name) (cons_option o (filter_map kid_entry ys))) (ap kid_entry (same_Some y s e) ∙ is) a).0 refl
+        (subst (λ (o : Option (List ℕ × ℕ)). AllByRecursion (λ (e : List ℕ × ℕ). e.1 ≡ d → e.0 ≡ name) (cons_option o (filter_map kid_entry ys)))
+        (ap kid_entry (same_Some y s e) ∙ is) a).0 refl
 
     rest-of : (o : Option (List ℕ × ℕ)) (ys : List (List ℕ × ℕ)) → AllByRecursion (λ (e : List ℕ × ℕ). e.1 ≡ d → e.0 ≡ name) (cons_option o ys)
         → AllByRecursion (λ (e : List ℕ × ℕ). e.1 ≡ d → e.0 ≡ name) ys
@@ -547,7 +544,8 @@ kid-gone d (suc i) name (x ∷ slots) s distinct h at is = choose x distinct h (
 
     choose : (y : List ℕ × Slot) → IsDistinct bytes_eq (names_in (y ∷ slots))
         → AllByRecursion (λ (e : List ℕ × ℕ). e.1 ≡ d → e.0 ≡ name) (filter_map kid_entry (y ∷ slots))
-        → (AllByRecursion (λ (e : List ℕ × ℕ). e.1 ≡ d → e.0 ≡ name) (filter_map kid_entry slots) → slice_get slots i ≡ Some s → kid_entry s ≡ Some (s.0, d) → listed d (filter_map kid_entry (without_hold i slots)) ≡ false)
+        → (AllByRecursion (λ (e : List ℕ × ℕ). e.1 ≡ d → e.0 ≡ name) (filter_map kid_entry slots) → slice_get slots i ≡ Some s → kid_entry s ≡ Some (s.0, d)
+        → listed d (filter_map kid_entry (without_hold i slots)) ≡ false)
         → listed d (filter_map kid_entry (y ∷ without_hold i slots)) ≡ false
     choose y a k rest = go (kid_entry y) refl
       where

@@ -48,7 +48,7 @@ unfolding acted
 lists-acted n period c = (refl, refl)
 
 -- fewer are in the lists, and who stays in them stays realized
-record Leaves (b c : Board) : Type 0 where
+record LeavesListed (b c : Board) : Type 0 where
   fewer : Fewer b c
   lit : (x : ℕ) → named c x ≡ true → is_realized b x ≡ true → is_realized c x ≡ true
 
@@ -66,10 +66,10 @@ still-named b c f x e =
     right true k = refl
     right false k = k
 
-leaves-none : (b : Board) → Leaves b b
+leaves-none : (b : Board) → LeavesListed b b
 leaves-none b = record { fewer = fewer-same b b refl refl; lit = λ x e lit. lit }
 
-leaves-then : (b c d : Board) → Leaves b c → Leaves c d → Leaves b d
+leaves-then : (b c d : Board) → LeavesListed b c → LeavesListed c d → LeavesListed b d
 leaves-then b c d h k =
     record {
       fewer = record { pending = within-then k.fewer.pending h.fewer.pending; notices = within-then k.fewer.notices h.fewer.notices };
@@ -95,11 +95,11 @@ gone-told d (x ∷ xs) = go (x.birth == d) refl (gone-told d xs)
     go false p rest = rw (p, p) rest
 
 -- a bus, and a device
-leaves-bus : (m : ℕ) (c : Board) → Leaves c (unrealized_bus m c)
+leaves-bus : (m : ℕ) (c : Board) → LeavesListed c (unrealized_bus m c)
 unfolding acted
 leaves-bus m c = record { fewer = fewer-same c (unrealized_bus m c) refl refl; lit = λ x e lit. (dims-bus m c).same x ∙ lit }
 
-leaves-device : (d : ℕ) (c : Board) → Leaves c (unrealized_device d c)
+leaves-device : (d : ℕ) (c : Board) → LeavesListed c (unrealized_device d c)
 leaves-device d c = record { fewer = fewer; lit = lit }
   where
     one : Board
@@ -138,22 +138,22 @@ leaves-device d c = record { fewer = fewer; lit = lit }
         go true p = absurd (let clash : true ≡ false = sym e ∙ ap (named (unrealized_device d c)) (eqb-true x d p) ∙ unnamed in cc)
         go false p = (fades-device d c).same x p ∙ was
 
-leaves-each : (f : ℕ → Board → Board) → ((n : ℕ) (c : Board) → Leaves c (f n c)) → (ns : List ℕ) (c : Board) → Leaves c (each f ns c)
+leaves-each : (f : ℕ → Board → Board) → ((n : ℕ) (c : Board) → LeavesListed c (f n c)) → (ns : List ℕ) (c : Board) → LeavesListed c (each f ns c)
 leaves-each f keeps [] c = leaves-none c
 leaves-each f keeps (n ∷ ns) c = leaves-then c (f n c) (each f ns (f n c)) (keeps n c) (leaves-each f keeps ns (f n c))
 
-leaves-turns : (b : Board) (depth d : ℕ) (c : Board) → Leaves c (by_depth (unrealize_turn b) (λ d c. c) depth d c)
+leaves-turns : (b : Board) (depth d : ℕ) (c : Board) → LeavesListed c (by_depth (unrealize_turn b) (λ d c. c) depth d c)
 leaves-turns b zero d c = leaves-none c
 leaves-turns b (suc depth) d c = turn (leaves-turns b depth)
   where
-    turn : ((k : ℕ) (e : Board) → Leaves e (by_depth (unrealize_turn b) (λ d c. c) depth k e))
-        → Leaves c (by_depth (unrealize_turn b) (λ d c. c) (suc depth) d c)
+    turn : ((k : ℕ) (e : Board) → LeavesListed e (by_depth (unrealize_turn b) (λ d c. c) depth k e))
+        → LeavesListed c (by_depth (unrealize_turn b) (λ d c. c) (suc depth) d c)
     turn keeps =
         leaves-then c _ _
         (leaves-each _ (λ m e. leaves-then e _ _ (leaves-each _ keeps (kids_of b m) e) (leaves-bus m _)) (buses_of b d) c)
         (leaves-device d _)
 
-leaves-unrealize : (b : Board) (d : ℕ) → Leaves b (unrealize b d)
+leaves-unrealize : (b : Board) (d : ℕ) → LeavesListed b (unrealize b d)
 unfolding unrealize
 leaves-unrealize b d = leaves-turns b (suc (length (births b))) d b
 
@@ -171,7 +171,7 @@ detach-same b d =
     step-detach (SameLists (unrealize (pin b d) d)) (λ n change leaves c h. h) (λ pins c h. h) (λ o c h. ends-lists (unrealize (pin b d) d) o c h) b d
     (refl, refl)
 
-pinned-same : (b : Board) (d : ℕ) → Leaves b (pin b d)
+pinned-same : (b : Board) (d : ℕ) → LeavesListed b (pin b d)
 unfolding pin
 pinned-same b d = record { fewer = fewer-same b (pin b d) refl refl; lit = λ x e lit. lit }
 
@@ -182,7 +182,7 @@ detach-lists depth b d rest h e lists = lists-fewer b (detach b d) fewer stay li
     c : Board
     c = unrealize (pin b d) d
 
-    leaves : Leaves b (unrealize (pin b d) d)
+    leaves : LeavesListed b (unrealize (pin b d) d)
     leaves = leaves-then b (pin b d) (unrealize (pin b d) d) (pinned-same b d) (leaves-unrealize (pin b d) d)
 
     same : SameLists (unrealize (pin b d) d) (detach b d)

@@ -1,5 +1,5 @@
 -- Unrealizing leaves all of places but who is realized; who is not any more is the device and what is below it.
-use Rattle.std.proofs.Common.{◌≡◌, refl, ap, sym, subst, ◌∙◌, ℕ, zero, suc, ◌+◌, Bool, true, false, ◌==◌, eqb, List, [], ◌∷◌, find, filter_map, slice_get, Option, Some, None, is_some, option_map, option_and_then, arith, codes}
+use Rattle.std.proofs.Common.{◌≡◌, refl, ap, sym, subst, ◌∙◌, ℕ, zero, suc, ◌+◌, Bool, true, false, ◌==◌, eqb, List, [], ◌∷◌, filter_map, slice_get, Option, Some, None, is_some, option_map, option_and_then, arith, codes}
 use Rattle.std.specs.List.{cons_option}
 use Rattle.std.specs.Option.{option_map_or}
 use Rattle.std.specs.Str.{bytes_eq}
@@ -19,10 +19,11 @@ use Rattle.qo_model.specs.Devices.{bus_of, buses_of, clock_of, is_realized, is_t
 use Rattle.qo_model.specs.Objects.{place_from}
 use Rattle.qo_model.specs.Release.{edit, edited}
 use Rattle.qo_model.specs.Unplug.{disconnected, each, is_named, set_named, unheld, unnoticed, unrealize_turn, unrealized_bus, unrealized_device, unseen, unseen_named}
-use Rattle.qo_model.proofs.StepLemmas.{found-edited, is_some-map}
+use Rattle.qo_model.proofs.StepLemmas.{found-edited, is_some-map, map-edited}
+use Rattle.qo_sound.proofs.ReadLemmas.{named_in, plain-unseen, strong-unseen}
 use Rattle.qo_sound.proofs.UnplugLemmas.{Found, found-at, found-from}
 use Rattle.qo_sound_devices.specs.SoundPlaces.{child_entries, child_entry, kid_entries, kid_entry}
-use Rattle.qo_sound_devices.proofs.AlikeLemmas.{Alike, alike-record, bodiless, other-record}
+use Rattle.qo_sound_devices.proofs.AlikeLemmas.{Alike, alike-record, bodiless, other-record, alike-same}
 use Rattle.qo_sound_devices.proofs.DropLemmas.{edited-slots}
 use Rattle.qo_sound_devices.proofs.PlacesLemmas.{SameBody}
 
@@ -83,9 +84,6 @@ dims-alike b c anonymous alike =
 
 -- one slot is changed
 
-abbrev named_in : List ℕ → List (List ℕ × Slot) → Option Slot
-named_in name slots = option_map (λ (s : List ℕ × Slot). s.1) (find (λ s. bytes_eq s.0 name) slots)
-
 pub entries-changed : (f : List ℕ × Slot → Option (List ℕ × ℕ)) (g : Slot → Slot) → ((s : List ℕ × Slot) → f (s.0, g s.1) ≡ f s)
     → (i : ℕ) (slots : List (List ℕ × Slot)) → filter_map f (changed_at g i slots) ≡ filter_map f slots
 entries-changed f g same i [] = refl
@@ -128,7 +126,8 @@ first-changed g name [] k j i e is = refl
 first-changed g name (s ∷ slots) k j i e is = go (is_named name s) refl i is (first-changed g name slots (suc k) j)
   where
     go : (t : Bool) → is_named name s ≡ t → (m : ℕ) → j ≡ m + k
-        → ((n : ℕ) → place_from (is_named name) (suc k) slots ≡ Some j → j ≡ n + suc k → named_in name (changed_at g n slots) ≡ option_map g (named_in name slots))
+        → ((n : ℕ) → place_from (is_named name) (suc k) slots ≡ Some j → j ≡ n + suc k
+        → named_in name (changed_at g n slots) ≡ option_map g (named_in name slots))
         → named_in name (changed_at g m (s ∷ slots)) ≡ option_map g (named_in name (s ∷ slots))
     go true p zero q rest = rw p refl
     go true p (suc m) q rest = absurd (let same : k ≡ j = same_Some k j (rw p at e) in omega (arith, same, q))
@@ -151,13 +150,14 @@ pub record IsMild (g : Slot → Slot) : Type 0 where
   pub kids : (s : List ℕ × Slot) → kid_entry (s.0, g s.1) ≡ kid_entry s
   pub strongs : (s : Slot) → strong_in (g s) ≡ strong_in s
 
-module _ (g : Slot → Slot) (mild : IsMild g) (n i : ℕ) (b : Board) where
-  abbrev pub c : Board
+-- what is read of slots stays where one slot is changed, if it stays of the slots of that object
+module _ (g : Slot → Slot) (n i : ℕ) (b : Board) where
+  abbrev c : Board
   c = edit n (with_changed g i) b
 
-  -- what is read of slots stays, if it stays where one is changed
   pub reads : {A : Type 0} (f : List (List ℕ × Slot) → A)
-      → ((slots : List (List ℕ × Slot)) → slots_at b n ≡ slots → f (changed_at g i slots) ≡ f slots) → (x : ℕ) → f (slots_at c x) ≡ f (slots_at b x)
+      → ((slots : List (List ℕ × Slot)) → slots_at b n ≡ slots → f (changed_at g i slots) ≡ f slots) → (x : ℕ)
+      → f (slots_at (edit n (with_changed g i) b) x) ≡ f (slots_at b x)
   reads f same x = go (x == n) refl
     where
       at_owner : (o : Option Record) → record_of b n ≡ o → f (slots_at c n) ≡ f (slots_at b n)
@@ -177,30 +177,26 @@ module _ (g : Slot → Slot) (mild : IsMild g) (n i : ℕ) (b : Board) where
           ap (λ (o : Option Record). f (option_map_or (λ (r : Record). r.slots) o []))
           (found-edited n (with_changed g i) (λ r. refl) x b.records ∙ other-record n x (with_changed g i) b refl p (record_of b x) refl)
 
-  bodies : (x : ℕ) → SameBody b c x
-  bodies x = ap (option_map bodiless) (found-edited n (with_changed g i) (λ r. refl) x b.records) ∙ go (record_of b x)
-    where
-      at_record : (r : Record) (t : Bool) → (r.birth == n) ≡ t → bodiless (edited n (with_changed g i) r) ≡ bodiless r
-      at_record r true p = rw (edited, p) refl
-      at_record r false p = rw (edited, p) refl
+  pub bodies : (x : ℕ) → SameBody b (edit n (with_changed g i) b) x
+  bodies x =
+      ap (option_map bodiless) (found-edited n (with_changed g i) (λ r. refl) x b.records)
+      ∙ map-edited bodiless n (with_changed g i) (λ r. refl) (record_of b x)
 
-      go : (o : Option Record) → option_map bodiless (option_map (edited n (with_changed g i)) o) ≡ option_map bodiless o
-      go None = refl
-      go (Some r) = ap Some (at_record r (r.birth == n) refl)
-
+module _ (g : Slot → Slot) (mild : IsMild g) (n i : ℕ) (b : Board) where
   -- where the value of one name is changed
-  pub mild-dimmed : ((slots : List (List ℕ × Slot)) → slots_at b n ≡ slots → option_and_then plain_in (named_in (codes "slot") (changed_at g i slots)) ≡ option_and_then plain_in (named_in (codes "slot") slots))
-      → ((x : ℕ) → is_realized c x ≡ true → is_realized b x ≡ true) → Dimmed b c
+  pub mild-dimmed : ((slots : List (List ℕ × Slot)) → slots_at b n ≡ slots
+      → option_and_then plain_in (named_in (codes "slot") (changed_at g i slots)) ≡ option_and_then plain_in (named_in (codes "slot") slots))
+      → ((x : ℕ) → is_realized (edit n (with_changed g i) b) x ≡ true → is_realized b x ≡ true) → Dimmed b (edit n (with_changed g i) b)
   mild-dimmed slot fading =
       record {
-        body = bodies;
-        children = reads (filter_map child_entry) (λ slots e. entries-changed child_entry g mild.children i slots);
-        kids = reads (filter_map kid_entry) (λ slots e. entries-changed kid_entry g mild.kids i slots);
+        body = bodies g n i b;
+        children = reads g n i b (filter_map child_entry) (λ slots e. entries-changed child_entry g mild.children i slots);
+        kids = reads g n i b (filter_map kid_entry) (λ slots e. entries-changed kid_entry g mild.kids i slots);
         bus =
-            reads (λ slots. option_and_then strong_in (named_in (codes "parent_bus") slots))
+            reads g n i b (λ slots. option_and_then strong_in (named_in (codes "parent_bus") slots))
             (λ slots e. named-changed strong_in g mild.strongs (codes "parent_bus") i slots);
         place =
-            reads (λ slots. option_and_then number_in (option_and_then plain_in (named_in (codes "slot") slots)))
+            reads g n i b (λ slots. option_and_then number_in (option_and_then plain_in (named_in (codes "slot") slots)))
             (λ slots e. ap (option_and_then number_in) (slot slots e));
         fading = fading;
         anonymous = refl;
@@ -231,7 +227,7 @@ mild-val v = record { children = children; kids = kids; strongs = strongs }
     strongs (alias m property) = refl
 
 pub mild-unseen : IsMild unseen
-mild-unseen = record { children = children; kids = kids; strongs = strongs }
+mild-unseen = record { children = children; kids = kids; strongs = strong-unseen }
   where
     children : (s : List ℕ × Slot) → child_entry (s.0, unseen s.1) ≡ child_entry s
     children (name, plain w) = refl
@@ -247,20 +243,6 @@ mild-unseen = record { children = children; kids = kids; strongs = strongs }
     kids (name, weak t target) = refl
     kids (name, alias m property) = refl
 
-    strongs : (s : Slot) → strong_in (unseen s) ≡ strong_in s
-    strongs (plain w) = refl
-    strongs (child m) = refl
-    strongs (strong t target) = refl
-    strongs (weak t target) = refl
-    strongs (alias m property) = refl
-
-plain-unseen : (s : Slot) → plain_in (unseen s) ≡ plain_in s
-plain-unseen (plain w) = refl
-plain-unseen (child m) = refl
-plain-unseen (strong t target) = refl
-plain-unseen (weak t target) = refl
-plain-unseen (alias m property) = refl
-
 -- a weak link that is emptied
 pub dims-unseen : (n : ℕ) (name : List ℕ) (b : Board) → Dims b (unseen_named n name b)
 dims-unseen n name b = go (place_from (is_named name) 0 (slots_at b n)) refl
@@ -268,10 +250,11 @@ dims-unseen n name b = go (place_from (is_named name) 0 (slots_at b n)) refl
     go : (o : Option ℕ) → place_from (is_named name) 0 (slots_at b n) ≡ o → Dims b (unseen_named n name b)
     go None e = rw (unseen_named, e) (dims-none b)
     go (Some i) e =
-        let same_plain : (own : List ℕ) → (slots : List (List ℕ × Slot)) → slots_at b n ≡ slots → option_and_then plain_in (named_in own (changed_at unseen i slots)) ≡ option_and_then plain_in (named_in own slots) =
+        let same_plain : (own : List ℕ) → (slots : List (List ℕ × Slot)) → slots_at b n ≡ slots
+        → option_and_then plain_in (named_in own (changed_at unseen i slots)) ≡ option_and_then plain_in (named_in own slots) =
         λ own slots q. named-changed plain_in unseen plain-unseen own i slots in
         let realized : (x : ℕ) → is_realized (edit n (with_changed unseen i) b) x ≡ is_realized b x =
-        reads unseen mild-unseen n i b (λ slots. option_map_or is_true (option_and_then plain_in (named_in (codes "realized") slots)) false)
+        reads unseen n i b (λ slots. option_map_or is_true (option_and_then plain_in (named_in (codes "realized") slots)) false)
         (λ slots q. ap (λ (o : Option Val). option_map_or is_true o false) (same_plain (codes "realized") slots q)) in
         rw (unseen_named, e)
         (record { dimmed = mild-dimmed unseen mild-unseen n i b (same_plain (codes "slot")) (λ x q. sym (realized x) ∙ q); same = realized })
@@ -289,10 +272,12 @@ dims-set n name v no_slot no_mark b = go (place_from (is_named name) 0 (slots_at
     go None e = rw (set_named, e) (dims-none b)
     go (Some i) e =
         let f : Found (is_named name) (slots_at b n) i = found-at (is_named name) i (slots_at b n) e in
-        let same_named : (own : List ℕ) → bytes_eq name own ≡ false → (slots : List (List ℕ × Slot)) → slots_at b n ≡ slots → named_in own (changed_at (with_val v) i slots) ≡ named_in own slots =
-        λ own apart slots q. named-other (with_val v) own i slots f.entry (ap (λ (x : List (List ℕ × Slot)). slice_get x i) (sym q) ∙ f.at) (other-name name own apart f.entry f.passes) in
+        let same_named : (own : List ℕ) → bytes_eq name own ≡ false → (slots : List (List ℕ × Slot)) → slots_at b n ≡ slots
+        → named_in own (changed_at (with_val v) i slots) ≡ named_in own slots =
+        λ own apart slots q. named-other (with_val v) own i slots f.entry (ap (λ (x : List (List ℕ × Slot)). slice_get x i) (sym q) ∙ f.at)
+        (other-name name own apart f.entry f.passes) in
         let realized : (x : ℕ) → is_realized (edit n (with_changed (with_val v) i) b) x ≡ is_realized b x =
-        reads (with_val v) (mild-val v) n i b (λ slots. option_map_or is_true (option_and_then plain_in (named_in (codes "realized") slots)) false)
+        reads (with_val v) n i b (λ slots. option_map_or is_true (option_and_then plain_in (named_in (codes "realized") slots)) false)
         (λ slots q. ap (λ (o : Option Slot). option_map_or is_true (option_and_then plain_in o) false) (same_named (codes "realized") no_mark slots q)) in
         rw (set_named, e)
         (record {
@@ -399,14 +384,7 @@ dims-acted act n period b = dims-alike b (acted act n period b) refl alike
                 let slots : slots_at (acted act n period b) x ≡ slots_at b x =
                 ap (λ (o : Option Record). option_map_or (λ (y : Record). y.slots) o []) now
                 ∙ sym (ap (λ (o : Option Record). option_map_or (λ (y : Record). y.slots) o []) e) in
-                record {
-                  children = ap (filter_map child_entry) slots;
-                  kids = ap (filter_map kid_entry) slots;
-                  bus = ap (λ (ss : List (List ℕ × Slot)). option_and_then strong_in (named_in (codes "parent_bus") ss)) slots;
-                  place = ap (λ (ss : List (List ℕ × Slot)). option_and_then number_in (option_and_then plain_in (named_in (codes "slot") ss))) slots;
-                  realized = ap (λ (ss : List (List ℕ × Slot)). option_map_or is_true (option_and_then plain_in (named_in (codes "realized") ss)) false) slots;
-                  body = ap (option_map bodiless) now ∙ sym (ap (option_map bodiless) e);
-                }
+                alike-same b (acted act n period b) x slots (ap (option_map bodiless) now ∙ sym (ap (option_map bodiless) e))
             at_record false p = alike-record b (acted act n period b) x (q ∙ rw (edited, p) refl ∙ sym e)
 
 dims-unheld : (n : ℕ) (b : Board) → Dims b (unheld n b)
@@ -451,7 +429,7 @@ pub each-keeps : (P : Board → Type 0) (f : ℕ → Board → Board) (ns : List
 each-keeps P f [] keeps c h = h
 each-keeps P f (n ∷ ns) keeps c h = each-keeps P f ns (λ k e. keeps k (rw e (or-true (eqb k n)))) (f n c) (keeps n (rw (eq-eqb n n refl) refl) c h)
 
-each-makes : (P : Board → Type 0) (f : ℕ → Board → Board) (ns : List ℕ) (k : ℕ) → among ns k ≡ true → ((c : Board) → P (f k c))
+pub each-makes : (P : Board → Type 0) (f : ℕ → Board → Board) (ns : List ℕ) (k : ℕ) → among ns k ≡ true → ((c : Board) → P (f k c))
     → ((n : ℕ) (c : Board) → P c → P (f n c)) → (c : Board) → P (each f ns c)
 each-makes P f [] k e makes keeps c = absurd (let clash : false ≡ true = e in cc)
 each-makes P f (n ∷ ns) k e makes keeps c = go (eqb k n) refl (each-makes P f ns k)
@@ -477,7 +455,8 @@ module _ (b : Board) where
       turn keeps =
           let inner : Dimmed c (each (on_bus depth) (buses_of b d) c) =
           each-keeps (Dimmed c) (on_bus depth) (buses_of b d)
-          (λ m q e h. dimmed-then c (each (turns depth) (kids_of b m) e) (on_bus depth m e) (each-keeps (Dimmed c) (turns depth) (kids_of b m) (λ k r x j. dimmed-then c x (turns depth k x) j (keeps k x)) e h) (dims-bus m (each (turns depth) (kids_of b m) e)).dimmed) c
+          (λ m q e h. dimmed-then c (each (turns depth) (kids_of b m) e) (on_bus depth m e) (each-keeps (Dimmed c) (turns depth) (kids_of b m)
+          (λ k r x j. dimmed-then c x (turns depth k x) j (keeps k x)) e h) (dims-bus m (each (turns depth) (kids_of b m) e)).dimmed) c
           (dimmed-none c) in
           dimmed-then c (each (on_bus depth) (buses_of b d) c) (turns (suc depth) d c) inner (fades-device d (each (on_bus depth) (buses_of b d) c)).dimmed
 

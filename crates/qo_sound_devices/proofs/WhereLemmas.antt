@@ -17,11 +17,11 @@ use Rattle.qo_model.specs.Devices.{clock_name}
 use Rattle.qo_model.specs.Paths.{attached, attached_turn, is_child, is_of, place_in, place_of}
 use Rattle.qo_model.specs.SoundGraph.{Rises, SoundGraph}
 use Rattle.qo_model.specs.Types.{is_a, types}
+use Rattle.qo_model.proofs.GraphLemmas.{births_at}
 use Rattle.qo_model.proofs.ReleaseLemmas.{found-within}
 use Rattle.qo_model.proofs.StepLemmas.{found_at}
 use Rattle.qo_model.proofs.TreeLemmas.{paths_lem, place_at}
 use Rattle.qo_sound.proofs.FirmLemmas.{Firm, parents_in}
-use Rattle.qo_sound.proofs.RecordLemmas.{births_at}
 use Rattle.qo_sound.proofs.SlotLemmas.{one_child}
 use Rattle.qo_sound_devices.specs.SoundPlaces.{child_entries, child_entry, has_entry, HasOwner, machines, bridges, IsAtHome, IsHosted, on_machine, on_device, listed, owns_it, PlacesBut, stands}
 use Rattle.qo_sound_devices.proofs.AttachedLemmas.{found-counted, listed-found, parent-is, place-birth, place-some}
@@ -66,6 +66,15 @@ place-listed b firm x u e =
     ap (λ (o : Option Record). listed x (filter_map child_entry (option_map_or (λ (r : Record). r.slots) o []))) k.found
     ∙ listed-found x k.owner.slots ∙ sym (place-some x k.owner) ∙ ap is_some k.place
 
+-- who has an entry is listed
+entry-listed : (x : ℕ) (name : List ℕ) (es : List (List ℕ × ℕ)) → has_entry (name, x) es ≡ true → listed x es ≡ true
+entry-listed x name [] k = cc
+entry-listed x name (z ∷ es) k = pick (z.1 == x) refl (entry-listed x name es)
+  where
+    pick : (t : Bool) → (z.1 == x) ≡ t → (has_entry (name, x) es ≡ true → listed x es ≡ true) → listed x (z ∷ es) ≡ true
+    pick true p rest = rw p refl
+    pick false p rest = rw p (rest (rw p at k))
+
 -- and under the name that it has there
 first-named : (x : ℕ) (name : List ℕ) (slots : List (List ℕ × Slot)) → sum_by (one_child x) slots ≤ 1
     → has_entry (name, x) (filter_map child_entry slots) ≡ true
@@ -73,14 +82,6 @@ first-named : (x : ℕ) (name : List ℕ) (slots : List (List ℕ × Slot)) → 
 first-named x name [] few h s e = cc
 first-named x name (y ∷ slots) few h s e = go (is_child x y.1) refl (first-named x name slots)
   where
-    any-listed : (es : List (List ℕ × ℕ)) → has_entry (name, x) es ≡ true → listed x es ≡ true
-    any-listed [] k = cc
-    any-listed (z ∷ es) k = pick (z.1 == x) refl (any-listed es)
-      where
-        pick : (t : Bool) → (z.1 == x) ≡ t → (has_entry (name, x) es ≡ true → listed x es ≡ true) → listed x (z ∷ es) ≡ true
-        pick true p rest = rw p refl
-        pick false p rest = rw p (rest (rw p at k))
-
     here : (z : List ℕ × Slot) → is_child x z.1 ≡ true → has_entry (name, x) (filter_map child_entry (z ∷ slots)) ≡ true
         → sum_by (one_child x) (z ∷ slots) ≤ 1 → z.0 ≡ name
     here (own, plain v) p k l = absurd (let clash : false ≡ true = p in cc)
@@ -93,7 +94,8 @@ first-named x name (y ∷ slots) few h s e = go (is_child x y.1) refl (first-nam
         pick true q = (bytes_eq-Decides own name).0 q
         pick false q =
             let behind : has_entry (name, x) (filter_map child_entry slots) ≡ true = rw (p, q) at k in
-            let some : 1 ≤ sum_by (one_child x) slots = found-counted x slots (sym (listed-found x slots) ∙ any-listed (filter_map child_entry slots) behind) in
+            let some : 1 ≤ sum_by (one_child x) slots =
+            found-counted x slots (sym (listed-found x slots) ∙ entry-listed x name (filter_map child_entry slots) behind) in
             let one : one_child x (own, child m) ≡ 1 = rw p refl in
             absurd (let clash : 2 ≤ 1 = omega (arith, one, some, l, sum_by-cons (one_child x) (own, child m) slots) in omega (arith, clash))
 
@@ -106,7 +108,8 @@ first-named x name (y ∷ slots) few h s e = go (is_child x y.1) refl (first-nam
     behind (own, child m) p k = rw p at k
 
     go : (t : Bool) → is_child x y.1 ≡ t
-        → (sum_by (one_child x) slots ≤ 1 → has_entry (name, x) (filter_map child_entry slots) ≡ true → (z : List ℕ × Slot) → find (λ (w : List ℕ × Slot). is_child x w.1) slots ≡ Some z → z.0 ≡ name)
+        → (sum_by (one_child x) slots ≤ 1 → has_entry (name, x) (filter_map child_entry slots) ≡ true → (z : List ℕ × Slot)
+        → find (λ (w : List ℕ × Slot). is_child x w.1) slots ≡ Some z → z.0 ≡ name)
         → s.0 ≡ name
     go true p rest = subst (λ (z : List ℕ × Slot). z.0 ≡ name) (same_Some y s (rw p at e)) (here y p h few)
     go false p rest = rest (omega (arith, few, sum_by-cons (one_child x) y slots)) (behind y p h) s (rw p at e)
@@ -114,16 +117,8 @@ first-named x name (y ∷ slots) few h s e = go (is_child x y.1) refl (first-nam
 pub place-named : (b : Board) → Firm b → (p x : ℕ) (name : List ℕ) → has_entry (name, x) (child_entries b p) ≡ true → place_of b x ≡ Some (p, name)
 place-named b firm p x name e = go (place_of b x) refl
   where
-    any-listed : (es : List (List ℕ × ℕ)) → has_entry (name, x) es ≡ true → listed x es ≡ true
-    any-listed [] k = cc
-    any-listed (z ∷ es) k = pick (z.1 == x) refl (any-listed es)
-      where
-        pick : (t : Bool) → (z.1 == x) ≡ t → (has_entry (name, x) es ≡ true → listed x es ≡ true) → listed x (z ∷ es) ≡ true
-        pick true q rest = rw q refl
-        pick false q rest = rw q (rest (rw q at k))
-
     parent : option_map (λ (u : ℕ × List ℕ). u.0) (place_of b x) ≡ Some p
-    parent = parent-is b firm p x (any-listed (child_entries b p) e)
+    parent = parent-is b firm p x (entry-listed x name (child_entries b p) e)
 
     named : (u : ℕ × List ℕ) → place_of b x ≡ Some u → u.0 ≡ p → u.1 ≡ name
     named u q is = from (find (λ (s : List ℕ × Slot). is_child x s.1) k.owner.slots) refl k.place

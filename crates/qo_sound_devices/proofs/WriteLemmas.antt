@@ -3,6 +3,7 @@ use Rattle.std.proofs.Common.{inr, rules, ◌≡◌, refl, ap, sym, subst, ◌�
 use Rattle.std.specs.List.{AllByRecursion}
 use Rattle.std.specs.Option.{option_map_or}
 use Rattle.std.specs.Str.{bytes_eq}
+use Rattle.std.proofs.lemmas.Bool.{not-true, and_parts}
 use Rattle.std.proofs.lemmas.List.Quantifiers.{position-Some}
 use Rattle.std.proofs.lemmas.Option.{same_Some}
 use Rattle.std.proofs.lemmas.Slice.Eq.{bytes_eq-Decides}
@@ -31,6 +32,7 @@ use Rattle.qo_model.proofs.EditLemmas.{StandsAt, stands-at}
 use Rattle.qo_model.proofs.StepLemmas.{drop-live, found-edited}
 use Rattle.qo_sound.proofs.ChangeLemmas.{emptied-at, IsLink, holding, seeing, near-relinked, near-set}
 use Rattle.qo_sound.proofs.FirmLemmas.{edited-kinds, FitsKind, Firm, firm-changed, firm-drop, Linked}
+use Rattle.qo_sound.proofs.ReadLemmas.{plain-pointed}
 use Rattle.qo_sound.proofs.SlotLemmas.{child-pointed}
 use Rattle.qo_sound.proofs.TargetLemmas.{FitsResult, target-fits}
 use Rattle.qo_sound.proofs.ViewLemmas.{AtRest}
@@ -73,15 +75,6 @@ record Fits (b : Board) (n : ℕ) (name : List ℕ) : Type 0 where
   unmarked : bytes_eq name (codes "realized") ≡ false
   unplaced : bytes_eq name (codes "slot") ≡ false
 
-flip : (t : Bool) → not t ≡ true → t ≡ false
-flip false e = refl
-flip true e = absurd (let clash : false ≡ true = e in cc)
-
-both : (t u : Bool) → t && u ≡ true → (t ≡ true) × (u ≡ true)
-both true true e = (refl, refl)
-both true false e = absurd (let clash : false ≡ true = e in cc)
-both false u e = absurd (let clash : false ≡ true = e in cc)
-
 found-fits : (t : TypeId) (name : List ℕ) (ps : List Property) → AllByRecursion (λ (p : Property). fits_places t p ≡ true) ps → (row : Property)
     → find (λ (p : Property). bytes_eq (property_name p.name) name) ps ≡ Some row
     → (fits_places t row ≡ true) × (bytes_eq (property_name row.name) name ≡ true)
@@ -89,7 +82,8 @@ found-fits t name [] h row e = cc
 found-fits t name (p ∷ ps) h row e = go (bytes_eq (property_name p.name) name) refl (found-fits t name ps h.1 row)
   where
     go : (u : Bool) → bytes_eq (property_name p.name) name ≡ u
-        → (find (λ (x : Property). bytes_eq (property_name x.name) name) ps ≡ Some row → (fits_places t row ≡ true) × (bytes_eq (property_name row.name) name ≡ true))
+        → (find (λ (x : Property). bytes_eq (property_name x.name) name) ps ≡ Some row
+        → (fits_places t row ≡ true) × (bytes_eq (property_name row.name) name ≡ true))
         → (fits_places t row ≡ true) × (bytes_eq (property_name row.name) name ≡ true)
     go true q rest = subst (λ (x : Property). (fits_places t x ≡ true) × (bytes_eq (property_name x.name) name ≡ true)) (same_Some p row (rw q at e)) (h.0, q)
     go false q rest = rest (rw q at e)
@@ -102,23 +96,26 @@ row-fits b n name row e may = go (kind_of b n) refl e
     go None q k = absurd (let clash : None ≡ Some row = k in cc)
     go (Some t) q k =
         let all : (fits_places t row ≡ true) × (bytes_eq (property_name row.name) name ≡ true) = found-fits t name (slots_of t) (all-fit t) row k in
-        let parts : (not (is_a t (codes "bus")) && not (bytes_eq (property_name row.name) (codes "parent_bus"))) && (not (bytes_eq (property_name row.name) (codes "realized")) && not (bytes_eq (property_name row.name) (codes "slot"))) ≡ true =
+        let parts : (not (is_a t (codes "bus")) && not (bytes_eq (property_name row.name) (codes "parent_bus")))
+        && (not (bytes_eq (property_name row.name) (codes "realized")) && not (bytes_eq (property_name row.name) (codes "slot"))) ≡ true =
         rw (fits_places, may) at all.0 in
-        let halves : (not (is_a t (codes "bus")) && not (bytes_eq (property_name row.name) (codes "parent_bus")) ≡ true) × (not (bytes_eq (property_name row.name) (codes "realized")) && not (bytes_eq (property_name row.name) (codes "slot")) ≡ true) =
-        both (not (is_a t (codes "bus")) && not (bytes_eq (property_name row.name) (codes "parent_bus")))
+        let halves : (not (is_a t (codes "bus")) && not (bytes_eq (property_name row.name) (codes "parent_bus")) ≡ true)
+        × (not (bytes_eq (property_name row.name) (codes "realized")) && not (bytes_eq (property_name row.name) (codes "slot")) ≡ true) =
+        and_parts (not (is_a t (codes "bus")) && not (bytes_eq (property_name row.name) (codes "parent_bus")))
         (not (bytes_eq (property_name row.name) (codes "realized")) && not (bytes_eq (property_name row.name) (codes "slot"))) parts in
         let kinds : (not (is_a t (codes "bus")) ≡ true) × (not (bytes_eq (property_name row.name) (codes "parent_bus")) ≡ true) =
-        both (not (is_a t (codes "bus"))) (not (bytes_eq (property_name row.name) (codes "parent_bus"))) halves.0 in
+        and_parts (not (is_a t (codes "bus"))) (not (bytes_eq (property_name row.name) (codes "parent_bus"))) halves.0 in
         let names : (not (bytes_eq (property_name row.name) (codes "realized")) ≡ true) × (not (bytes_eq (property_name row.name) (codes "slot")) ≡ true) =
-        both (not (bytes_eq (property_name row.name) (codes "realized"))) (not (bytes_eq (property_name row.name) (codes "slot"))) halves.1 in
+        and_parts (not (bytes_eq (property_name row.name) (codes "realized"))) (not (bytes_eq (property_name row.name) (codes "slot"))) halves.1 in
         let its : property_name row.name ≡ name = (bytes_eq-Decides (property_name row.name) name).0 all.1 in
         record {
-          no_bus = ap (λ (o : Option TypeId). option_map_or (λ (k : TypeId). is_a k (codes "bus")) o false) q ∙ flip (is_a t (codes "bus")) kinds.0;
+          no_bus = ap (λ (o : Option TypeId). option_map_or (λ (k : TypeId). is_a k (codes "bus")) o false) q ∙ not-true (is_a t (codes "bus")) kinds.0;
           unlinked =
               subst (λ (x : List ℕ). bytes_eq x (codes "parent_bus") ≡ false) its
-              (flip (bytes_eq (property_name row.name) (codes "parent_bus")) kinds.1);
-          unmarked = subst (λ (x : List ℕ). bytes_eq x (codes "realized") ≡ false) its (flip (bytes_eq (property_name row.name) (codes "realized")) names.0);
-          unplaced = subst (λ (x : List ℕ). bytes_eq x (codes "slot") ≡ false) its (flip (bytes_eq (property_name row.name) (codes "slot")) names.1);
+              (not-true (bytes_eq (property_name row.name) (codes "parent_bus")) kinds.1);
+          unmarked =
+              subst (λ (x : List ℕ). bytes_eq x (codes "realized") ≡ false) its (not-true (bytes_eq (property_name row.name) (codes "realized")) names.0);
+          unplaced = subst (λ (x : List ℕ). bytes_eq x (codes "slot") ≡ false) its (not-true (bytes_eq (property_name row.name) (codes "slot")) names.1);
         }
 
 -- the slot at a place that is found
@@ -153,14 +150,15 @@ set-kept b n i v name fits f firm root = kept-alike b c firm (dimmed-live b c di
     own = (bytes_eq-Decides f.entry.0 name).0 f.passes
 
     same_named : (other : List ℕ) → bytes_eq name other ≡ false → (slots : List (List ℕ × Slot)) → slots_at b n ≡ slots
-        → option_map (λ (s : List ℕ × Slot). s.1) (find (λ s. bytes_eq s.0 other) (changed_at (with_val v) i slots)) ≡ option_map (λ (s : List ℕ × Slot). s.1) (find (λ s. bytes_eq s.0 other) slots)
+        → option_map (λ (s : List ℕ × Slot). s.1) (find (λ s. bytes_eq s.0 other) (changed_at (with_val v) i slots))
+        ≡ option_map (λ (s : List ℕ × Slot). s.1) (find (λ s. bytes_eq s.0 other) slots)
     same_named other apart slots q =
         named-other (with_val v) other i slots f.entry (ap (λ (x : List (List ℕ × Slot)). slice_get x i) (sym q) ∙ f.at)
         (subst (λ (x : List ℕ). bytes_eq x other ≡ false) (sym own) apart)
 
     realized : (x : ℕ) → is_realized c x ≡ is_realized b x
     realized =
-        reads (with_val v) (mild-val v) n i b
+        reads (with_val v) n i b
         (λ slots.
         option_map_or is_true (option_and_then plain_in (option_map (λ (s : List ℕ × Slot). s.1) (find (λ s. bytes_eq s.0 (codes "realized")) slots))) false)
         (λ slots q. ap (λ (o : Option Slot). option_map_or is_true (option_and_then plain_in o) false) (same_named (codes "realized") fits.unmarked slots q))
@@ -173,14 +171,7 @@ set-kept b n i v name fits f firm root = kept-alike b c firm (dimmed-live b c di
     alike : (x : ℕ) → is_live c x ≡ true → Alike b c x
     alike x there = record { children = dims.children x; kids = dims.kids x; bus = dims.bus x; place = dims.place x; realized = realized x; body = dims.body x }
 
-plain-pointed : (m : ℕ) (s : Slot) → plain_in (pointed m s) ≡ plain_in s
-plain-pointed m (plain v) = refl
-plain-pointed m (child k) = refl
-plain-pointed m (strong t target) = refl
-plain-pointed m (weak t target) = refl
-plain-pointed m (alias k property) = refl
-
-child-entry-pointed : (m : ℕ) (s : List ℕ × Slot) → child_entry (s.0, pointed m s.1) ≡ child_entry s
+pub child-entry-pointed : (m : ℕ) (s : List ℕ × Slot) → child_entry (s.0, pointed m s.1) ≡ child_entry s
 child-entry-pointed m (name, plain v) = refl
 child-entry-pointed m (name, child k) = refl
 child-entry-pointed m (name, strong t target) = refl
@@ -219,7 +210,8 @@ point-kept depth b h n i m name f unlinked no_bus firm =
             ap g (edited-slots b n (with_changed (pointed m) i) (λ y. refl) r q) ∙ same r.slots was ∙ sym (ap g was)
 
     plains : (own : List ℕ)
-        → option_and_then plain_in (option_map (λ (s : List ℕ × Slot). s.1) (find (λ s. bytes_eq s.0 own) (slots_at c n))) ≡ option_and_then plain_in (option_map (λ (s : List ℕ × Slot). s.1) (find (λ s. bytes_eq s.0 own) (slots_at b n)))
+        → option_and_then plain_in (option_map (λ (s : List ℕ × Slot). s.1) (find (λ s. bytes_eq s.0 own) (slots_at c n)))
+        ≡ option_and_then plain_in (option_map (λ (s : List ℕ × Slot). s.1) (find (λ s. bytes_eq s.0 own) (slots_at b n)))
     plains own =
         at_owner (λ slots. option_and_then plain_in (option_map (λ (s : List ℕ × Slot). s.1) (find (λ s. bytes_eq s.0 own) slots)))
         (λ slots q. named-changed plain_in (pointed m) (plain-pointed m) own i slots)
@@ -228,7 +220,10 @@ point-kept depth b h n i m name f unlinked no_bus firm =
     here =
         record {
           realized = ap (λ (o : Option Val). option_map_or is_true o false) (plains (codes "realized"));
-          bus = λ k. at_owner (λ slots. option_and_then strong_in (option_map (λ (s : List ℕ × Slot). s.1) (find (λ s. bytes_eq s.0 (codes "parent_bus")) slots))) (λ slots q. ap (option_and_then strong_in) (named-other (pointed m) (codes "parent_bus") i slots f.entry (ap (λ (x : List (List ℕ × Slot)). slice_get x i) (sym q) ∙ f.at) apart));
+          bus =
+              λ k. at_owner (λ slots. option_and_then strong_in (option_map (λ (s : List ℕ × Slot). s.1) (find (λ s. bytes_eq s.0 (codes "parent_bus")) slots)))
+              (λ slots q. ap (option_and_then strong_in)
+              (named-other (pointed m) (codes "parent_bus") i slots f.entry (ap (λ (x : List (List ℕ × Slot)). slice_get x i) (sym q) ∙ f.at) apart));
           place = λ k. ap (option_and_then number_in) (plains (codes "slot"));
           children = λ k. at_owner (filter_map child_entry) (λ slots q. entries-changed child_entry (pointed m) (child-entry-pointed m) i slots);
           kids = λ k o. other k;

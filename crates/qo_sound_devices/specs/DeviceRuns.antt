@@ -10,7 +10,8 @@ use Rattle.qo_model.specs.Hotplug.{asked, completed, refused, reset_whole}
 use Rattle.qo_model.specs.Plug.{Wanted, cut_attempt, plug}
 use Rattle.qo_model.specs.Reset.{held, released}
 
--- a step: a command on objects; a device is added, or the attempt is cut; its removal is asked for, and the guest refuses it or lets it go; a notice is read; an object acts, is held, and no longer; the whole board is reset; the events are sent
+-- a step: a command on objects; a device is added, or the attempt is cut; its removal is asked for, and the guest refuses it or lets it go; a notice is read;
+-- an object acts, is held, and no longer; the whole board is reset; the events are sent
 pub data Step : Type 0 where
   commands : Change → Step
   adds : Wanted → Step

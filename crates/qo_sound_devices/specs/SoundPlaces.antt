@@ -88,7 +88,8 @@ pub data HasOwner (b : Board) (q : ℕ) : Type 0 where
   machines : among (ROOT_BUS_BIRTH ∷ MEMORY_BUS_BIRTH ∷ []) q ≡ true → HasOwner b q
   bridges : (p : ℕ) → stands b p ≡ true → owns b p q ≡ true → HasOwner b q
 
--- how many bridges stand above each bus: none above the machine's, one more above a bridge's than above the bus that the bridge is on, and no more than the profile allows
+-- how many bridges stand above each bus: none above the machine's, one more above a bridge's than above the bus that the bridge is on, and no more than the
+-- profile allows
 pub record IsShallow (depth : ℕ → ℕ) (b : Board) : Type 0 where
   pub top : AllByRecursion (λ q. depth q ≡ 0) (ROOT_BUS_BIRTH ∷ MEMORY_BUS_BIRTH ∷ [])
   pub below : (p q m : ℕ) → stands b p ≡ true → bus_of b p ≡ Some q → owns b p m ≡ true → depth m ≡ suc (depth q)
@@ -120,12 +121,14 @@ pub record PlacesBut (depth : ℕ → ℕ) (left : Option ℕ) (out : ℕ → Bo
   -- the objects of the machine under their parents
   pub machine : listed MACHINE_BIRTH (child_entries b ROOT_BIRTH) ≡ true
   pub objects : listed OBJECTS_BIRTH (child_entries b ROOT_BIRTH) ≡ true
-  pub parts : AllByRecursion (λ n. listed n (child_entries b MACHINE_BIRTH) ≡ true) (PERIPHERAL_BIRTH ∷ ANONYMOUS_BIRTH ∷ ROOT_BUS_BIRTH ∷ MEMORY_BUS_BIRTH ∷ SYSTEM_CLOCK_BIRTH ∷ [])
+  pub parts : AllByRecursion (λ n. listed n (child_entries b MACHINE_BIRTH) ≡ true)
+      (PERIPHERAL_BIRTH ∷ ANONYMOUS_BIRTH ∷ ROOT_BUS_BIRTH ∷ MEMORY_BUS_BIRTH ∷ SYSTEM_CLOCK_BIRTH ∷ [])
   pub rooted : IsRooted b
   -- what is a child of which object
   pub children : (p : ℕ) → AllByRecursion (IsAtHome b p) (child_entries b p)
   -- these, and `/objects`, stand in no container of devices
-  pub aside : AllByRecursion (λ n. stands b n ≡ false) (ROOT_BIRTH ∷ MACHINE_BIRTH ∷ PERIPHERAL_BIRTH ∷ ANONYMOUS_BIRTH ∷ ROOT_BUS_BIRTH ∷ MEMORY_BUS_BIRTH ∷ OBJECTS_BIRTH ∷ [])
+  pub aside : AllByRecursion (λ n. stands b n ≡ false)
+      (ROOT_BIRTH ∷ MACHINE_BIRTH ∷ PERIPHERAL_BIRTH ∷ ANONYMOUS_BIRTH ∷ ROOT_BUS_BIRTH ∷ MEMORY_BUS_BIRTH ∷ OBJECTS_BIRTH ∷ [])
   -- what stands in the containers
   pub peripheral : AllByRecursion (IsPeripheral b) (child_entries b PERIPHERAL_BIRTH)
   pub anonymous : AllByRecursion (IsAnonymous b) (child_entries b ANONYMOUS_BIRTH)

@@ -18,16 +18,16 @@ use Rattle.qo_model.specs.Opening.{opening_board}
 use Rattle.qo_model.specs.Plug.{Wanted, drafted, plug, spot_of, with_path, with_plugged}
 use Rattle.qo_model.specs.ReleaseKeeps.{without_slots}
 use Rattle.qo_model.specs.Types.{TypeRow, is_a, row_named, slots_of, types}
+use Rattle.qo_model.proofs.StepLemmas.{found-birth}
+use Rattle.qo_sound.proofs.FoundLemmas.{all-found}
 use Rattle.qo_sound.proofs.MakeStepsLemmas.{RowPasses}
 use Rattle.qo_sound.proofs.PlugLemmas.{shut-above}
-use Rattle.qo_sound.proofs.RecordLemmas.{found-birth}
+use Rattle.qo_sound.proofs.TestLemmas.{decide}
 use Rattle.qo_sound.proofs.ViewLemmas.{AtRest, rest-from_sound}
-use Rattle.qo_sound_clocks.proofs.FoundLemmas.{all-found}
 use Rattle.qo_sound_devices.specs.SoundDevices.{SoundDevices}
 use Rattle.qo_sound_devices.proofs.DraftedLemmas.{drafted-made}
 use Rattle.qo_sound_devices.proofs.MadeLemmas.{Made}
 use Rattle.qo_sound_devices.proofs.PlugLemmas.{Accepted, behind-plug}
-use Rattle.qo_sound_phases.proofs.ListLemmas.{decide}
 use Rattle.qo_sound_shapes.proofs.BoardLemmas.{AllOf, all-imply_of}
 use Rattle.qo_sound_shapes.proofs.CommandLemmas.{begun-devices}
 use Rattle.qo_sound_owners.specs.SoundOwners.{containers}

@@ -23,12 +23,13 @@ use Rattle.qo_model.specs.Properties.{write}
 use Rattle.qo_model.specs.Release.{edited, let_go, pin, unpin}
 use Rattle.qo_model.specs.Types.{TypeRow, is_a, row_named, types}
 use Rattle.qo_model.specs.Unplug.{apart_within, detach, left_bus, lost_buses, set_named, unrealize}
-use Rattle.qo_model.proofs.StepLemmas.{found_at, found-edited}
+use Rattle.qo_model.proofs.StepLemmas.{found_at, found-edited, found-birth}
 use Rattle.qo_sound.proofs.FirmLemmas.{edited-kind, Firm}
-use Rattle.qo_sound.proofs.RecordLemmas.{all-append, all-both, all-imply, found-birth}
+use Rattle.qo_sound.proofs.FoundLemmas.{found-append}
+use Rattle.qo_sound.proofs.RecordLemmas.{all-append, all-both, all-imply}
+use Rattle.qo_sound.proofs.TestLemmas.{decide}
 use Rattle.qo_sound.proofs.ViewLemmas.{AtRest, rest-from_sound}
 use Rattle.qo_sound_clocks.specs.RegistersKept.{registers_set, with_registers}
-use Rattle.qo_sound_clocks.proofs.FoundLemmas.{found-append}
 use Rattle.qo_sound_devices.specs.SoundDevices.{SoundDevices}
 use Rattle.qo_sound_devices.specs.SoundPlaces.{child_entries, child_entry}
 use Rattle.qo_sound_devices.proofs.AddLemmas.{entry-added}
@@ -41,7 +42,6 @@ use Rattle.qo_sound_devices.proofs.PluggedLemmas.{accepted-joined}
 use Rattle.qo_sound_devices.proofs.UnrealizeLemmas.{Dimmed, dims-acted, dims-set, here}
 use Rattle.qo_sound_phases.proofs.ApartLemmas.{gone-apart, gone-before, gone-left_parent, Keeps, Walked, walked-let_go, walked-none, walked-pin, walked-unpin}
 use Rattle.qo_sound_phases.proofs.FixedLemmas.{Fixed, fixed-write}
-use Rattle.qo_sound_phases.proofs.ListLemmas.{decide}
 use Rattle.qo_sound_shapes.proofs.WholeLemmas.{edit-read}
 use Rattle.qo_sound_owners.proofs.AptLemmas.{creatable}
 

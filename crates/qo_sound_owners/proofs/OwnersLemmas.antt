@@ -21,7 +21,7 @@ use Rattle.qo_model.specs.Paths.{is_of}
 use Rattle.qo_model.specs.Plug.{Wanted, plug}
 use Rattle.qo_model.specs.Types.{is_a}
 use Rattle.qo_model.specs.Unplug.{detach, set_named}
-use Rattle.qo_sound.proofs.RecordLemmas.{found-birth}
+use Rattle.qo_model.proofs.StepLemmas.{found-birth}
 use Rattle.qo_sound_clocks.specs.RegistersKept.{registers_set}
 use Rattle.qo_sound_clocks.proofs.StepsLemmas.{kept-written}
 use Rattle.qo_sound_devices.specs.SoundDevices.{SoundDevices}

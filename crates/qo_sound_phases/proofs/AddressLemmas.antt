@@ -13,6 +13,7 @@ use Rattle.qo_model.specs.Depth.{among}
 use Rattle.qo_model.specs.Devices.{buses_of, first_bus, found_at, kid_at, kid_name, strong_in}
 use Rattle.qo_model.specs.Paths.{attached, is_of}
 use Rattle.qo_model.specs.Types.{is_a, types}
+use Rattle.qo_sound.proofs.TestLemmas.{decide, clash-back}
 use Rattle.qo_sound_devices.specs.SoundDevices.{SoundDevices}
 use Rattle.qo_sound_devices.specs.SoundPlaces.{bridges, kid_entry, listed, stands}
 use Rattle.qo_sound_devices.proofs.AttachedLemmas.{owner-attached}
@@ -21,7 +22,6 @@ use Rattle.qo_sound_devices.proofs.PlugLemmas.{among-all}
 use Rattle.qo_sound_phases.specs.PhasesKept.{may_reset}
 use Rattle.qo_sound_phases.specs.SoundPhases.{IsReached, SoundPhases}
 use Rattle.qo_sound_phases.proofs.BelowLemmas.{Placed, placed}
-use Rattle.qo_sound_phases.proofs.ListLemmas.{clash-back, decide}
 use Rattle.qo_sound_phases.proofs.ReachedLemmas.{machines-is}
 
 -- the target of the first link of a name is among the kids

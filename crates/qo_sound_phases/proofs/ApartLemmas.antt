@@ -18,6 +18,7 @@ use Rattle.qo_model.specs.Types.{is_a}
 use Rattle.qo_model.specs.Unplug.{apart_within, drained, first_of, is_bus_slot, is_child_slot, is_named, left_bus, left_parent, let_go_where, lost_bus, lost_buses, names_kid, take_slot, take_where, taken_by}
 use Rattle.qo_model.proofs.StepLemmas.{found-edited, is_some-map}
 use Rattle.qo_sound.proofs.SlotLemmas.{one_child}
+use Rattle.qo_sound.proofs.TestLemmas.{decide, clash, clash-back}
 use Rattle.qo_sound.proofs.UnplugLemmas.{Found, found-at}
 use Rattle.qo_sound_devices.specs.SoundPlaces.{child_entries, child_entry, kid_entries, kid_entry, listed, names_it, owns, owns_it, stands}
 use Rattle.qo_sound_devices.proofs.AlikeLemmas.{after-alike, other-record}
@@ -28,7 +29,6 @@ use Rattle.qo_sound_devices.proofs.PlacesLemmas.{kind-alike, more, nothing, of-a
 use Rattle.qo_sound_devices.proofs.StepsLemmas.{entries-removed, steps-after, within-any, within-then}
 use Rattle.qo_sound_devices.proofs.UnrealizeLemmas.{Dimmed, Under}
 use Rattle.qo_sound_phases.proofs.BelowLemmas.{listed-kid, owned-bus}
-use Rattle.qo_sound_phases.proofs.ListLemmas.{clash, clash-back, decide}
 use Rattle.qo_sound_phases.proofs.UnrealizeLemmas.{under-more}
 
 -- lists of entries without some of them

@@ -20,6 +20,7 @@ use Rattle.qo_model.proofs.StepLemmas.{live-among}
 use Rattle.qo_sound.proofs.FirmLemmas.{Firm, parents_in}
 use Rattle.qo_sound.proofs.RecordLemmas.{all-imply}
 use Rattle.qo_sound.proofs.SlotLemmas.{names_in, one_child}
+use Rattle.qo_sound.proofs.TestLemmas.{decide, clash, clash-back}
 use Rattle.qo_sound.proofs.ViewLemmas.{rest-from_sound}
 use Rattle.qo_sound_devices.specs.SoundDevices.{SoundDevices}
 use Rattle.qo_sound_devices.specs.SoundPlaces.{child_entries, child_entry, IsHome, IsKid, kid_entries, kid_entry, listed, owns, owns_it, PlacesBut, stands}
@@ -30,7 +31,7 @@ use Rattle.qo_sound_devices.proofs.LowLemmas.{is-bus_of, IsBusOf, kid-of, kids-l
 use Rattle.qo_sound_devices.proofs.PlacesLemmas.{of-live}
 use Rattle.qo_sound_devices.proofs.PlugLemmas.{stands-device}
 use Rattle.qo_sound_phases.proofs.ForestLemmas.{IsForest, listed-once, listed-reach, Reach, reach-listed}
-use Rattle.qo_sound_phases.proofs.ListLemmas.{among-apart, clash, clash-back, decide}
+use Rattle.qo_sound_phases.proofs.ListLemmas.{among-apart}
 
 -- a board whose tree and places are sound
 pub record Placed (b : Board) : Type 0 where

@@ -23,6 +23,7 @@ use Rattle.qo_model.proofs.TreeLemmas.{paths_lem}
 use Rattle.qo_sound.proofs.ChangeStepsLemmas.{step-object_del, step-sever, step-write}
 use Rattle.qo_sound.proofs.DetachStepsLemmas.{KeepsEnds, KeepsPins}
 use Rattle.qo_sound.proofs.MakeStepsLemmas.{KeepsEdits}
+use Rattle.qo_sound.proofs.TestLemmas.{decide, clash, clash-back}
 use Rattle.qo_sound.proofs.ViewLemmas.{rest-from_sound}
 use Rattle.qo_sound_devices.specs.SoundDevices.{SoundDevices}
 use Rattle.qo_sound_devices.specs.SoundPlaces.{child_entries, HasOwner, machines, bridges, owns_it, stands}
@@ -36,7 +37,6 @@ use Rattle.qo_sound_phases.specs.SoundPhases.{IsReached, machine, device, bus, S
 use Rattle.qo_sound_phases.proofs.BelowLemmas.{Placed, placed}
 use Rattle.qo_sound_phases.proofs.FixedLemmas.{Fixed, fixed-after, fixed-let_go, fixed-none, fixed-then, fixed-write, same-record, SameAt}
 use Rattle.qo_sound_phases.proofs.FrameLemmas.{Frame}
-use Rattle.qo_sound_phases.proofs.ListLemmas.{clash, clash-back, decide}
 use Rattle.qo_sound_phases.proofs.LoneLemmas.{lone-changed}
 use Rattle.qo_sound_phases.proofs.QuietLemmas.{frame-phases, quiet-changed}
 use Rattle.qo_sound_phases.proofs.ReachedLemmas.{machines-listed}

@@ -24,6 +24,7 @@ use Rattle.qo_sound.proofs.DetachStepsLemmas.{step-detach}
 use Rattle.qo_sound.proofs.FirmLemmas.{parents_in}
 use Rattle.qo_sound.proofs.RecordLemmas.{all-both, all-imply}
 use Rattle.qo_sound.proofs.SlotLemmas.{one_child}
+use Rattle.qo_sound.proofs.TestLemmas.{decide, clash}
 use Rattle.qo_sound.proofs.ViewLemmas.{AtRest, rest-from_sound}
 use Rattle.qo_sound_devices.specs.SoundDevices.{SoundDevices}
 use Rattle.qo_sound_devices.specs.SoundPlaces.{child_entries, HasOwner, machines, bridges, IsHome, kid_entries, listed, owns, owns_it, stands}
@@ -42,7 +43,6 @@ use Rattle.qo_sound_phases.specs.Phases as stage
 use Rattle.qo_sound_phases.proofs.ApartLemmas.{gone-apart, gone-before, gone-left_parent, Keeps, left-none, times, times-children, times-within, Walked, walked-none, walked-unpin}
 use Rattle.qo_sound_phases.proofs.BelowLemmas.{one-parent, owned-bus, Placed, post-reach, stands-no_bus}
 use Rattle.qo_sound_phases.proofs.FrameLemmas.{Frame, frame-post, frame-reached}
-use Rattle.qo_sound_phases.proofs.ListLemmas.{clash, decide}
 use Rattle.qo_sound_phases.proofs.QuietLemmas.{Quiet, quiet-after, quiet-then}
 use Rattle.qo_sound_phases.proofs.ReachedLemmas.{machine-no_bus, machines-is, machines-listed, reach-above}
 use Rattle.qo_sound_phases.proofs.ShapeLemmas.{counted-same}

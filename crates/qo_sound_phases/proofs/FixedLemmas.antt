@@ -29,13 +29,14 @@ use Rattle.qo_model.specs.declared.properties.RowKind.TheVariants as row
 use Rattle.qo_model.proofs.EditLemmas.{StandsAt, stands-at}
 use Rattle.qo_model.proofs.StepLemmas.{found-edited, is_some-map}
 use Rattle.qo_sound.proofs.FirmLemmas.{Firm}
+use Rattle.qo_sound.proofs.ReadLemmas.{named_in}
+use Rattle.qo_sound.proofs.TestLemmas.{decide, clash, clash-back}
 use Rattle.qo_sound_devices.specs.SoundPlaces.{child_entries, child_entry}
 use Rattle.qo_sound_devices.proofs.AlikeLemmas.{after-alike, other-record}
 use Rattle.qo_sound_devices.proofs.DropLemmas.{children-kept, edited-slots, names-at, strong-dropped}
 use Rattle.qo_sound_devices.proofs.PlacesLemmas.{kind-alike}
 use Rattle.qo_sound_devices.proofs.StepsLemmas.{steps-after}
 use Rattle.qo_sound_devices.proofs.UnrealizeLemmas.{named-other}
-use Rattle.qo_sound_phases.proofs.ListLemmas.{clash, clash-back, decide}
 
 -- an object as it was
 pub record SameAt (b c : Board) (x : ℕ) : Type 0 where
@@ -83,9 +84,6 @@ same-record b c x e live =
           (option_map (λ (s : List ℕ × Slot). s.1) (find (λ s. bytes_eq s.0 (codes "parent_bus")) (option_map_or (λ (r : Record). r.slots) o [])))) e;
       kind = ap (option_map (λ (r : Record). r.kind)) e;
     }
-
-abbrev named_in : List ℕ → List (List ℕ × Slot) → Option Slot
-named_in name slots = option_map (λ (s : List ℕ × Slot). s.1) (find (λ s. bytes_eq s.0 name) slots)
 
 -- slots with the same children and bus
 pub record SameSlots (xs ys : List (List ℕ × Slot)) : Type 0 where

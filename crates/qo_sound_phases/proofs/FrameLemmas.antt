@@ -11,13 +11,14 @@ use Rattle.qo_model.specs.Devices.{bus_of}
 use Rattle.qo_model.specs.Paths.{is_of}
 use Rattle.qo_model.specs.Reset.{below, count, post}
 use Rattle.qo_model.specs.Types.{is_a}
+use Rattle.qo_sound.proofs.TestLemmas.{clash}
 use Rattle.qo_sound_devices.specs.SoundPlaces.{child_entries, HasOwner, machines, bridges, listed, owns, owns_it, stands}
 use Rattle.qo_sound_devices.proofs.AttachedLemmas.{owns-listed}
 use Rattle.qo_sound_devices.proofs.PlacesLemmas.{child-live, stands-live}
 use Rattle.qo_sound_phases.specs.SoundPhases.{IsReached, machine, device, bus}
 use Rattle.qo_sound_phases.proofs.BelowLemmas.{bus-leads, kid-leads, leads-cases, one-parent, Placed, post-reach, reach-post, stands-no_bus}
 use Rattle.qo_sound_phases.proofs.ForestLemmas.{Reach, itself, further}
-use Rattle.qo_sound_phases.proofs.ListLemmas.{clash, iff}
+use Rattle.qo_sound_phases.proofs.ListLemmas.{iff}
 use Rattle.qo_sound_phases.proofs.ReachedLemmas.{machine-aside, machine-no_bus, machines-listed, reached-above, reached-live}
 use Rattle.qo_sound_phases.proofs.ShapeLemmas.{counted-same}
 

@@ -12,6 +12,7 @@ use Rattle.qo_model.specs.Plug.{did}
 use Rattle.qo_model.specs.Release.{without_first}
 use Rattle.qo_model.specs.Reset.{count, held, is_out, phased, post, pulse, released}
 use Rattle.qo_sound.proofs.RecordLemmas.{all-append, all-imply}
+use Rattle.qo_sound.proofs.TestLemmas.{decide, clash-back}
 use Rattle.qo_sound_devices.specs.SoundDevices.{SoundDevices}
 use Rattle.qo_sound_devices.proofs.PlugLemmas.{among-all}
 use Rattle.qo_sound_devices.proofs.ResetLemmas.{held-below}
@@ -19,7 +20,7 @@ use Rattle.qo_sound_phases.specs.Phases.{Stage, stage_of}
 use Rattle.qo_sound_phases.specs.Phases as stage
 use Rattle.qo_sound_phases.specs.SoundPhases.{IsReached, SoundPhases, stage_now}
 use Rattle.qo_sound_phases.proofs.BelowLemmas.{Placed, placed, post-once}
-use Rattle.qo_sound_phases.proofs.ListLemmas.{among-filter, among-right, clash-back, decide, distinct-filter, one-among}
+use Rattle.qo_sound_phases.proofs.ListLemmas.{among-filter, among-right, distinct-filter, one-among}
 use Rattle.qo_sound_phases.proofs.ReachedLemmas.{buses-stay, live-born, post-reached, reached-live, shape-reached}
 use Rattle.qo_sound_phases.proofs.ShapeLemmas.{counted-same, PhasedSo, phased-so, SameShape, shape-back, shape-post, shape-records, shape-then}
 use Rattle.qo_sound_phases.proofs.StageLemmas.{noted-in, noted-out}

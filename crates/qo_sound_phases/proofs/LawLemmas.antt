@@ -21,12 +21,14 @@ use Rattle.qo_model.specs.Paths.{attached, is_of}
 use Rattle.qo_model.specs.Plug.{notice_barred}
 use Rattle.qo_model.specs.Types.{is_a, types}
 use Rattle.qo_model.specs.Unplug.{first_of}
-use Rattle.qo_sound.proofs.RecordLemmas.{all-imply, found-birth}
+use Rattle.qo_model.proofs.StepLemmas.{found-birth}
+use Rattle.qo_sound.proofs.FoundLemmas.{all-found}
+use Rattle.qo_sound.proofs.RecordLemmas.{all-imply}
+use Rattle.qo_sound.proofs.TestLemmas.{decide, clash-back}
 use Rattle.qo_sound.proofs.ViewLemmas.{AtRest, rest-from_sound}
 use Rattle.qo_sound_devices.specs.SoundDevices.{SoundDevices}
 use Rattle.qo_sound_devices.specs.SoundLists.{IsOn}
 use Rattle.qo_sound_devices.specs.SoundPlaces.{machines}
-use Rattle.qo_sound_devices.proofs.PlacesLemmas.{all-found}
 use Rattle.qo_sound_devices.proofs.ResetLemmas.{detached-below, first-on}
 use Rattle.qo_sound_devices.proofs.WhereLemmas.{attached-owner, attached-stands}
 use Rattle.qo_sound_clocks.specs.RegistersKept.{registers_set, with_registers}
@@ -40,7 +42,6 @@ use Rattle.qo_sound_phases.proofs.BelowLemmas.{placed, post-once}
 use Rattle.qo_sound_phases.proofs.CommandLemmas.{change-phases}
 use Rattle.qo_sound_phases.proofs.DetachLemmas.{detach-phases}
 use Rattle.qo_sound_phases.proofs.HoldLemmas.{hold-phases, pulse-phases, release-phases}
-use Rattle.qo_sound_phases.proofs.ListLemmas.{clash-back, decide}
 use Rattle.qo_sound_phases.proofs.PlugLemmas.{plug-phases}
 use Rattle.qo_sound_phases.proofs.QuietLemmas.{aside-phases, Quiet, quiet-acted, quiet-aside, quiet-attempt}
 use Rattle.qo_sound_phases.proofs.ReachedLemmas.{buses-stay, same-stands, shape-reached}

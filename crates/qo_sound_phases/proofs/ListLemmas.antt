@@ -9,18 +9,8 @@ use Rattle.qo_values.specs.declared.kinds.Act.{Act}
 use Rattle.qo_model.specs.declared.notes.Deed.TheVariants.{Did}
 use Rattle.qo_model.specs.Depth.{among}
 use Rattle.qo_model.specs.Plug.{did}
+use Rattle.qo_sound.proofs.TestLemmas.{decide, clash, clash-back}
 use Rattle.qo_sound_phases.specs.Phases.{phase_of, phases_of}
-
--- a test is true or false
-pub decide : (t : Bool) {A : Type 0} → (t ≡ true → A) → (t ≡ false → A) → A
-decide true f g = f refl
-decide false f g = g refl
-
-pub clash : {A : Type 0} → true ≡ false → A
-clash e = absurd cc
-
-pub clash-back : {A : Type 0} → false ≡ true → A
-clash-back e = absurd cc
 
 -- two tests that say the same
 pub iff : (t u : Bool) → (t ≡ true → u ≡ true) → (u ≡ true → t ≡ true) → t ≡ u

@@ -24,10 +24,10 @@ use Rattle.qo_sound.proofs.DetachStepsLemmas.{KeepsEnds, KeepsPins}
 use Rattle.qo_sound.proofs.FirmLemmas.{edited-kinds}
 use Rattle.qo_sound.proofs.KindsLemmas.{plug-kinds}
 use Rattle.qo_sound.proofs.MakeStepsLemmas.{KeepsEdits, KeepsNew, new_with, RowPasses, step-drafted}
+use Rattle.qo_sound.proofs.TestLemmas.{decide, clash-back}
 use Rattle.qo_sound_devices.proofs.PlacesLemmas.{kind-alike}
 use Rattle.qo_sound_devices.proofs.StepsLemmas.{steps-after}
 use Rattle.qo_sound_phases.specs.SoundPhases.{LoneMachine}
-use Rattle.qo_sound_phases.proofs.ListLemmas.{clash-back, decide}
 
 -- types but the machine's
 abbrev Other : TypeId → Type 0

@@ -28,6 +28,7 @@ use Rattle.qo_sound.proofs.DevicesStayLemmas.{devices_stay_lem}
 use Rattle.qo_sound.proofs.MakeStepsLemmas.{any-rows, KeepsEdits, KeepsNew, new_with, step-drafted, step-stood}
 use Rattle.qo_sound.proofs.PlugLemmas.{device-of, place-of, plugged-rest, shut-above}
 use Rattle.qo_sound.proofs.RecordLemmas.{all-imply}
+use Rattle.qo_sound.proofs.TestLemmas.{decide, clash, clash-back}
 use Rattle.qo_sound.proofs.ViewLemmas.{rest-from_sound}
 use Rattle.qo_sound_devices.specs.SoundDevices.{SoundDevices}
 use Rattle.qo_sound_devices.specs.SoundPlaces.{child_entries, HasOwner, machines, bridges, IsHome, listed, owns, owns_it, stands}
@@ -44,7 +45,7 @@ use Rattle.qo_sound_phases.proofs.AttemptLemmas.{plug_attempt-phases}
 use Rattle.qo_sound_phases.proofs.BelowLemmas.{bus-leads, leads-cases, Placed, placed, post-once, post-reach, reach-post, stands-no_bus}
 use Rattle.qo_sound_phases.proofs.ForestLemmas.{Reach, itself, further}
 use Rattle.qo_sound_phases.proofs.FrameLemmas.{Frame, frame-count}
-use Rattle.qo_sound_phases.proofs.ListLemmas.{among-filter, clash, clash-back, decide, distinct-filter}
+use Rattle.qo_sound_phases.proofs.ListLemmas.{among-filter, distinct-filter}
 use Rattle.qo_sound_phases.proofs.LoneLemmas.{lone-plugged}
 use Rattle.qo_sound_phases.proofs.QuietLemmas.{Quiet, quiet-acted_all, quiet-device, quiet-then}
 use Rattle.qo_sound_phases.proofs.ReachedLemmas.{buses-stay, live-born, machines-listed, reach-below, reached-live}

@@ -27,11 +27,11 @@ use Rattle.qo_sound.proofs.ChangeStepsLemmas.{step-object_del, step-sever, step-
 use Rattle.qo_sound.proofs.DetachStepsLemmas.{KeepsEnds, KeepsPins}
 use Rattle.qo_sound.proofs.MakeStepsLemmas.{any-rows, new_with, KeepsEdits, KeepsNew, step-drafted, step-stood}
 use Rattle.qo_sound.proofs.RecordLemmas.{all-imply}
+use Rattle.qo_sound.proofs.TestLemmas.{decide}
 use Rattle.qo_sound_phases.specs.Phases.{held, out, passed_all, phase_in, phase_of, phases_of, stage_of}
 use Rattle.qo_sound_phases.specs.SoundPhases.{IsReached, LoneMachine, SoundPhases}
 use Rattle.qo_sound_phases.proofs.BelowLemmas.{Placed}
 use Rattle.qo_sound_phases.proofs.FrameLemmas.{Frame, frame-count, frame-reached}
-use Rattle.qo_sound_phases.proofs.ListLemmas.{decide}
 use Rattle.qo_sound_phases.proofs.ReachedLemmas.{buses-stay, live-born, reached-live, shape-reached}
 use Rattle.qo_sound_phases.proofs.ShapeLemmas.{SameShape, shape-back, shape-count}
 use Rattle.qo_sound_phases.proofs.StageLemmas.{noted-none}

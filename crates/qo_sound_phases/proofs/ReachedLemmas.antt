@@ -10,13 +10,13 @@ use Rattle.qo_model.specs.Paths.{is_of}
 use Rattle.qo_model.specs.Reset.{below, post}
 use Rattle.qo_model.specs.Types.{is_a, types}
 use Rattle.qo_sound.proofs.RecordLemmas.{all-imply}
+use Rattle.qo_sound.proofs.TestLemmas.{decide, clash, clash-back}
 use Rattle.qo_sound_devices.specs.SoundPlaces.{child_entries, child_entry, HasOwner, machines, bridges, IsAtHome, IsHosted, on_machine, on_device, listed, owns, owns_it, stands}
 use Rattle.qo_sound_devices.proofs.AttachedLemmas.{owns-listed}
 use Rattle.qo_sound_devices.proofs.PlacesLemmas.{all-listed, child-live, high-absent, of-live, stands-live}
 use Rattle.qo_sound_phases.specs.SoundPhases.{IsReached, machine, device, bus}
 use Rattle.qo_sound_phases.proofs.BelowLemmas.{leads-cases, one-parent, Placed, post-reach, stands-no_bus}
 use Rattle.qo_sound_phases.proofs.ForestLemmas.{Reach, itself, further}
-use Rattle.qo_sound_phases.proofs.ListLemmas.{clash, clash-back, decide}
 use Rattle.qo_sound_phases.proofs.ShapeLemmas.{SameShape, shape-of}
 
 -- the machine's buses

@@ -15,8 +15,8 @@ use Rattle.qo_model.specs.Objects.{place_from}
 use Rattle.qo_model.specs.Paths.{births}
 use Rattle.qo_model.specs.Unplug.{disconnected, each, is_named, set_named, unrealize, unrealize_turn, unrealized_bus, unrealized_device, unseen, unseen_named, without_all}
 use Rattle.qo_sound.proofs.MakeStepsLemmas.{KeepsEdits, step-set}
+use Rattle.qo_sound.proofs.TestLemmas.{decide, clash, clash-back}
 use Rattle.qo_sound_devices.proofs.UnrealizeLemmas.{dims-bus, each-keeps, fades-device, Under, here, down}
-use Rattle.qo_sound_phases.proofs.ListLemmas.{clash, clash-back, decide}
 use Rattle.qo_sound_phases.proofs.QuietLemmas.{Quiet, quiet-acted, quiet-then}
 
 -- what steps on objects leave: births, holds and phases

@@ -15,6 +15,7 @@ use Rattle.qo_model.specs.Clocks.{acted, called, called_all, clock_written, cloc
 use Rattle.qo_model.specs.Objects.{place_from}
 use Rattle.qo_model.specs.Paths.{parent_of}
 use Rattle.qo_model.specs.Unplug.{is_named, set_named}
+use Rattle.qo_sound.proofs.TestLemmas.{decide}
 use Rattle.qo_sound_devices.specs.SoundDevices.{SoundDevices}
 use Rattle.qo_sound_devices.specs.SoundPlaces.{HasOwner, machines, bridges, owns_it}
 use Rattle.qo_sound_devices.proofs.LowLemmas.{stands-dimmed}
@@ -26,7 +27,6 @@ use Rattle.qo_sound_phases.specs.Phases.{phase_of}
 use Rattle.qo_sound_phases.specs.SoundPhases.{IsReached, machine, device, bus, SoundPhases}
 use Rattle.qo_sound_phases.proofs.BelowLemmas.{placed}
 use Rattle.qo_sound_phases.proofs.FrameLemmas.{Frame}
-use Rattle.qo_sound_phases.proofs.ListLemmas.{decide}
 use Rattle.qo_sound_phases.proofs.QuietLemmas.{frame-phases, Quiet, quiet-acted, quiet-then}
 
 -- what a write leaves

@@ -13,9 +13,9 @@ use Rattle.qo_model.specs.Release.{after, drop_slot, edit, edited, finalise, fin
 use Rattle.qo_model.specs.ReleaseKeeps.{KeepsRelease}
 use Rattle.qo_model.specs.Types.{types}
 use Rattle.qo_model.proofs.ReleaseKeepsLemmas.{after_keeps}
-use Rattle.qo_model.proofs.StepLemmas.{drop-record, finish-gone, finish-record, found-edited, found_at}
-use Rattle.qo_sound.proofs.RecordLemmas.{all-imply, found-birth}
-use Rattle.qo_sound_clocks.proofs.FoundLemmas.{found-append}
+use Rattle.qo_model.proofs.StepLemmas.{drop-record, finish-gone, finish-record, found-edited, found_at, found-birth}
+use Rattle.qo_sound.proofs.FoundLemmas.{found-append}
+use Rattle.qo_sound.proofs.RecordLemmas.{all-imply}
 use Rattle.qo_sound_shapes.specs.SoundShape.{SoundShape, unvalued}
 use Rattle.qo_sound_shapes.proofs.GoodLemmas.{Good, is_first}
 use Rattle.qo_sound_shapes.proofs.WholeLemmas.{Whole}
@@ -161,9 +161,6 @@ unfolding pin
 all-pin Q n c h = h
 
 -- the shape of a board
-
-slots_in : Option Record → List (List ℕ × Slot)
-slots_in o = option_map_or (λ (r : Record). r.slots) o []
 
 -- an object of the opening board is there, with its type
 pub opening-kind : (b : Board) → AllByRecursion (λ (o : Record). kind_of b o.birth ≡ Some o.kind) opening_board.records → (n : ℕ) (t : TypeId)

@@ -29,8 +29,10 @@ use Rattle.qo_model.specs.Unplug.{apart_within, detach, disconnected, drained, e
 use Rattle.qo_model.specs.declared.properties.Property.{Property}
 use Rattle.qo_model.specs.declared.properties.RowKind.{RowKind}
 use Rattle.qo_model.specs.declared.properties.RowKind.TheVariants as row
+use Rattle.qo_model.proofs.StepLemmas.{found-birth}
 use Rattle.qo_sound.proofs.FirmLemmas.{FitsKind, Linked}
-use Rattle.qo_sound.proofs.RecordLemmas.{all-both, all-map, found-birth}
+use Rattle.qo_sound.proofs.ReadLemmas.{slots_in}
+use Rattle.qo_sound.proofs.RecordLemmas.{all-both, all-map}
 use Rattle.qo_sound.proofs.SlotLemmas.{all-changed, all-dropped}
 use Rattle.qo_sound.proofs.UnplugLemmas.{Found, found-at}
 use Rattle.qo_sound_devices.proofs.ResetLemmas.{first-on}
@@ -166,9 +168,6 @@ container-three = refl
 pub container-four : kind_of opening_board ANONYMOUS_BIRTH ≡ Some Container
 unfolding opening_board types
 container-four = refl
-
-abbrev slots_in : Option Record → Slots
-slots_in o = option_map_or (λ (r : Record). r.slots) o []
 
 module _ (kinds : ℕ → Option TypeId) where
   -- links of slots that change

@@ -6,10 +6,10 @@ use Rattle.qo_model.specs.Board.{Board, Record, Slot, kind_of}
 use Rattle.qo_model.specs.Hotplug.{all_completed, completed, reset_whole}
 use Rattle.qo_model.specs.Paths.{is_of}
 use Rattle.qo_model.specs.Unplug.{detach, first_of}
+use Rattle.qo_model.proofs.StepLemmas.{found-birth}
 use Rattle.qo_sound.proofs.FirmLemmas.{Linked}
-use Rattle.qo_sound.proofs.RecordLemmas.{found-birth}
+use Rattle.qo_sound.proofs.FoundLemmas.{all-found}
 use Rattle.qo_sound.proofs.ViewLemmas.{rest-from_sound}
-use Rattle.qo_sound_clocks.proofs.FoundLemmas.{all-found}
 use Rattle.qo_sound_devices.specs.SoundDevices.{SoundDevices}
 use Rattle.qo_sound_devices.specs.SoundLists.{IsOn}
 use Rattle.qo_sound_devices.specs.SoundPlaces.{stands}

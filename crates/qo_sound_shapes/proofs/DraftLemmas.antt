@@ -22,7 +22,7 @@ use Rattle.qo_model.specs.Types.{slots_of, types}
 use Rattle.qo_model.specs.declared.properties.Property.{Property}
 use Rattle.qo_model.specs.declared.properties.RowKind.{RowKind}
 use Rattle.qo_model.specs.declared.properties.RowKind.TheVariants as row
-use Rattle.qo_sound.proofs.RecordLemmas.{found-birth}
+use Rattle.qo_model.proofs.StepLemmas.{found-birth}
 use Rattle.qo_sound_shapes.specs.SoundShape.{further, HasSlots, is_child_row, is_like, IsOfRow, IsShaped, next}
 use Rattle.qo_sound_shapes.proofs.BoardLemmas.{all-becomes, all-new, AllOf}
 use Rattle.qo_sound_shapes.proofs.GoodLemmas.{Good}

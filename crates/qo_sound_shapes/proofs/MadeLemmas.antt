@@ -28,9 +28,9 @@ use Rattle.qo_model.specs.declared.properties.First.TheVariants as first
 use Rattle.qo_model.specs.declared.properties.Property.{Property}
 use Rattle.qo_model.specs.declared.properties.RowKind.{RowKind}
 use Rattle.qo_model.specs.declared.properties.RowKind.TheVariants as row
+use Rattle.qo_model.proofs.GraphLemmas.{births_at}
 use Rattle.qo_sound.proofs.DraftLemmas.{found-low}
-use Rattle.qo_sound.proofs.RecordLemmas.{births_at}
-use Rattle.qo_sound_clocks.proofs.FoundLemmas.{all-found}
+use Rattle.qo_sound.proofs.FoundLemmas.{all-found}
 use Rattle.qo_sound_shapes.specs.SoundShape.{further, HasSlots, is_like, IsAsRow, IsChildSlot, IsFurther, IsKidLink, IsOfRow, IsShaped, MayHold, next, SoundShape}
 use Rattle.qo_sound_shapes.proofs.GoodLemmas.{further-same, Good, is_first}
 use Rattle.qo_sound_shapes.proofs.RowLemmas.{has-added, has-each, IsRowOf, kid-rowless, own-rows, Slots}

@@ -114,9 +114,6 @@ module _ (t : TypeId) (name : List ℕ) where
           let same : q ≡ p = same_Some q p (sym own ∙ ap (row_of_property t) (sym is.name ∙ named) ∙ row) in
           subst (λ (x : Property). IsAsRow x.kind s.1) same is.fits
 
-slots_in : Option Record → Slots
-slots_in o = option_map_or (λ (r : Record). r.slots) o []
-
 named-says : (b : Board) → SoundShape b → (n : ℕ) (name : List ℕ) (p : Property) (s : Slot) → HasProperty b n name p → slot_named b n name ≡ Some s
     → IsAsRow p.kind s
 named-says b h n name p s has e = at_record (record_of b n) refl

@@ -18,8 +18,8 @@ use Rattle.qo_model.specs.Release.{edit, edited, without_hold}
 use Rattle.qo_model.specs.RowNames.{property_name}
 use Rattle.qo_model.specs.Types.{slots_of}
 use Rattle.qo_model.specs.declared.properties.Property.{Property}
-use Rattle.qo_model.proofs.StepLemmas.{found-edited}
-use Rattle.qo_sound.proofs.RecordLemmas.{all-imply, found-birth}
+use Rattle.qo_model.proofs.StepLemmas.{found-edited, found-birth}
+use Rattle.qo_sound.proofs.RecordLemmas.{all-imply}
 use Rattle.qo_sound.proofs.SlotLemmas.{names_in}
 use Rattle.qo_sound_devices.specs.SoundPlaces.{child_entries, child_entry, listed, stands}
 use Rattle.qo_sound_devices.proofs.PlacesLemmas.{or-cases}
@@ -52,9 +52,6 @@ whole-same b c names children kinds h d t s k =
         sym
         (ap (λ (xs : List (List ℕ × ℕ)). listed d xs || listed d (child_entries c ANONYMOUS_BIRTH)) (children PERIPHERAL_BIRTH)
         ∙ ap (λ (xs : List (List ℕ × ℕ)). listed d (child_entries b PERIPHERAL_BIRTH) || listed d xs) (children ANONYMOUS_BIRTH))
-
-slots_in : Option Record → Slots
-slots_in o = option_map_or (λ (r : Record). r.slots) o []
 
 -- an edit that leaves what is read of slots
 pub edit-read : {A : Type 0} (f : Slots → A) (n : ℕ) (change : Record → Record) → ((r : Record) → (change r).birth ≡ r.birth)

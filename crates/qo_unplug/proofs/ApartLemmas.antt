@@ -12,6 +12,7 @@ use Rattle.qo_model.specs.Board.{Board, Slot, slots_at}
 use Rattle.qo_model.specs.Devices.{buses_of, first_bus, kids_of, strong_in}
 use Rattle.qo_model.specs.Release.{pin, put_in_order, unpin}
 use Rattle.qo_model.specs.Unplug.{apart_within, drained, first_of, is_bus_slot, left_bus, left_parent, let_go_where, lost_bus, lost_buses}
+use Rattle.qo_model.proofs.DepthLemmas.{one-less}
 use Rattle.qo_model.proofs.PinLemmas.{IsUp}
 use Rattle.qo_notes.specs.Log.{Log, empty_log, noted_all}
 use Rattle.qo_object.specs.Content.{Content, with_pin}
@@ -363,10 +364,6 @@ goes-taken v u x w levels d lost left parent =
 pub none-apart : (v : Objects) (levels d : ℕ) → levels ≡ 0 → Goes (apart_within levels d) v v
 unfolding apart_within
 none-apart v levels d is = goes-same (λ b. b) (apart_within levels d) v v (goes-none v) (λ b log s. ap (λ (k : ℕ). apart_within k d b) is)
-
-one-less : (n : ℕ) → (n ≡ 0 → ⊥) → n ≡ suc (n - 1)
-one-less zero some = absurd (some refl)
-one-less (suc n) some = omega arith
 
 pub goes-apart : (v u x w : Objects) (levels d : ℕ) → (levels ≡ 0 → ⊥) → Goes (λ b. pin b d) v u → Goes (taken_within (levels - 1) d) u x
     → Goes (λ b. unpin b d) x w → Goes (apart_within levels d) v w

@@ -7,6 +7,7 @@ use Rattle.qo_slots.specs.declared.keys.Key.{Key}
 use Rattle.qo_model.specs.Board.{Board, Slot, slots_at}
 use Rattle.qo_model.specs.Devices.{bus_in}
 use Rattle.qo_model.specs.Unplug.{each, unrealized_bus, unrealized_device}
+use Rattle.qo_model.proofs.DepthLemmas.{one-less}
 use Rattle.qo_object.specs.Shown.{birth_of}
 use Rattle.qo_object.proofs.ShownLemmas.{length-shown}
 use Rattle.qo_heap.specs.Board.{Shows}
@@ -115,10 +116,6 @@ buses-next s t u d levels i before next =
     (λ b c same beside. buses-more b levels d i c)
 
 -- a level less is left below a device
-one-less : (n : ℕ) → (n ≡ 0 → ⊥) → n ≡ suc (n - 1)
-one-less zero some = absurd (some refl)
-one-less (suc n) some = omega arith
-
 buses-all : (b : Board) (all levels d i : ℕ) (c : Board) → all ≡ suc levels → length (slots_at b d) ≤ i
     → device_within b all d c ≡ unrealized_device d (buses_within b levels d i c)
 unfolding device_within bus_within buses_within

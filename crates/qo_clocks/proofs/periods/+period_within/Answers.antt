@@ -1,6 +1,7 @@
 use Rattle.std.proofs.Common.{◌∙◌, ◌-◌, ap, sym}
+use Rattle.qo_model.proofs.DepthLemmas.{one-less}
 use Rattle.qo_clocks.specs.Periods.{scaled_on}
-use Rattle.qo_clocks.proofs.PeriodLemmas.{one-less, period-by, period-none, period-own}
+use Rattle.qo_clocks.proofs.PeriodLemmas.{period-by, period-none, period-own}
 use Rattle.qo_clocks.proofs.periods.+period_within.Goals as goal
 
 pub returns-then-levels-eq0 : goal.returns-then-levels-eq0

@@ -1,7 +1,8 @@
 use Rattle.std.proofs.Common.{◌∙◌, ◌-◌, Some, None, sym}
+use Rattle.qo_model.proofs.DepthLemmas.{one-less}
 use Rattle.qo_heap.proofs.ActsLemmas.{acts-none}
 use Rattle.qo_reset.specs.Phases.{births_of, is_crowded}
-use Rattle.qo_reset.proofs.WalkLemmas.{Reads, found-here, found-last, found-no_kid, found-not, less, none-found, one-less}
+use Rattle.qo_reset.proofs.WalkLemmas.{Reads, found-here, found-last, found-no_kid, found-not, less, none-found}
 use Rattle.qo_reset.proofs.counts.+is_crowded.Goals.{in-Some-child+else-is_crowded, in_default-child}
 use Rattle.qo_reset.proofs.counts.+is_crowded.Goals as goal
 

@@ -1,6 +1,7 @@
 use Rattle.std.proofs.Common.{◌∙◌, ◌-◌, nat_eq, Some, None, sym}
+use Rattle.qo_model.proofs.DepthLemmas.{one-less}
 use Rattle.qo_heap.proofs.ActsLemmas.{acts-none}
-use Rattle.qo_reset.proofs.WalkLemmas.{Reads, found-here, found-last, found-no_kid, found-not, less, none-found, one-less}
+use Rattle.qo_reset.proofs.WalkLemmas.{Reads, found-here, found-last, found-no_kid, found-not, less, none-found}
 use Rattle.qo_reset.proofs.counts.+reaches.Goals.{in-Some-child+else-reaches, in_default-child}
 use Rattle.qo_reset.proofs.counts.+reaches.Goals as goal
 

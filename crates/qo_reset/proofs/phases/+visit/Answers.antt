@@ -1,8 +1,9 @@
 use Rattle.std.proofs.Common.{◌∙◌, ◌-◌, Some, None, sym}
+use Rattle.qo_model.proofs.DepthLemmas.{one-less}
 use Rattle.qo_heap.specs.Acts.{Acts}
 use Rattle.qo_heap.proofs.ActsLemmas.{acts-none}
 use Rattle.qo_reset.specs.Phases.{births_of}
-use Rattle.qo_reset.proofs.WalkLemmas.{Reads, less, live-to, none-visited, one-less, to-all, to-kid, to-no_kid, to-none, visited-acts}
+use Rattle.qo_reset.proofs.WalkLemmas.{Reads, less, live-to, none-visited, to-all, to-kid, to-no_kid, to-none, visited-acts}
 use Rattle.qo_reset.proofs.phases.+visit.Goals.{in-Some-child, in_default-child}
 use Rattle.qo_reset.proofs.phases.+visit.Goals as goal
 

@@ -1,25 +1,18 @@
 -- Where the numbers of a clock were written, and neither its own period nor those of the clocks below pass 64 bits, all periods fit.
-use Rattle.std.proofs.Common.{◌≡◌, ◌⊎◌, inl, inr, refl, ap, ap₂, subst, sym, ◌∙◌, ℕ, zero, suc, ◌^◌, ◌<◌, ◌||◌, Bool, true, false, cond, eqb, List, [], ◌∷◌, map, length, filter, find, Option, Some, None, option_map, codes, arith}
-use Rattle.std.specs.Prelude.{option_and_then}
+use Rattle.std.proofs.Common.{◌≡◌, ◌⊎◌, inl, inr, refl, ap, ap₂, subst, sym, ◌∙◌, ℕ, zero, suc, ◌^◌, ◌<◌, ◌||◌, Bool, true, false, cond, eqb, List, [], ◌∷◌, length, filter, Option, Some, None, arith}
 use Rattle.std.specs.List.{flat_map, list_any}
 use Rattle.std.specs.Option.{option_map_or}
-use Rattle.std.specs.Str.{bytes_eq}
-use Rattle.std.proofs.lemmas.Bool.{eqb-true, eq-eqb}
+use Rattle.std.proofs.lemmas.Bool.{eqb-true, eq-eqb, or_left, or_right}
 use Rattle.std.proofs.lemmas.Bool.Decides.{nat_tests}
 use Rattle.std.proofs.lemmas.List.Folds.{list_any-append}
-use Rattle.qo_model.specs.Board.{Board, Record, Slot}
-use Rattle.qo_model.specs.Clocks.{ClocksFit, child_period, clocks_below, div_of, fed_turn, is_source, mul_of, overflows, own_period, period, period_turn, scaled, scaled_by, source_of, weak_in}
+use Rattle.qo_model.specs.Board.{Board}
+use Rattle.qo_model.specs.Clocks.{ClocksFit, child_period, clocks_below, div_of, fed_turn, is_source, mul_of, overflows, own_period, period, scaled, scaled_by, source_of}
 use Rattle.qo_model.specs.Depth.{among, by_depth}
 use Rattle.qo_model.specs.Paths.{births}
+use Rattle.qo_model.proofs.PeriodLemmas.{to_depth, turn_by, with-source}
 
-abbrev with_below : (ℕ → List ℕ) → ℕ → List ℕ
+abbrev pub with_below : (ℕ → List ℕ) → ℕ → List ℕ
 with_below f n = n ∷ f n
-
-abbrev to_depth : Board → ℕ → ℕ → ℕ
-to_depth b d n = by_depth (period_turn b) (λ _. 0) d n
-
-abbrev turn_by : Board → (ℕ → ℕ) → ℕ → Option ℕ → ℕ
-turn_by b f n o = elim o [ None ↦ own_period b n | Some s ↦ scaled b s (f s) ]
 
 -- what a write of a clock's numbers leaves
 
@@ -40,43 +33,7 @@ written-then b mid new c h k =
       own = λ n p. k.own n p ∙ h.own n p;
     }
 
--- what has a source is there
-
-no-record : (n : ℕ) (rs : List Record) → among (map (λ (r : Record). r.birth) rs) n ≡ false → find (λ (r : Record). eqb r.birth n) rs ≡ None
-no-record n [] e = refl
-no-record n (r ∷ rs) e = go (eqb n r.birth) refl e (no-record n rs)
-  where
-    go : (t : Bool) → eqb n r.birth ≡ t → (t || among (map (λ (x : Record). x.birth) rs) n) ≡ false
-        → (among (map (λ (x : Record). x.birth) rs) n ≡ false → find (λ (x : Record). eqb x.birth n) rs ≡ None)
-        → find (λ (x : Record). eqb x.birth n) (r ∷ rs) ≡ None
-    go true p q rest = cc
-    go false p q rest =
-        let other : eqb r.birth n ≡ false = grind (arith, nat_tests, p) in
-        rw other (rest q)
-
-abbrev slot_in_record : List ℕ → Option Record → Option Slot
-slot_in_record name o =
-    option_map (λ (s : List ℕ × Slot). s.1) (find (λ (s : List ℕ × Slot). bytes_eq s.0 name) (option_map_or (λ (r : Record). r.slots) o []))
-
-with-source : (b : Board) (n s : ℕ) → source_of b n ≡ Some s → among (births b) n ≡ true
-with-source b n s q = go (among (births b) n) refl
-  where
-    go : (t : Bool) → among (births b) n ≡ t → t ≡ true
-    go true e = refl
-    go false e =
-        let none : source_of b n ≡ None =
-        ap (λ (o : Option Record). option_and_then weak_in (slot_in_record (codes "source") o)) (no-record n b.records e) in
-        cc
-
 -- a clock is among those below what it goes by
-
-or-right : (s t : Bool) → t ≡ true → (s || t) ≡ true
-or-right true t e = refl
-or-right false t e = e
-
-or-left : (s t : Bool) → s ≡ true → (s || t) ≡ true
-or-left true t e = refl
-or-left false t e = cc
 
 any-kid : (p : ℕ → Bool) (g : ℕ → List ℕ) (q : ℕ → Bool) (xs : List ℕ) (m : ℕ) → among xs m ≡ true → q m ≡ true → list_any p (m ∷ g m) ≡ true
     → list_any p (flat_map (with_below g) (filter q xs)) ≡ true
@@ -90,14 +47,14 @@ any-kid p g q (x ∷ xs) m there fed found = go (eqb m x) refl there (λ e. any-
     first true e is =
         let same : m ≡ x = eqb-true m x is in
         list_any-append p (x ∷ g x) (flat_map (with_below g) (filter q xs))
-        ∙ or-left (list_any p (x ∷ g x)) (list_any p (flat_map (with_below g) (filter q xs))) (subst (λ (k : ℕ). list_any p (k ∷ g k) ≡ true) same found)
+        ∙ or_left (list_any p (x ∷ g x)) (list_any p (flat_map (with_below g) (filter q xs))) (subst (λ (k : ℕ). list_any p (k ∷ g k) ≡ true) same found)
     first false e is = let clash : true ≡ false = sym fed ∙ ap q (eqb-true m x is) ∙ e in cc
 
     later : (t : Bool) → list_any p (flat_map (with_below g) (filter q xs)) ≡ true
         → list_any p (flat_map (with_below g) (cond t (x ∷ filter q xs) (filter q xs))) ≡ true
     later true e =
         list_any-append p (x ∷ g x) (flat_map (with_below g) (filter q xs))
-        ∙ or-right (list_any p (x ∷ g x)) (list_any p (flat_map (with_below g) (filter q xs))) e
+        ∙ or_right (list_any p (x ∷ g x)) (list_any p (flat_map (with_below g) (filter q xs))) e
     later false e = e
 
     go : (t : Bool) → eqb m x ≡ t → (t || among xs m) ≡ true
@@ -127,10 +84,10 @@ module _ (b : Board) where
   any-below p zero c n goes e = absurd goes
   any-below p (suc d) c n (m, (q, inl is)) e =
       any-kid p (below d) (is_source b c) (births b) m (with-source b m c q) (is-source c m q)
-      (or-left (p m) (list_any p (below d m)) (subst (λ (k : ℕ). p k ≡ true) is e))
+      (or_left (p m) (list_any p (below d m)) (subst (λ (k : ℕ). p k ≡ true) is e))
   any-below p (suc d) c n (m, (q, inr goes)) e =
       any-kid p (below d) (is_source b c) (births b) m (with-source b m c q) (is-source c m q)
-      (or-right (p m) (list_any p (below d m)) (any-below p d m n goes e))
+      (or_right (p m) (list_any p (below d m)) (any-below p d m n goes e))
 
 -- the period of another clock is as it was, or the clock is below
 

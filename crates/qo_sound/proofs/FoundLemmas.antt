@@ -2,6 +2,7 @@
 use Rattle.std.proofs.Common.{◌≡◌, refl, subst, ℕ, Bool, true, false, ◌==◌, List, [], ◌∷◌, ◌++◌, Some}
 use Rattle.std.specs.List.{AllByRecursion}
 use Rattle.std.specs.Option.{option_or}
+use Rattle.std.proofs.lemmas.List.Folds.{find-append}
 use Rattle.std.proofs.lemmas.Option.{same_Some}
 use Rattle.qo_model.specs.Board.{Record}
 use Rattle.qo_model.proofs.StepLemmas.{found_at}
@@ -16,10 +17,4 @@ all-found P n (x ∷ rs) h r e = go (x.birth == n) refl (all-found P n rs h.1 r)
 
 -- what is found among records and others behind them
 pub found-append : (n : ℕ) (rs others : List Record) → found_at n (rs ++ others) ≡ option_or (found_at n rs) (found_at n others)
-found-append n [] others = refl
-found-append n (r ∷ rs) others = go (r.birth == n) refl (found-append n rs others)
-  where
-    go : (t : Bool) → (r.birth == n) ≡ t → found_at n (rs ++ others) ≡ option_or (found_at n rs) (found_at n others)
-        → found_at n (r ∷ rs ++ others) ≡ option_or (found_at n (r ∷ rs)) (found_at n others)
-    go true p rest = rw p refl
-    go false p rest = rw p rest
+found-append n rs others = find-append (λ (r : Record). r.birth == n) rs others
