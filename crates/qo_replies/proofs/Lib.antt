@@ -3,3 +3,4 @@ pub mod EventLemmas
 pub mod MemberLemmas
 pub mod PropertyLemmas
 pub mod QuotedLemmas
+pub mod WrittenLemmas

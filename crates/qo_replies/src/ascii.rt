@@ -1,12 +1,11 @@
 //! JSON in ASCII.
 
-ghost use Rattle.std.specs.Prelude.{◌≡◌, ◌<◌, ◌≤◌, ◌^◌, ◌++◌, false, string_bytes, IfOk, OnOk};
+ghost use Rattle.std.specs.Prelude.{◌≡◌, ◌<◌, ◌≤◌, ◌^◌, ◌++◌, false, string_bytes, OnOk};
 ghost use Rattle.std.specs.Char.{digit_char};
 ghost use Rattle.serde_json.specs.View.{view};
 ghost use Rattle.serde_json.specs.Written.{has_float};
 ghost use Rattle.qo_replies.specs.Json.{ascii, character_text, json, pair_text, unit_text, units_text};
 
-use qo_values::Text;
 use serde_json::Value;
 use std::alloc::{AllocError, Global};
 
@@ -93,25 +92,4 @@ pub(crate) fn push_json(alloc: Global, text: &mut String, value: &Value) -> Resu
 {
     let plain = value.to_string(alloc)?;
     push_ascii(text, plain.as_str())
-}
-
-/// A text in ASCII: itself, or a copy with the others escaped.
-fn into_ascii(alloc: Global, plain: String) -> Result<Text, AllocError>
-    ensures { IfOk result (λ text. text ≡ ascii (string_bytes plain)) }
-{
-    if plain.is_ascii() {
-        return Ok(Text::from_string(plain));
-    }
-    let mut text = String::new(alloc);
-    push_escaped(&mut text, plain.as_str())?;
-    Ok(Text::from_string(text))
-}
-
-#[tactic(auto, unfolding(crate::specs::Json::json))]
-/// The text of a value: compact JSON in ASCII, members in byte order of their names, every other
-/// character escaped by its UTF-16 units. Nothing is said of the text of a fraction.
-pub fn json_text(alloc: Global, value: &Value) -> Result<Text, AllocError>
-    ensures { IfOk result (λ text. has_float (view value.now) ≡ false → text ≡ json (view value.now)) }
-{
-    into_ascii(alloc, value.to_string(alloc)?)
 }

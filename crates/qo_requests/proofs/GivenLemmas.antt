@@ -1,10 +1,10 @@
 -- The members that rows name, read in one pass.
-use Rattle.std.proofs.Common.{◌≡◌, arith, ℕ, Bool, true, false, List, [], ◌∷◌, ◌≤◌, length, string_bytes, refl, sym, ◌∙◌, ap, Option, None, Some, option_map, if◌then◌else◌}
+use Rattle.std.proofs.Common.{◌≡◌, arith, ℕ, Bool, true, false, List, [], ◌∷◌, ◌≤◌, length, refl, sym, ◌∙◌, ap, Option, None, Some, option_map, if◌then◌else◌}
 use Rattle.std.specs.Prelude.{◌&&◌, ◌||◌, slice_get}
 use Rattle.std.specs.Option.{option_or}
-use Rattle.serde_json.proofs.Views.{Entry}
+use Rattle.qo_json.proofs.MemberLemmas.{Member}
 use Rattle.serde_json.specs.Data.{Data, Members, no_members, member}
-use Rattle.serde_json.specs.View.{members_view, view}
+use Rattle.qo_json.specs.View.{members_view, view}
 use Rattle.qo_requests.specs.Arguments.{field_of, is_named, fits, all_fit, all_named, all_plain, all_stand, stands}
 use Rattle.qo_requests.specs.Fields.{argument, field_name}
 use Rattle.qo_requests.specs.Given.{is_fit_by, member_of, names, part_of, stands_by}
@@ -16,7 +16,7 @@ use Rattle.qo_requests.specs.declared.fields.Field.{Field}
 use Rattle.qo_requests.proofs.MemberLemmas.{found_by, named_by_three}
 
 -- the member of a row is that among those read, or else among those left
-abbrev pub IsJoined : Option Argument → List Entry → Option Data → List Entry → Type 0
+abbrev pub IsJoined : Option Argument → List Member → Option Data → List Member → Type 0
 IsJoined row all before left = member_of row (members_view all) ≡ option_or before (member_of row (members_view left))
 
 -- the part of a row of a name is the argument of that name
@@ -25,8 +25,8 @@ part_named None field d is = cc
 part_named (Some r) field d is = let same : field_of r ≡ field = cc in ap (λ (f : Field). argument f d) same
 
 -- the member of a row is among those read, or else among those left
-pub part_on : (row : Option Argument) (whole before now : Option Data) (is_it : Bool) (name : List ℕ) (left : List Entry) (e : Entry) (es : List Entry)
-    → whole ≡ option_or before (member_of row (members_view left)) → left ≡ e ∷ es → name ≡ string_bytes e.0 → is_it ≡ names row name
+pub part_on : (row : Option Argument) (whole before now : Option Data) (is_it : Bool) (name : List ℕ) (left : List Member) (e : Member) (es : List Member)
+    → whole ≡ option_or before (member_of row (members_view left)) → left ≡ e ∷ es → name ≡ e.0.now → is_it ≡ names row name
     → now ≡ (if is_it then option_or before (Some (view e.1)) else before)
     → whole ≡ option_or now (member_of row (members_view es))
 part_on None whole before now is_it name left e es was steps same it is =
@@ -39,19 +39,19 @@ and_all : (before here left : Bool) → (before && (here && left)) ≡ ((before 
 and_all true here left = refl
 and_all false here left = refl
 
-plain_on : (rows : List Argument) (whole before now : Bool) (name : List ℕ) (left : List Entry) (e : Entry) (es : List Entry)
-    → whole ≡ (before && all_plain rows (members_view left)) → left ≡ e ∷ es → name ≡ string_bytes e.0
+plain_on : (rows : List Argument) (whole before now : Bool) (name : List ℕ) (left : List Member) (e : Member) (es : List Member)
+    → whole ≡ (before && all_plain rows (members_view left)) → left ≡ e ∷ es → name ≡ e.0.now
     → now ≡ (before && (is_named rows name || fits kind.Plain (view e.1)))
     → whole ≡ (now && all_plain rows (members_view es))
 plain_on rows whole before now name left e es was steps same is =
     let rest : Bool = all_plain rows (members_view es) in
-    was ∙ ap (λ (l : List Entry). before && all_plain rows (members_view l)) steps
-    ∙ and_all before (is_named rows (string_bytes e.0) || fits kind.Plain (view e.1)) rest
+    was ∙ ap (λ (l : List Member). before && all_plain rows (members_view l)) steps
+    ∙ and_all before (is_named rows e.0.now || fits kind.Plain (view e.1)) rest
     ∙ ap (λ (n : List ℕ). (before && (is_named rows n || fits kind.Plain (view e.1))) && rest) (sym same)
     ∙ ap (λ (t : Bool). t && rest) (sym is)
 
-pub plain_by : (rows : List Argument) (whole before now named first second third : Bool) (name : List ℕ) (left : List Entry) (e : Entry) (es : List Entry)
-    → length rows ≤ 3 → whole ≡ (before && all_plain rows (members_view left)) → left ≡ e ∷ es → name ≡ string_bytes e.0
+pub plain_by : (rows : List Argument) (whole before now named first second third : Bool) (name : List ℕ) (left : List Member) (e : Member) (es : List Member)
+    → length rows ≤ 3 → whole ≡ (before && all_plain rows (members_view left)) → left ≡ e ∷ es → name ≡ e.0.now
     → first ≡ names (slice_get rows 0) name → second ≡ names (slice_get rows 1) name → third ≡ names (slice_get rows 2) name
     → named ≡ ((first || second) || third) → now ≡ (before && (named || fits kind.Plain (view e.1)))
     → whole ≡ (now && all_plain rows (members_view es))

@@ -1,5 +1,6 @@
 pub mod GivenLemmas
 pub mod Joining
 pub mod MemberLemmas
+pub mod PartLemmas
 pub mod Readings
 pub mod Rising

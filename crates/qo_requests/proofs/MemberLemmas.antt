@@ -1,14 +1,12 @@
 -- The members of a message that were read in one pass.
-use Rattle.std.proofs.Common.{◌≡◌, ◌≤◌, length, arith, ℕ, Bool, true, false, not, List, [], ◌∷◌, string_bytes, refl, sym, ◌∙◌, ap, Option, None, Some, is_some, unwrap_or, option_and_then, if◌then◌else◌}
+use Rattle.std.proofs.Common.{◌≡◌, ◌≤◌, length, arith, ℕ, Bool, true, false, not, List, [], ◌∷◌, refl, sym, ◌∙◌, ap, Option, None, Some, is_some, unwrap_or, option_and_then, if◌then◌else◌}
 use Rattle.std.specs.Prelude.{◌&&◌, ◌||◌, slice_get}
 use Rattle.std.specs.Option.{option_map_or, option_or}
 use Rattle.std.specs.Str.{bytes_eq}
-use Rattle.std.proofs.lemmas.Bool.{true≢false}
-use Rattle.std.proofs.lemmas.Slice.Eq.{bytes_eq-Decides}
-use Rattle.serde_json.proofs.Views.{Entry, member_here, member_later}
+use Rattle.qo_json.proofs.MemberLemmas.{Member, member_here, member_later}
 use Rattle.serde_json.specs.Data.{Data, null}
 use Rattle.serde_json.specs.Find.{as_object, as_str, get_member}
-use Rattle.serde_json.specs.View.{members_view, view}
+use Rattle.qo_json.specs.View.{members_view, view}
 use Rattle.serde_json.specs.Written.{has_float}
 use Rattle.qo_requests.specs.Arguments.{all_named, fits, has_only, is_named}
 use Rattle.qo_requests.specs.declared.arguments.Argument.{Argument}
@@ -23,29 +21,29 @@ use Rattle.qo_requests.specs.Messages.{call_of, is_message, message_members, req
 use Rattle.qo_requests.specs.declared.fields.Field.TheVariants.{Arguments, Execute, Id}
 
 -- the first of a name is among those read, or else among those left
-pub first_on : (key : List ℕ) (before : Option Data) (e : Entry) (es : List Entry)
+pub first_on : (key : List ℕ) (before : Option Data) (e : Member) (es : List Member)
     → option_or before (get_member key (members_view (e ∷ es)))
-    ≡ option_or (if bytes_eq key (string_bytes e.0) then option_or before (Some (view e.1)) else before) (get_member key (members_view es))
-first_on key before e es = by (bytes_eq key (string_bytes e.0)) refl before
+    ≡ option_or (if bytes_eq key e.0.now then option_or before (Some (view e.1)) else before) (get_member key (members_view es))
+first_on key before e es = by (bytes_eq key e.0.now) refl before
   where
-    by : (t : Bool) → bytes_eq key (string_bytes e.0) ≡ t → (o : Option Data)
+    by : (t : Bool) → bytes_eq key e.0.now ≡ t → (o : Option Data)
         → option_or o (get_member key (members_view (e ∷ es))) ≡ option_or (if t then option_or o (Some (view e.1)) else o) (get_member key (members_view es))
-    by true is None = member_here key e es ((bytes_eq-Decides key (string_bytes e.0)).0 is)
+    by true is None = member_here key e es is
     by true is (Some d) = refl
-    by false is None = member_later key e es (λ same. true≢false (sym ((bytes_eq-Decides key (string_bytes e.0)).1 same) ∙ is))
+    by false is None = member_later key e es is
     by false is (Some d) = refl
 
-pub found_on : (key : List ℕ) (whole before now : Option Data) (name : List ℕ) (left : List Entry) (e : Entry) (es : List Entry)
-    → whole ≡ option_or before (get_member key (members_view left)) → left ≡ e ∷ es → name ≡ string_bytes e.0
+pub found_on : (key : List ℕ) (whole before now : Option Data) (name : List ℕ) (left : List Member) (e : Member) (es : List Member)
+    → whole ≡ option_or before (get_member key (members_view left)) → left ≡ e ∷ es → name ≡ e.0.now
     → now ≡ (if bytes_eq key name then option_or before (Some (view e.1)) else before)
     → whole ≡ option_or now (get_member key (members_view es))
 found_on key whole before now name left e es was steps same is =
-    was ∙ ap (λ (l : List Entry). option_or before (get_member key (members_view l))) steps ∙ first_on key before e es
+    was ∙ ap (λ (l : List Member). option_or before (get_member key (members_view l))) steps ∙ first_on key before e es
     ∙ ap (λ (n : List ℕ). option_or (if bytes_eq key n then option_or before (Some (view e.1)) else before) (get_member key (members_view es))) (sym same)
     ∙ ap (λ (o : Option Data). option_or o (get_member key (members_view es))) (sym is)
 
-pub found_by : (key : List ℕ) (whole before now : Option Data) (is_it : Bool) (name : List ℕ) (left : List Entry) (e : Entry) (es : List Entry)
-    → whole ≡ option_or before (get_member key (members_view left)) → left ≡ e ∷ es → name ≡ string_bytes e.0 → is_it ≡ bytes_eq key name
+pub found_by : (key : List ℕ) (whole before now : Option Data) (is_it : Bool) (name : List ℕ) (left : List Member) (e : Member) (es : List Member)
+    → whole ≡ option_or before (get_member key (members_view left)) → left ≡ e ∷ es → name ≡ e.0.now → is_it ≡ bytes_eq key name
     → now ≡ (if is_it then option_or before (Some (view e.1)) else before)
     → whole ≡ option_or now (get_member key (members_view es))
 found_by key whole before now is_it name left e es was steps same it is =
@@ -87,14 +85,14 @@ others_of true named left = refl
 others_of false true left = refl
 others_of false false left = refl
 
-pub others_on : (rows : List Argument) (whole before now : Bool) (name : List ℕ) (left : List Entry) (e : Entry) (es : List Entry)
-    → whole ≡ (not before && all_named rows (members_view left)) → left ≡ e ∷ es → name ≡ string_bytes e.0
+pub others_on : (rows : List Argument) (whole before now : Bool) (name : List ℕ) (left : List Member) (e : Member) (es : List Member)
+    → whole ≡ (not before && all_named rows (members_view left)) → left ≡ e ∷ es → name ≡ e.0.now
     → now ≡ (before || not (is_named rows name))
     → whole ≡ (not now && all_named rows (members_view es))
 others_on rows whole before now name left e es was steps same is =
     let rest : Bool = all_named rows (members_view es) in
-    was ∙ ap (λ (l : List Entry). not before && all_named rows (members_view l)) steps
-    ∙ others_of before (is_named rows (string_bytes e.0)) rest
+    was ∙ ap (λ (l : List Member). not before && all_named rows (members_view l)) steps
+    ∙ others_of before (is_named rows e.0.now) rest
     ∙ ap (λ (n : List ℕ). not (before || not (is_named rows n)) && rest) (sym same)
     ∙ ap (λ (t : Bool). not t && rest) (sym is)
 

@@ -4,7 +4,7 @@ use Rattle.std.specs.Option.{option_map_or}
 use Rattle.std.specs.Str.{bytes_eq}
 use Rattle.serde_json.specs.Data.{Data, Members}
 use Rattle.serde_json.specs.Find.{get_member}
-use Rattle.serde_json.specs.View.{view}
+use Rattle.qo_json.specs.View.{view}
 use Rattle.qo_requests.specs.Arguments.{field_of, kind_of, fits, all_named, all_plain, has_only, plain_beside}
 use Rattle.qo_requests.specs.Fields.{argument, field_name}
 use Rattle.qo_requests.specs.declared.arguments.Argument.{Argument}

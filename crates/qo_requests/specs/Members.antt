@@ -3,7 +3,7 @@ use Rattle.std.specs.Prelude.{◌≡◌, Bool, not, ◌&&◌, true, false, Optio
 use Rattle.std.specs.Option.{option_map_or}
 use Rattle.serde_json.specs.Data.{Data, Members as Stood}
 use Rattle.serde_json.specs.Find.{as_object, as_str, get_member}
-use Rattle.serde_json.specs.View.{view}
+use Rattle.qo_json.specs.View.{view}
 use Rattle.qo_requests.specs.Arguments.{all_named, has_only}
 use Rattle.qo_requests.specs.Fields.{argument, field_name}
 use Rattle.qo_requests.specs.Messages.{message_members}

@@ -1,13 +1,13 @@
 //! The rows of the arguments of commands, and whether a value is of the kind that a row asks for.
 
 ghost use Rattle.std.specs.Prelude.{◌≡◌};
-ghost use Rattle.serde_json.specs.View.{view, items_view};
+ghost use Rattle.qo_json.specs.View.{view, items_view};
 ghost use Rattle.qo_requests.specs.declared.arguments.ArgumentKind.TheVariants as kind;
 ghost use Rattle.qo_requests.specs.Arguments.{field_of, kind_of, all_texts, is_form, fits, is_named};
 
 use crate::fields::Field;
+use qo_json::Json;
 use qo_values::RING_SIZE_MAX;
-use serde_json::Value;
 
 /// What an argument is to be.
 #[derive(Clone, Copy, Debug)]
@@ -62,7 +62,7 @@ impl Argument {
 }
 
 /// Whether all values of a list are texts.
-fn all_texts(items: &[Value]) -> bool
+fn all_texts(items: &[Json<'_>]) -> bool
     ensures { result ≡ all_texts (items_view items.now) }
 {
     for item in items {
@@ -81,18 +81,18 @@ fn is_form(name: &str) -> bool
 }
 
 /// Whether a value is a truth value, a whole number of 64 bits or a text.
-pub(crate) fn is_plain(value: &Value) -> bool
+pub(crate) fn is_plain(value: &Json<'_>) -> bool
     ensures { result ≡ fits kind.Plain (view value.now) }
 {
     match value {
-        Value::Bool(_) | Value::String(_) => true,
-        Value::Number(number) => !number.is_f64(),
-        Value::Null | Value::Array(_) | Value::Object(_) => false,
+        Json::Bool(_) | Json::String(_) => true,
+        Json::Number(number) => !number.is_f64(),
+        Json::Null | Json::Array(_) | Json::Object(_) => false,
     }
 }
 
 /// Whether a value is of a kind.
-pub(crate) fn fits(kind: ArgumentKind, value: &Value) -> bool
+pub(crate) fn fits(kind: ArgumentKind, value: &Json<'_>) -> bool
     ensures { result ≡ fits kind (view value.now) }
 {
     match kind {

@@ -1,7 +1,8 @@
 //! Commands whose arguments stand there and are of their kinds, built into requests.
 
 ghost use Rattle.std.specs.Prelude.{◌≡◌, IfOk};
-ghost use Rattle.serde_json.specs.View.{view};
+ghost use Rattle.qo_json.specs.Ordered.{IsOrdered};
+ghost use Rattle.qo_json.specs.View.{view};
 ghost use Rattle.qo_requests.specs.declared.commands.Command.TheVariants as command;
 ghost use Rattle.qo_requests.specs.Commands.{arguments, request_of, ring_on};
 ghost use Rattle.qo_requests.specs.Given.{AreGiven};
@@ -15,11 +16,11 @@ use crate::values::{
     form_at, number_at, number_in, properties_beside, text_at, text_in, texts_at, truth_at,
     value_in,
 };
-use serde_json::Value;
+use qo_json::Json;
 use std::alloc::{AllocError, Global};
 
 /// `chardev-add` with this `backend`.
-fn ring_on(alloc: Global, args: &Given<'_>, backend: &Value) -> Result<Request, AllocError>
+fn ring_on(alloc: Global, args: &Given<'_, '_>, backend: &Json<'_>) -> Result<Request, AllocError>
     requires { AreGiven args.now }
     ensures { IfOk result (λ request. request ≡ ring_on (view args.now.place.now) (view backend.now)) }
 {
@@ -36,20 +37,21 @@ fn ring_on(alloc: Global, args: &Given<'_>, backend: &Value) -> Result<Request, 
 }
 
 /// `chardev-add`.
-fn ring_adding(alloc: Global, args: &Given<'_>) -> Result<Request, AllocError>
+fn ring_adding(alloc: Global, args: &Given<'_, '_>) -> Result<Request, AllocError>
     requires { AreGiven args.now }
     ensures { IfOk result (λ request. request ≡ request_of command.ChardevAdd (view args.now.place.now)) }
 {
     match args.at(Field::Backend) {
         Some(backend) => ring_on(alloc, args, backend),
-        None => ring_on(alloc, args, &Value::Null),
+        None => ring_on(alloc, args, &Json::Null),
     }
 }
 
 /// `object-add`.
-fn object_adding(alloc: Global, args: &Given<'_>) -> Result<Request, AllocError>
+fn object_adding(alloc: Global, args: &Given<'_, '_>) -> Result<Request, AllocError>
     requires given { AreGiven args.now }
     requires rows { args.now.rows.now ≡ arguments command.ObjectAdd }
+    requires ordered { IsOrdered (view args.now.place.now) }
     ensures { IfOk result (λ request. request ≡ request_of command.ObjectAdd (view args.now.place.now)) }
 {
     Ok(Request::adds(Addition::ObjectAdd {
@@ -60,9 +62,10 @@ fn object_adding(alloc: Global, args: &Given<'_>) -> Result<Request, AllocError>
 }
 
 /// `device_add`.
-fn device_adding(alloc: Global, args: &Given<'_>) -> Result<Request, AllocError>
+fn device_adding(alloc: Global, args: &Given<'_, '_>) -> Result<Request, AllocError>
     requires given { AreGiven args.now }
     requires rows { args.now.rows.now ≡ arguments command.DeviceAdd }
+    requires ordered { IsOrdered (view args.now.place.now) }
     ensures { IfOk result (λ request. request ≡ request_of command.DeviceAdd (view args.now.place.now)) }
 {
     Ok(Request::adds(Addition::DeviceAdd {
@@ -77,10 +80,11 @@ fn device_adding(alloc: Global, args: &Given<'_>) -> Result<Request, AllocError>
 pub(crate) fn request_of(
     alloc: Global,
     command: Command,
-    args: &Given<'_>,
+    args: &Given<'_, '_>,
 ) -> Result<Request, AllocError>
     requires given { AreGiven args.now }
     requires rows { args.now.rows.now ≡ arguments command }
+    requires ordered { IsOrdered (view args.now.place.now) }
     ensures { IfOk result (λ request. request ≡ request_of command (view args.now.place.now)) }
 {
     Ok(match command {

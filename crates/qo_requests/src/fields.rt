@@ -3,10 +3,10 @@
 ghost use Rattle.std.specs.Prelude.{◌≡◌, ◌||◌, not, if◌then◌else◌, Some, option_map};
 ghost use Rattle.std.specs.Option.{option_or};
 ghost use Rattle.std.specs.Str.{bytes_eq};
-ghost use Rattle.serde_json.specs.View.{view};
+ghost use Rattle.qo_json.specs.View.{view};
 ghost use Rattle.qo_requests.specs.Fields.{field_name, argument};
 
-use serde_json::Value;
+use qo_json::Json;
 
 /// A member of a message or of its arguments.
 #[derive(Clone, Copy, Debug, PartialEq, Eq)]
@@ -101,7 +101,7 @@ impl Field {
 }
 
 /// The member of a name in an object; what is no object has none.
-pub(crate) fn argument<'v>(place: &'v Value, field: Field) -> Option<&'v Value>
+pub(crate) fn argument<'v, 'a>(place: &'v Json<'a>, field: Field) -> Option<&'v Json<'a>>
     ensures { option_map (λ v. view v.now) result ≡ argument field (view place.now) }
 {
     place.get(field.name())
@@ -109,11 +109,11 @@ pub(crate) fn argument<'v>(place: &'v Value, field: Field) -> Option<&'v Value>
 
 /// The member of a name: the one found before, or this one, where it has the name.
 #[inline(always)]
-pub(crate) fn found<'v>(
-    before: Option<&'v Value>,
+pub(crate) fn found<'v, 'a>(
+    before: Option<&'v Json<'a>>,
     is_it: bool,
-    member: &'v Value,
-) -> Option<&'v Value>
+    member: &'v Json<'a>,
+) -> Option<&'v Json<'a>>
     ensures { option_map (λ v. view v.now) result ≡ (if is_it then option_or (option_map (λ v. view v.now) before.entry) (Some (view member.now)) else option_map (λ v. view v.now) before.entry) }
 {
     if is_it {

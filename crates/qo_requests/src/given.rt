@@ -1,7 +1,7 @@
 //! The members of an object that some rows name, read in one pass.
 
 ghost use Rattle.std.specs.Prelude.{◌≡◌, ◌≤◌, ◌&&◌, ◌||◌, length, slice_get, true, Some, option_map};
-ghost use Rattle.serde_json.specs.View.{view, members_view};
+ghost use Rattle.qo_json.specs.View.{view, members_view};
 ghost use Rattle.qo_requests.specs.Arguments.{field_of, fits, all_stand, has_only, all_fit, plain_beside};
 ghost use Rattle.qo_requests.specs.declared.arguments.ArgumentKind.TheVariants as kind;
 ghost use Rattle.qo_requests.specs.Fields.{argument};
@@ -9,21 +9,21 @@ ghost use Rattle.qo_requests.specs.Given.{names, stands_by, is_fit_by, AreRead, 
 
 use crate::arguments::{Argument, fits, is_plain};
 use crate::fields::{Field, argument, found, is_beside, is_one};
-use serde_json::{Map, Value};
+use qo_json::Json;
 
 /// The members of an object that at most three rows name, and what stands beside them.
 #[derive(Clone, Copy)]
-pub(crate) struct Given<'v> {
+pub(crate) struct Given<'v, 'a> {
     /// The rows.
     pub(crate) rows: &'static [Argument],
     /// The object; what is none has no members.
-    pub(crate) place: &'v Value,
+    pub(crate) place: &'v Json<'a>,
     /// The member that the first row names, where it stands there.
-    first: Option<&'v Value>,
+    first: Option<&'v Json<'a>>,
     /// That of the second.
-    second: Option<&'v Value>,
+    second: Option<&'v Json<'a>>,
     /// That of the third.
-    third: Option<&'v Value>,
+    third: Option<&'v Json<'a>>,
     /// Whether a member stands there that no row names.
     others: bool,
     /// Whether each of those is a plain value.
@@ -54,7 +54,7 @@ fn is_of(rows: &[Argument], at: usize, field: Field) -> bool
 
 /// Whether all members that no row names are plain values: those before, and this one.
 #[inline(always)]
-fn stays_plain(before: bool, named: bool, member: &Value) -> bool
+fn stays_plain(before: bool, named: bool, member: &Json<'_>) -> bool
     ensures { result ≡ (before && (named || fits kind.Plain (view member.now))) }
 {
     before && (named || is_plain(member))
@@ -70,7 +70,7 @@ fn are_all(first: bool, second: bool, third: bool) -> bool
 
 /// Whether a member stands there, if the row, where there is one, asks for it.
 #[inline(always)]
-fn stands(rows: &[Argument], at: usize, part: Option<&Value>) -> bool
+fn stands(rows: &[Argument], at: usize, part: Option<&Json<'_>>) -> bool
     ensures { result ≡ stands_by (slice_get rows.now at) (option_map (λ v. view v.now) part.entry) }
 {
     match rows.get(at) {
@@ -81,7 +81,7 @@ fn stands(rows: &[Argument], at: usize, part: Option<&Value>) -> bool
 
 /// Whether a member, where it stands there, is of the kind of the row, where there is one.
 #[inline(always)]
-fn is_fit(rows: &[Argument], at: usize, part: Option<&Value>) -> bool
+fn is_fit(rows: &[Argument], at: usize, part: Option<&Json<'_>>) -> bool
     ensures { result ≡ is_fit_by (slice_get rows.now at) (option_map (λ v. view v.now) part.entry) }
 {
     match (rows.get(at), part) {
@@ -90,15 +90,15 @@ fn is_fit(rows: &[Argument], at: usize, part: Option<&Value>) -> bool
     }
 }
 
-impl<'v> Given<'v> {
-    /// The members that some rows name in an object, which is this map.
+impl<'v, 'a> Given<'v, 'a> {
+    /// The members that some rows name in an object, which has these members.
     fn among(
         rows: &'static [Argument],
-        place: &'v Value,
-        members: &'v Map<String, Value>,
-    ) -> Given<'v>
+        place: &'v Json<'a>,
+        members: &'v [(&'a str, Json<'a>)],
+    ) -> Given<'v, 'a>
         requires { length rows.now ≤ 3 }
-        ensures read { AreRead result (members_view members.now.entries) }
+        ensures read { AreRead result (members_view members.now) }
         ensures rows { result.rows.now ≡ rows.now }
         ensures place { view result.place.now ≡ view place.now }
     {
@@ -107,17 +107,17 @@ impl<'v> Given<'v> {
         let mut third = None;
         let mut others = false;
         let mut plain = true;
-        for (name, member) in members.iter() {
-            let name = name.as_str();
+        for member in members {
+            let name = member.0;
             let is_first = is_at(rows, 0, name);
             let is_second = is_at(rows, 1, name);
             let is_third = is_at(rows, 2, name);
             let named = is_one(is_first, is_second, is_third);
-            first = found(first, is_first, member);
-            second = found(second, is_second, member);
-            third = found(third, is_third, member);
+            first = found(first, is_first, &member.1);
+            second = found(second, is_second, &member.1);
+            third = found(third, is_third, &member.1);
             others = is_beside(others, named);
-            plain = stays_plain(plain, named, member);
+            plain = stays_plain(plain, named, &member.1);
         }
         Given {
             rows,
@@ -132,7 +132,7 @@ impl<'v> Given<'v> {
 
     /// The members that some rows name in a value, which has none where it is no object.
     #[inline(always)]
-    pub(crate) fn of(rows: &'static [Argument], place: &'v Value) -> Given<'v>
+    pub(crate) fn of(rows: &'static [Argument], place: &'v Json<'a>) -> Given<'v, 'a>
         requires { length rows.now ≤ 3 }
         ensures given { AreGiven result }
         ensures rows { result.rows.now ≡ rows.now }
@@ -154,7 +154,7 @@ impl<'v> Given<'v> {
 
     /// The member of a name, where it stands there. One that no row names is looked for.
     #[tactic(auto, using(crate::proofs::GivenLemmas::part_named))]
-    pub(crate) fn at(&self, field: Field) -> Option<&'v Value>
+    pub(crate) fn at(&self, field: Field) -> Option<&'v Json<'a>>
         requires { AreGiven self.now }
         ensures { option_map (λ v. view v.now) result ≡ argument field (view self.now.place.now) }
     {

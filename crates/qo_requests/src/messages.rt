@@ -1,12 +1,15 @@
 //! Messages, read into requests.
 
-ghost use Rattle.std.specs.Prelude.{◌≡◌, option_map, unwrap_or, IfOk};
+ghost use Rattle.std.specs.Prelude.{◌≡◌, false, None, option_map, unwrap_or, IfOk};
 ghost use Rattle.serde_json.specs.Data.{null};
-ghost use Rattle.serde_json.specs.View.{view, items_view, members_view};
+ghost use Rattle.qo_json.specs.Ordered.{IsOrdered};
+ghost use Rattle.qo_json.specs.View.{view, items_view, members_view};
 ghost use Rattle.serde_json.specs.Written.{has_float, items_have_float, members_have_float};
 ghost use Rattle.qo_requests.specs.Commands.{arguments};
 ghost use Rattle.qo_requests.specs.Given.{AreGiven};
 ghost use Rattle.qo_requests.specs.Members.{AreOf};
+ghost use Rattle.qo_values.specs.declared.codes.Code.TheVariants.{E1};
+ghost use Rattle.qo_requests.specs.declared.requests.ReadError.TheVariants.{Refused};
 ghost use Rattle.qo_requests.specs.Messages.{backend_complete, backend_closed, backend_fits, backend_of, is_complete, is_closed, is_fitting, call_of, request_in, id_text, with_id, command, Reads, GivesCode};
 
 use crate::building::request_of;
@@ -15,9 +18,11 @@ use crate::fields::Field;
 use crate::given::Given;
 use crate::members::Members;
 use crate::requests::{Parsed, ReadError, Request};
+use json::Scratch;
+use qo_json::{Json, JsonError};
 use qo_replies::json_text;
 use qo_values::Code;
-use serde_json::{Map, Value};
+use serde_json::Value;
 use std::alloc::{AllocError, Global};
 
 /// Why a value is no request.
@@ -31,19 +36,19 @@ pub(crate) enum Refusal {
 
 /// Whether a number in the value has a fraction or an exponent, or is out of range.
 #[cycle(has_float)]
-fn has_float(value: &Value) -> bool
+fn has_float(value: &Json<'_>) -> bool
     ensures { result ≡ has_float (view value.now) }
 {
     match value {
-        Value::Null | Value::Bool(_) | Value::String(_) => false,
-        Value::Number(number) => number.is_f64(),
-        Value::Array(items) => items_have_float(items),
-        Value::Object(members) => members_have_float(members),
+        Json::Null | Json::Bool(_) | Json::String(_) => false,
+        Json::Number(number) => number.is_f64(),
+        Json::Array(items) => items_have_float(items),
+        Json::Object(members) => members_have_float(members),
     }
 }
 
 #[cycle(has_float)]
-fn items_have_float(items: &Vec<Value>) -> bool
+fn items_have_float(items: &Vec<Json<'_>>) -> bool
     ensures { result ≡ items_have_float (items_view items.now.items) }
 {
     for item in items {
@@ -55,11 +60,11 @@ fn items_have_float(items: &Vec<Value>) -> bool
 }
 
 #[cycle(has_float)]
-fn members_have_float(members: &Map<String, Value>) -> bool
-    ensures { result ≡ members_have_float (members_view members.now.entries) }
+fn members_have_float(members: &Vec<(&str, Json<'_>)>) -> bool
+    ensures { result ≡ members_have_float (members_view members.now.items) }
 {
-    for (_, member) in members.iter() {
-        if has_float(member) {
+    for member in members {
+        if has_float(&member.1) {
             return true;
         }
     }
@@ -67,14 +72,14 @@ fn members_have_float(members: &Map<String, Value>) -> bool
 }
 
 /// Whether `backend`, where it is an object, has all its members.
-fn backend_complete(backend: &Value) -> bool
+fn backend_complete(backend: &Json<'_>) -> bool
     ensures { result ≡ backend_complete (view backend.now) }
 {
     !backend.is_object() || Given::of(backend_members(), backend).all_stand()
 }
 
 /// Whether `backend` and its `data` have no other members.
-fn backend_closed(backend: &Value) -> bool
+fn backend_closed(backend: &Json<'_>) -> bool
     ensures { result ≡ backend_closed (view backend.now) }
 {
     let given = Given::of(backend_members(), backend);
@@ -86,7 +91,7 @@ fn backend_closed(backend: &Value) -> bool
 }
 
 /// Whether the members of `backend` and of its `data` are of their kinds.
-fn backend_fits(backend: &Value) -> bool
+fn backend_fits(backend: &Json<'_>) -> bool
     ensures { result ≡ backend_fits (view backend.now) }
 {
     let given = Given::of(backend_members(), backend);
@@ -98,7 +103,7 @@ fn backend_fits(backend: &Value) -> bool
 }
 
 /// The `backend` of `chardev-add`, where it stands.
-fn backend_of<'v>(command: Command, args: &Given<'v>) -> Option<&'v Value>
+fn backend_of<'v, 'a>(command: Command, args: &Given<'v, 'a>) -> Option<&'v Json<'a>>
     requires { AreGiven args.now }
     ensures { option_map (λ v. view v.now) result ≡ backend_of command (view args.now.place.now) }
 {
@@ -109,7 +114,7 @@ fn backend_of<'v>(command: Command, args: &Given<'v>) -> Option<&'v Value>
 }
 
 /// Whether each argument that must stand there does.
-fn is_complete(command: Command, args: &Given<'_>) -> bool
+fn is_complete(command: Command, args: &Given<'_, '_>) -> bool
     requires given { AreGiven args.now }
     requires rows { args.now.rows.now ≡ arguments command }
     ensures { result ≡ is_complete command (view args.now.place.now) }
@@ -122,7 +127,7 @@ fn is_complete(command: Command, args: &Given<'_>) -> bool
 }
 
 /// Whether no argument stands there that the command does not take.
-fn is_closed(command: Command, args: &Given<'_>) -> bool
+fn is_closed(command: Command, args: &Given<'_, '_>) -> bool
     requires given { AreGiven args.now }
     requires rows { args.now.rows.now ≡ arguments command }
     ensures { result ≡ is_closed command (view args.now.place.now) }
@@ -135,7 +140,7 @@ fn is_closed(command: Command, args: &Given<'_>) -> bool
 }
 
 /// Whether each argument is of its kind, and each further one a plain value.
-fn is_fitting(command: Command, args: &Given<'_>) -> bool
+fn is_fitting(command: Command, args: &Given<'_, '_>) -> bool
     requires given { AreGiven args.now }
     requires rows { args.now.rows.now ≡ arguments command }
     ensures { result ≡ is_fitting command (view args.now.place.now) }
@@ -148,7 +153,8 @@ fn is_fitting(command: Command, args: &Given<'_>) -> bool
 }
 
 /// A command with its arguments.
-fn call_of(alloc: Global, command: Option<Command>, args: &Value) -> Result<Request, Refusal>
+fn call_of(alloc: Global, command: Option<Command>, args: &Json<'_>) -> Result<Request, Refusal>
+    requires { IsOrdered (view args.now) }
     ensures { GivesCode result (call_of command (view args.now)) }
 {
     let Some(command) = command else {
@@ -174,19 +180,21 @@ fn call_of(alloc: Global, command: Option<Command>, args: &Value) -> Result<Requ
 fn call_in(
     alloc: Global,
     command: Option<Command>,
-    arguments: Option<&Value>,
+    arguments: Option<&Json<'_>>,
 ) -> Result<Request, Refusal>
+    requires { IsOrdered (unwrap_or (option_map (λ v. view v.now) arguments) null) }
     ensures { GivesCode result (call_of command (unwrap_or (option_map (λ v. view v.now) arguments.entry) null)) }
 {
     match arguments {
         Some(args) => call_of(alloc, command, args),
-        None => call_of(alloc, command, &Value::Null),
+        None => call_of(alloc, command, &Json::Null),
     }
 }
 
 /// The request that a value is, which has these members.
-fn request_in(alloc: Global, value: &Value, members: Members<'_>) -> Result<Request, Refusal>
-    requires { AreOf members (view value.now) }
+fn request_in(alloc: Global, value: &Json<'_>, members: Members<'_, '_>) -> Result<Request, Refusal>
+    requires members { AreOf members (view value.now) }
+    requires ordered { IsOrdered (view value.now) }
     ensures { GivesCode result (request_in (view value.now)) }
 {
     if has_float(value) {
@@ -199,7 +207,7 @@ fn request_in(alloc: Global, value: &Value, members: Members<'_>) -> Result<Requ
 }
 
 /// An id as its text in a reply, where no number of it is refused.
-fn id_text(alloc: Global, id: Option<&Value>) -> Result<Option<qo_values::Text>, AllocError>
+fn id_text(alloc: Global, id: Option<&Json<'_>>) -> Result<Option<qo_values::Text>, AllocError>
     ensures { IfOk result (λ text. text ≡ id_text (option_map (λ v. view v.now) id.entry)) }
 {
     match id {
@@ -209,7 +217,8 @@ fn id_text(alloc: Global, id: Option<&Value>) -> Result<Option<qo_values::Text>,
 }
 
 /// What the value of a message is read into.
-fn read_value(alloc: Global, value: &Value) -> Result<Parsed, ReadError>
+fn read_value(alloc: Global, value: &Json<'_>) -> Result<Parsed, ReadError>
+    requires { IsOrdered (view value.now) }
     ensures { Reads result (with_id (view value.now) (request_in (view value.now))) }
 {
     let members = Members::of(value);
@@ -225,23 +234,44 @@ fn read_value(alloc: Global, value: &Value) -> Result<Parsed, ReadError>
     }
 }
 
+/// What is said of a text that is no JSON in UTF-8.
+fn not_json() -> ReadError
+    ensures { result ≡ Refused E1 None false }
+{
+    ReadError::Refused {
+        code: Code::E1,
+        id: None,
+        negotiates: false,
+    }
+}
+
+/// Reads a message that has an object with very many members, by a map of them.
+#[tactic(auto, unfolding(crate::specs::Messages::command))]
+fn read_wide(alloc: Global, bytes: &[u8]) -> Result<Parsed, ReadError>
+    ensures { Reads result (command bytes.now) }
+{
+    match Value::from_slice(alloc, bytes) {
+        Ok(value) => read_value(alloc, &Json::of(alloc, &value)?),
+        Err(error) if error.is_memory() => Err(ReadError::Memory),
+        Err(_) => Err(not_json()),
+    }
+}
+
 /// Reads one message: the request with its id, or the first code that stands, exactly as `command`
 /// defines it. E1: it is not JSON in UTF-8. E7: a number in it has a fraction or an exponent, or is
 /// outside -2^63 to 2^64 - 1. E6: it has another member than `execute`, `arguments` and `id`,
 /// `execute` is no text, or `arguments` no object. E10: there is no such command. E12: an argument
 /// is missing. E13: an argument stands there that the command does not take. E14: an argument is of
-/// another kind.
+/// another kind. `scratch` is room for what stands with escapes in the message; it is kept from call
+/// to call.
 #[tactic(auto, unfolding(crate::specs::Messages::command))]
-pub fn read(alloc: Global, bytes: &[u8]) -> Result<Parsed, ReadError>
+pub fn read(alloc: Global, bytes: &[u8], scratch: &mut Scratch) -> Result<Parsed, ReadError>
     ensures { Reads result (command bytes.now) }
 {
-    match Value::from_slice(alloc, bytes) {
+    match Json::read(alloc, bytes, scratch) {
         Ok(value) => read_value(alloc, &value),
-        Err(error) if error.is_memory() => Err(ReadError::Memory),
-        Err(_) => Err(ReadError::Refused {
-            code: Code::E1,
-            id: None,
-            negotiates: false,
-        }),
+        Err(JsonError::Wide) => read_wide(alloc, bytes),
+        Err(JsonError::Memory) => Err(ReadError::Memory),
+        Err(JsonError::Invalid) => Err(not_json()),
     }
 }

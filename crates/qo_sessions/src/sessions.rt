@@ -6,6 +6,7 @@ ghost use Rattle.qo_sessions.specs.Acts.{act, judged};
 
 use crate::acts::{SessionAct, asked, refusal_code};
 use crate::modes::Mode;
+use json::Scratch;
 use qo_framing::{Framer, Item};
 use qo_replies::greeting;
 use qo_requests::{ReadError, read};
@@ -83,13 +84,19 @@ impl Session {
         self.framer.feed(alloc, bytes)
     }
 
-    /// What an item comes to, and the mode behind it. After an error the session is as before.
-    pub fn act(&mut self, alloc: Global, item: &Item) -> Result<SessionAct, AllocError>
+    /// What an item comes to, and the mode after it. `scratch` is room for reading. After an error
+    /// the session is as before.
+    pub fn act(
+        &mut self,
+        alloc: Global,
+        item: &Item,
+        scratch: &mut Scratch,
+    ) -> Result<SessionAct, AllocError>
         ensures act { IfOk result (λ what. what ≡ act self.old.mode item.now) }
         ensures mode { IfOk result (λ what. self.new ≡ in_mode (mode_behind self.old.mode what) self.old) }
         ensures kept { OnErr result (self.new ≡ self.old) }
     {
-        let what = act_in(alloc, self.mode, item)?;
+        let what = act_in(alloc, self.mode, item, scratch)?;
         if let SessionAct::Negotiated(_) = &what {
             self.mode = Mode::Commanding;
         }
@@ -106,10 +113,15 @@ impl Session {
 }
 
 /// What a message comes to.
-fn judged(alloc: Global, mode: Mode, bytes: &[u8]) -> Result<SessionAct, AllocError>
+fn judged(
+    alloc: Global,
+    mode: Mode,
+    bytes: &[u8],
+    scratch: &mut Scratch,
+) -> Result<SessionAct, AllocError>
     ensures { IfOk result (λ what. what ≡ judged mode (command bytes.now)) }
 {
-    match read(alloc, bytes) {
+    match read(alloc, bytes, scratch) {
         Ok(parsed) => Ok(asked(mode, parsed)),
         Err(
             ReadError::Refused {
@@ -124,11 +136,16 @@ fn judged(alloc: Global, mode: Mode, bytes: &[u8]) -> Result<SessionAct, AllocEr
 
 #[tactic(auto, unfolding(crate::specs::Acts::act))]
 /// What an item comes to.
-fn act_in(alloc: Global, mode: Mode, item: &Item) -> Result<SessionAct, AllocError>
+fn act_in(
+    alloc: Global,
+    mode: Mode,
+    item: &Item,
+    scratch: &mut Scratch,
+) -> Result<SessionAct, AllocError>
     ensures { IfOk result (λ what. what ≡ act mode item.now) }
 {
     match item {
-        Item::Object(bytes) => judged(alloc, mode, bytes.as_slice()),
+        Item::Object(bytes) => judged(alloc, mode, bytes.as_slice(), scratch),
         Item::Junk => Ok(SessionAct::Answer(Code::E2, None)),
         Item::Broken => Ok(SessionAct::Answer(Code::E3, None)),
         Item::TooLong => Ok(SessionAct::Answer(Code::E4, None)),

@@ -1,5 +1,5 @@
 use Rattle.std.proofs.Common.{◌≡◌, drop}
-use Rattle.serde_json.specs.View.{items_view}
+use Rattle.qo_json.specs.View.{items_view}
 use Rattle.qo_requests.specs.Arguments.{all_texts}
 use Rattle.qo_requests.proofs.arguments.all_texts.Given as goal
 

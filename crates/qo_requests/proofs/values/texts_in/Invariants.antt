@@ -1,5 +1,5 @@
 use Rattle.std.proofs.Common.{◌≡◌, ◌++◌, drop}
-use Rattle.serde_json.specs.View.{items_view}
+use Rattle.qo_json.specs.View.{items_view}
 use Rattle.qo_requests.specs.Values.{texts_in}
 use Rattle.qo_requests.proofs.values.texts_in.Given as goal
 

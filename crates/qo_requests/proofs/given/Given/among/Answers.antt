@@ -1,25 +1,28 @@
 -- One member more.
-use Rattle.std.proofs.Common.{◌≡◌, option_map}
+use Rattle.std.proofs.Common.{◌≡◌, ◌+◌, ◌∷◌, drop, refl, sym, ap, ◌∙◌, arith}
+use Rattle.std.proofs.lemmas.List.{drop_more}
 use Rattle.std.specs.Prelude.{slice_get}
-use Rattle.serde_json.proofs.Views.{Entry}
-use Rattle.serde_json.specs.View.{members_view, view}
+use Rattle.qo_json.proofs.MemberLemmas.{Member}
+use Rattle.qo_json.specs.View.{members_view}
 use Rattle.qo_requests.specs.Arguments.{all_named, all_plain}
 use Rattle.qo_requests.specs.Given.{member_of}
 use Rattle.qo_requests.proofs.GivenLemmas.{part_on, plain_by}
 use Rattle.qo_requests.proofs.MemberLemmas.{beside_three, others_on}
 use Rattle.qo_requests.proofs.given.Given.among.Goals as goal
 
-pub loop-name-preserved : goal.loop-name-preserved
-loop-name-preserved c =
-    let e : Entry = (c.in-Some.name.now, c.in-Some.member.now) in
-    let es = c.next.new.self in
-    let left = c.loop-name.name-iterator in
+pub loop-member-preserved : goal.loop-member-preserved
+loop-member-preserved c =
+    let all = c.args.members.now in
+    let i = c.loop-member.member-index in
+    let e : Member = c.member-item.result in
+    let es = drop (i + 1) all in
+    let left = drop i all in
     let rows = c.args.rows.now in
-    let whole = members_view c.args.members.now.entries in
-    let name = c.as_str-name.result.now in
-    let steps = c.in-Some.ensures.steps in
-    let same = c.as_str-name.ensures.value in
-    let was = c.loop-name.invariant in
+    let whole = members_view all in
+    let name = e.0.now in
+    let steps : left ≡ e ∷ es = drop_more all i e (omega arith) ∙ ap (λ (m : Member). m ∷ es) (sym c.member-item.is) in
+    let same : name ≡ name = refl in
+    let was = c.loop-member.invariant in
     let is_first = c.is_at-is_first.ensures in
     let is_second = c.is_at-is_second.ensures in
     let is_third = c.is_at-is_third.ensures in

@@ -1,7 +1,8 @@
 -- One member more.
-use Rattle.std.proofs.Common.{None, false, lit≤, option_map}
-use Rattle.serde_json.proofs.Views.{Entry}
-use Rattle.serde_json.specs.View.{members_view, view}
+use Rattle.std.proofs.Common.{◌≡◌, ◌+◌, ◌∷◌, drop, lit≤, refl, sym, ap, ◌∙◌, arith}
+use Rattle.std.proofs.lemmas.List.{drop_more}
+use Rattle.qo_json.proofs.MemberLemmas.{Member}
+use Rattle.qo_json.specs.View.{members_view}
 use Rattle.serde_json.specs.Find.{get_member}
 use Rattle.qo_requests.specs.Arguments.{all_named}
 use Rattle.qo_requests.specs.Fields.{field_name}
@@ -10,16 +11,18 @@ use Rattle.qo_requests.specs.declared.fields.Field.TheVariants.{Arguments, Execu
 use Rattle.qo_requests.proofs.MemberLemmas.{beside_three, found_by, others_on}
 use Rattle.qo_requests.proofs.members.Members.among.Goals as goal
 
-pub loop-name-preserved : goal.loop-name-preserved
-loop-name-preserved c =
-    let e : Entry = (c.in-Some.name.now, c.in-Some.member.now) in
-    let es = c.next.new.self in
-    let left = c.loop-name.name-iterator in
-    let whole = members_view c.args.members.now.entries in
-    let name = c.as_str-name.result.now in
-    let steps = c.in-Some.ensures.steps in
-    let same = c.as_str-name.ensures.value in
-    let was = c.loop-name.invariant in
+pub loop-member-preserved : goal.loop-member-preserved
+loop-member-preserved c =
+    let all = c.args.members.now in
+    let i = c.loop-member.member-index in
+    let e : Member = c.member-item.result in
+    let es = drop (i + 1) all in
+    let left = drop i all in
+    let whole = members_view all in
+    let name = e.0.now in
+    let steps : left ≡ e ∷ es = drop_more all i e (omega arith) ∙ ap (λ (m : Member). m ∷ es) (sym c.member-item.is) in
+    let same : name ≡ name = refl in
+    let was = c.loop-member.invariant in
     record {
       execute = found_by (field_name Execute) (get_member (field_name Execute) whole) _ _ _ name left e es was.execute steps same
           c.is_named-is_execute.ensures c.found-execute.ensures;

@@ -1,0 +1,8 @@
+use Rattle.std.proofs.Common.{◌≡◌, drop}
+use Rattle.serde_json.specs.Find.{get_member}
+use Rattle.qo_json.specs.View.{members_view}
+use Rattle.qo_json.proofs.values.member_named.Given as goal
+
+-- the member of the name is among those left
+abbrev pub invariant-loop-member : goal.invariant-loop-member
+invariant-loop-member l = get_member l.name (members_view l.members) ≡ get_member l.name (members_view (drop l.member-index l.members))
