@@ -1,7 +1,7 @@
 //! Slots by name, in the order of adding.
 
 use crate::index::Names;
-use crate::names::SlotName;
+use crate::names::{Mark, SlotName};
 use crate::slots::{Slot, SlotView};
 use qo_slots::Key;
 use qo_values::Val;
@@ -75,7 +75,10 @@ impl SlotMap {
     {
         match &self.index {
             Some(names) => names.find(name),
-            None => self.slots.iter().position(|slot| name == slot.0.as_str()),
+            None => {
+                let mark = Mark::of(name);
+                self.slots.iter().position(|slot| slot.0.is(name, mark))
+            }
         }
     }
 

@@ -20,22 +20,54 @@ enum Given {
     Own(Name),
 }
 
+/// What is compared of two names before their texts: how many bytes they have, and the first.
+#[derive(Clone, Copy, Debug)]
+pub(crate) struct Mark {
+    /// How many bytes the text has.
+    length: usize,
+    /// The first of them; 0 of an empty text.
+    first: u8,
+}
+
+impl Mark {
+    ghost use Rattle.std.specs.Prelude.{◌&&◌, ◌==◌};
+    ghost use Rattle.qo_object.specs.Names.{mark_of};
+
+    /// That of a text.
+    pub(crate) fn of(text: &str) -> Mark
+        ensures { result ≡ mark_of text.now }
+    {
+        Mark {
+            length: text.len(),
+            first: text.as_bytes().first().copied().unwrap_or(0),
+        }
+    }
+
+    /// Whether it is like another.
+    fn is_like(self, other: Mark) -> bool
+        ensures { result ≡ ((self.length == other.length) && (self.first == other.first)) }
+    {
+        self.length == other.length && self.first == other.first
+    }
+}
+
 /// The name under which a slot is added: 1 to `NAME_MAX` printable ASCII bytes (32 to 126) without
 /// `/`. One that is constant has no text of its own.
 #[derive(Debug, Drop)]
 pub struct SlotName {
     given: Given,
+    mark: Mark,
 }
 
 impl Model for SlotName {
-    ghost use Rattle.std.specs.Prelude.{List, ℕ};
-    ghost use Rattle.qo_object.specs.Names.{IsGiven, given_text};
+    ghost use Rattle.std.specs.Prelude.{◌≡◌, List, ℕ};
+    ghost use Rattle.qo_object.specs.Names.{IsGiven, given_text, mark_of};
 
     ghost Value = { List ℕ };
 
     ghost view = { λ n. given_text n.given };
 
-    ghost invariant = { λ n. IsGiven n.given };
+    ghost invariant = { λ n. IsGiven n.given × (n.mark ≡ mark_of (given_text n.given)) };
 }
 
 /// The text of the name of the link of a bus to the kid in a slot.
@@ -56,14 +88,18 @@ fn kid_text(slot: u8) -> &'static str
 }
 
 impl SlotName {
+    ghost use Rattle.std.specs.Str.{bytes_eq};
     ghost use Rattle.qo_values.specs.Names.{IsName};
+    ghost use Rattle.qo_object.specs.Names.{mark_of};
 
     /// The name of a property in a row. It takes no memory.
     pub fn row(name: PropertyName) -> SlotName
         ensures { result ≡ property_name name }
     {
+        let mark = Mark::of(name.as_str());
         SlotName {
             given: Given::Row(name),
+            mark,
         }
     }
 
@@ -72,8 +108,10 @@ impl SlotName {
         requires { slot < BUS_SLOTS }
         ensures { result ≡ kid_name slot }
     {
+        let mark = Mark::of(kid_text(slot));
         SlotName {
             given: Given::Kid(slot),
+            mark,
         }
     }
 
@@ -81,8 +119,10 @@ impl SlotName {
     pub fn own(name: Name) -> SlotName
         ensures { result ≡ name }
     {
+        let mark = Mark::of(name.as_str());
         SlotName {
             given: Given::Own(name),
+            mark,
         }
     }
 
@@ -96,5 +136,13 @@ impl SlotName {
             Given::Kid(slot) => kid_text(*slot),
             Given::Own(name) => name.as_str(),
         }
+    }
+
+    /// Whether it is this text, which has this mark. It takes no memory.
+    pub(crate) fn is(&self, text: &str, mark: Mark) -> bool
+        requires { mark ≡ mark_of text.now }
+        ensures { result ≡ bytes_eq text.now self.now }
+    {
+        mark.is_like(self.mark) && text == self.as_str()
     }
 }
