@@ -15,5 +15,5 @@ mod tree;
 
 pub use errors::{MakeError, SlotError};
 pub use heap::Heap;
-pub use qo_object::{Oid, Slot, SlotView};
+pub use qo_object::{Oid, Slot, SlotName, SlotView};
 pub use qo_table::Steps;

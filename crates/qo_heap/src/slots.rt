@@ -2,9 +2,9 @@
 
 use crate::errors::SlotError;
 use crate::heap::Heap;
-use qo_object::{Oid, Slot};
+use qo_object::{Oid, Slot, SlotName};
 use qo_table::Steps;
-use qo_values::{Name, TypeId, Val};
+use qo_values::{TypeId, Val};
 use std::sync::ledger::Ledger;
 
 impl Heap {
@@ -20,7 +20,7 @@ impl Heap {
     fn add<L: Ledger>(
         &mut self,
         o: Oid,
-        name: Name,
+        name: SlotName,
         slot: Slot,
         steps: &mut Steps<L>,
     ) -> Result<(), SlotError>
@@ -42,7 +42,7 @@ impl Heap {
     pub fn add_plain<L: Ledger>(
         &mut self,
         o: Oid,
-        name: Name,
+        name: SlotName,
         val: Val,
         steps: &mut Steps<L>,
     ) -> Result<(), SlotError>
@@ -62,7 +62,7 @@ impl Heap {
     pub fn add_child<L: Ledger>(
         &mut self,
         o: Oid,
-        name: Name,
+        name: SlotName,
         child: Oid,
         steps: &mut Steps<L>,
     ) -> Result<(), SlotError>
@@ -90,7 +90,7 @@ impl Heap {
     pub fn add_link<L: Ledger>(
         &mut self,
         o: Oid,
-        name: Name,
+        name: SlotName,
         ty: TypeId,
         strong: bool,
         target: Option<Oid>,
@@ -113,9 +113,9 @@ impl Heap {
     pub fn add_alias<L: Ledger>(
         &mut self,
         o: Oid,
-        name: Name,
+        name: SlotName,
         target: Oid,
-        of: Name,
+        of: SlotName,
         steps: &mut Steps<L>,
     ) -> Result<(), SlotError>
         requires live { IsLive self.old.rows o }

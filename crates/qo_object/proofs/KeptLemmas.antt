@@ -53,7 +53,7 @@ distinct-let_go zero ((name, Link ty strong target) ∷ slots) distinct = distin
 distinct-let_go zero ((name, Alias key property) ∷ slots) distinct = distinct
 distinct-let_go (suc i) (s ∷ slots) distinct = (all-let_go (λ name. bytes_eq s.0 name ≡ false) i slots distinct.0, distinct-let_go i slots distinct.1)
 
-distinct-removed : (i : ℕ) (slots : List Named) → IsDistinct bytes_eq (names_of slots) → IsDistinct bytes_eq (names_of (remove slots i))
+pub distinct-removed : (i : ℕ) (slots : List Named) → IsDistinct bytes_eq (names_of slots) → IsDistinct bytes_eq (names_of (remove slots i))
 unfolding IsDistinct
 distinct-removed zero [] distinct = distinct
 distinct-removed (suc i) [] distinct = distinct
@@ -66,7 +66,8 @@ length-removed (suc i) [] = omega arith
 length-removed zero (s ∷ slots) = omega arith
 length-removed (suc i) (s ∷ slots) = omega (arith, length-removed i slots)
 
-any-name : (name : List ℕ) (slots : List Named) → list_any (bytes_eq name) (names_of slots) ≡ has_name name slots
+-- a name is there where it is among the names
+pub any-name : (name : List ℕ) (slots : List Named) → list_any (bytes_eq name) (names_of slots) ≡ has_name name slots
 any-name name [] = refl
 any-name name (s ∷ slots) = ap (λ b. bytes_eq name s.0 || b) (any-name name slots)
 

@@ -1,4 +1,4 @@
 pub mod KeptLemmas
-pub mod MapLemmas
+pub mod NameLemmas
 pub mod ShownLemmas
 pub mod SlotLemmas

@@ -1,5 +1,5 @@
 -- Slots by place.
-use Rattle.std.proofs.Common.{◌≡◌, ℕ, zero, suc, ◌+◌, ◌≤◌, nat_lt, Bool, true, false, not, cond, ◌||◌, ◌==◌, List, [], ◌∷◌, position, slice_get, find, length, remove, Some, None, is_some, count_by, refl, ap, ◌∙◌, arith}
+use Rattle.std.proofs.Common.{◌≡◌, ℕ, zero, suc, ◌+◌, ◌≤◌, ◌<◌, nat_lt, Bool, true, false, not, cond, ◌||◌, ◌==◌, List, [], ◌∷◌, position, slice_get, slice_set, get_or, find, length, remove, Some, None, is_some, count_by, refl, sym, ap, ap₂, ◌∙◌, arith}
 use Rattle.std.proofs.lemmas.Bool.{ltb-false}
 use Rattle.std.proofs.lemmas.List.Folds.{find_at}
 use Rattle.std.proofs.lemmas.List.Sums.{sum_by-cons}
@@ -8,7 +8,7 @@ use Rattle.std.specs.Option.{option_and_then}
 use Rattle.qo_slots.specs.declared.keys.Key.{Key}
 use Rattle.qo_object.specs.declared.slots.Slot.{Slot}
 use Rattle.qo_object.specs.declared.slots.Slot.TheVariants.{Plain, Child, Link, Alias}
-use Rattle.qo_object.specs.Slots.{Named, slot_in, named_in, child_of, unlinked, changed_at, let_go_at, each_changed}
+use Rattle.qo_object.specs.Slots.{Named, slot_in, named_in, child_of, unlinked, names_weakly, forgotten_in, changed_at, let_go_at, each_changed}
 
 -- a child that is let go is removed
 pub child-gone : (slots : List Named) (i : ℕ) (key : Key) → option_and_then child_of (slot_in slots i) ≡ Some key → remove slots i ≡ let_go_at i slots
@@ -131,3 +131,46 @@ find-at_place {X} test xs = find_at test xs ∙ by (nat_lt (position_or_len test
     by : (b : Bool) → nat_lt (position_or_len test xs) (length xs) ≡ b → slice_get xs (position_or_len test xs) ≡ option_and_then (slice_get xs) (cond b (Some (position_or_len test xs)) None)
     by true is = refl
     by false is = past xs (position_or_len test xs) (ltb-false (position_or_len test xs) (length xs) is)
+
+-- where no weak link names the object of a birth, nothing is emptied
+kept-slot : (birth : ℕ) (s : Slot) → names_weakly birth s ≡ false → forgotten_in birth s ≡ s
+kept-slot birth (Plain val) not_so = refl
+kept-slot birth (Child key) not_so = refl
+kept-slot birth (Link ty true target) not_so = refl
+kept-slot birth (Link ty false None) not_so = refl
+kept-slot birth (Link ty false (Some key)) not_so = rw not_so refl
+kept-slot birth (Alias key property) not_so = refl
+
+both-false : (a b : Bool) → a || b ≡ false → (a ≡ false) × (b ≡ false)
+both-false true b none = cc
+both-false false b none = (refl, none)
+
+pub none-forgotten : (birth : ℕ) (slots : List Named) → list_any (λ (s : Named). names_weakly birth s.1) slots ≡ false
+    → each_changed (forgotten_in birth) slots ≡ slots
+none-forgotten birth [] none = refl
+none-forgotten birth (s ∷ slots) none =
+    let both = both-false (names_weakly birth s.1) (list_any (λ (t : Named). names_weakly birth t.1) slots) none in
+    ap₂ (λ (what : Slot) (ss : List Named). (s.0, what) ∷ ss) (kept-slot birth s.1 both.0) (none-forgotten birth slots both.1)
+
+-- a slot at a place that is there, and past the end
+pub slot-there : (slots : List Named) (i : ℕ) (w : Named) → i < length slots → w ≡ get_or slots i w → slot_in slots i ≡ Some w.1
+slot-there [] i w in_it is = absurd (omega (arith, in_it))
+slot-there (s ∷ slots) zero w in_it is = ap (λ (x : Named). Some x.1) (sym is)
+slot-there (s ∷ slots) (suc i) w in_it is = slot-there slots i w (omega (arith, in_it)) is
+
+pub slot-past : (slots : List Named) (i : ℕ) → length slots ≤ i → slot_in slots i ≡ None
+slot-past [] i past = refl
+slot-past (s ∷ slots) zero past = absurd (omega (arith, past))
+slot-past (s ∷ slots) (suc i) past = slot-past slots i (omega (arith, past))
+
+-- a slot that is changed where it stands, and past the end
+pub changed-there : (change : Slot → Slot) (slots : List Named) (i : ℕ) (w : Named) (now : Slot) → i < length slots → w ≡ get_or slots i w → now ≡ change w.1
+    → slice_set slots i (w.0, now) ≡ changed_at change i slots
+changed-there change [] i w now in_it is changed = absurd (omega (arith, in_it))
+changed-there change (s ∷ slots) zero w now in_it is changed = rw (changed, is) refl
+changed-there change (s ∷ slots) (suc i) w now in_it is changed = ap (λ ss. s ∷ ss) (changed-there change slots i w now (omega (arith, in_it)) is changed)
+
+pub changed-past : (change : Slot → Slot) (slots : List Named) (i : ℕ) → length slots ≤ i → slots ≡ changed_at change i slots
+changed-past change [] i past = refl
+changed-past change (s ∷ slots) zero past = absurd (omega (arith, past))
+changed-past change (s ∷ slots) (suc i) past = ap (λ ss. s ∷ ss) (changed-past change slots i (omega (arith, past)))

@@ -1,5 +1,5 @@
 pub mod Content
 pub mod Lends
+pub mod Names
 pub mod Shown
 pub mod Slots
-pub mod Stored

@@ -44,6 +44,14 @@ holds birth s = is_born birth (held s)
 abbrev pub names_child : ℕ → Slot → Bool
 names_child birth s = is_born birth (child_of s)
 
+-- the object that a weak link names, and whether it is that of a birth
+abbrev pub weak_target : Slot → Option Key
+weak_target (Link ty false target) = target
+weak_target _ = None
+
+abbrev pub names_weakly : ℕ → Slot → Bool
+names_weakly birth s = is_born birth (weak_target s)
+
 -- whether it is a link without a target
 abbrev pub is_empty_link : Slot → Bool
 is_empty_link (Link ty strong None) = true

@@ -5,12 +5,15 @@
 
 mod devices;
 mod errors;
+mod index;
 mod named;
+mod names;
 mod objects;
 mod slots;
 
 pub use devices::DeviceId;
 pub use errors::AddError;
+pub use names::SlotName;
 pub use objects::{Object, Remains};
 pub use qo_slots::Key as Oid;
 pub use slots::{Slot, SlotView};

@@ -1,32 +1,41 @@
 //! Slots by name, in the order of adding.
 
+use crate::index::Names;
+use crate::names::{Mark, SlotName};
 use crate::slots::{Slot, SlotView};
-use indexmap::IndexMap;
 use qo_slots::Key;
-use qo_values::{Name, Val};
+use qo_values::Val;
 use std::alloc::{AllocError, Global};
 use std::marker::Model;
 
 /// An object has about so many slots, so that the first one makes room for as many.
 const SLOTS_AT_FIRST: usize = 6;
 
-/// Slots by name, in the order of adding. The key of each is its name's text, so that one is found
-/// by a `&str` without memory.
+/// Among up to so many slots a name is looked for by comparing it with each, which takes less than
+/// its hash.
+const COMPARED_MAX: usize = 12;
+
+/// Slots by name, in the order of adding. No two have the same name.
 #[derive(Drop)]
 pub struct SlotMap {
-    map: IndexMap<String, Slot>,
+    slots: Vec<(SlotName, Slot)>,
+    /// Their names, where there are more than `COMPARED_MAX`. For want of memory there may be none;
+    /// a name is then compared with each.
+    index: Option<Names>,
 }
 
 impl Model for SlotMap {
-    ghost use Rattle.std.specs.Prelude.{List, ℕ};
+    ghost use Rattle.std.specs.Prelude.{◌≡◌, List, ℕ, IfSome};
+    ghost use Rattle.std.specs.List.{IsDistinct};
+    ghost use Rattle.std.specs.Str.{bytes_eq};
+    ghost use Rattle.qo_object.specs.Slots.{names_of};
     ghost use Rattle.qo_object.specs.declared.slots.Slot.{Slot};
 
     ghost Value = { List (List ℕ × Slot) };
 
-    ghost use Rattle.std.specs.Prelude.{string_bytes};
-    ghost use Rattle.qo_object.specs.Stored.{slots_of};
+    ghost view = { λ m. m.slots.items };
 
-    ghost view = { λ m. slots_of string_bytes m.map.entries };
+    ghost invariant = { λ m. IsDistinct bytes_eq (names_of m.slots.items) × IfSome m.index (λ names. names ≡ names_of m.slots.items) };
 }
 
 impl SlotMap {
@@ -34,14 +43,15 @@ impl SlotMap {
     ghost use Rattle.std.specs.List.{list_any, IsDistinct};
     ghost use Rattle.std.specs.Option.{option_and_then};
     ghost use Rattle.std.specs.Str.{bytes_eq};
-    ghost use Rattle.qo_object.specs.Slots.{names_of, has_name, slot_in, named_in, child_of, held, holds, names_child, changed_at, let_go_at, unlinked, pointed, with_val, forgotten_in};
+    ghost use Rattle.qo_object.specs.Slots.{names_of, has_name, slot_in, named_in, child_of, held, holds, names_child, names_weakly, changed_at, let_go_at, unlinked, pointed, with_val, forgotten_in};
 
     /// No slots.
     pub fn new(alloc: Global) -> SlotMap
         ensures { result ≡ [] }
     {
         SlotMap {
-            map: IndexMap::new(alloc),
+            slots: Vec::new(alloc),
+            index: None,
         }
     }
 
@@ -49,28 +59,34 @@ impl SlotMap {
     pub fn len(&self) -> usize
         ensures { result ≡ length self.now }
     {
-        self.map.len()
+        self.slots.len()
     }
 
     /// The names differ.
     pub fn facts(&self)
         ensures { IsDistinct bytes_eq (names_of self.now) }
     {
-        let _len = self.map.len();
+        let _len = self.slots.len();
     }
 
     /// The place of the slot of a name.
     pub fn find(&self, name: &str) -> Option<usize>
         ensures { result ≡ position (λ s. bytes_eq name.now s.0) self.now }
     {
-        self.map.get_index_of(name)
+        match &self.index {
+            Some(names) => names.find(name),
+            None => {
+                let mark = Mark::of(name);
+                self.slots.iter().position(|slot| slot.0.is(name, mark))
+            }
+        }
     }
 
     /// Whether there is a slot of a name.
     pub fn has(&self, name: &str) -> bool
         ensures { result ≡ has_name name.now self.now }
     {
-        self.map.contains_key(name)
+        self.find(name).is_some()
     }
 
     /// The slot at a place; None past the end.
@@ -78,56 +94,78 @@ impl SlotMap {
         ensures slot { option_map (λ v. (v.name.now, v.what.now)) result ≡ slice_get self.now at }
         ensures at { IfSome result (λ v. v.at ≡ at) }
     {
-        let (name, what) = self.map.get_index(at)?;
-        let name = name.as_str();
-        Some(SlotView { at, name, what })
+        let slot = self.slots.get(at)?;
+        Some(SlotView {
+            at,
+            name: slot.0.as_str(),
+            what: &slot.1,
+        })
     }
 
     /// Makes room for the first slots at once, where there is none yet. It adds nothing.
     fn make_room(&mut self) -> Result<(), AllocError>
         ensures same { self.new ≡ self.old }
-        ensures empty { OnErr result (self.old ≡ []) }
     {
-        if self.map.is_empty() {
-            self.map.reserve(SLOTS_AT_FIRST)?;
+        if self.slots.is_empty() {
+            self.slots.reserve(SLOTS_AT_FIRST)?;
         }
         Ok(())
     }
 
-    /// Gives the slot at a place that is there, and whose place is kept, back what stood in it.
-    fn put_back(&mut self, at: usize, old: Slot)
-        ensures { self.new ≡ changed_at (λ s. old) at self.old }
+    /// The names, which are no more kept if they were, and are else gathered; None where memory wants.
+    fn take_names(&mut self) -> Option<Names>
+        ensures same { self.new ≡ self.old }
+        ensures names { IfSome result (λ names. names ≡ names_of self.old) }
     {
-        let Some(slot) = self.map.get_index_mut(at) else {
-            return;
-        };
-        slot.put(old);
+        match self.index.take() {
+            Some(names) => Some(names),
+            None => Names::of(self.slots.as_slice(), *self.slots.allocator()).ok(),
+        }
+    }
+
+    /// The names with one more, where there are then more than `COMPARED_MAX`, and there is memory.
+    fn names_with(&mut self, name: &str) -> Option<Names>
+        requires { has_name name.now self.old ≡ false }
+        ensures same { self.new ≡ self.old }
+        ensures names { IfSome result (λ names. names ≡ names_of self.old ++ name.now ∷ []) }
+    {
+        if self.slots.len() < COMPARED_MAX {
+            return None;
+        }
+        let mut names = self.take_names()?;
+        names.add(name).ok()?;
+        Some(names)
     }
 
     /// Adds a slot under a name, behind the others, unless there is one of that name, which then stays.
     /// It answers whether it was added. An error adds nothing.
-    pub fn add(&mut self, name: Name, slot: Slot) -> Result<bool, AllocError>
+    pub fn add(&mut self, name: SlotName, slot: Slot) -> Result<bool, AllocError>
         ensures added { result ≡ Ok true → (has_name name self.old ≡ false) × (self.new ≡ self.old ++ (name, slot) ∷ []) }
         ensures there { result ≡ Ok false → (has_name name self.old ≡ true) × (self.new ≡ self.old) }
         ensures absent { OnErr result (has_name name self.old ≡ false) }
         ensures err { OnErr result (self.new ≡ self.old) }
     {
-        self.make_room()?;
-        let (at, old) = self.map.insert_full(name.into_string(), slot)?;
-        match old {
-            None => Ok(true),
-            Some(old) => {
-                self.put_back(at, old);
-                Ok(false)
-            }
+        if self.has(name.as_str()) {
+            return Ok(false);
         }
+        self.make_room()?;
+        let index = self.names_with(name.as_str());
+        self.slots.push((name, slot))?;
+        self.index = index;
+        Ok(true)
     }
 
     /// Removes the slot at a place; past the end there is none.
     pub fn remove(&mut self, at: usize)
         ensures { self.new ≡ remove self.old at }
     {
-        self.map.shift_remove_index(at);
+        if at >= self.slots.len() {
+            return;
+        }
+        self.slots.remove(at);
+        if let Some(names) = &mut self.index {
+            names.remove(at);
+        }
     }
 
     /// The child at a place.
@@ -146,10 +184,10 @@ impl SlotMap {
         ensures now { self.new ≡ changed_at unlinked at self.old }
         ensures answer { result ≡ named_in self.old at }
     {
-        let Some(slot) = self.map.get_index_mut(at) else {
+        if at >= self.slots.len() {
             return None;
-        };
-        slot.unlink()
+        }
+        self.slots[at].1.unlink()
     }
 
     /// Lets the slot at a place go, and answers what it named.
@@ -168,64 +206,68 @@ impl SlotMap {
     pub fn point(&mut self, at: usize, target: Key)
         ensures { self.new ≡ changed_at (pointed target) at self.old }
     {
-        let Some(slot) = self.map.get_index_mut(at) else {
-            return;
-        };
-        slot.point(target);
+        if at < self.slots.len() {
+            self.slots[at].1.point(target);
+        }
     }
 
     /// Gives the plain slot at a place a value.
     pub fn set(&mut self, at: usize, val: Val)
         ensures { self.new ≡ changed_at (with_val val) at self.old }
     {
-        let Some(slot) = self.map.get_index_mut(at) else {
-            return;
-        };
-        slot.set(val);
+        if at < self.slots.len() {
+            self.slots[at].1.set(val);
+        }
     }
 
     /// Empties the slot at a place, where it is a weak link to the object of a birth.
     pub fn forget(&mut self, at: usize, birth: u64)
         ensures { self.new ≡ changed_at (forgotten_in birth) at self.old }
     {
-        let Some(slot) = self.map.get_index_mut(at) else {
-            return;
-        };
-        slot.forget(birth);
+        if at < self.slots.len() {
+            self.slots[at].1.forget(birth);
+        }
     }
 
     /// How many hold the object of a birth.
     pub fn holding(&self, birth: u64) -> usize
         ensures { result ≡ count_by (λ s. holds birth s.1) self.now }
     {
-        self.map.values().filter(|slot| slot.holds(birth)).count()
+        self.slots.iter().filter(|slot| slot.1.holds(birth)).count()
     }
 
     /// Whether one holds the object of a birth.
     pub fn is_holder(&self, birth: u64) -> bool
         ensures { result ≡ list_any (λ s. holds birth s.1) self.now }
     {
-        self.map.values().any(|slot| slot.holds(birth))
+        self.slots.iter().any(|slot| slot.1.holds(birth))
     }
 
     /// Whether one has the object of a birth as a child.
     pub fn is_parent(&self, birth: u64) -> bool
         ensures { result ≡ list_any (λ s. names_child birth s.1) self.now }
     {
-        self.map.values().any(|slot| slot.names_child(birth))
+        self.slots.iter().any(|slot| slot.1.names_child(birth))
+    }
+
+    /// Whether one is a weak link to the object of a birth.
+    pub fn names_weakly(&self, birth: u64) -> bool
+        ensures { result ≡ list_any (λ s. names_weakly birth s.1) self.now }
+    {
+        self.slots.iter().any(|slot| slot.1.names_weakly(birth))
     }
 
     /// The first place of one that has the object of a birth as a child.
     pub fn child_place(&self, birth: u64) -> Option<usize>
         ensures { result ≡ position (λ s. names_child birth s.1) self.now }
     {
-        self.map.values().position(|slot| slot.names_child(birth))
+        self.slots.iter().position(|slot| slot.1.names_child(birth))
     }
 
     /// Whether one holds an object.
     pub fn holds_any(&self) -> bool
         ensures { result ≡ list_any (λ s. is_some (held s.1)) self.now }
     {
-        self.map.values().any(|slot| slot.holds_any())
+        self.slots.iter().any(|slot| slot.1.holds_any())
     }
 }

@@ -3,10 +3,11 @@
 use crate::devices::{DeviceId, no_id};
 use crate::errors::AddError;
 use crate::named::SlotMap;
+use crate::names::SlotName;
 use crate::slots::{Slot, SlotView};
 use qo_kinds::{Body, KeptSet};
 use qo_slots::Key;
-use qo_values::{Act, Id, Name, Text, TypeId, Val};
+use qo_values::{Act, Id, Text, TypeId, Val};
 use std::alloc::Global;
 use std::marker::Model;
 
@@ -198,7 +199,7 @@ impl Object {
     /// Adds a slot behind the others. `Duplicate` comes exactly where there is a slot of that name;
     /// `Memory` where memory runs out, or where there are 2^32 slots. An error leaves the object as
     /// it was, and lets the slot go.
-    pub fn add(&mut self, name: Name, slot: Slot) -> Result<(), AddError>
+    pub fn add(&mut self, name: SlotName, slot: Slot) -> Result<(), AddError>
         ensures added { OnOk result (self.new ≡ with_slot name slot self.old) }
         ensures absent { OnOk result (has_name name self.old.slots ≡ false) }
         ensures room { OnOk result (length self.old.slots < 2 ^ 32) }
@@ -274,6 +275,9 @@ impl Object {
     pub fn forget(&mut self, birth: u64)
         ensures { self.new ≡ forgotten birth self.old }
     {
+        if !self.slots.names_weakly(birth) {
+            return;
+        }
         for at in 0..self.slots.len() {
             self.slots.forget(at, birth);
         }

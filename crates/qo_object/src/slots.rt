@@ -1,7 +1,8 @@
 //! What stands in a slot of an object.
 
+use crate::names::SlotName;
 use qo_slots::Key;
-use qo_values::{Name, TypeId, Val};
+use qo_values::{TypeId, Val};
 
 /// What stands in a slot (docs/devel/qom.rst, "The QEMU Object Model": properties, children, links
 /// and aliases).
@@ -22,7 +23,7 @@ pub enum Slot {
         target: Option<Key>,
     },
     /// Another name for a property of an object: reads and writes go there.
-    Alias(Key, Name),
+    Alias(Key, SlotName),
 }
 
 /// A slot of an object, as it is read.
@@ -38,14 +39,7 @@ pub struct SlotView<'a> {
 
 impl Slot {
     ghost use Rattle.std.specs.Prelude.{◌≡◌, is_some};
-    ghost use Rattle.qo_object.specs.Slots.{target_of, is_strong, child_of, holds, names_child, held, unlinked, pointed, with_val, forgotten_in};
-
-    /// Another stands in it.
-    pub(crate) fn put(&mut self, other: Slot)
-        ensures { self.new ≡ other }
-    {
-        *self = other;
-    }
+    ghost use Rattle.qo_object.specs.Slots.{target_of, is_strong, child_of, holds, names_child, names_weakly, held, unlinked, pointed, with_val, forgotten_in};
 
     /// The child that stands in it.
     pub(crate) fn child(&self) -> Option<Key>
@@ -117,6 +111,20 @@ impl Slot {
         }
     }
 
+    /// Whether it is a weak link to the object of a birth.
+    pub(crate) fn names_weakly(&self, birth: u64) -> bool
+        ensures { result ≡ names_weakly birth self.now }
+    {
+        match self {
+            Slot::Link {
+                strong: false,
+                target: Some(key),
+                ..
+            } => key.birth == birth,
+            _ => false,
+        }
+    }
+
     /// Takes the target out of a link. Anything else stays, and the answer is None.
     pub(crate) fn unlink(&mut self) -> Option<Key>
         requires { child_of self.old ≡ None }
@@ -151,15 +159,11 @@ impl Slot {
     pub(crate) fn forget(&mut self, birth: u64)
         ensures { self.new ≡ forgotten_in birth self.old }
     {
-        if let Slot::Link {
-            strong: false,
-            target,
-            ..
-        } = self
-        {
-            if target.is_some_and(|key| key.birth == birth) {
-                *target = None;
-            }
+        if !self.names_weakly(birth) {
+            return;
+        }
+        if let Slot::Link { target, .. } = self {
+            *target = None;
         }
     }
 }

@@ -1,10 +1,24 @@
-use Rattle.std.proofs.Common.{sym, string_bytes}
-use Rattle.qo_object.specs.Slots.{with_val}
-use Rattle.qo_object.proofs.MapLemmas.{slots-set, slots-past}
+use Rattle.std.proofs.Common.{◌≡◌, ◌<◌, ◌≤◌, length, slice_set, arith}
+use Rattle.qo_object.specs.Slots.{changed_at, with_val}
+use Rattle.qo_object.proofs.KeptLemmas.{names-changed}
+use Rattle.qo_object.proofs.SlotLemmas.{changed-past, changed-there}
 use Rattle.qo_object.proofs.named.SlotMap.set.Goals as goal
 
-pub returns-in_default : goal.returns-in_default
-returns-in_default c = rw (← c.self.view_is) (slots-past string_bytes (with_val c.args.val) c.self.inside.map.entries c.args.at (sym c.in_default.ensures.value))
+module _ (c : goal.After-self-1) where
+  there : slice_set c.self.inside.slots.items c.args.at (c.index_mut.result.now.0, c.set.new.self)
+      ≡ changed_at (with_val c.args.val) c.args.at c.self.inside.slots.items
+  there =
+      let slots = c.self.inside.slots.items in
+      let low : c.args.at < length slots = omega (arith, c.if-at-len.true, c.len.ensures) in
+      changed-there (with_val c.args.val) slots c.args.at c.index_mut.result.now c.set.new.self low c.index_mut.ensures.value c.set.ensures
 
-pub returns : goal.returns
-returns c = rw (← c.self.view_is) (slots-set string_bytes (with_val c.args.val) c.self.inside.map.entries c.args.at c.in-Some.slot.now c.set.new.self (sym c.in-Some.ensures.value) c.set.ensures)
+pub invariant_of-self : goal.invariant_of-self
+invariant_of-self c = rw (there c, names-changed (with_val c.args.val) c.args.at c.self.inside.slots.items) c.self.invariant
+
+pub returns-then-at-len : goal.returns-then-at-len
+returns-then-at-len c = rw (← c.self.view_is) (there c)
+
+pub returns-else-at-len : goal.returns-else-at-len
+returns-else-at-len c =
+    let past : length c.self.inside.slots.items ≤ c.args.at = omega (arith, c.if-at-len.false, c.len.ensures) in
+    rw (← c.self.view_is) (changed-past (with_val c.args.val) c.self.inside.slots.items c.args.at past)
