@@ -15,8 +15,8 @@ ghost use Rattle.qo_heap.specs.Objects.{content_of, slots_of, with_edit};
 ghost use Rattle.qo_life.specs.Life.{Goes};
 
 use crate::writing::point_named;
-use qo_heap::{Heap, Oid, Steps};
-use qo_values::{Name, TypeId};
+use qo_heap::{Heap, Oid, SlotName, Steps};
+use qo_values::TypeId;
 use std::alloc::AllocError;
 use std::sync::ledger::Ledger;
 
@@ -27,7 +27,7 @@ pub fn join_bus<L: Ledger>(
     heap: &mut Heap,
     bus: Oid,
     dev: Oid,
-    name: Name,
+    name: SlotName,
     steps: &mut Steps<L>,
 ) -> Result<(), AllocError>
     requires live { IsLive heap.old.rows bus }

@@ -5,18 +5,16 @@ ghost use Rattle.qo_values.specs.declared.limits.TheConstants.{BUS_SLOTS};
 ghost use Rattle.qo_model.specs.Devices.{anonymous_name, kid_name};
 
 use itoa::Buffer;
+use qo_heap::SlotName;
 use qo_values::{BUS_SLOTS, Name};
 use std::alloc::{AllocError, Global};
 
-/// The name of the link of a bus to the kid in a slot. The error is want of memory.
-pub fn kid_name(slot: u8, alloc: Global) -> Result<Name, AllocError>
+/// The name of the link of a bus to the kid in a slot. It takes no memory.
+pub fn kid_name(slot: u8) -> SlotName
     requires { slot < BUS_SLOTS }
-    ensures { IfOk result (λ name. name ≡ kid_name slot) }
+    ensures { result ≡ kid_name slot }
 {
-    let mut text = String::from_str(alloc, "child[")?;
-    text.push(char::from(b'0' + slot))?;
-    text.push(']')?;
-    Ok(Name::from_string(text))
+    SlotName::kid(slot)
 }
 
 /// The name in its container of the n-th device that was added without an id. The error is want of
