@@ -31,7 +31,7 @@ use Rattle.qo_heap.proofs.ShowsChanges.{shows-cut}
 use Rattle.qo_heap.proofs.ShowsLive.{content-edited, live-content, named-live}
 use Rattle.qo_heap.proofs.ShowsReads.{shows-slot_at, shows-slots}
 use Rattle.qo_life.specs.Life.{Goes, with_log}
-use Rattle.qo_life.proofs.TreeLemmas.{goes-drop, goes-none, goes-same, goes-then, live-before_edit}
+use Rattle.qo_life.proofs.TreeLemmas.{edit-bodies, goes-drop, goes-none, goes-same, goes-then, live-before_edit}
 
 -- a slot cut
 pub goes-cut : (v : Objects) (n i : ℕ) → Goes (λ b. cut n i b) v (with_edit n (cut_at i) v)
@@ -42,6 +42,7 @@ goes-cut v n i =
       log = refl;
       shown = λ b log s. shows-cut b (with_log log v) s n i;
       names = live-before_edit n (cut_at i) v.rows;
+      bodies = edit-bodies v n (cut_at i) (λ c. refl);
       book = λ out h. book-edit out v n (cut_at i) (λ c. refl) h;
       time = refl;
       spare = refl;

@@ -1,5 +1,5 @@
 -- A link that is pointed where it stands empty and its target is of its type.
-use Rattle.std.proofs.Common.{◌≡◌, refl, ap, sym, subst, ◌∙◌, ℕ, zero, suc, ◌<◌, ◌≤◌, Bool, true, false, eqb, List, [], ◌∷◌, ◌++◌, map, replicate, find}
+use Rattle.std.proofs.Common.{◌≡◌, refl, ap, sym, ◌∙◌, ℕ, zero, suc, ◌<◌, ◌≤◌, Bool, true, false, eqb, List, [], ◌∷◌, ◌++◌, map, replicate, find}
 use Rattle.std.proofs.Common.{position, slice_get, option_map, Option, Some, None, arith}
 use Rattle.std.specs.Option.{option_map_or}
 use Rattle.std.specs.Str.{bytes_eq}
@@ -31,10 +31,10 @@ use Rattle.qo_heap.proofs.BookLemmas.{book-edit}
 use Rattle.qo_heap.proofs.HeapLemmas.{live-edit}
 use Rattle.qo_heap.proofs.PlacesLemmas.{position-find}
 use Rattle.qo_heap.proofs.ShowsChanges.{shows-pointed, shows-set}
-use Rattle.qo_heap.proofs.ShowsLive.{content-edited, content-other, live-content}
+use Rattle.qo_heap.proofs.ShowsLive.{live-content}
 use Rattle.qo_heap.proofs.ShowsReads.{records_of}
 use Rattle.qo_life.specs.Life.{Goes, with_log}
-use Rattle.qo_life.proofs.TreeLemmas.{goes-none, goes-same, heap-with_log, live-before_edit}
+use Rattle.qo_life.proofs.TreeLemmas.{edit-bodies, goes-none, goes-same, heap-with_log, live-before_edit}
 use Rattle.qo_buses.proofs.LeaveLemmas.{named-place, shows-place_from}
 use Rattle.qo_buses.proofs.WayLemmas.{of-is}
 
@@ -171,21 +171,6 @@ pins-edited n f same (row ∷ rows) = go (eqb row.0.birth n) refl (pins-edited n
     go true is rest = rw is (λ j. replicate (same row.1 j) row.0.birth ++ rest j)
     go false is rest = rw is (ap (λ (ms : List ℕ). replicate row.1.pins row.0.birth ++ ms) rest)
 
--- what is read of an object, over an edit of one
-module _ {A : Type 0} (g : Content → A) (n : ℕ) (f : Content → Content) (same : (c : Content) → g (f c) ≡ g c) where
-  pub read-content : (v : Objects) (m : ℕ) → option_map g (content_of (with_edit n f v) m) ≡ option_map g (content_of v m)
-  read-content v m = go (eqb m n) refl
-    where
-      two : (o : Option Content) → option_map g (option_map f o) ≡ option_map g o
-      two None = refl
-      two (Some c) = ap Some (same c)
-
-      go : (t : Bool) → eqb m n ≡ t → option_map g (content_of (with_edit n f v) m) ≡ option_map g (content_of v m)
-      go true p =
-          subst (λ (k : ℕ). option_map g (content_of (with_edit n f v) k) ≡ option_map g (content_of v k)) (sym (eqb-true m n p))
-          (ap (option_map g) (content-edited v n f) ∙ two (content_of v n))
-      go false p = ap (option_map g) (content-other v n m f p)
-
 -- the steps of the heap
 
 module _ (v : Objects) (good : IsHeap v) (o : Key) (live : IsLive v.rows o) (name : List ℕ) where
@@ -218,6 +203,7 @@ module _ (v : Objects) (good : IsHeap v) (o : Key) (live : IsLive v.rows o) (nam
               λ b log s. shows-unlinked b (with_log log v) s (heap-with_log v log good) o.birth name i (place-of b log s (Some i) at) c there m t.1
               (its-slot c there) (same b log s);
           names = λ key here. here;
+          bodies = λ n d is_there. ap (option_map (λ (x : Content). x.body)) is_there;
           book = λ out h. h;
           time = refl;
           spare = refl;
@@ -245,6 +231,7 @@ module _ (v : Objects) (good : IsHeap v) (o : Key) (live : IsLive v.rows o) (nam
                 ∙ fits-strong b ty strong key (of-fits b (with_log log v) s key.birth (type_name ty) true fits)
                 ∙ ap (λ (x : Slot). fitted b key.birth (shown_slot x)) (sym is));
             names = live-before_edit o.birth (pointed_at key i) v.rows;
+            bodies = edit-bodies v o.birth (pointed_at key i) (λ d. refl);
             book = λ out h. book-edit out v o.birth (pointed_at key i) (λ d. refl) h;
             time = refl;
             spare = refl;
@@ -273,6 +260,7 @@ module _ (v : Objects) (good : IsHeap v) (o : Key) (live : IsLive v.rows o) (nam
             let at : place_from (is_named name) 0 (board.slots_at b o.birth) ≡ Some i = place-of b log s (Some i) e in
             rw (set_named, at) (shows-set b (with_log log v) s o.birth i val);
         names = live-before_edit o.birth (set_at val i) v.rows;
+        bodies = edit-bodies v o.birth (set_at val i) (λ d. refl);
         book = λ out h. book-edit out v o.birth (set_at val i) (λ d. refl) h;
         time = refl;
         spare = refl;
@@ -281,23 +269,11 @@ module _ (v : Objects) (good : IsHeap v) (o : Key) (live : IsLive v.rows o) (nam
   pub set-pins : (w : Objects) (val : Val) (i : ℕ) → w ≡ with_edit o.birth (set_at val i) v → pins_in w.rows ≡ pins_in v.rows
   set-pins w val i e = ap (λ (x : Objects). pins_in x.rows) e ∙ pins-edited o.birth (set_at val i) (λ c. refl) v.rows
 
-  pub set-bodies : (w : Objects) (val : Val) (i : ℕ) → w ≡ with_edit o.birth (set_at val i) v → (m : ℕ)
-      → option_map (λ (c : Content). c.body) (content_of w m) ≡ option_map (λ (c : Content). c.body) (content_of v m)
-  set-bodies w val i e m =
-      ap (λ (x : Objects). option_map (λ (c : Content). c.body) (content_of x m)) e
-      ∙ read-content (λ (c : Content). c.body) o.birth (set_at val i) (λ c. refl) v m
-
   pub set-live : (w : Objects) (val : Val) (i : ℕ) → w ≡ with_edit o.birth (set_at val i) v → (other : Key) → IsLive v.rows other → IsLive w.rows other
   set-live w val i e other here = rw e (live-edit o.birth (set_at val i) v.rows other here)
 
   pub point-pins : (w : Objects) (key : Key) (i : ℕ) → w ≡ with_edit o.birth (pointed_at key i) v → pins_in w.rows ≡ pins_in v.rows
   point-pins w key i e = ap (λ (x : Objects). pins_in x.rows) e ∙ pins-edited o.birth (pointed_at key i) (λ c. refl) v.rows
-
-  pub point-bodies : (w : Objects) (key : Key) (i : ℕ) → w ≡ with_edit o.birth (pointed_at key i) v → (m : ℕ)
-      → option_map (λ (c : Content). c.body) (content_of w m) ≡ option_map (λ (c : Content). c.body) (content_of v m)
-  point-bodies w key i e m =
-      ap (λ (x : Objects). option_map (λ (c : Content). c.body) (content_of x m)) e
-      ∙ read-content (λ (c : Content). c.body) o.birth (pointed_at key i) (λ c. refl) v m
 
   pub point-live : (w : Objects) (key : Key) (i : ℕ) → w ≡ with_edit o.birth (pointed_at key i) v → (other : Key) → IsLive v.rows other → IsLive w.rows other
   point-live w key i e other here = rw e (live-edit o.birth (pointed_at key i) v.rows other here)

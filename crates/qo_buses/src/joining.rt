@@ -1,6 +1,6 @@
 //! How a device joins a bus (include/hw/qdev-core.h: the bus of a device, and its child links).
 
-ghost use Rattle.std.specs.Prelude.{◌≡◌, ℕ, true, false, Some, OnOk, OnErr, codes, option_map};
+ghost use Rattle.std.specs.Prelude.{◌≡◌, true, false, Some, OnOk, OnErr, codes};
 ghost use Rattle.qo_values.specs.declared.kinds.TypeId.TheVariants.{Device};
 ghost use Rattle.qo_slots.specs.declared.keys.Key.{Key};
 ghost use Rattle.qo_model.specs.Board.{Board, strong};
@@ -11,7 +11,7 @@ ghost use Rattle.qo_object.specs.Slots.{has_name};
 ghost use Rattle.qo_object.specs.declared.slots.Slot.TheVariants.{Link};
 ghost use Rattle.qo_table.specs.Rows.{IsLive};
 ghost use Rattle.qo_heap.specs.Board.{Shows, pins_in};
-ghost use Rattle.qo_heap.specs.Objects.{content_of, slots_of, with_edit};
+ghost use Rattle.qo_heap.specs.Objects.{slots_of, with_edit};
 ghost use Rattle.qo_life.specs.Life.{Goes};
 
 use crate::writing::point_named;
@@ -50,7 +50,6 @@ pub fn point_bus<L: Ledger>(heap: &mut Heap, dev: Oid, bus: Oid, steps: &mut Ste
     ensures goes { Goes (link_named dev.birth (codes "parent_bus") bus.birth) heap.old heap.new }
     ensures names { (key : Key) → IsLive heap.old.rows key → IsLive heap.new.rows key }
     ensures pins { pins_in heap.new.rows ≡ pins_in heap.old.rows }
-    ensures bodies { (n : ℕ) → option_map (λ c. c.body) (content_of heap.new n) ≡ option_map (λ c. c.body) (content_of heap.old n) }
 {
     point_named(heap, dev, "parent_bus", bus, steps);
 }

@@ -49,7 +49,6 @@ fn point_open<L: Ledger>(heap: &mut Heap, o: Oid, name: &str, target: Oid, steps
     ensures goes { Goes (link_named o.birth name.now target.birth) heap.old heap.new }
     ensures names { (key : Key) → IsLive heap.old.rows key → IsLive heap.new.rows key }
     ensures pins { pins_in heap.new.rows ≡ pins_in heap.old.rows }
-    ensures bodies { (n : ℕ) → option_map (λ c. c.body) (content_of heap.new n) ≡ option_map (λ c. c.body) (content_of heap.old n) }
 {
     heap.facts();
     let Some(view) = heap.slot(o, name, steps) else {
@@ -79,7 +78,6 @@ pub fn point_named<L: Ledger>(
     ensures goes { Goes (link_named o.birth name.now target.birth) heap.old heap.new }
     ensures names { (key : Key) → IsLive heap.old.rows key → IsLive heap.new.rows key }
     ensures pins { pins_in heap.new.rows ≡ pins_in heap.old.rows }
-    ensures bodies { (n : ℕ) → option_map (λ c. c.body) (content_of heap.new n) ≡ option_map (λ c. c.body) (content_of heap.old n) }
 {
     point_open(heap, o, name, target, steps);
 }
@@ -90,7 +88,6 @@ fn put_named<L: Ledger>(heap: &mut Heap, o: Oid, name: &str, val: Val, steps: &m
     ensures goes { Goes (set_named o.birth name.now val) heap.old heap.new }
     ensures names { (key : Key) → IsLive heap.old.rows key → IsLive heap.new.rows key }
     ensures pins { pins_in heap.new.rows ≡ pins_in heap.old.rows }
-    ensures bodies { (n : ℕ) → option_map (λ c. c.body) (content_of heap.new n) ≡ option_map (λ c. c.body) (content_of heap.old n) }
 {
     heap.facts();
     let Some(view) = heap.slot(o, name, steps) else {
@@ -107,7 +104,6 @@ pub fn set_named<L: Ledger>(heap: &mut Heap, o: Oid, name: &str, val: Val, steps
     ensures goes { Goes (set_named o.birth name.now val) heap.old heap.new }
     ensures names { (key : Key) → IsLive heap.old.rows key → IsLive heap.new.rows key }
     ensures pins { pins_in heap.new.rows ≡ pins_in heap.old.rows }
-    ensures bodies { (n : ℕ) → option_map (λ c. c.body) (content_of heap.new n) ≡ option_map (λ c. c.body) (content_of heap.old n) }
 {
     put_named(heap, o, name, val, steps);
 }

@@ -1,6 +1,7 @@
 -- The steps of a heap as steps of a board: alone, one behind another, and as seen on the tree of the heap.
 use Rattle.std.proofs.Common.{◌≡◌, refl, ap, sym, subst, ◌∙◌, ℕ, ◌<◌, Bool, true, false, eqb, List, [], ◌∷◌, ◌++◌, map, Option, Some, None, is_some, option_map, IsSomeAnd}
 use Rattle.std.proofs.lemmas.Bool.{eqb-true}
+use Rattle.std.proofs.lemmas.Option.{same_Some}
 use Rattle.qo_slots.specs.declared.keys.Key.{Key}
 use Rattle.qo_table.specs.Rows.{IsLive, edit, without, row_at}
 use Rattle.qo_model.specs.Board.{Board, DeviceEvent, Record}
@@ -8,7 +9,7 @@ use Rattle.qo_model.specs.Release.{drop_slot, finish}
 use Rattle.qo_model.specs.Release as release
 use Rattle.qo_notes.specs.Log.{Log, empty_log, noted_all}
 use Rattle.qo_notes.proofs.Logs.{none_lem, parts_lem}
-use Rattle.qo_object.specs.Content.{Content, dropped_at}
+use Rattle.qo_object.specs.Content.{Content, dropped_at, forgotten}
 use Rattle.qo_object.specs.Content as content
 use Rattle.qo_heap.specs.Board.{Shows, record_of, pins_in}
 use Rattle.qo_heap.specs.Objects.{IsHeap, Objects, content_of, ended, final_notes, forgets, pins_of, refs_of, with_edit}
@@ -16,6 +17,7 @@ use Rattle.qo_heap.proofs.ShowsEdits.{shows-drop_slot, shows-without_pin}
 use Rattle.qo_object.specs.Shown.{shown}
 use Rattle.qo_heap.proofs.EndLemmas.{kept-spare}
 use Rattle.qo_heap.proofs.ShowsEnds.{shows-ended}
+use Rattle.qo_heap.proofs.ShowsLive.{content-edited, content-gone, content-left, content-other}
 use Rattle.qo_heap.proofs.BookLemmas.{book-edit, book-ended}
 use Rattle.qo_life.specs.Life.{Goes, KeepsNames, with_log}
 
@@ -56,7 +58,7 @@ tree-behind step v w g =
 -- no step, a step that is another on all boards of the heap, and a step behind a step
 pub goes-none : (v : Objects) → Goes (λ b. b) v v
 unfolding noted_all
-goes-none v = record { more = []; log = refl; shown = λ b log s. s; names = λ key live. live; book = λ out h. h; time = refl; spare = refl }
+goes-none v = record { more = []; log = refl; shown = λ b log s. s; names = λ key live. live; bodies = λ n c there. ap (option_map (λ (d : Content). d.body)) there; book = λ out h. h; time = refl; spare = refl }
 
 pub goes-same : (f g : Board → Board) (v w : Objects) → Goes f v w → ((b : Board) (log : Log) → Shows b (with_log log v) → g b ≡ f b) → Goes g v w
 goes-same f g v w go is =
@@ -65,6 +67,7 @@ goes-same f g v w go is =
       log = go.log;
       shown = λ b log s. subst (λ (c : Board). Shows c (with_log (noted_all go.more log) w)) (sym (is b log s)) (go.shown b log s);
       names = go.names;
+      bodies = go.bodies;
       book = go.book;
       time = go.time;
       spare = go.spare;
@@ -77,10 +80,50 @@ goes-then f g v u w first then =
       log = then.log ∙ ap (noted_all then.more) first.log ∙ sym (parts_lem first.more then.more v.log);
       shown = λ b log s. subst (λ (l : Log). Shows (g (f b)) (with_log l w)) (sym (parts_lem first.more then.more log)) (then.shown (f b) (noted_all first.more log) (first.shown b log s));
       names = λ key live. first.names key (then.names key live);
+      bodies = λ n c there. both n c (content_of u n) refl (then.bodies n c there);
       book = λ out h. then.book out (first.book out h);
       time = then.time ∙ first.time;
       spare = then.spare ∙ first.spare;
     }
+  where
+    both : (n : ℕ) (c : Content) (o : Option Content) → content_of u n ≡ o → option_map (λ (d : Content). d.body) o ≡ Some c.body
+        → option_map (λ (d : Content). d.body) (content_of v n) ≡ Some c.body
+    both n c None p e = cc
+    both n c (Some d) p e = first.bodies n d p ∙ e
+
+-- what is read of an object, over an edit of one
+module _ {A : Type 0} (g : Content → A) (n : ℕ) (f : Content → Content) (same : (c : Content) → g (f c) ≡ g c) where
+  pub read-content : (v : Objects) (m : ℕ) → option_map g (content_of (with_edit n f v) m) ≡ option_map g (content_of v m)
+  read-content v m = go (eqb m n) refl
+    where
+      two : (o : Option Content) → option_map g (option_map f o) ≡ option_map g o
+      two None = refl
+      two (Some c) = ap Some (same c)
+
+      go : (t : Bool) → eqb m n ≡ t → option_map g (content_of (with_edit n f v) m) ≡ option_map g (content_of v m)
+      go true p =
+          subst (λ (k : ℕ). option_map g (content_of (with_edit n f v) k) ≡ option_map g (content_of v k)) (sym (eqb-true m n p))
+          (ap (option_map g) (content-edited v n f) ∙ two (content_of v n))
+      go false p = ap (option_map g) (content-other v n m f p)
+
+-- who is there has the body that it had, behind an edit of slots or pins, and behind an end
+pub edit-bodies : (v : Objects) (n : ℕ) (f : Content → Content) → ((c : Content) → (f c).body ≡ c.body) → (m : ℕ) (d : Content)
+    → content_of (with_edit n f v) m ≡ Some d → option_map (λ (c : Content). c.body) (content_of v m) ≡ Some d.body
+edit-bodies v n f same m d there = sym (read-content (λ (c : Content). c.body) n f same v m) ∙ ap (option_map (λ (c : Content). c.body)) there
+
+end-bodies : (v : Objects) (n : ℕ) (x : Content) (m : ℕ) (d : Content) → content_of (ended n x v) m ≡ Some d
+    → option_map (λ (c : Content). c.body) (content_of v m) ≡ Some d.body
+end-bodies v n x m d there = go (eqb m n) refl
+  where
+    left : (o : Option Content) → option_map (forgotten n) o ≡ Some d → option_map (λ (c : Content). c.body) o ≡ Some d.body
+    left None e = cc
+    left (Some c) e = ap (λ (y : Content). Some y.body) (same_Some (forgotten n c) d e)
+
+    go : (t : Bool) → eqb m n ≡ t → option_map (λ (c : Content). c.body) (content_of v m) ≡ Some d.body
+    go true p =
+        absurd
+        (let clash : None ≡ Some d = sym (ap (λ (k : ℕ). content_of (ended n x v) k) (eqb-true m n p) ∙ content-gone v n x) ∙ there in cc)
+    go false p = left (content_of v m) (sym (content-left v n m x p) ∙ there)
 
 -- who is there behind an edit was there before it
 pub live-before_edit : (n : ℕ) (f : Content → Content) (rows : List (Key × Content)) (key : Key) → IsLive (edit n f rows) key → IsLive rows key
@@ -126,6 +169,7 @@ goes-drop v n i =
       log = refl;
       shown = λ b log s. shows-drop_slot b (with_log log v) s n i;
       names = live-before_edit n (dropped_at i) v.rows;
+      bodies = edit-bodies v n (dropped_at i) (λ c. refl);
       book = λ out h. book-edit out v n (dropped_at i) (λ c. refl) h;
       time = refl;
       spare = refl;
@@ -139,6 +183,7 @@ goes-unpin v good n some =
       log = refl;
       shown = λ b log s. shows-without_pin b (with_log log v) s (heap-with_log v log good) n some;
       names = live-before_edit n content.without_pin v.rows;
+      bodies = edit-bodies v n content.without_pin (λ c. refl);
       book = λ out h. book-edit out v n content.without_pin (λ c. refl) h;
       time = refl;
       spare = refl;
@@ -151,6 +196,7 @@ goes-end v good n c there free =
       log = refl;
       shown = λ b log s. shows-ended b (with_log log v) s (heap-with_log v log good) n c there free;
       names = live-before_end n v.rows;
+      bodies = end-bodies v n c;
       book = λ out h. book-ended out v good n c there h;
       time = refl;
       spare = kept-spare v.events (release.deleted_event (shown n c));

@@ -1,5 +1,5 @@
 -- The life of the objects of a heap: what is noted at birth, and what a release makes of a heap.
-use Rattle.std.specs.Prelude.{◌≡◌, ℕ, suc, true, List, map, is_some}
+use Rattle.std.specs.Prelude.{◌≡◌, ℕ, suc, true, List, map, Some, is_some, option_map}
 use Rattle.qo_values.specs.declared.kinds.TypeId.{TypeId}
 use Rattle.qo_values.specs.declared.kinds.Act.TheVariants.{Init}
 use Rattle.qo_slots.specs.declared.keys.Key.{Key}
@@ -9,6 +9,7 @@ use Rattle.qo_model.specs.Types.{inits}
 use Rattle.qo_model.specs.declared.notes.Deed.TheVariants.{Did}
 use Rattle.qo_model.specs.declared.notes.Note.{Note}
 use Rattle.qo_notes.specs.Log.{Log, noted_all}
+use Rattle.qo_object.specs.Content.{Content}
 use Rattle.qo_object.specs.declared.slots.Slot.{Slot}
 use Rattle.qo_object.specs.declared.slots.Slot.TheVariants.{Child}
 use Rattle.qo_claims.specs.declared.claims.Claimed.{Claimed}
@@ -40,12 +41,14 @@ abbrev pub KeepsNames : Objects → Objects → Type 0
 KeepsNames v w = (key : Key) → IsLive v.rows key → is_some (content_of w key.birth) ≡ true → IsLive w.rows key
 
 -- a heap becomes another as a board does by a step, with some notes more whatever the log was, nobody is there who was
--- not, the book of claims stays right, and the time and the room for further events stay
+-- not, who is there has the body that it had, the book of claims stays right, and the time and the room for further
+-- events stay
 pub record Goes (step : Board → Board) (v w : Objects) : Type 0 where
   pub more : List Note
   pub log : w.log ≡ noted_all more v.log
   pub shown : (b : Board) (log : Log) → Shows b (with_log log v) → Shows (step b) (with_log (noted_all more log) w)
   pub names : (key : Key) → IsLive w.rows key → IsLive v.rows key
+  pub bodies : (n : ℕ) (c : Content) → content_of w n ≡ Some c → option_map (λ (d : Content). d.body) (content_of v n) ≡ Some c.body
   pub book : (out : List Claimed) → IsBook out v → IsBook out w
   pub time : w.time ≡ v.time
   pub spare : w.events.spare ≡ v.events.spare

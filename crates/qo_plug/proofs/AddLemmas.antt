@@ -18,7 +18,9 @@ use Rattle.qo_model.specs.Types.{TypeRow, is_a, row_named}
 use Rattle.qo_sound.proofs.PlugLemmas.{IsPlace, place-of}
 use Rattle.qo_sound.proofs.ViewLemmas.{AtRest, rest-from_sound}
 use Rattle.qo_heap.specs.Board.{Shows}
-use Rattle.qo_heap.specs.Objects.{Objects}
+use Rattle.qo_heap.specs.Objects.{Objects, content_of}
+use Rattle.qo_heap.proofs.ShowsReads.{shows-kind}
+use Rattle.qo_object.specs.Content.{Content}
 use Rattle.qo_properties.specs.Filling.{target_in}
 use Rattle.qo_properties.specs.Start.{KeepsNames}
 use Rattle.qo_properties.specs.declared.adding.filling.Fill.{Fill}
@@ -33,12 +35,14 @@ use Rattle.qo_plug.specs.declared.refusals.Barred.{Barred}
 use Rattle.qo_plug.specs.declared.spots.Spot.{Spot as Chosen}
 use Rattle.qo_plug.specs.Added.{IfRefused, IsAdmitted, barred_in}
 use Rattle.qo_plug.specs.Adding.{IsAdded, IsCut, IsOpen, IsPlugged, IsRefused, turned_down}
+use Rattle.qo_plug.specs.Chosen.{claims_given}
 use Rattle.qo_plug.specs.Drafts.{CutShort, held_draft}
 use Rattle.qo_plug.specs.Stages.{spot_barred}
 use Rattle.qo_plug.specs.Standing.{Stood, spot_in}
+use Rattle.qo_plug.specs.Taking.{kept_by}
 use Rattle.qo_plug.proofs.AdmitLemmas.{added-late}
 use Rattle.qo_plug.proofs.JudgeLemmas.{late-given, late-spot}
-use Rattle.qo_plug.proofs.PlugSteps.{counted-path, cut-whole, let-go, plugged-notices, plugged-pending, seat-holds, seat-notices, seated}
+use Rattle.qo_plug.proofs.PlugSteps.{counted-path, cut-whole, let-go, plugged-kinds, plugged-notices, plugged-pending, seat-holds, seat-notices, seated}
 use Rattle.qo_plug.proofs.StartBuses.{plugged-buses}
 
 -- all of it was made, and ended
@@ -61,26 +65,29 @@ module _ (b : Board) (a : Wanted) where
         late_as : Spot → Plugged
         late_as spot = record { refusal = None; board = with_plugged b site.kind a spot }
 
-    pub is-added : (x : Added) (h : Asked) (w : Objects) → IsPlugged b site.kind a (spot_in site.bus.birth at) h w → x ≡ record { birth = b.born + 1; slot = at.slot } → IsAdded b a x h w
-    is-added x h w p is =
+    pub is-added : (x : Added) (h : Asked) (w : Objects) → IsPlugged b site.kind a (spot_in site.bus.birth at) h w → x ≡ record { birth = b.born + 1; slot = at.slot }
+        → kept_by w x.birth ≡ Some (claims_given b site.kind site.bus.birth a.props) → IsAdded b a x h w
+    is-added x h w p is kept =
         record {
           refusal = ap (λ (q : Plugged). q.refusal) added-plugged;
           shown = subst (λ (q : Plugged). Shows q.board w) (sym added-plugged) p.shown;
           pending = ap (λ (q : Plugged). q.board.pending) added-plugged ∙ p.pending;
           notices = ap (λ (q : Plugged). q.board.notices) added-plugged ∙ p.notices;
           birth = ap (λ (y : Added). y.birth) is;
-          slot = own;
+          slot = λ t bus kind goes.
+              ap (λ (y : Added). y.slot) is
+              ∙ ap (λ (s : Spot). s.slot) (sym o.chosen.spot)
+              ∙ own (λ (k : TypeId) (m : ℕ). (spot_of b k m a.props).slot) t bus kind goes;
+          kept = λ t bus kind goes. kept ∙ own (λ (k : TypeId) (m : ℕ). Some (claims_given b k m a.props)) t bus kind goes;
         }
       where
-        own : (t : TypeId) (bus : ℕ) → option_map (λ (row : TypeRow). row.id) (row_named a.driver) ≡ Some t → bus_for b t a.bus ≡ Some bus → x.slot ≡ (spot_of b t bus a.props).slot
-        own t bus kind goes =
+        own : {A : Type 0} (f : TypeId → ℕ → A) (t : TypeId) (bus : ℕ) → option_map (λ (row : TypeRow). row.id) (row_named a.driver) ≡ Some t
+            → bus_for b t a.bus ≡ Some bus → f site.kind site.bus.birth ≡ f t bus
+        own f t bus kind goes =
             let type_is : site.kind ≡ t = same_Some site.kind t (sym o.admitted.kind ∙ kind) in
             let goes_as : bus_for b site.kind a.bus ≡ Some bus = ap (λ (k : TypeId). bus_for b k a.bus) type_is ∙ goes in
             let bus_is : site.bus.birth ≡ bus = same_Some site.bus.birth bus (sym o.admitted.bus ∙ goes_as) in
-            ap (λ (y : Added). y.slot) is
-            ∙ ap (λ (s : Spot). s.slot) (sym o.chosen.spot)
-            ∙ ap (λ (k : TypeId). (spot_of b k site.bus.birth a.props).slot) type_is
-            ∙ ap (λ (m : ℕ). (spot_of b t m a.props).slot) bus_is
+            λ j. f (type_is j) (bus_is j)
 
   -- it is refused before an attempt
   pub refused-early : (T U : Type 0) (r : AddRefusal) (w : Objects) → Shows b w
@@ -215,18 +222,28 @@ module _ (b : Board) (t : TypeId) (sound : SoundTree b) (device : is_a t (codes 
   abbrev LetsGo : Objects → Objects → ℕ → Type 0
   LetsGo x y m = (c : Board) → Shows c x → Shows (unpin c m) y
 
-  pub plugged-in : (m : ℕ) → m ≡ b.born + 1 → (path holds : List ℕ) (h k : Asked) (w x y : Objects) → b.holds ≡ holds → b.pending ≡ h.pending → b.notices ≡ h.notices
-      → IsPlace b t a spot → Stood b (held_draft b t) m a spot path w → Starts holds path w x m → Tells h k m → k.pending ≡ h.pending → LetsGo x y m → IsPlugged b t a spot k y
-  plugged-in m is path holds h k w x y held pending notices place stood_at starts tells kept goes =
-      let own : Stood b (held_draft b t) n a spot path w = subst (λ (i : ℕ). Stood b (held_draft b t) i a spot path w) is stood_at in
-      let begins : Starts holds path w x n = subst (Starts holds path w x) is starts in
-      let told : Tells h k n = subst (Tells h k) is tells in
-      let ends : LetsGo x y n = subst (LetsGo x y) is goes in
-      let shown : Shows here w = counted-shown a.id (clocked (source_for b bus) n (stood b n a spot (held_draft b t))) w own.shown in
-      let path_is : canonical here n ≡ Some path = counted-path a.id (clocked (source_for b bus) n (stood b n a spot (held_draft b t))) n ∙ own.path_is in
-      let started_is : Shows (started n t here) x = begins here t (shown, seat-holds b t sound a spot ∙ held) own-buses path_is in
-      record {
-        shown = subst (λ (c : Board). Shows c y) (let-go b t sound a spot place) (ends (started n t here) started_is);
-        pending = plugged-pending b t sound a spot ∙ pending ∙ sym kept;
-        notices = plugged-notices b t sound a spot ∙ told here t (seat-notices b t sound a spot ∙ notices);
-      }
+  module _ (m : ℕ) (is : m ≡ b.born + 1) (path holds : List ℕ) (h k : Asked) (w x y : Objects) (held : b.holds ≡ holds) (pending : b.pending ≡ h.pending)
+      (notices : b.notices ≡ h.notices) (place : IsPlace b t a spot) (stood_at : Stood b (held_draft b t) m a spot path w) (starts : Starts holds path w x m)
+      (tells : Tells h k m) (kept : k.pending ≡ h.pending) (goes : LetsGo x y m) where
+    started_is : Shows (started n t here) x
+    started_is =
+        let own : Stood b (held_draft b t) n a spot path w = subst (λ (i : ℕ). Stood b (held_draft b t) i a spot path w) is stood_at in
+        let begins : Starts holds path w x n = subst (Starts holds path w x) is starts in
+        let shown : Shows here w = counted-shown a.id (clocked (source_for b bus) n (stood b n a spot (held_draft b t))) w own.shown in
+        let path_is : canonical here n ≡ Some path = counted-path a.id (clocked (source_for b bus) n (stood b n a spot (held_draft b t))) n ∙ own.path_is in
+        begins here t (shown, seat-holds b t sound a spot ∙ held) own-buses path_is
+
+    pub plugged-in : IsPlugged b t a spot k y
+    plugged-in =
+        let told : Tells h k n = subst (Tells h k) is tells in
+        let ends : LetsGo x y n = subst (LetsGo x y) is goes in
+        record {
+          shown = subst (λ (c : Board). Shows c y) (let-go b t sound a spot place) (ends (started n t here) started_is);
+          pending = plugged-pending b t sound a spot ∙ pending ∙ sym kept;
+          notices = plugged-notices b t sound a spot ∙ told here t (seat-notices b t sound a spot ∙ notices);
+        }
+
+    -- nobody ends with the pin
+    pub kinds-in : (i : ℕ) → option_map (λ (c : Content). c.kind) (content_of y i) ≡ option_map (λ (c : Content). c.kind) (content_of x i)
+    kinds-in i =
+        sym (shows-kind (with_plugged b t a spot) y plugged-in.shown i) ∙ plugged-kinds b t sound a spot i ∙ shows-kind (started n t here) x started_is i

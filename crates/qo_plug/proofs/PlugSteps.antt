@@ -2,7 +2,7 @@
 use Rattle.std.proofs.Common.{◌≡◌, refl, ap, sym, ◌∙◌, ℕ, suc, ◌+◌, ◌≤◌, true, List, [], length, Option, Some, None, arith}
 use Rattle.std.proofs.lemmas.List.{length-map, take_all}
 use Rattle.qo_values.specs.declared.kinds.TypeId.{TypeId}
-use Rattle.qo_model.specs.Board.{Board}
+use Rattle.qo_model.specs.Board.{Board, kind_of}
 use Rattle.qo_model.specs.Paths.{canonical, steps_to}
 use Rattle.qo_model.specs.Plug.{Spot, Wanted, born_from, clocked, counted, cut_attempt, device_last, further_of, objects_in, plug_attempt, rows_made, source_for, started, stood, types_in, with_ended, with_plugged}
 use Rattle.qo_model.specs.Release.{unpin}
@@ -60,6 +60,9 @@ module _ (b : Board) (t : TypeId) (sound : SoundTree b) (a : Wanted) (spot : Spo
 
   pub plugged-notices : (with_plugged b t a spot).notices ≡ (started n t seated).notices
   plugged-notices = sym (ap (λ (c : Board). c.notices) started-is)
+
+  pub plugged-kinds : (m : ℕ) → kind_of (with_plugged b t a spot) m ≡ kind_of (started n t seated) m
+  plugged-kinds m = sym (ap (λ (c : Board). kind_of c m) started-is)
 
   pub plugged-pending : (with_plugged b t a spot).pending ≡ b.pending
   plugged-pending = sym (ap (λ (c : Board). c.pending) started-is) ∙ started-pending n t seated ∙ ap (λ (x : Aside). x.pending) seat-aside

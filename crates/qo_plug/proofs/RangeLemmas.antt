@@ -22,7 +22,7 @@ use Rattle.qo_heap.specs.Book.{IsBook, kept_times, one, owned}
 use Rattle.qo_heap.specs.Objects.{IsHeap, Objects, content_of, with_edit}
 use Rattle.qo_heap.proofs.BookLemmas.{sum-edit}
 use Rattle.qo_heap.proofs.ShowsLive.{live-content}
-use Rattle.qo_buses.proofs.LinkLemmas.{read-content}
+use Rattle.qo_life.proofs.TreeLemmas.{read-content}
 use Rattle.qo_properties.proofs.FillingLemmas.{edit-twice}
 use Rattle.qo_plug.specs.declared.spots.Memory.{Memory}
 use Rattle.qo_plug.specs.Standing.{Alike, IsDimm, named, range_in, ranged}

@@ -30,7 +30,7 @@ use Rattle.qo_heap.proofs.HeapLemmas.{live-edit}
 use Rattle.qo_heap.proofs.HeapLemmas.{edit-same as heap-same}
 use Rattle.qo_heap.proofs.ShowsChanges.{shows-added}
 use Rattle.qo_heap.proofs.ShowsLive.{content-edited, content-other, live-content}
-use Rattle.qo_buses.proofs.LinkLemmas.{read-content}
+use Rattle.qo_life.proofs.TreeLemmas.{read-content}
 use Rattle.qo_properties.proofs.FillingLemmas.{edit-twice}
 use Rattle.qo_plug.specs.Drafts.{bare, is_own, own_slots, own_slots_of}
 use Rattle.qo_plug.specs.Standing.{Alike, IsSeat, Stood, joined_on, kept_in, named, with_book}

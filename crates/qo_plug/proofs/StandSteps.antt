@@ -33,8 +33,7 @@ use Rattle.qo_heap.proofs.BookLemmas.{book-edit}
 use Rattle.qo_heap.proofs.HeapLemmas.{live-edit}
 use Rattle.qo_heap.proofs.ShowsLive.{live-content}
 use Rattle.qo_heap.proofs.ShowsReads.{records_of, shows-kind, shows-pinned, shows-record}
-use Rattle.qo_buses.proofs.LinkLemmas.{read-content}
-use Rattle.qo_life.proofs.TreeLemmas.{heap-with_log, tree, tree-shows}
+use Rattle.qo_life.proofs.TreeLemmas.{read-content, heap-with_log, tree, tree-shows}
 use Rattle.qo_life.specs.Life.{Goes, with_log}
 use Rattle.qo_notes.specs.Log.{empty_log}
 use Rattle.qo_properties.specs.Filling.{IsGiven}
@@ -43,7 +42,7 @@ use Rattle.qo_properties.specs.declared.adding.filling.Fill.{Fill}
 use Rattle.qo_clocks.specs.Links.{changed_named, place_on, with_slot_changed}
 use Rattle.qo_plug.specs.Drafts.{own_slots, own_slots_of}
 use Rattle.qo_plug.specs.Standing.{Alike, Stays, kept_in, with_book, with_own}
-use Rattle.qo_plug.proofs.KeptLemmas.{SameBodies}
+use Rattle.qo_plug.proofs.KeptLemmas.{there-bodies}
 use Rattle.qo_plug.proofs.StartLemmas.{pins-edited}
 use Rattle.qo_plug.proofs.StandBoards.{read-link, read-set}
 use Rattle.qo_plug.proofs.StandFills.{own-given}
@@ -229,8 +228,8 @@ module _ {A : Type 0} (g : Content → A) (h : board.Record → A) (same : (m : 
         ∙ sym (board-read b v s m)
 
 pub stays-set : (b : board.Board) (v w : Objects) (n : ℕ) (name : List ℕ) (val : Val) → Shows b v → Shows (set_named n name val b) w → Goes (set_named n name val) v w → KeepsNames v w
-    → pins_in w.rows ≡ pins_in v.rows → SameBodies v w → Stays v w
-stays-set b v w n name val s t goes names pins bodies =
+    → pins_in w.rows ≡ pins_in v.rows → Stays v w
+stays-set b v w n name val s t goes names pins =
     record {
       alike = record {
         names = names;
@@ -239,13 +238,13 @@ stays-set b v w n name val s t goes names pins bodies =
       };
       spare = goes.spare;
       ids = set-reads (λ c. c.device_id) (λ r. r.device_id) (λ m c. refl) (λ f i r. refl) b v w n name val s t;
-      bodies = bodies;
+      bodies = there-bodies v w goes.bodies (set-reads (λ c. c.kind) (λ r. r.kind) (λ m c. refl) (λ f i r. refl) b v w n name val s t);
       book = goes.book;
     }
 
 pub stays-linked : (b : board.Board) (v w : Objects) (n : ℕ) (name : List ℕ) (to : ℕ) → Shows b v → Shows (link_named n name to b) w → Goes (link_named n name to) v w → KeepsNames v w
-    → pins_in w.rows ≡ pins_in v.rows → SameBodies v w → Stays v w
-stays-linked b v w n name to s t goes names pins bodies =
+    → pins_in w.rows ≡ pins_in v.rows → Stays v w
+stays-linked b v w n name to s t goes names pins =
     record {
       alike = record {
         names = names;
@@ -254,7 +253,7 @@ stays-linked b v w n name to s t goes names pins bodies =
       };
       spare = goes.spare;
       ids = link-reads (λ c. c.device_id) (λ r. r.device_id) (λ m c. refl) (λ f i r. refl) b v w n name to s t;
-      bodies = bodies;
+      bodies = there-bodies v w goes.bodies (link-reads (λ c. c.kind) (λ r. r.kind) (λ m c. refl) (λ f i r. refl) b v w n name to s t);
       book = goes.book;
     }
 

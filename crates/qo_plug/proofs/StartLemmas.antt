@@ -8,6 +8,7 @@ use Rattle.qo_values.specs.declared.kinds.Act.{Act}
 use Rattle.qo_values.specs.declared.kinds.Act.TheVariants.{Realize, Enter, Hold, Exit}
 use Rattle.qo_values.specs.declared.kinds.TypeId.{TypeId}
 use Rattle.qo_slots.specs.declared.keys.Key.{Key}
+use Rattle.qo_kinds.specs.Bodies.{kept_of}
 use Rattle.qo_claims.specs.declared.claims.Claimed.{Claimed}
 use Rattle.qo_table.specs.Rows.{IsLive, edit}
 use Rattle.qo_model.specs.Board.{Board, Notice, Record, Slot, child, plain, strong, weak, alias, kind_of, slots_at}
@@ -36,7 +37,9 @@ use Rattle.qo_heap.proofs.ShowsActs.{shows-acted}
 use Rattle.qo_heap.proofs.ShowsEdits.{shows-edit}
 use Rattle.qo_heap.proofs.ShowsLive.{content-edited}
 use Rattle.qo_hotplug.specs.Asked.{Asked, told}
+use Rattle.qo_life.proofs.TreeLemmas.{read-content}
 use Rattle.qo_reset.specs.Phases.{Holds}
+use Rattle.qo_plug.specs.Taking.{SameKept, kept_by}
 
 -- the tree: how many objects there are, and the type and the place of each
 
@@ -369,6 +372,9 @@ path-live v w n path now key live = subst (λ (x : Objects). IsLive x.rows key) 
 
 pub path-all_pins : (v w : Objects) (n : ℕ) (path : List ℕ) → w ≡ record (with_edit n (with_path path) v) { events = promised v.events } → pins_in w.rows ≡ pins_in v.rows
 path-all_pins v w n path now = ap (λ (x : Objects). pins_in x.rows) now ∙ pins-edited n (with_path path) (λ c. refl) v.rows
+
+pub path-claims : (v w : Objects) (n : ℕ) (path : List ℕ) → w ≡ record (with_edit n (with_path path) v) { events = promised v.events } → SameKept v w
+path-claims v w n path now m = ap (λ (x : Objects). kept_by x m) now ∙ read-content (λ (c : Content). kept_of c.body) n (with_path path) (λ c. refl) v m
 
 pub path-pins : (v w : Objects) (n : ℕ) (path : List ℕ) → w ≡ record (with_edit n (with_path path) v) { events = promised v.events } → pins_of w n ≡ pins_of v n
 path-pins v w n path now = ap (λ (x : Objects). pins_of x n) now ∙ ap (λ (o : Option Content). option_map_or (λ (c : Content). c.pins) o 0) (content-edited v n (with_path path)) ∙ go (content_of v n)

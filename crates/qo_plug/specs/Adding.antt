@@ -15,9 +15,10 @@ use Rattle.qo_plug.specs.declared.refusals.AddRefusal.{AddRefusal}
 use Rattle.qo_plug.specs.declared.refusals.AddRefusal.TheVariants.{Refused, Memory}
 use Rattle.qo_plug.specs.declared.refusals.Barred.{Barred}
 use Rattle.qo_plug.specs.Added.{IsAdmitted}
-use Rattle.qo_plug.specs.Chosen.{IsChosen}
+use Rattle.qo_plug.specs.Chosen.{IsChosen, claims_given}
 use Rattle.qo_plug.specs.declared.spots.Spot.{Spot as Chosen}
 use Rattle.qo_plug.specs.Drafts.{CutShort}
+use Rattle.qo_plug.specs.Taking.{kept_by}
 
 -- a sound board has the objects of a heap, and beside them so many devices without an id, these holds, these rings, and what is asked for
 pub record IsShown (b : Board) (anonymous : ℕ) (holds : List ℕ) (rings : List Ring) (h : Asked) (v : Objects) : Type 0 where
@@ -41,7 +42,13 @@ pub record IsPlugged (b : Board) (t : TypeId) (a : Wanted) (spot : Spot) (h : As
   pub pending : (with_plugged b t a spot).pending ≡ h.pending
   pub notices : (with_plugged b t a spot).notices ≡ h.notices
 
--- a device was added: its birth and its slot are told
+-- the body of a device that was added keeps its claims
+abbrev pub KeepsGiven : Board → Wanted → Added → Objects → Type 0
+KeepsGiven b a x w =
+    (t : TypeId) (bus : ℕ) → option_map (λ (row : TypeRow). row.id) (row_named a.driver) ≡ Some t → bus_for b t a.bus ≡ Some bus
+    → kept_by w x.birth ≡ Some (claims_given b t bus a.props)
+
+-- a device was added: its birth and its slot are told, and its body keeps its claims
 pub record IsAdded (b : Board) (a : Wanted) (x : Added) (h : Asked) (w : Objects) : Type 0 where
   pub refusal : (plug b a).refusal ≡ None
   pub shown : Shows (plug b a).board w
@@ -49,6 +56,7 @@ pub record IsAdded (b : Board) (a : Wanted) (x : Added) (h : Asked) (w : Objects
   pub notices : (plug b a).board.notices ≡ h.notices
   pub birth : x.birth ≡ b.born + 1
   pub slot : (t : TypeId) (bus : ℕ) → option_map (λ (row : TypeRow). row.id) (row_named a.driver) ≡ Some t → bus_for b t a.bus ≡ Some bus → x.slot ≡ (spot_of b t bus a.props).slot
+  pub kept : KeepsGiven b a x w
 
 -- it was refused
 pub record IsRefused (b : Board) (a : Wanted) (stage : ℕ) (code : Code) (w : Objects) : Type 0 where

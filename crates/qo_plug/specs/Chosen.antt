@@ -1,10 +1,13 @@
--- What a device that is given properties has in its place on a bus: its slot, the ring of a UART, and the memory backend and the range of a DIMM (docs/PROFILE.md, rings and DIMMs).
+-- What a device that is given properties has in its place on a bus, and claims: its slot, the ring of a UART, and the memory backend and the range of a DIMM (docs/PROFILE.md, rings and DIMMs).
 use Rattle.std.specs.Prelude.{◌≡◌, ℕ, List, codes, Option, Some, None, option_map}
+use Rattle.qo_claims.specs.Lists.{slot_at}
+use Rattle.qo_claims.specs.declared.claims.Claimed.TheVariants as on
+use Rattle.qo_kinds.specs.declared.kept.KeptSet.{KeptSet}
 use Rattle.qo_values.specs.declared.kinds.TypeId.{TypeId}
 use Rattle.qo_values.specs.declared.kinds.TypeId.TheVariants.{MemDimm, MemoryBackend, SlotUart}
 use Rattle.qo_model.specs.Board.{Board}
 use Rattle.qo_model.specs.Objects.{Given}
-use Rattle.qo_model.specs.Plug.{spot_of, target_for, text_for}
+use Rattle.qo_model.specs.Plug.{range_of, spot_of, target_for, text_for}
 use Rattle.qo_backends.specs.Rings.{named_ring}
 use Rattle.qo_plug.specs.declared.spots.Memory.{Memory}
 use Rattle.qo_plug.specs.declared.spots.Spot.{Spot}
@@ -19,6 +22,16 @@ ring_given t props = None
 abbrev pub backend_given : Board → TypeId → List Given → Option ℕ
 backend_given b MemDimm props = target_for b MemoryBackend props (codes "memdev")
 backend_given b t props = None
+
+-- its claims on a bus: on its slot, its ring, its memory backend and its range
+abbrev pub claims_given : Board → TypeId → ℕ → List Given → KeptSet
+claims_given b t bus props =
+    record {
+      slot = Some (on.Slot (slot_at bus (spot_of b t bus props).slot));
+      ring = option_map on.Ring (ring_given t props);
+      backend = option_map on.Backend (backend_given b t props);
+      range = option_map on.Range (range_of b t props);
+    }
 
 -- a spot is the one that a device of a type with these properties has on a bus
 pub record IsChosen (b : Board) (t : TypeId) (bus : ℕ) (props : List Given) (c : Spot) : Type 0 where

@@ -28,9 +28,10 @@ use Rattle.qo_plug.specs.declared.refusals.Barred.{Barred}
 use Rattle.qo_plug.specs.declared.spots.Spot.{Spot}
 use Rattle.qo_plug.specs.Added.{IsAdmitted, barred_in}
 use Rattle.qo_plug.specs.Adding.{IsOpen}
-use Rattle.qo_plug.specs.Chosen.{IsChosen}
+use Rattle.qo_plug.specs.Chosen.{IsChosen, claims_given}
 use Rattle.qo_plug.specs.Drafts.{IsQuiet, bare, held_draft, own_slots_of}
 use Rattle.qo_plug.specs.Standing.{Stood, spot_in}
+use Rattle.qo_plug.specs.Taking.{kept_by}
 
 -- what bars a device in its place on a bus: its slot, its depth and its memory come before its ring
 abbrev pub spot_barred : Board → TypeId → ℕ → List Given → Option (ℕ × Code)
@@ -93,10 +94,11 @@ pub record IsReady (p : Placed) (h : Asked) (v : Objects) : Type 0 where
   pub pinned : 0 < pins_of v p.device.birth
   pub way : MayFinish p.device.birth p.way h v
 
--- the stages 5 to 7 are done: nothing bars the device and it stands in its spot; or the notices alone bar it, and it stands nowhere
+-- the stages 5 to 7 are done: nothing bars the device, it stands in its spot, and its body keeps its claims; or the notices alone bar it, and it stands nowhere
 abbrev pub StandsBy : Board → Wanted → Site → ℕ → ℕ → Way → Objects → Type 0
 StandsBy b a s n slot (Stands path) v =
     (c : Spot) × (c.slot ≡ slot) × IsOpen b a s c × Stood b (held_draft b s.kind) n a (spot_in s.bus.birth c) path v
+    × (kept_by v n ≡ Some (claims_given b s.kind s.bus.birth a.props))
 StandsBy b a s n slot (Full out) v =
     IsAdmitted b a s × (barred_late b s.kind s.bus.birth a.props ≡ Some (8, E44)) × (out ≡ (count b s.bus.birth == 0)) × Shows (held_draft b s.kind) v
 

@@ -27,7 +27,7 @@ use Rattle.qo_heap.proofs.ShowsEdits.{all-replicate, pins-above, shows-pin}
 use Rattle.qo_heap.proofs.ShowsLive.{live-content}
 use Rattle.qo_heap.proofs.ShowsReads.{shows-live, shows-live_key, shows-slots}
 use Rattle.qo_life.specs.Life.{Goes, with_log}
-use Rattle.qo_life.proofs.TreeLemmas.{goes-names, goes-none, goes-same, goes-then, heap-with_log, live-before_edit, tree, tree-shows}
+use Rattle.qo_life.proofs.TreeLemmas.{edit-bodies, goes-names, goes-none, goes-same, goes-then, heap-with_log, live-before_edit, tree, tree-shows}
 use Rattle.qo_unplug.specs.Apart.{HasRoom, bus_lost, buses_lost, drained_within, first_apart, first_lost, held_times, taken_within}
 use Rattle.qo_unplug.specs.Unrealizing.{on_one}
 use Rattle.qo_unplug.proofs.TimelyLemmas.{goes-timely}
@@ -114,6 +114,7 @@ goes-pin v u good o live is =
       log = refl;
       shown = λ b log s. shows-pin b (with_log log v) s (heap-with_log v log good) o.birth c there;
       names = live-before_edit o.birth with_pin v.rows;
+      bodies = edit-bodies v o.birth with_pin (λ d. refl);
       book = λ out h. book-edit out v o.birth with_pin (λ d. refl) h;
       time = refl;
       spare = refl;

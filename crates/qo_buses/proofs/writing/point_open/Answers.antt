@@ -1,6 +1,6 @@
 -- The slot that is found stays, or it is pointed.
 use Rattle.std.proofs.Common.{Some, ap, ◌∙◌}
-use Rattle.qo_buses.proofs.LinkLemmas.{goes-linked, goes-misfit, goes-unlinked, goes-unnamed, open-link, point-bodies, point-live, point-pins}
+use Rattle.qo_buses.proofs.LinkLemmas.{goes-linked, goes-misfit, goes-unlinked, goes-unnamed, open-link, point-live, point-pins}
 use Rattle.qo_buses.proofs.writing.point_open.Goals as goal
 
 pub returns-in_default-clause-goes : goal.returns-in_default-clause-goes
@@ -34,11 +34,6 @@ returns-then-is_fit-clause-names g c = λ key here.
 pub returns-then-is_fit-clause-pins : goal.returns-then-is_fit-clause-pins
 returns-then-is_fit-clause-pins g c =
     point-pins c.args.heap.now c.facts.ensures c.args.o c.requires.live c.args.name.now c.point.new.self c.args.target c.in-Some.view.at c.point.ensures.now
-
-pub returns-then-is_fit-clause-bodies : goal.returns-then-is_fit-clause-bodies
-returns-then-is_fit-clause-bodies g c =
-    point-bodies c.args.heap.now c.facts.ensures c.args.o c.requires.live c.args.name.now c.point.new.self c.args.target c.in-Some.view.at
-    c.point.ensures.now
 
 pub returns-else-is_fit-clause-goes : goal.returns-else-is_fit-clause-goes
 returns-else-is_fit-clause-goes g c =

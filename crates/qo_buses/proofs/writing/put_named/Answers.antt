@@ -1,5 +1,5 @@
 -- The slot that is found has the value, or there is none.
-use Rattle.qo_buses.proofs.LinkLemmas.{goes-set, goes-unset, set-bodies, set-live, set-pins}
+use Rattle.qo_buses.proofs.LinkLemmas.{goes-set, goes-unset, set-live, set-pins}
 use Rattle.qo_buses.proofs.writing.put_named.Goals as goal
 
 pub returns-in_default-clause-goes : goal.returns-in_default-clause-goes
@@ -16,7 +16,3 @@ returns-clause-names g c = λ key here.
 pub returns-clause-pins : goal.returns-clause-pins
 returns-clause-pins g c =
     set-pins c.args.heap.now c.facts.ensures c.args.o c.requires c.args.name.now c.set.new.self c.args.val c.in-Some.view.at c.set.ensures.now
-
-pub returns-clause-bodies : goal.returns-clause-bodies
-returns-clause-bodies g c =
-    set-bodies c.args.heap.now c.facts.ensures c.args.o c.requires c.args.name.now c.set.new.self c.args.val c.in-Some.view.at c.set.ensures.now

@@ -1,12 +1,17 @@
 -- The device is judged already: it takes its place, or is given up.
-use Rattle.std.proofs.Common.{◌≡◌, ◌≤◌, ◌==◌, refl, ap, sym, ◌∙◌, List, false, length, nat_le, arith}
+use Rattle.std.proofs.Common.{◌≡◌, ◌≤◌, ◌==◌, refl, ap, sym, subst, ◌∙◌, List, false, length, nat_le, arith}
 use Rattle.std.proofs.lemmas.Bool.Decides.{nat_tests}
 use Rattle.qo_values.specs.declared.limits.TheConstants.{NOTICES_MAX}
 use Rattle.qo_model.specs.Board.{Notice}
 use Rattle.qo_model.specs.Plug.{source_for}
 use Rattle.qo_slots.specs.declared.keys.Key.{Key}
+use Rattle.qo_kinds.specs.declared.kept.KeptSet.{KeptSet}
+use Rattle.qo_heap.specs.Objects.{with_edit}
+use Rattle.qo_plug.specs.Chosen.{claims_given}
 use Rattle.qo_plug.specs.Drafts.{held_draft}
-use Rattle.qo_plug.specs.Standing.{IsSeat}
+use Rattle.qo_plug.specs.Standing.{IsSeat, kept_in}
+use Rattle.qo_plug.specs.Taking.{SameKept}
+use Rattle.qo_plug.proofs.KeptLemmas.{chosen-claims, draft-keeps, driver-room}
 use Rattle.qo_plug.proofs.SourceLemmas.{source-same}
 use Rattle.qo_plug.proofs.StageLemmas.{bus-low, full-barred, given_up-cut, opened, seat-of, spot-refused}
 use Rattle.qo_plug.proofs.placing.place.Goals as goal
@@ -42,11 +47,17 @@ returns-in-Ok-stand-clause-settled g c = λ b a is notices.
     record { id_is = of.id_is ∙ sym ens.id; name_is = of.name_is ∙ sym ens.name; parent_is = of.parent_is ∙ ap (λ (k : Key). k.birth) (sym ens.container) } in
     let source : source_for b c.seat_at-seat.result.0.bus.birth ≡ source_for (held_draft b d.site.kind) c.seat_at-seat.result.0.bus.birth =
     rw ens.bus (source-same b d.site.kind is.sound d.site.bus.birth (bus-low b a d c.args.heap.now is c.requires)) in
+    let chosen = chosen-claims b d.site.kind d.site.bus.birth a.props c.in-Ok.spot (rw c.in-Ok.is at is.spot) in
+    let keeps = rw (ens.bus, ens.spot) at c.in-Ok-stand.ensures.kept in
+    let kept =
+    draft-keeps c.args.heap.now c.stand.new.heap d.device.birth d.site.kind (claims_given b d.site.kind d.site.bus.birth a.props) c.requires.rest
+    (driver-room a.driver d.site.kind is.admitted.kind is.admitted.driver (claims_given b d.site.kind d.site.bus.birth a.props))
+    (subst (λ (k : KeptSet). SameKept (with_edit d.device.birth (kept_in k) c.args.heap.now) c.stand.new.heap) chosen keeps) in
     let stood = c.in-Ok-stand.ensures.stood b (held_draft b d.site.kind) a is.shown seat source is.plan in
     record {
       sound = is.sound;
       birth = is.birth;
-      site = (d.site, c.requires.device_is, (c.in-Ok.spot, refl, opened b a d c.args.heap.now is c.in-Ok.spot c.in-Ok.is room, rw (ens.bus, ens.spot) at stood));
+      site = (d.site, c.requires.device_is, (c.in-Ok.spot, refl, opened b a d c.args.heap.now is c.in-Ok.spot c.in-Ok.is room, rw (ens.bus, ens.spot) at stood, kept));
     }
 
 pub returns-in-Err-stand-clause-memory : goal.returns-in-Err-stand-clause-memory
