@@ -5,15 +5,15 @@ use Rattle.qo_values.specs.declared.births.TheConstants.{ANONYMOUS_BIRTH, PERIPH
 use Rattle.qo_values.specs.declared.kinds.Act.TheVariants.{Unrealize}
 use Rattle.qo_values.specs.declared.properties.Val.TheVariants as val
 use Rattle.qo_model.specs.Board.{Board, Notice, Slot, slots_at, slot_at, held}
-use Rattle.qo_model.specs.Changes.{cut, with_changed, with_cut}
+use Rattle.qo_model.specs.Changes.{cut, with_cut}
 use Rattle.qo_model.specs.Clocks.{device_period}
 use Rattle.qo_model.specs.Depth.{by_depth}
 use Rattle.qo_model.specs.Devices.{bus_of, buses_of, clock_of, kids_of}
 use Rattle.qo_model.specs.Objects.{place_from}
 use Rattle.qo_model.specs.Paths.{births}
 use Rattle.qo_model.specs.Release.{after, drop_slot, finalise, let_go, pin, put_in_order, unpin, with_dropped, without_first}
-use Rattle.qo_model.specs.Unplug.{apart_within, detach, disconnected, drained, each, is_bus_slot, is_child_slot, is_named, left_bus, left_parent, let_go_where, lost_bus, lost_buses, unseen, unseen_named, names_kid, take_slot, take_where, taken_by, unheld, unnoticed, unrealize, unrealize_turn, unrealized_bus, unrealized_device, without_all}
-use Rattle.qo_sound.proofs.MakeStepsLemmas.{KeepsActs, KeepsEdits, step-set}
+use Rattle.qo_model.specs.Unplug.{apart_within, detach, drained, each, is_bus_slot, is_child_slot, is_named, left_bus, left_parent, let_go_where, lost_bus, lost_buses, names_kid, take_slot, take_where, taken_by, unheld, unnoticed, unrealize, unrealize_turn, unrealized_bus, unrealized_device, without_all}
+use Rattle.qo_sound.proofs.MakeStepsLemmas.{KeepsActs, KeepsEdits, step-set, step-disconnected}
 use Rattle.qo_sound.proofs.UnplugLemmas.{held-drained, held-buses}
 
 -- other holds, pending removals and notices keep P
@@ -27,34 +27,25 @@ KeepsPins P = (pins : List ℕ) (c : Board) → P c → P (record c { pins = pin
 abbrev pub KeepsEnds : (Board → Type 0) → Type 0
 KeepsEnds P = (o : Option ℕ) (c : Board) → P c → P (after finalise c o)
 
--- unrealizing: the device, its buses and their kids, and so on, pass
-module _ (On : ℕ → Type 0) (P : Board → Type 0) (edits : KeepsEdits P) (acts : KeepsActs On P) (lists : KeepsLists P) where
-  step-unseen : (n : ℕ) (name : List ℕ) (c : Board) → P c → P (unseen_named n name c)
-  step-unseen n name c h = go (place_from (is_named name) 0 (slots_at c n)) refl
-    where
-      go : (o : Option ℕ) → place_from (is_named name) 0 (slots_at c n) ≡ o → P (unseen_named n name c)
-      go None e = rw (unseen_named, e) h
-      go (Some i) e = rw (unseen_named, e) (edits n (with_changed unseen i) (λ r. refl) c h)
-
-  step-disconnected : (o : Option ℕ) (c : Board) → P c → P (disconnected o c)
-  step-disconnected None c h = h
-  step-disconnected (Some n) c h = step-set P edits n (codes "period") (val.Uint 0) _ (step-unseen n (codes "source") c h)
-
-  step-unheld : (n : ℕ) (c : Board) → P c → P (unheld n c)
+-- what has no hold, and what is not pending or told of
+module _ (P : Board → Type 0) (lists : KeepsLists P) where
+  pub step-unheld : (n : ℕ) (c : Board) → P c → P (unheld n c)
   step-unheld n c h = lists (without_all n c.holds) c.pending c.notices c h
 
-  step-unnoticed : (n : ℕ) (c : Board) → P c → P (unnoticed n c)
+  pub step-unnoticed : (n : ℕ) (c : Board) → P c → P (unnoticed n c)
   step-unnoticed n c h = lists c.holds (without_all n c.pending) (filter (λ (x : Notice). not (x.birth == n)) c.notices) c h
 
+-- unrealizing: the device, its buses and their kids, and so on, pass
+module _ (On : ℕ → Type 0) (P : Board → Type 0) (edits : KeepsEdits P) (acts : KeepsActs On P) (lists : KeepsLists P) where
   step-device : (d : ℕ) → On d → (c : Board) → P c → P (unrealized_device d c)
   step-device d on c h =
-      step-unnoticed d _
-      (step-unheld d _
+      step-unnoticed P lists d _
+      (step-unheld P lists d _
       (step-set P edits d (codes "realized") (val.Bool false) _
-      (step-disconnected (clock_of c d) _ (acts Unrealize d (device_period c d) refl on c h))))
+      (step-disconnected P edits (clock_of c d) _ (acts Unrealize d (device_period c d) refl on c h))))
 
   step-bus : (m : ℕ) → On m → (c : Board) → P c → P (unrealized_bus m c)
-  step-bus m on c h = step-unheld m _ (acts Unrealize m 0 refl on c h)
+  step-bus m on c h = step-unheld P lists m _ (acts Unrealize m 0 refl on c h)
 
   step-each : (f : ℕ → Board → Board) → ((n : ℕ) → On n → (c : Board) → P c → P (f n c)) → (ns : List ℕ) → AllByRecursion On ns → (c : Board) → P c
       → P (each f ns c)

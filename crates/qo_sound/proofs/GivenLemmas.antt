@@ -120,7 +120,7 @@ module _ (b : Board) (props : List Given) where
   to-cases P same on_plain on_strong on_weak (weak t target) (val.Uint v) = same (weak t target)
   to-cases P same on_plain on_strong on_weak (weak t target) val.Nothing = same (weak t target)
 
-  given-cases : (P : Slot → Slot → Type 0) → ((s : Slot) → P s s) → ((old v : Val) → P (plain old) (plain v))
+  pub given-cases : (P : Slot → Slot → Type 0) → ((s : Slot) → P s s) → ((old v : Val) → P (plain old) (plain v))
       → ((t : TypeId) (target : Option ℕ) (path : List ℕ) → P (strong t target) (strong t (target_given (link_target b t path))))
       → ((t : TypeId) (target : Option ℕ) (path : List ℕ) → P (weak t target) (weak t (target_given (link_target b t path)))) → (s : List ℕ × Slot)
       → P s.1 (slot_given b props s).1

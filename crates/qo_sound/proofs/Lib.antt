@@ -27,6 +27,7 @@ pub mod NotesKeptLemmas
 pub mod PinnedLemmas
 pub mod PlugComesToLemmas
 pub mod PlugLemmas
+pub mod QuietStepsLemmas
 pub mod ReadLemmas
 pub mod RecordLemmas
 pub mod ResetLemmas

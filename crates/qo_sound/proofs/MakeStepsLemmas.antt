@@ -23,7 +23,7 @@ use Rattle.qo_model.specs.ReleaseKeeps.{without_slots}
 use Rattle.qo_model.specs.Reset.{is_out, phased, plugged, post}
 use Rattle.qo_model.specs.RowNames.{property_name}
 use Rattle.qo_model.specs.Types.{slots_of}
-use Rattle.qo_model.specs.Unplug.{is_named, set_named}
+use Rattle.qo_model.specs.Unplug.{is_named, set_named, disconnected, unseen, unseen_named}
 use Rattle.qo_model.specs.declared.properties.Property.{Property}
 use Rattle.qo_model.specs.declared.properties.RowKind.{RowKind}
 use Rattle.qo_model.specs.declared.properties.RowKind.TheVariants as row
@@ -66,21 +66,42 @@ pub any-rows : (ps : List Property) → AllByRecursion (RowPasses (λ k. ⊤)) p
 any-rows [] = tt
 any-rows (p ∷ ps) = (any-row p, any-rows ps)
 
-module _ (P : Board → Type 0) (edits : KeepsEdits P) where
-  pub step-set : (n : ℕ) (name : List ℕ) (v : Val) (c : Board) → P c → P (set_named n name v c)
+-- a slot of a name is set, or filled: where it is there it is changed, and else nothing is
+module _ (P : Board → Type 0) (n : ℕ) (name : List ℕ) (c : Board) (h : P c) where
+  pub set-by : (v : Val) → ((i : ℕ) → place_from (is_named name) 0 (slots_at c n) ≡ Some i → P (edit n (with_changed (with_val v) i) c))
+      → P (set_named n name v c)
   unfolding set
-  step-set n name v c h = go (place_from (is_named name) 0 (slots_at c n)) refl
+  set-by v there = go (place_from (is_named name) 0 (slots_at c n)) refl
     where
       go : (o : Option ℕ) → place_from (is_named name) 0 (slots_at c n) ≡ o → P (set_named n name v c)
       go None e = rw (set_named, e) h
-      go (Some i) e = rw (set_named, e) (edits n (with_changed (with_val v) i) (λ r. refl) c h)
+      go (Some i) e = rw (set_named, e) (there i e)
 
-  pub step-link : (n : ℕ) (name : List ℕ) (m : ℕ) (c : Board) → P c → P (link_named n name m c)
-  step-link n name m c h = go (place_from (is_named name) 0 (slots_at c n)) refl
+  pub link-by : (m : ℕ) → ((i : ℕ) → place_from (is_named name) 0 (slots_at c n) ≡ Some i → P (edit n (with_changed (fitted c m) i) c))
+      → P (link_named n name m c)
+  link-by m there = go (place_from (is_named name) 0 (slots_at c n)) refl
     where
       go : (o : Option ℕ) → place_from (is_named name) 0 (slots_at c n) ≡ o → P (link_named n name m c)
       go None e = rw (link_named, e) h
-      go (Some i) e = rw (link_named, e) (edits n (with_changed (fitted c m) i) (λ r. refl) c h)
+      go (Some i) e = rw (link_named, e) (there i e)
+
+module _ (P : Board → Type 0) (edits : KeepsEdits P) where
+  pub step-set : (n : ℕ) (name : List ℕ) (v : Val) (c : Board) → P c → P (set_named n name v c)
+  step-set n name v c h = set-by P n name c h v (λ i e. edits n (with_changed (with_val v) i) (λ r. refl) c h)
+
+  pub step-link : (n : ℕ) (name : List ℕ) (m : ℕ) (c : Board) → P c → P (link_named n name m c)
+  step-link n name m c h = link-by P n name c h m (λ i e. edits n (with_changed (fitted c m) i) (λ r. refl) c h)
+
+  pub step-unseen : (n : ℕ) (name : List ℕ) (c : Board) → P c → P (unseen_named n name c)
+  step-unseen n name c h = go (place_from (is_named name) 0 (slots_at c n)) refl
+    where
+      go : (o : Option ℕ) → place_from (is_named name) 0 (slots_at c n) ≡ o → P (unseen_named n name c)
+      go None e = rw (unseen_named, e) h
+      go (Some i) e = rw (unseen_named, e) (edits n (with_changed unseen i) (λ r. refl) c h)
+
+  pub step-disconnected : (o : Option ℕ) (c : Board) → P c → P (disconnected o c)
+  step-disconnected None c h = h
+  step-disconnected (Some n) c h = step-set n (codes "period") (val.Uint 0) _ (step-unseen n (codes "source") c h)
 
   pub step-add : (n : ℕ) (name : List ℕ) (s : Slot) (c : Board) → P c → P (add n name s c)
   unfolding add
@@ -137,6 +158,20 @@ module _ (P : Board → Type 0) (edits : KeepsEdits P) where
   step-stood b n a spot body c h =
       step-source (source_for b spot.bus) _ _
       (body _ (step-addressed n spot.range _ (step-valued b n a spot _ (step-joined b n a spot c h))))
+
+-- the steps by which a device comes to stand
+pub record StandSteps (P : Board → Type 0) (b : Board) (n : ℕ) (a : Wanted) (spot : Spot) : Type 0 where
+  pub named : (c : Board) → P c → P (add (parent_for a.id) (name_for b a.id) (child n) c)
+  pub on_bus : (c : Board) → P c → P (add spot.bus (kid_name spot.slot) (strong Device (Some n)) c)
+  pub given : (c : Board) → P c → P (edit n (with_given b a.props) c)
+  pub placed : (c : Board) → P c → P (set_named n (codes "slot") (val.Uint spot.slot) c)
+  pub linked : (c : Board) → P c → P (link_named n (codes "parent_bus") spot.bus c)
+  pub marked : (c : Board) → P c → P (set_named n (codes "realized") (val.Bool true) c)
+  pub addressed : (c : Board) → P c → P (addressed_at n spot.range c)
+  pub bodied : (c : Board) → P c → P (edit n (with_body_of a.id spot.range) c)
+
+pub stand-by : (P : Board → Type 0) (b : Board) (n : ℕ) (a : Wanted) (spot : Spot) → StandSteps P b n a spot → (c : Board) → P c → P (stood b n a spot c)
+stand-by P b n a spot s c h = s.bodied _ (s.addressed _ (s.marked _ (s.linked _ (s.placed _ (s.given _ (s.on_bus _ (s.named c h)))))))
 
 -- acts
 module _ (On : ℕ → Type 0) (P : Board → Type 0) (acts : KeepsActs On P) where

@@ -338,7 +338,7 @@ bus-is b t m e =
     not-false (is_of b (bus_type t) m) first.0
 
 -- the slot
-least-passes : (p : ℕ → Bool) (times first m : ℕ) → least p first times ≡ Some m → p m ≡ true
+pub least-passes : (p : ℕ → Bool) (times first m : ℕ) → least p first times ≡ Some m → p m ≡ true
 unfolding least
 least-passes p zero first m e = absurd (let clash : None ≡ Some m = e in cc)
 least-passes p (suc times) first m e = go (p first) refl (least-passes p times (first + 1) m)

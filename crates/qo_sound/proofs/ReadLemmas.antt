@@ -1,14 +1,17 @@
 -- What is read of slots, by their names and of each alone, and what it stays through.
-use Rattle.std.proofs.Common.{◌≡◌, refl, ℕ, List, [], find, Option, Some, None, option_map}
+use Rattle.std.proofs.Common.{◌≡◌, refl, ℕ, List, [], find, Option, Some, None, option_map, ap, sym, ◌∙◌, true, ◌==◌, slice_get}
 use Rattle.std.specs.Option.{option_map_or}
 use Rattle.std.specs.Str.{bytes_eq}
+use Rattle.std.proofs.lemmas.Bool.{eq-eqb}
 use Rattle.qo_values.specs.declared.properties.Val.{Val}
-use Rattle.qo_model.specs.Board.{Record, Slot, plain, child, strong, weak, alias}
+use Rattle.qo_model.specs.Board.{Record, Slot, plain, child, strong, weak, alias, Board, record_of, slots_at}
 use Rattle.qo_model.specs.Changes.{pointed, with_val}
 use Rattle.qo_model.specs.Clocks.{weak_in}
 use Rattle.qo_model.specs.Devices.{plain_in, strong_in}
-use Rattle.qo_model.specs.Release.{forgotten_in}
+use Rattle.qo_model.specs.Release.{forgotten_in, drop_slot, edited, with_dropped, without_hold}
 use Rattle.qo_model.specs.Unplug.{unseen}
+use Rattle.qo_model.specs.Plug.{fitted}
+use Rattle.qo_model.proofs.StepLemmas.{drop-record, found-birth}
 
 -- the slots of an object, where it is there, and the one of a name
 abbrev pub slots_in : Option Record → List (List ℕ × Slot)
@@ -57,9 +60,32 @@ plain-pointed m (strong t target) = refl
 plain-pointed m (weak t target) = refl
 plain-pointed m (alias k property) = refl
 
+pub plain-fitted : (c : Board) (m : ℕ) (s : Slot) → plain_in (fitted c m s) ≡ plain_in s
+plain-fitted c m (plain v) = refl
+plain-fitted c m (child k) = refl
+plain-fitted c m (strong t None) = refl
+plain-fitted c m (strong t (Some k)) = refl
+plain-fitted c m (weak t None) = refl
+plain-fitted c m (weak t (Some k)) = refl
+plain-fitted c m (alias k property) = refl
+
 pub weak-val : (v : Val) (s : Slot) → weak_in (with_val v s) ≡ weak_in s
 weak-val v (plain w) = refl
 weak-val v (child m) = refl
 weak-val v (strong t target) = refl
 weak-val v (weak t target) = refl
 weak-val v (alias m property) = refl
+
+-- a slot that is let go is let go of all that its object has
+pub dropped-at : (c : Board) (n i : ℕ) (x : List ℕ × Slot) → slice_get (slots_at c n) i ≡ Some x → (r : Record) → record_of (drop_slot c n i) n ≡ Some r
+    → without_hold i (slots_at c n) ≡ r.slots
+dropped-at c n i x at r e = go (record_of c n) refl
+  where
+    go : (o : Option Record) → record_of c n ≡ o → without_hold i (slots_at c n) ≡ r.slots
+    go None q = absurd (let clash : None ≡ Some x = sym (ap (λ (o : Option Record). slice_get (slots_in o) i) q) ∙ at in cc)
+    go (Some y) q =
+        let is : slots_in (option_map (edited n (with_dropped i)) (Some y)) ≡ r.slots =
+        sym (ap (λ (o : Option Record). slots_in (option_map (edited n (with_dropped i)) o)) q) ∙ sym (ap slots_in (drop-record c n i n)) ∙ ap slots_in e in
+        let own_birth : (y.birth == n) ≡ true = eq-eqb y.birth n (found-birth n c.records y q) in
+        let slots : without_hold i y.slots ≡ r.slots = rw (edited, own_birth) at is in
+        ap (λ (o : Option Record). without_hold i (slots_in o)) q ∙ slots

@@ -239,3 +239,12 @@ clocks-stay zero (x ∷ slots) s e none = go (emptied x.1) refl
     go None p = rw (without_hold, p) (sym (clocks-skip x slots skip))
     go (Some left) p = rw (without_hold, p) (clocks-skip (x.0, left) slots (no_child (left-none x.1 left p)) ∙ sym (clocks-skip x slots skip))
 clocks-stay (suc i) (x ∷ slots) s e none = clocks-cons x x (without_hold i slots) slots refl refl (clocks-stay i slots s e none)
+
+-- what is left of a slot that was let go stands at its place
+pub kept-slot : (i : ℕ) (xs : List (List ℕ × Slot)) (own : List ℕ) (s left : Slot) → slice_get xs i ≡ Some (own, s) → emptied s ≡ Some left
+    → slice_get (without_hold i xs) i ≡ Some (own, left)
+kept-slot i [] own s left e stays = cc
+kept-slot zero (x ∷ xs) own s left e stays =
+    ap (λ (y : List ℕ × Slot). slice_get (without_hold zero (y ∷ xs)) 0) (same_Some x (own, s) e)
+    ∙ ap (λ (o : Option Slot). slice_get (elim o as (λ _. List (List ℕ × Slot)) [ None ↦ xs | Some l ↦ (own, l) ∷ xs ]) 0) stays
+kept-slot (suc i) (x ∷ xs) own s left e stays = kept-slot i xs own s left e stays

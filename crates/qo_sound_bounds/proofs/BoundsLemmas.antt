@@ -43,7 +43,7 @@ use Rattle.qo_sound.proofs.ChangeStepsLemmas.{step-object_del, step-sever, step-
 use Rattle.qo_sound.proofs.PlugLemmas.{or-none, stage-none}
 use Rattle.qo_sound_devices.proofs.PlugLemmas.{Accepted, behind-plug}
 use Rattle.qo_sound_clocks.specs.RegistersKept.{with_registers}
-use Rattle.qo_sound_clocks.proofs.StepsLemmas.{kept-scaled, kept-set, KeepsNumbers}
+use Rattle.qo_sound_clocks.proofs.StepsLemmas.{kept-scaled, kept-set, KeepsNumbers, calls-kept}
 use Rattle.qo_sound_bounds.specs.BoundsKept.{BoundsKeptLaw}
 use Rattle.qo_sound_bounds.specs.SoundBounds.{SoundBounds}
 
@@ -343,8 +343,8 @@ bounds_kept_lem =
       held_so = held-bounds;
       released_so = released-bounds;
       pulsed = pulse-bounds;
-      set = kept-set SoundBounds acted-bounds bounds-numbers;
-      scaled = kept-scaled SoundBounds acted-bounds bounds-numbers;
+      set = kept-set SoundBounds (calls-kept SoundBounds acted-bounds) bounds-numbers;
+      scaled = kept-scaled SoundBounds (calls-kept SoundBounds acted-bounds) bounds-numbers;
       registers = λ b n registers h. edit-bounds n (with_registers registers) b h;
       change = changed-bounds;
       plugged = plug-bounds;

@@ -10,11 +10,10 @@ use Rattle.std.proofs.lemmas.Option.{same_Some}
 use Rattle.qo_values.specs.declared.kinds.TypeId.{TypeId}
 use Rattle.qo_values.specs.declared.kinds.TypeId.TheVariants.{Object, Container, Machine, Device, SlotDevice, SlotUart, SlotTimer, SlotBridge, MemDimm, Bus, SlotBus, MemBus, Clock, MemoryBackend, MemoryBackendRam, Tag}
 use Rattle.qo_values.specs.declared.properties.Val.{Val}
-use Rattle.qo_values.specs.declared.properties.Val.TheVariants as val
 use Rattle.qo_model.specs.Board.{Board, Record, Slot, plain, child, strong, weak, alias, record_of, slots_at}
 use Rattle.qo_model.specs.Changes.{add, changed_at, fresh, with_added, with_val}
 use Rattle.qo_model.specs.Devices.{child_named}
-use Rattle.qo_model.specs.Objects.{Given, given_to, slot_given}
+use Rattle.qo_model.specs.Objects.{Given, slot_given}
 use Rattle.qo_model.specs.Opening.{first_value, fresh_record, fresh_slots}
 use Rattle.qo_model.specs.Plug.{aliased, drafted, fitted, owned, row_made, rows_made, with_new}
 use Rattle.qo_model.specs.Release.{edited}
@@ -24,6 +23,7 @@ use Rattle.qo_model.specs.declared.properties.Property.{Property}
 use Rattle.qo_model.specs.declared.properties.RowKind.{RowKind}
 use Rattle.qo_model.specs.declared.properties.RowKind.TheVariants as row
 use Rattle.qo_model.proofs.StepLemmas.{found_at, found-edited}
+use Rattle.qo_sound.proofs.GivenLemmas.{given-cases}
 use Rattle.qo_sound.proofs.ReadLemmas.{slots_in}
 use Rattle.qo_sound.proofs.RecordLemmas.{all-append, all-imply}
 use Rattle.qo_sound.proofs.TestLemmas.{clash-back}
@@ -299,23 +299,6 @@ module _ (n : ℕ) (c : Board) where
   clock-fitted d m (name, alias j property) h = h
 
   pub clock-given : (b : Board) (props : List Given) (x : List ℕ × Slot) → ClockIn n c x → ClockIn n c (slot_given b props x)
-  clock-given b props (name, s) h = go (find (λ (p : Given). bytes_eq p.0 name) props) refl
-    where
-      given : (t : Slot) (v : Val) → ClockIn n c (name, t) → ClockIn n c (name, given_to b t v)
-      given (plain old) v j = tt
-      given (child m) v j = j
-      given (strong t target) (val.Text path) j = tt
-      given (strong t target) (val.Bool v) j = tt
-      given (strong t target) (val.Int v) j = tt
-      given (strong t target) (val.Uint v) j = tt
-      given (strong t target) val.Nothing j = tt
-      given (weak t target) (val.Text path) j = tt
-      given (weak t target) (val.Bool v) j = tt
-      given (weak t target) (val.Int v) j = tt
-      given (weak t target) (val.Uint v) j = tt
-      given (weak t target) val.Nothing j = tt
-      given (alias m property) v j = tt
-
-      go : (o : Option Given) → find (λ (p : Given). bytes_eq p.0 name) props ≡ o → ClockIn n c (slot_given b props (name, s))
-      go None e = rw (slot_given, e) h
-      go (Some p) e = rw (slot_given, e) (given s p.1 h)
+  clock-given b props (name, s) h =
+      given-cases b props (λ x y. ClockIn n c (name, x) → ClockIn n c (name, y)) (λ x j. j) (λ old v j. tt) (λ t target path j. tt) (λ t target path j. tt)
+      (name, s) h

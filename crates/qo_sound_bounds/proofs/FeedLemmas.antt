@@ -1,9 +1,8 @@
 -- A device that is added: its clock goes by the one for its bus, and the others go by what they went by.
-use Rattle.std.proofs.Common.{◌≡◌, ◌⊎◌, inl, inr, refl, ap, sym, subst, ◌∙◌, ℕ, suc, ◌+◌, ◌<◌, ◌≤◌, Bool, true, false, ◌==◌, List, [], ◌∷◌, find, Option, Some, None, is_some, option_map, option_and_then, unwrap_or, codes, arith}
+use Rattle.std.proofs.Common.{◌≡◌, ◌⊎◌, inl, inr, refl, ap, sym, subst, ◌∙◌, ℕ, suc, ◌+◌, ◌<◌, ◌≤◌, Bool, true, false, ◌==◌, List, [], ◌∷◌, Option, Some, None, is_some, option_map, option_and_then, unwrap_or, codes, arith}
 use Rattle.std.specs.Prelude.{if◌then◌else◌}
 use Rattle.std.specs.List.{AllByRecursion, list_any}
 use Rattle.std.specs.Option.{option_map_or}
-use Rattle.std.specs.Str.{bytes_eq}
 use Rattle.std.proofs.lemmas.Bool.{cases_lt, eqb-true}
 use Rattle.std.proofs.lemmas.Option.{same_Some}
 use Rattle.qo_values.specs.declared.births.TheConstants.{ANONYMOUS_BIRTH, MACHINE_BIRTH, PERIPHERAL_BIRTH, SYSTEM_CLOCK_BIRTH}
@@ -13,7 +12,7 @@ use Rattle.qo_values.specs.declared.kinds.TypeId.TheVariants.{Clock, Device}
 use Rattle.qo_values.specs.declared.properties.Val.{Val}
 use Rattle.qo_values.specs.declared.properties.Val.TheVariants as val
 use Rattle.qo_values.specs.declared.ranges.Range.{Range}
-use Rattle.qo_model.specs.Board.{Board, Record, Slot, child, strong, is_live, kind_of, record_of, slots_at}
+use Rattle.qo_model.specs.Board.{Board, Record, child, strong, is_live, kind_of, record_of, slots_at}
 use Rattle.qo_model.specs.Changes.{add, changed_at, fresh, set, with_added, with_changed, with_val}
 use Rattle.qo_model.specs.Clocks.{source_of, weak_in}
 use Rattle.qo_model.specs.Devices.{bus_of, child_named, clock_of, is_realized, kid_name}
@@ -21,10 +20,11 @@ use Rattle.qo_model.specs.Objects.{place_from}
 use Rattle.qo_model.specs.Opening.{fresh_slots}
 use Rattle.qo_model.specs.Paths.{is_of, only_of}
 use Rattle.qo_model.specs.Plug.{Spot, Wanted, acted_all, addressed_at, bus_births, clocked, counted, drafted, fitted, joined, link_named, name_for, parent_for, plug, plug_attempt, source_for, spot_of, stood, valued, with_body_of, with_device, with_given, with_new, with_plugged, with_source}
-use Rattle.qo_model.specs.Release.{edit, edited}
+use Rattle.qo_model.specs.Release.{edit}
 use Rattle.qo_model.specs.Types.{is_a, slots_of, types}
 use Rattle.qo_model.specs.Unplug.{is_named, set_named}
-use Rattle.qo_model.proofs.StepLemmas.{found-edited}
+use Rattle.qo_model.proofs.StepLemmas.{found-edited, map-edited}
+use Rattle.qo_sound.proofs.MakeStepsLemmas.{link-by}
 use Rattle.qo_sound.proofs.PlugLemmas.{plugged-rest, shut-above}
 use Rattle.qo_sound.proofs.ReadLemmas.{named_in, slots_in}
 use Rattle.qo_sound.proofs.RecordLemmas.{all-map}
@@ -215,24 +215,11 @@ kind-clock d m e = ap (λ (o : Option TypeId). option_map_or (λ (t : TypeId). i
 
 -- a link that is pointed leaves types
 kind-link : (n : ℕ) (name : List ℕ) (m : ℕ) (c : Board) (x : ℕ) → kind_of (link_named n name m c) x ≡ kind_of c x
-kind-link n name m c x = go (place_from (is_named name) 0 (slots_at c n)) refl
-  where
-    kind_in : (change : Record → Record) → ((r : Record) → (change r).kind ≡ r.kind) → (r : Record) (t : Bool) → (r.birth == n) ≡ t
-        → (edited n change r).kind ≡ r.kind
-    kind_in change same r true p = rw (edited, p) (same r)
-    kind_in change same r false p = rw (edited, p) refl
-
-    kinds : (change : Record → Record) → ((r : Record) → (change r).kind ≡ r.kind) → (o : Option Record)
-        → option_map (λ (r : Record). r.kind) (option_map (edited n change) o) ≡ option_map (λ (r : Record). r.kind) o
-    kinds change same None = refl
-    kinds change same (Some r) = ap Some (kind_in change same r (r.birth == n) refl)
-
-    go : (o : Option ℕ) → place_from (is_named name) 0 (slots_at c n) ≡ o → kind_of (link_named n name m c) x ≡ kind_of c x
-    go None e = rw (link_named, e) refl
-    go (Some i) e =
-        rw (link_named, e)
-        (ap (option_map (λ (r : Record). r.kind)) (found-edited n (with_changed (fitted c m) i) (λ r. refl) x c.records)
-        ∙ kinds (with_changed (fitted c m) i) (λ r. refl) (record_of c x))
+kind-link n name m c x =
+    link-by (λ d. kind_of d x ≡ kind_of c x) n name c refl m
+    (λ i e.
+    ap (option_map (λ (r : Record). r.kind)) (found-edited n (with_changed (fitted c m) i) (λ r. refl) x c.records)
+    ∙ map-edited (λ (r : Record). r.kind) n (with_changed (fitted c m) i) (λ r. refl) (record_of c x))
 
 sym-apart : (m x : ℕ) → (m == x) ≡ false → (x == m) ≡ false
 sym-apart m x e = grind (arith, e)

@@ -9,21 +9,19 @@ use Rattle.qo_values.specs.Registers.{Registers}
 use Rattle.qo_values.specs.declared.births.TheConstants.{MACHINE_BIRTH}
 use Rattle.qo_values.specs.declared.kinds.Act.{Act}
 use Rattle.qo_values.specs.declared.kinds.TypeId.{TypeId}
-use Rattle.qo_values.specs.declared.properties.Val.TheVariants as val
-use Rattle.qo_model.specs.Board.{Board, is_live, slots_at}
-use Rattle.qo_model.specs.Changes.{set}
+use Rattle.qo_model.specs.Board.{Board, is_live}
 use Rattle.qo_model.specs.ClockChanges.{clock_scaled, clock_set}
 use Rattle.qo_model.specs.Clocks.{acted}
 use Rattle.qo_model.specs.Depth.{among}
 use Rattle.qo_model.specs.FinalNotesRuns.{Change, changed}
 use Rattle.qo_model.specs.Hotplug.{all_completed, asked, asked_of, completed, device_at, refused, reset_whole}
-use Rattle.qo_model.specs.Objects.{place_from, with_attempt}
+use Rattle.qo_model.specs.Objects.{with_attempt}
 use Rattle.qo_model.specs.Opening.{opening_board}
 use Rattle.qo_model.specs.Paths.{attached, births}
 use Rattle.qo_model.specs.Plug.{Wanted, cut_attempt, notice_barred, plug, plug_attempt, spot_of, with_plugged}
 use Rattle.qo_model.specs.Release.{without_first}
 use Rattle.qo_model.specs.Reset.{below, count, held, is_deep, post, pulse, released}
-use Rattle.qo_model.specs.Unplug.{detach, first_of, is_named, set_named}
+use Rattle.qo_model.specs.Unplug.{detach, first_of}
 use Rattle.qo_model.proofs.StaysLemmas.{changed-stays}
 use Rattle.qo_sound.proofs.DevicesStayLemmas.{devices_stay_lem}
 use Rattle.qo_sound.proofs.RecordLemmas.{all-imply}
@@ -34,22 +32,19 @@ use Rattle.qo_sound_devices.specs.SoundLists.{IsOn}
 use Rattle.qo_sound_devices.specs.SoundPlaces.{stands}
 use Rattle.qo_sound_devices.proofs.DevicesLawLemmas.{devices_kept_lem}
 use Rattle.qo_sound_devices.proofs.JoinedLemmas.{done, Joined}
-use Rattle.qo_sound_devices.proofs.LowLemmas.{stands-dimmed}
-use Rattle.qo_sound_devices.proofs.PlacesLemmas.{kind-alike}
 use Rattle.qo_sound_devices.proofs.PlugLemmas.{Accepted, behind-plug}
 use Rattle.qo_sound_devices.proofs.PluggedLemmas.{accepted-joined}
 use Rattle.qo_sound_devices.proofs.ResetLemmas.{detached-below, first-on}
-use Rattle.qo_sound_devices.proofs.UnrealizeLemmas.{Dims, dims-acted, dims-none, dims-set, dims-then}
 use Rattle.qo_sound_clocks.specs.RegistersKept.{registers_set, with_registers}
 use Rattle.qo_sound_clocks.proofs.KeepLemmas.{writes_keep_lem}
-use Rattle.qo_sound_clocks.proofs.StepsLemmas.{kept-scaled, kept-set, KeepsNumbers}
+use Rattle.qo_sound_clocks.proofs.StepsLemmas.{kept-scaled, kept-set, calls-kept}
 use Rattle.qo_sound_phases.specs.PhaseRuns.{SoundResets}
 use Rattle.qo_sound_phases.specs.SoundPhases.{IsReached, bus}
 use Rattle.qo_sound_phases.proofs.BelowLemmas.{forest, kid-leads, Placed, placed, post-reach, reach-post}
 use Rattle.qo_sound_phases.proofs.CommandLemmas.{frame}
 use Rattle.qo_sound_phases.proofs.DetachLemmas as detaching
 use Rattle.qo_sound_phases.proofs.ForestLemmas.{above, before, Reach}
-use Rattle.qo_sound_phases.proofs.FrameLemmas.{Frame, frame-count, frame-reached}
+use Rattle.qo_sound_phases.proofs.FrameLemmas.{Frame, frame-count, frame-reached, dims-frame}
 use Rattle.qo_sound_phases.proofs.HoldLemmas.{count-less, count-more, count-shape, held-so, HeldSo, one_if, released-so, ReleasedSo}
 use Rattle.qo_sound_phases.proofs.ListLemmas.{among-right, one-among}
 use Rattle.qo_sound_phases.proofs.PlugLemmas.{back, below-new, new-there, reached-old}
@@ -58,6 +53,7 @@ use Rattle.qo_sound_phases.proofs.ShapeLemmas.{counted-same, SameShape, shape-ac
 use Rattle.qo_sound_bounds.specs.HoldsKept.{HoldsKeptLaw}
 use Rattle.qo_sound_bounds.specs.SoundHolds.{SoundHolds}
 use Rattle.qo_sound_bounds.proofs.FeedLemmas.{added-placed}
+use Rattle.qo_sound_bounds.proofs.WrittenLemmas.{Written, written-acts, written-none, written-numbers}
 
 -- boards of one shape with the same holds
 
@@ -188,47 +184,21 @@ changed-holds b change d h =
     (changed-stays b change).holds h
 
 -- writes of clocks
-record Written (b c : Board) : Type 0 where
-  dims : Dims b c
-  holds : c.holds ≡ b.holds
-
-written-acts : (b : Board) (act : Act) (n period : ℕ) (c : Board) → Written b c → Written b (acted act n period c)
-unfolding acted
-written-acts b act n period c h =
-    record { dims = dims-then b c (acted act n period c) h.dims (dims-acted act n period c); holds = h.holds }
-
-written-numbers : (b : Board) → KeepsNumbers (Written b)
-unfolding set
-written-numbers b name no_slot no_mark n v c h = go (place_from (is_named name) 0 (slots_at c n)) refl
-  where
-    dims : Dims b (set_named n name (val.Uint v) c)
-    dims = dims-then b c (set_named n name (val.Uint v) c) h.dims (dims-set n name (val.Uint v) no_slot no_mark c)
-
-    go : (o : Option ℕ) → place_from (is_named name) 0 (slots_at c n) ≡ o → Written b (set_named n name (val.Uint v) c)
-    go None e = record { dims = dims; holds = rw (set_named, e) h.holds }
-    go (Some i) e = record { dims = dims; holds = rw (set_named, e) h.holds }
-
 written-holds : (b c : Board) → SoundDevices b → SoundDevices c → Written b c → SoundHolds b → SoundHolds c
 written-holds b c d g w h =
     frame-holds b c (placed b d) (placed c g)
-    (record {
-      kind = λ x was live. kind-alike b c x (w.dims.dimmed.body x);
-      stood = λ x s. sym (stands-dimmed b c w.dims.dimmed x) ∙ s;
-      bus = λ x s. w.dims.dimmed.bus x;
-      children = λ x s. w.dims.dimmed.children x;
-      machine = w.dims.dimmed.children MACHINE_BIRTH;
-    })
+    (dims-frame b c w.dims)
     w.holds h
 
 set-holds : (b d : Board) (c period : ℕ) → clock_set b c period ≡ Ok d → SoundDevices b → SoundHolds b → SoundHolds d
 set-holds b d c period e s h =
     written-holds b d s (writes_keep_lem.set_devices b d c period e s)
-    (kept-set (Written b) (written-acts b) (written-numbers b) b d c period e (record { dims = dims-none b; holds = refl })) h
+    (kept-set (Written b) (calls-kept (Written b) (written-acts b)) (written-numbers b) b d c period e (written-none b)) h
 
 scaled-holds : (b d : Board) (c mul div : ℕ) → clock_scaled b c mul div ≡ Ok d → SoundDevices b → SoundHolds b → SoundHolds d
 scaled-holds b d c mul div e s h =
     written-holds b d s (writes_keep_lem.scaled_devices b d c mul div e s)
-    (kept-scaled (Written b) (written-acts b) (written-numbers b) b d c mul div e (record { dims = dims-none b; holds = refl })) h
+    (kept-scaled (Written b) (calls-kept (Written b) (written-acts b)) (written-numbers b) b d c mul div e (written-none b)) h
 
 -- a device that is added: what is below it has no more holds above it than its bus
 

@@ -1,7 +1,6 @@
 -- A device that is detached with all that is below it: the clocks of devices that are unrealized lose their sources, and those of the others keep them.
-use Rattle.std.proofs.Common.{◌≡◌, refl, ap, sym, subst, ◌∙◌, ℕ, zero, suc, true, false, ◌==◌, List, [], ◌∷◌, find, length, Option, Some, None, option_map, option_and_then, codes, arith}
+use Rattle.std.proofs.Common.{◌≡◌, refl, ap, sym, subst, ◌∙◌, ℕ, zero, suc, true, false, ◌==◌, List, [], ◌∷◌, length, Option, Some, None, option_map, option_and_then, codes, arith}
 use Rattle.std.specs.Option.{option_map_or}
-use Rattle.std.specs.Str.{bytes_eq}
 use Rattle.std.proofs.lemmas.Bool.{eqb-true, eq-eqb}
 use Rattle.std.proofs.lemmas.Option.{same_Some}
 use Rattle.qo_values.specs.declared.births.TheConstants.{MACHINE_BIRTH}
@@ -9,7 +8,7 @@ use Rattle.qo_values.specs.declared.kinds.Act.TheVariants.{Unrealize}
 use Rattle.qo_values.specs.declared.properties.Val.{Val}
 use Rattle.qo_values.specs.declared.properties.Val.TheVariants as val
 use Rattle.qo_model.specs.Board.{Board, Record, Slot, plain, child, strong, weak, alias, record_of, slots_at}
-use Rattle.qo_model.specs.Changes.{set, with_changed, with_val}
+use Rattle.qo_model.specs.Changes.{with_changed, with_val}
 use Rattle.qo_model.specs.Clocks.{acted, device_period, source_of, weak_in}
 use Rattle.qo_model.specs.Devices.{bus_of, child_named, clock_of, is_realized}
 use Rattle.qo_model.specs.Hotplug.{all_completed, completed, reset_whole}
@@ -19,6 +18,7 @@ use Rattle.qo_model.specs.Plug.{source_for}
 use Rattle.qo_model.specs.Release.{edit, pin, put_in_order}
 use Rattle.qo_model.specs.Unplug.{apart_within, detach, disconnected, first_of, is_named, set_named, taken_by, unrealize, unrealized_bus, unrealized_device, unseen, unseen_named}
 use Rattle.qo_sound.proofs.KeptLemmas.{sound_kept_lem}
+use Rattle.qo_sound.proofs.MakeStepsLemmas.{set-by}
 use Rattle.qo_sound.proofs.ReadLemmas.{named_in}
 use Rattle.qo_sound.proofs.SeverLemmas.{near-pin, pin-pins}
 use Rattle.qo_sound.proofs.TestLemmas.{decide, clash}
@@ -30,9 +30,10 @@ use Rattle.qo_sound_devices.specs.SoundPlaces.{child_entries, listed, stands}
 use Rattle.qo_sound_devices.proofs.DevicesLawLemmas.{devices_kept_lem}
 use Rattle.qo_sound_devices.proofs.DropLemmas.{edited-slots}
 use Rattle.qo_sound_devices.proofs.LowLemmas.{unrealize-dimmed, unrealize-only}
+use Rattle.qo_sound_devices.proofs.PinLemmas.{pin-realized, pin-clock, pin-bus}
 use Rattle.qo_sound_devices.proofs.ResetLemmas.{detached-below, first-on}
 use Rattle.qo_sound_devices.proofs.SourceLemmas.{edit-other}
-use Rattle.qo_sound_devices.proofs.UnrealizeLemmas.{Dimmed, dimmed-none, dimmed-then, dims-bus, Fades, fades-device, first-changed, mild-unseen, mild-val, named-changed, none-found, reads}
+use Rattle.qo_sound_devices.proofs.UnrealizeLemmas.{Dimmed, dimmed-none, dimmed-then, dims-bus, Fades, fades-device, first-changed, named-changed, none-found, reads}
 use Rattle.qo_sound_clocks.proofs.FewerLemmas.{Fewer, fewer-apart, fewer-none, fewer-taken_by, fewer-unpin}
 use Rattle.qo_sound_clocks.proofs.ReadLemmas.{named-reads, Reads, tree-reads}
 use Rattle.qo_sound_clocks.proofs.StayLemmas.{acted-slots}
@@ -42,7 +43,8 @@ use Rattle.qo_sound_phases.proofs.UnrealizeLemmas.{unrealize-walk}
 use Rattle.qo_sound_bounds.specs.SoundSources.{IsDeviceClock, SoundSources}
 use Rattle.qo_sound_bounds.proofs.ClockLemmas.{clock-listed, frame-sources}
 use Rattle.qo_sound_bounds.proofs.SightLemmas.{Sight, sight-apart, sight-none, sight-taken_by, sight-unpin}
-use Rattle.qo_sound_bounds.proofs.SourceLemmas.{pulse-sources, set-source}
+use Rattle.qo_sound_bounds.proofs.SourceLemmas.{pulse-sources}
+use Rattle.qo_sound_bounds.proofs.WrittenLemmas.{set-source}
 
 -- a clock is disconnected
 
@@ -106,15 +108,11 @@ disconnected-other (Some n) k c apart =
 -- clocks stay those of their devices
 
 clock-set : (n : ℕ) (name : List ℕ) (v : Val) (c : Board) (x : ℕ) → clock_of (set_named n name v c) x ≡ clock_of c x
-unfolding set
-clock-set n name v c x = go (place_from (is_named name) 0 (slots_at c n)) refl
-  where
-    go : (o : Option ℕ) → place_from (is_named name) 0 (slots_at c n) ≡ o → clock_of (set_named n name v c) x ≡ clock_of c x
-    go None e = rw (set_named, e) refl
-    go (Some i) e =
-        rw (set_named, e)
-        (reads (with_val v) (mild-val v) n i c (λ slots. option_and_then child_named (named_in (codes "clk") slots))
-        (λ slots q. named-changed child_named (with_val v) (child-val v) (codes "clk") i slots) x)
+clock-set n name v c x =
+    set-by (λ d. clock_of d x ≡ clock_of c x) n name c refl v
+    (λ i e.
+    reads (with_val v) n i c (λ slots. option_and_then child_named (named_in (codes "clk") slots))
+    (λ slots q. named-changed child_named (with_val v) (child-val v) (codes "clk") i slots) x)
 
 clock-unseen : (n : ℕ) (c : Board) (x : ℕ) → clock_of (unseen_named n (codes "source") c) x ≡ clock_of c x
 clock-unseen n c x = go (place_from (is_named (codes "source")) 0 (slots_at c n)) refl
@@ -123,7 +121,7 @@ clock-unseen n c x = go (place_from (is_named (codes "source")) 0 (slots_at c n)
     go None e = rw (unseen_named, e) refl
     go (Some i) e =
         rw (unseen_named, e)
-        (reads unseen mild-unseen n i c (λ slots. option_and_then child_named (named_in (codes "clk") slots))
+        (reads unseen n i c (λ slots. option_and_then child_named (named_in (codes "clk") slots))
         (λ slots q. named-changed child_named unseen child-unseen (codes "clk") i slots) x)
 
 clock-disconnected : (o : Option ℕ) (c : Board) (x : ℕ) → clock_of (disconnected o c) x ≡ clock_of c x
@@ -279,35 +277,23 @@ module _ (b : Board) (d : ℕ) (s : SoundDevices b) (e : stands b d ≡ true) (h
       fewer-unpin u d (taken_by (apart_within (length (births b))) d u)
       (fewer-taken_by u (apart_within (length (births b))) (fewer-apart u (length (births b))) d u (fewer-none u))
 
-  pin-realized : (x : ℕ) → is_realized (pin b d) x ≡ is_realized b x
-  unfolding pin
-  pin-realized x = refl
-
-  pin-clock : (x : ℕ) → clock_of (pin b d) x ≡ clock_of b x
-  unfolding pin
-  pin-clock x = refl
-
-  pin-bus : (x : ℕ) → bus_of (pin b d) x ≡ bus_of b x
-  unfolding pin
-  pin-bus x = refl
-
   was : (x : ℕ) → is_realized (unrealize (pin b d) d) x ≡ true → is_realized b x ≡ true
-  was x r = sym (pin-realized x) ∙ (unrealize-dimmed (pin b d) d).fading x r
+  was x r = sym (pin-realized b d x) ∙ (unrealize-dimmed (pin b d) d).fading x r
 
   lit : (x : ℕ) → is_realized (detach b d) x ≡ true → is_realized (unrealize (pin b d) d) x ≡ true
   lit x r =
       let there : stands (detach b d) x ≡ true = kz.places.only x r in
       let before : is_realized b x ≡ true = kb.places.each x ((frame b d s e).stood x there) refl in
       decide (is_realized (unrealize (pin b d) d) x) (λ q. q)
-      (λ q. absurd (unstood b d s e x (unrealize-only (pin b d) d x (pin-realized x ∙ before) q) there))
+      (λ q. absurd (unstood b d s e x (unrealize-only (pin b d) d x (pin-realized b d x ∙ before) q) there))
 
   pub detach-sources : SoundSources (detach b d)
   detach-sources =
-      frame-sources b (detach b d) kb kz (frame b d s e) (unrealize (pin b d) d) (λ x. told.clock x ∙ pin-clock x) lit
+      frame-sources b (detach b d) kb kz (frame b d s e) (unrealize (pin b d) d) (λ x. told.clock x ∙ pin-clock b d x) lit
       (λ x r. lit-stands b d s e x (kb.places.only x (was x r)) r)
       (λ m q w. on.source m q ((fewer m).source q (now.seen m q w)))
       (λ m q w i j. now.source m q (sight.seen m q i j (on.seen m q w)))
-      (λ x bus m r its clk. told.fed x bus m r (pin-bus x ∙ its) (pin-clock x ∙ clk)) told.only h was
+      (λ x bus m r its clk. told.fed x bus m r (pin-bus b d x ∙ its) (pin-clock b d x ∙ clk)) told.only h was
 
 -- the removals that are pending come to their end, and the machine is reset
 completed-sources : (times : ℕ) (b : Board) → SoundDevices b → SoundSources b → SoundDevices (all_completed times b) × SoundSources (all_completed times b)

@@ -10,3 +10,4 @@ pub mod HoldsLemmas
 pub mod CallsLemmas
 pub mod SegmentLemmas
 pub mod SegmentsLawLemmas
+pub mod WrittenLemmas

@@ -29,12 +29,12 @@ use Rattle.qo_sound.proofs.RecordLemmas.{all-append, all-both, all-filter, all-i
 use Rattle.qo_sound.proofs.MakeStepsLemmas.{any-rows, KeepsEdits, KeepsNew, new_with, step-drafted, step-set, step-stood}
 use Rattle.qo_sound.proofs.DetachStepsLemmas.{KeepsEnds, KeepsLists, KeepsPins, step-detach, step-pin}
 use Rattle.qo_sound.proofs.ChangeStepsLemmas.{step-object_del, step-sever, step-write}
-use Rattle.qo_sound_clocks.proofs.StepsLemmas.{KeepsNumbers}
+use Rattle.qo_sound_clocks.proofs.StepsLemmas.{KeepsNumbers, kept-set, kept-scaled}
 use Rattle.qo_sound_clocks.specs.RegistersKept.{registers_set, with_registers}
 use Rattle.qo_sound_clocks.specs.SoundTimes.{IsTimely, SoundTimes}
 use Rattle.qo_sound_bounds.specs.SegmentsKept.{SegmentsKeptLaw}
 use Rattle.qo_sound_bounds.specs.SoundSegments.{IsSegmented, SoundSegments}
-use Rattle.qo_sound_bounds.proofs.CallsLemmas.{KeepsOtherActs, call-acted_all, call-phased, call-plugged, call-scaled, call-set, call-unrealize}
+use Rattle.qo_sound_bounds.proofs.CallsLemmas.{KeepsOtherActs, call-acted_all, call-phased, call-plugged, call-unrealize}
 use Rattle.qo_sound_bounds.proofs.SegmentLemmas.{Paused, pre-paused, paused-timed, Timed, act-timed, fresh-timed, write-segments}
 
 -- objects that are not ahead of a moment, with sound segments
@@ -301,8 +301,8 @@ segments_kept_lem =
       held_so = λ b n times h. alone (held b n) (held-segments b n (both b times h));
       released_so = λ b n times h. alone (released b n) (released-segments b n (both b times h));
       pulsed = λ b n times h. alone (pulse b n) (pulse-segments b n (both b times h));
-      set = λ b d c period e times h. alone d (call-set Sound segments-calls segments-numbers b d c period e (both b times h));
-      scaled = λ b d c mul div e times h. alone d (call-scaled Sound segments-calls segments-numbers b d c mul div e (both b times h));
+      set = λ b d c period e times h. alone d (kept-set Sound segments-calls segments-numbers b d c period e (both b times h));
+      scaled = λ b d c mul div e times h. alone d (kept-scaled Sound segments-calls segments-numbers b d c mul div e (both b times h));
       registers = set-segments;
       change = λ b change times h. alone (changed b change) (changed-segments b change (both b times h));
       plugged = λ b a times h. alone (plug b a).board (plug-segments b a (both b times h));

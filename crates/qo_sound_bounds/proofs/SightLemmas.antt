@@ -1,9 +1,10 @@
 -- What stays seen: an object that is still there goes by what it went by, where that is still there too.
-use Rattle.std.proofs.Common.{◌≡◌, refl, ap, sym, subst, ◌∙◌, ℕ, zero, suc, ◌+◌, Bool, true, false, not, ◌&&◌, ◌||◌, ◌==◌, List, [], ◌∷◌, ◌++◌, length, map, position, remove, slice_get, Option, Some, None, is_some, option_map, option_and_then, codes, nat_eq, Result, Ok, Err}
+use Rattle.std.proofs.Common.{◌≡◌, refl, ap, sym, subst, ◌∙◌, ℕ, zero, suc, ◌+◌, Bool, true, false, not, ◌||◌, ◌==◌, List, [], ◌∷◌, ◌++◌, length, map, position, remove, slice_get, Option, Some, None, is_some, option_map, option_and_then, codes, nat_eq, Result, Ok, Err}
 use Rattle.std.specs.List.{list_any}
 use Rattle.std.specs.Option.{option_map_or, option_or}
 use Rattle.std.specs.Str.{bytes_eq}
-use Rattle.std.proofs.lemmas.Bool.{and_parts, eqb-true, eq-eqb}
+use Rattle.std.proofs.Math.Bool.{and-false}
+use Rattle.std.proofs.lemmas.Bool.{and_parts, eqb-true, eq-eqb, or_right, not-true}
 use Rattle.std.proofs.lemmas.Option.{same_Some}
 use Rattle.std.proofs.lemmas.Slice.Eq.{bytes_eq-Decides}
 use Rattle.qo_values.specs.Properties.{admits}
@@ -29,14 +30,14 @@ use Rattle.qo_model.specs.declared.properties.Property.{Property}
 use Rattle.qo_model.specs.declared.properties.RowKind.{RowKind}
 use Rattle.qo_model.specs.declared.properties.RowKind.TheVariants as row
 use Rattle.qo_model.proofs.ReleaseKeepsLemmas.{after_keeps}
-use Rattle.qo_model.proofs.StepLemmas.{drop-record, finish-gone, finish-record, found_at, found-edited, is_some-map, found-birth}
+use Rattle.qo_model.proofs.StepLemmas.{drop-record, finish-gone, finish-record, found_at, found-edited, is_some-map, found-birth, drop-live}
 use Rattle.qo_sound.proofs.FoundLemmas.{found-append}
-use Rattle.qo_sound.proofs.ReadLemmas.{slots_in}
-use Rattle.qo_sound.proofs.SlotLemmas.{each_slot}
+use Rattle.qo_sound.proofs.ReadLemmas.{slots_in, dropped-at}
+use Rattle.qo_sound.proofs.SlotLemmas.{each_slot, kept-slot}
 use Rattle.qo_sound.proofs.TestLemmas.{decide, clash, clash-back}
 use Rattle.qo_sound.proofs.UnplugLemmas.{Found, found-at}
-use Rattle.qo_sound_clocks.proofs.CommandLemmas.{dropped-at, kept-slot, MaySet, position-slot, set-other, SlotFound}
-use Rattle.qo_sound_clocks.proofs.LessLemmas.{or-less, or-right, OtherName, sees, sees_it, Slots}
+use Rattle.qo_sound_clocks.proofs.CommandLemmas.{MaySet, position-slot, set-other, SlotFound}
+use Rattle.qo_sound_clocks.proofs.LessLemmas.{or-less, OtherName, sees, sees_it, Slots}
 
 -- slots that see no less
 
@@ -47,25 +48,17 @@ or-skip : (t u : Bool) → t ≡ false → (t || u) ≡ true → u ≡ true
 or-skip true u none e = clash none
 or-skip false u none e = e
 
-and-none : (t : Bool) → (t && false) ≡ false
-and-none true = refl
-and-none false = refl
-
 -- whether a slot is no source
 abbrev pub harmless : List ℕ × Slot → Bool
 harmless (name, weak t target) = not (bytes_eq name (codes "source"))
 harmless s = true
 
-flipped : (t : Bool) → not t ≡ true → t ≡ false
-flipped true e = sym e
-flipped false e = refl
-
 sees-none : (s : ℕ) (x : List ℕ × Slot) → harmless x ≡ true → sees_it s x ≡ false
-sees-none s (name, plain v) e = and-none (bytes_eq name (codes "source"))
-sees-none s (name, child m) e = and-none (bytes_eq name (codes "source"))
-sees-none s (name, strong t target) e = and-none (bytes_eq name (codes "source"))
-sees-none s (name, alias m property) e = and-none (bytes_eq name (codes "source"))
-sees-none s (name, weak t target) e = rw (flipped (bytes_eq name (codes "source")) e) refl
+sees-none s (name, plain v) e = and-false (bytes_eq name (codes "source"))
+sees-none s (name, child m) e = and-false (bytes_eq name (codes "source"))
+sees-none s (name, strong t target) e = and-false (bytes_eq name (codes "source"))
+sees-none s (name, alias m property) e = and-false (bytes_eq name (codes "source"))
+sees-none s (name, weak t target) e = rw (not-true (bytes_eq name (codes "source")) e) refl
 
 -- a slot that is let go
 
@@ -77,7 +70,7 @@ sees-dropped zero ((own, plain v) ∷ xs) fine s e = e
 sees-dropped zero ((own, child m) ∷ xs) fine s e = or-skip (sees_it s (own, child m)) (sees s xs) (sees-none s (own, child m) refl) e
 sees-dropped zero ((own, strong t target) ∷ xs) fine s e = e
 sees-dropped zero ((own, weak t target) ∷ xs) fine s e =
-    or-right (sees_it s (own, weak t None)) (sees s xs)
+    or_right (sees_it s (own, weak t None)) (sees s xs)
     (or-skip (sees_it s (own, weak t target)) (sees s xs) (sees-none s (own, weak t target) (fine (own, weak t target) refl)) e)
 sees-dropped zero ((own, alias m property) ∷ xs) fine s e = e
 
@@ -177,9 +170,6 @@ record SightBut (b : Board) (work : List (ℕ × ℕ)) (c : Board) : Type 0 wher
   live : (x : ℕ) → is_live c x ≡ true → is_live b x ≡ true
   seen : (k s : ℕ) → among (map (λ (w : ℕ × ℕ). w.0) work) k ≡ false → is_live c k ≡ true → is_live c s ≡ true → sees s (slots_at b k) ≡ true
       → sees s (slots_at c k) ≡ true
-
-drop-live : (c : Board) (n i x : ℕ) → is_live (drop_slot c n i) x ≡ is_live c x
-drop-live c n i x = ap is_some (drop-record c n i x) ∙ is_some-map (edited n (with_dropped i)) (record_of c x)
 
 drop-other : (c : Board) (n i k : ℕ) → (k == n) ≡ false → slots_at (drop_slot c n i) k ≡ slots_at c k
 drop-other c n i k apart = ap slots_in (drop-record c n i k) ∙ go (record_of c k) refl

@@ -1,51 +1,43 @@
 -- What keeps the sources of clocks: changes that leave what stands, and commands on objects.
-use Rattle.std.proofs.Common.{◌≡◌, refl, ap, sym, subst, ◌∙◌, ℕ, true, false, List, [], ◌∷◌, ◌++◌, filter, filter_map, find, Option, Some, None, is_some, option_map, option_and_then, codes, Ok}
+use Rattle.std.proofs.Common.{◌≡◌, refl, ap, sym, subst, ◌∙◌, ℕ, true, false, List, [], ◌∷◌, ◌++◌, filter, filter_map, Option, Some, None, is_some, option_and_then, codes, Ok}
 use Rattle.std.specs.Option.{option_map_or}
-use Rattle.std.specs.Str.{bytes_eq}
 use Rattle.qo_values.specs.Registers.{Registers}
 use Rattle.qo_values.specs.declared.births.TheConstants.{MACHINE_BIRTH}
 use Rattle.qo_values.specs.declared.kinds.Act.{Act}
 use Rattle.qo_values.specs.declared.kinds.Act.TheVariants.{Enter, Hold, Exit}
-use Rattle.qo_values.specs.declared.properties.Val.{Val}
-use Rattle.qo_values.specs.declared.properties.Val.TheVariants as val
-use Rattle.qo_model.specs.Board.{Board, Record, Slot, plain, child, strong, weak, alias, is_live, slots_at}
-use Rattle.qo_model.specs.Changes.{set, with_val}
+use Rattle.qo_model.specs.Board.{Board, Record, Slot, is_live}
 use Rattle.qo_model.specs.ClockChanges.{clock_scaled, clock_set}
 use Rattle.qo_model.specs.Clocks.{acted, source_of, weak_in}
 use Rattle.qo_model.specs.Depth.{among}
 use Rattle.qo_model.specs.Devices.{is_realized, is_true, plain_in, strong_in}
 use Rattle.qo_model.specs.FinalNotesRuns.{Change, changed}
 use Rattle.qo_model.specs.Hotplug.{asked, asked_of, device_at}
-use Rattle.qo_model.specs.Objects.{place_from}
 use Rattle.qo_model.specs.Paths.{attached}
 use Rattle.qo_model.specs.Plug.{notice_barred}
 use Rattle.qo_model.specs.Release.{without_first}
 use Rattle.qo_model.specs.Reset.{held, is_out, phased, post, pulse, released}
-use Rattle.qo_model.specs.Unplug.{is_named, set_named}
 use Rattle.qo_sound.proofs.KeptLemmas.{sound_kept_lem}
-use Rattle.qo_sound.proofs.ReadLemmas.{named_in, weak-val}
+use Rattle.qo_sound.proofs.ReadLemmas.{named_in}
 use Rattle.qo_sound.proofs.TestLemmas.{decide}
 use Rattle.qo_sound_devices.specs.SoundDevices.{SoundDevices}
 use Rattle.qo_sound_devices.specs.SoundPlaces.{child_entry, stands}
 use Rattle.qo_sound_devices.proofs.DevicesLawLemmas.{devices_kept_lem}
 use Rattle.qo_sound_devices.proofs.LowLemmas.{stands-dimmed}
-use Rattle.qo_sound_devices.proofs.PlacesLemmas.{kind-alike}
-use Rattle.qo_sound_devices.proofs.UnrealizeLemmas.{Dims, dims-acted, dims-none, dims-set, dims-then, mild-val, named-changed, reads}
 use Rattle.qo_sound_clocks.specs.RegistersKept.{registers_set, with_registers}
 use Rattle.qo_sound_clocks.proofs.CommandLemmas.{kept-change}
 use Rattle.qo_sound_clocks.proofs.KeepLemmas.{writes_keep_lem}
 use Rattle.qo_sound_clocks.proofs.ReadLemmas.{Reads, tree-reads}
 use Rattle.qo_sound_clocks.proofs.RegisterLemmas.{registers_kept_lem}
-use Rattle.qo_sound_clocks.proofs.StayLemmas.{acted-slots}
-use Rattle.qo_sound_clocks.proofs.StepsLemmas.{kept-scaled, kept-set, KeepsNumbers}
+use Rattle.qo_sound_clocks.proofs.StepsLemmas.{kept-scaled, kept-set, calls-kept}
 use Rattle.qo_sound_phases.proofs.BelowLemmas.{Placed, placed}
 use Rattle.qo_sound_phases.proofs.CommandLemmas.{frame, keeps}
-use Rattle.qo_sound_phases.proofs.FrameLemmas.{Frame}
+use Rattle.qo_sound_phases.proofs.FrameLemmas.{Frame, dims-frame}
 use Rattle.qo_sound_phases.proofs.ReachedLemmas.{same-stands}
 use Rattle.qo_sound_phases.proofs.ShapeLemmas.{SameShape, shape-acted, shape-edit}
 use Rattle.qo_sound_bounds.specs.SoundSources.{SoundSources}
 use Rattle.qo_sound_bounds.proofs.ClockLemmas.{frame-sources}
 use Rattle.qo_sound_bounds.proofs.SightLemmas.{changed-seen}
+use Rattle.qo_sound_bounds.proofs.WrittenLemmas.{Written, written-acts, written-none, written-numbers}
 
 -- what changes no object
 pub beside-sources : (b c : Board) → c.records ≡ b.records → SoundSources b → SoundSources c
@@ -142,58 +134,21 @@ asked-sources b id h = go (device_at b id) refl
 
 -- writes of clocks: a value that is set is no source
 
-pub set-source : (n : ℕ) (name : List ℕ) (v : Val) (b : Board) (k : ℕ) → source_of (set_named n name v b) k ≡ source_of b k
-unfolding set
-set-source n name v b k = go (place_from (is_named name) 0 (slots_at b n)) refl
-  where
-    go : (o : Option ℕ) → place_from (is_named name) 0 (slots_at b n) ≡ o → source_of (set_named n name v b) k ≡ source_of b k
-    go None e = rw (set_named, e) refl
-    go (Some i) e =
-        rw (set_named, e)
-        (reads (with_val v) (mild-val v) n i b (λ slots. option_and_then weak_in (named_in (codes "source") slots))
-        (λ slots q. named-changed weak_in (with_val v) (weak-val v) (codes "source") i slots) k)
-
--- what a write leaves
-record Written (b c : Board) : Type 0 where
-  dims : Dims b c
-  source : (k : ℕ) → source_of c k ≡ source_of b k
-
-written-acts : (b : Board) (act : Act) (n period : ℕ) (c : Board) → Written b c → Written b (acted act n period c)
-written-acts b act n period c h =
-    record {
-      dims = dims-then b c (acted act n period c) h.dims (dims-acted act n period c);
-      source = λ k.
-          ap (λ (ss : List (List ℕ × Slot)). option_and_then weak_in (named_in (codes "source") ss)) (acted-slots act n period c k) ∙ h.source k;
-    }
-
-written-numbers : (b : Board) → KeepsNumbers (Written b)
-written-numbers b name no_slot no_mark n v c h =
-    record {
-      dims = dims-then b c (set_named n name (val.Uint v) c) h.dims (dims-set n name (val.Uint v) no_slot no_mark c);
-      source = λ k. set-source n name (val.Uint v) c k ∙ h.source k;
-    }
-
 written-sources : (b c : Board) → SoundDevices b → SoundDevices c → Written b c → SoundSources b → SoundSources c
 written-sources b c d g w h =
     still-sources b c (placed b d) (placed c g)
-    (record {
-      kind = λ x was live. kind-alike b c x (w.dims.dimmed.body x);
-      stood = λ x s. sym (stands-dimmed b c w.dims.dimmed x) ∙ s;
-      bus = λ x s. w.dims.dimmed.bus x;
-      children = λ x s. w.dims.dimmed.children x;
-      machine = w.dims.dimmed.children MACHINE_BIRTH;
-    })
+    (dims-frame b c w.dims)
     w.dims.same (λ x s. stands-dimmed b c w.dims.dimmed x ∙ s) w.source h
 
 pub set-sources : (b d : Board) (c period : ℕ) → clock_set b c period ≡ Ok d → SoundDevices b → SoundSources b → SoundSources d
 set-sources b d c period e s h =
     written-sources b d s (writes_keep_lem.set_devices b d c period e s)
-    (kept-set (Written b) (written-acts b) (written-numbers b) b d c period e (record { dims = dims-none b; source = λ k. refl })) h
+    (kept-set (Written b) (calls-kept (Written b) (written-acts b)) (written-numbers b) b d c period e (written-none b)) h
 
 pub scaled-sources : (b d : Board) (c mul div : ℕ) → clock_scaled b c mul div ≡ Ok d → SoundDevices b → SoundSources b → SoundSources d
 scaled-sources b d c mul div e s h =
     written-sources b d s (writes_keep_lem.scaled_devices b d c mul div e s)
-    (kept-scaled (Written b) (written-acts b) (written-numbers b) b d c mul div e (record { dims = dims-none b; source = λ k. refl })) h
+    (kept-scaled (Written b) (calls-kept (Written b) (written-acts b)) (written-numbers b) b d c mul div e (written-none b)) h
 
 -- commands on objects
 abbrev Traced : Board → Board → Type 0

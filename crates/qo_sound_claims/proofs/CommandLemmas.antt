@@ -1,16 +1,13 @@
 -- The commands on objects: what they add is not realized, what they write is not claimed, and what they let go no realized device holds.
-use Rattle.std.proofs.Common.{◌≡◌, inl, inr, refl, ap, sym, subst, ◌∙◌, rules, ℕ, zero, suc, ◌+◌, Bool, true, false, not, ◌==◌, List, [], ◌∷◌, map, length, position, slice_get, Option, Some, None, option_map, option_and_then, codes, Result, Ok, Err, get_or, ◌<◌, arith}
+use Rattle.std.proofs.Common.{◌≡◌, inl, inr, refl, ap, sym, subst, ◌∙◌, rules, ℕ, zero, suc, ◌+◌, Bool, true, false, ◌==◌, List, [], ◌∷◌, map, length, position, slice_get, Option, Some, None, option_map, option_and_then, codes, Result, Ok, Err}
 use Rattle.std.specs.List.{AllByRecursion}
 use Rattle.std.specs.Option.{option_map_or, option_or}
 use Rattle.std.specs.Str.{bytes_eq}
-use Rattle.std.proofs.lemmas.Option.{same_Some}
 use Rattle.std.proofs.lemmas.Slice.Eq.{bytes_eq-Decides}
-use Rattle.std.proofs.lemmas.List.Quantifiers.{position-Some}
 use Rattle.qo_values.specs.Properties.{admits}
 use Rattle.qo_values.specs.Registers.{fresh_registers}
 use Rattle.qo_values.specs.declared.births.TheConstants.{OBJECTS_BIRTH}
 use Rattle.qo_values.specs.declared.codes.Code.{Code}
-use Rattle.qo_values.specs.declared.codes.Code.TheVariants.{E21, E22}
 use Rattle.qo_values.specs.declared.kinds.TypeId.{TypeId}
 use Rattle.qo_values.specs.declared.kinds.TypeId.TheVariants.{Object, Container, Machine, Device, SlotDevice, SlotUart, SlotTimer, SlotBridge, MemDimm, Bus, SlotBus, MemBus, Clock, MemoryBackend, MemoryBackendRam, Tag}
 use Rattle.qo_values.specs.declared.properties.Val.{Val}
@@ -23,29 +20,28 @@ use Rattle.qo_model.specs.Objects.{Given, added_as, added_by, barred, is_object_
 use Rattle.qo_model.specs.Opening.{fresh_slots}
 use Rattle.qo_model.specs.Paths.{attached, is_of}
 use Rattle.qo_model.specs.Properties.{link_target, link_written, linked, may_set, pointed_at, relinked, row_of_property, write, written, written_by}
-use Rattle.qo_model.specs.Release.{drop_slot, edited, emptied, let_go, pin, without_hold}
+use Rattle.qo_model.specs.Release.{drop_slot, edited, emptied, let_go, pin}
 use Rattle.qo_model.specs.Types.{TypeRow, is_a, row_named, types}
 use Rattle.qo_model.specs.declared.properties.Property.{Property}
 use Rattle.qo_model.specs.declared.properties.RowKind.{RowKind}
 use Rattle.qo_model.specs.declared.properties.RowKind.TheVariants as row
 use Rattle.qo_model.proofs.StepLemmas.{found-edited, found_at}
-use Rattle.qo_sound.proofs.AddLemmas.{unbarred}
+use Rattle.qo_sound.proofs.AddLemmas.{creatable}
 use Rattle.qo_sound.proofs.FoundLemmas.{found-append}
+use Rattle.qo_sound.proofs.ReadLemmas.{dropped-at}
 use Rattle.qo_sound.proofs.RecordLemmas.{all-map}
+use Rattle.qo_sound.proofs.SlotLemmas.{kept-slot}
 use Rattle.qo_sound.proofs.UnplugLemmas.{Found, found-at}
 use Rattle.qo_sound_devices.specs.SoundDevices.{SoundDevices}
 use Rattle.qo_sound_devices.proofs.PlugLemmas.{stands-device}
 use Rattle.qo_sound_devices.proofs.SayLemmas.{devices_say_lem}
+use Rattle.qo_sound_clocks.proofs.CommandLemmas.{MaySet, SlotFound, position-slot, set-apart}
 use Rattle.qo_sound_clocks.proofs.LessLemmas.{Slots}
-use Rattle.qo_sound_claims.proofs.DetachLemmas.{dropped-at}
 use Rattle.qo_sound_claims.proofs.FewerLemmas.{at-record, Fewer, fewer-after, fewer-drop, fewer-let_go, fewer-none, fewer-pin, fewer-slots, fewer-unpin, Harmless, LessRecord, NearAt, record-none, record-slots, spares-harmless, Spares}
 use Rattle.qo_sound_claims.proofs.ReadLemmas.{realized-at}
 use Rattle.qo_sound_claims.proofs.SlotLemmas.{is_memdev, less-added, less-pointed, less-set, lit_in, OtherName}
 
 -- no property that is claimed is written by `qom-set`
-
-abbrev MaySet : TypeId → List ℕ → Bool
-MaySet t name = option_map_or (λ (p : Property). may_set p.mark) (row_of_property t name) false
 
 record NeverSet (t : TypeId) : Type 0 where
   chardev : MaySet t (codes "chardev") ≡ false
@@ -81,47 +77,17 @@ record Unclaimed (name : List ℕ) : Type 0 where
 set-other : (t : TypeId) (name : List ℕ) → MaySet t name ≡ true → Unclaimed name
 set-other t name e =
     record {
-      values = record { chardev = apart (codes "chardev") n.chardev; addr = apart (codes "addr") n.addr; size = apart (codes "size") n.size };
-      realized = apart (codes "realized") n.realized;
-      memdev = apart (codes "memdev") n.memdev;
+      values = record {
+        chardev = set-apart t name e (codes "chardev") n.chardev;
+        addr = set-apart t name e (codes "addr") n.addr;
+        size = set-apart t name e (codes "size") n.size;
+      };
+      realized = set-apart t name e (codes "realized") n.realized;
+      memdev = set-apart t name e (codes "memdev") n.memdev;
     }
   where
     n : NeverSet t
     n = never-set t
-
-    apart : (other : List ℕ) → MaySet t other ≡ false → bytes_eq name other ≡ false
-    apart other never = go (bytes_eq name other) refl
-      where
-        go : (u : Bool) → bytes_eq name other ≡ u → bytes_eq name other ≡ false
-        go true p = absurd (let clash : true ≡ false = sym e ∙ ap (MaySet t) ((bytes_eq-Decides name other).0 p) ∙ never in cc)
-        go false p = p
-
--- the slot that is written
-
-slice-of : (xs : Slots) (i : ℕ) (d : List ℕ × Slot) → i < length xs → slice_get xs i ≡ Some (get_or xs i d)
-slice-of [] i d low = absurd (omega (arith, low))
-slice-of (x ∷ xs) zero d low = refl
-slice-of (x ∷ xs) (suc i) d low = slice-of xs i d (omega (arith, low))
-
-record SlotFound (name : List ℕ) (slots : Slots) (i : ℕ) : Type 0 where
-  entry : List ℕ × Slot
-  at : slice_get slots i ≡ Some entry
-  passes : bytes_eq entry.0 name ≡ true
-
-position-slot : (name : List ℕ) (slots : Slots) (i : ℕ) → position (λ (s : List ℕ × Slot). bytes_eq s.0 name) slots ≡ Some i → SlotFound name slots i
-position-slot name slots i e =
-    let d : List ℕ × Slot = ([], plain val.Nothing) in
-    let h : (i < length slots) × (bytes_eq (get_or slots i d).0 name ≡ true) × ((k : ℕ) → k < i → bytes_eq (get_or slots k d).0 name ≡ false) =
-    position-Some (λ (s : List ℕ × Slot). bytes_eq s.0 name) slots i d e in
-    record { entry = get_or slots i d; at = slice-of slots i d h.0; passes = h.1 }
-
-kept-slot : (i : ℕ) (xs : Slots) (own : List ℕ) (s left : Slot) → slice_get xs i ≡ Some (own, s) → emptied s ≡ Some left
-    → slice_get (without_hold i xs) i ≡ Some (own, left)
-kept-slot i [] own s left e stays = cc
-kept-slot zero (x ∷ xs) own s left e stays =
-    ap (λ (y : List ℕ × Slot). slice_get (without_hold zero (y ∷ xs)) 0) (same_Some x (own, s) e)
-    ∙ ap (λ (o : Option Slot). slice_get (elim o as (λ _. Slots) [ None ↦ xs | Some l ↦ (own, l) ∷ xs ]) 0) stays
-kept-slot (suc i) (x ∷ xs) own s left e stays = kept-slot i xs own s left e stays
 
 set-fewer : (b : Board) (n i : ℕ) (v : Val) (x : List ℕ × Slot) → slice_get (slots_at b n) i ≡ Some x → Unclaimed x.0 → Fewer false b (set n i v b)
 unfolding set
@@ -337,16 +303,6 @@ with_object-fewer b t id props dark x =
     go : (o : Option Record) → record_of b x ≡ o → NearAt false o (option_or (option_map (edited OBJECTS_BIRTH change) o) (found_at x (new ∷ [])))
     go None e = last ((b.born + 1) == x) refl
     go (Some r) e = at_record r (r.birth == OBJECTS_BIRTH) refl
-
-flipped : (u : Bool) → not u ≡ false → u ≡ true
-flipped true e = refl
-flipped false e = absurd (let clash : true ≡ false = e in cc)
-
-creatable : (b : Board) (row : TypeRow) (id : List ℕ) → barred b row id ≡ None → is_a row.id (codes "user-creatable") ≡ true
-creatable b row id e =
-    let first = unbarred row.is_abstract E21 _ e in
-    let second = unbarred (not (is_a row.id (codes "user-creatable"))) E22 _ first.1 in
-    flipped (is_a row.id (codes "user-creatable")) second.0
 
 added-fewer : (b : Board) (t : TypeId) (id : List ℕ) (props : List Given) → AllByRecursion Dark (fresh_slots t) → (o : Option Code)
     → Fewer false b (added_as b t id props o).board

@@ -1,6 +1,5 @@
 -- A device that is detached, with all that is below it: what stays claims no more than before.
-use Rattle.std.proofs.Common.{◌≡◌, inl, inr, refl, ap, sym, subst, ◌∙◌, ℕ, zero, suc, Bool, true, false, ◌&&◌, ◌==◌, eqb, List, [], ◌∷◌, filter_map, length, slice_get, Option, Some, None, option_map, codes}
-use Rattle.std.specs.Option.{option_map_or}
+use Rattle.std.proofs.Common.{◌≡◌, inl, inr, refl, ap, sym, subst, ◌∙◌, ℕ, zero, suc, Bool, true, false, ◌&&◌, ◌==◌, List, [], ◌∷◌, filter_map, length, slice_get, Option, Some, None, option_map, codes}
 use Rattle.std.proofs.lemmas.Bool.{and_parts, eqb-true, eq-eqb}
 use Rattle.std.proofs.lemmas.Option.{same_Some}
 use Rattle.std.proofs.lemmas.Slice.Eq.{bytes_eq-Decides}
@@ -9,18 +8,18 @@ use Rattle.qo_values.specs.declared.kinds.TypeId.{TypeId}
 use Rattle.qo_values.specs.declared.kinds.TypeId.TheVariants.{Object, Container, Machine, Device, SlotDevice, SlotUart, SlotTimer, SlotBridge, MemDimm, Bus, SlotBus, MemBus, Clock, MemoryBackend, MemoryBackendRam, Tag}
 use Rattle.qo_model.specs.Board.{Board, Record, Slot, plain, child, strong, weak, alias, kind_of, record_of, slots_at, slot_at}
 use Rattle.qo_model.specs.Changes.{cut, with_cut}
-use Rattle.qo_model.specs.Depth.{among}
 use Rattle.qo_model.specs.Devices.{bus_of, buses_of, kids_of, strong_in}
 use Rattle.qo_model.specs.Objects.{place_from}
 use Rattle.qo_model.specs.Paths.{births, is_child, is_of}
-use Rattle.qo_model.specs.Release.{drop_slot, edit, edited, pin, with_dropped, without_hold}
+use Rattle.qo_model.specs.Release.{drop_slot, edit, pin, without_hold}
 use Rattle.qo_model.specs.Types.{is_a, types}
 use Rattle.qo_model.specs.Unplug.{apart_within, detach, drained, first_of, is_bus_slot, is_child_slot, is_named, left_bus, left_parent, let_go_where, lost_bus, lost_buses, names_kid, take_slot, take_where, taken_by, unrealize}
-use Rattle.qo_model.proofs.StepLemmas.{drop-record, found-birth}
 use Rattle.qo_sound.specs.Kept.{SoundTree}
-use Rattle.qo_sound.proofs.ReadLemmas.{slots_in}
+use Rattle.qo_sound.proofs.ReadLemmas.{slots_in, dropped-at}
+use Rattle.qo_sound.proofs.SlotLemmas.{kept-slot}
 use Rattle.qo_sound.proofs.UnplugLemmas.{Found, found-at}
 use Rattle.qo_sound_devices.specs.SoundPlaces.{kid_entry, listed, PlacesBut, stands}
+use Rattle.qo_sound_devices.proofs.DetachLemmas.{first-among}
 use Rattle.qo_sound_devices.proofs.LowLemmas.{is-bus_of, kid-of}
 use Rattle.qo_sound_devices.proofs.PlugLemmas.{stands-device}
 use Rattle.qo_sound_clocks.proofs.LessLemmas.{Slots}
@@ -45,27 +44,6 @@ parent-harmless : (s : List ℕ × Slot) → is_named (codes "parent_bus") s ≡
 parent-harmless s e = inr (ap is_memdev ((bytes_eq-Decides s.0 (codes "parent_bus")).0 e))
 
 -- a slot that was let go, at its place
-
-kept-strong : (i : ℕ) (xs : Slots) (own : List ℕ) (t : TypeId) (target : Option ℕ) → slice_get xs i ≡ Some (own, strong t target)
-    → slice_get (without_hold i xs) i ≡ Some (own, strong t None)
-kept-strong i [] own t target e = cc
-kept-strong zero (x ∷ xs) own t target e =
-    ap (λ (y : List ℕ × Slot). slice_get (without_hold zero (y ∷ xs)) 0) (same_Some x (own, strong t target) e)
-kept-strong (suc i) (x ∷ xs) own t target e = kept-strong i xs own t target e
-
-pub dropped-at : (c : Board) (n i : ℕ) (x : List ℕ × Slot) → slice_get (slots_at c n) i ≡ Some x → (r : Record) → record_of (drop_slot c n i) n ≡ Some r
-    → without_hold i (slots_at c n) ≡ r.slots
-unfolding slots_in
-dropped-at c n i x at r e = go (record_of c n) refl
-  where
-    go : (o : Option Record) → record_of c n ≡ o → without_hold i (slots_at c n) ≡ r.slots
-    go None q = absurd (let clash : None ≡ Some x = sym (ap (λ (o : Option Record). slice_get (slots_in o) i) q) ∙ at in cc)
-    go (Some y) q =
-        let is : slots_in (option_map (edited n (with_dropped i)) (Some y)) ≡ r.slots =
-        sym (ap (λ (o : Option Record). slots_in (option_map (edited n (with_dropped i)) o)) q) ∙ sym (ap slots_in (drop-record c n i n)) ∙ ap slots_in e in
-        let own_birth : (y.birth == n) ≡ true = eq-eqb y.birth n (found-birth n c.records y q) in
-        let slots : without_hold i y.slots ≡ r.slots = rw (edited, own_birth) at is in
-        ap (λ (o : Option Record). without_hold i (slots_in o)) q ∙ slots
 
 -- no device is a backend
 
@@ -119,10 +97,6 @@ points-listed k ((name, strong t (Some m)) ∷ slots) e = go (m == k) refl (poin
     go false p rest = rw p (rest (rw p at e))
 points-listed k ((name, weak t target) ∷ slots) e = points-listed k slots e
 points-listed k ((name, alias m property) ∷ slots) e = points-listed k slots e
-
-first-among : (ns : List ℕ) (m : ℕ) → first_of ns ≡ Some m → among ns m ≡ true
-first-among [] m e = cc
-first-among (n ∷ ns) m e = let own : eqb m n ≡ true = eq-eqb m n (sym (same_Some n m e)) in rw own refl
 
 module _ (b : Board) (tree : SoundTree b) (depth : ℕ → ℕ) (places : PlacesBut depth None (λ x. false) b) (claims : SoundClaims b) where
   -- a device of before is no backend
@@ -181,7 +155,8 @@ module _ (b : Board) (tree : SoundTree b) (depth : ℕ → ℕ) (places : Places
       (fewer-slots true b n (with_cut i) (λ r. refl) (λ r. refl) (λ r. refl) x
       (λ r e.
       less-taken (is_a r.kind (codes "mem-dimm")) (true && is_a r.kind (codes "bus")) i r.slots (own, strong t None)
-      (sym (ap (λ (ss : Slots). slice_get ss i) (dropped-at c n i (own, strong t (Some d)) at r e)) ∙ kept-strong i (slots_at c n) own t (Some d) at)
+      (sym (ap (λ (ss : Slots). slice_get ss i) (dropped-at c n i (own, strong t (Some d)) at r e))
+      ∙ kept-slot i (slots_at c n) own (strong t (Some d)) (strong t None) at refl)
       refl refl)
       (fewer-drop true b c n i (spares-kid c h n i d own t none at) h)))
     where
@@ -223,7 +198,6 @@ module _ (b : Board) (tree : SoundTree b) (depth : ℕ → ℕ) (places : Places
 
   -- the kids of a bus are devices of before
   kid-none : (c : Board) → Fewer true b c → (m k : ℕ) → is_of b (codes "bus") m ≡ true → first_of (kids_of c m) ≡ Some k → NoBackend k
-  unfolding slots_in
   kid-none c h m k bus e = go (record_of c m) refl (record_of b m) refl
     where
       there : points is_any k (slots_at c m) ≡ true

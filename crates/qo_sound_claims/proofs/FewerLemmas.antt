@@ -2,7 +2,6 @@
 use Rattle.std.proofs.Common.{◌≡◌, ◌⊎◌, inl, refl, ap, sym, subst, ◌∙◌, ℕ, zero, suc, Bool, true, false, ◌&&◌, ◌==◌, eqb, List, [], ◌∷◌, slice_get, Option, Some, None, option_map, codes, nat_eq, length}
 use Rattle.std.specs.Bool.{⊤}
 use Rattle.std.specs.List.{list_any}
-use Rattle.std.specs.Option.{option_map_or}
 use Rattle.std.specs.Str.{bytes_eq}
 use Rattle.std.proofs.lemmas.Bool.{eqb-true}
 use Rattle.std.proofs.lemmas.Slice.Eq.{bytes_eq-Decides}
@@ -31,7 +30,6 @@ use Rattle.qo_sound.proofs.ReadLemmas.{slots_in}
 use Rattle.qo_sound.proofs.UnplugLemmas.{Found, found-at}
 use Rattle.qo_sound.proofs.WorkLemmas.{births_of}
 use Rattle.qo_sound_devices.proofs.AlikeLemmas.{apart-first, other-record}
-use Rattle.qo_sound_clocks.proofs.LessLemmas.{Slots}
 use Rattle.qo_sound_claims.proofs.SlotLemmas.{ClaimsLess, is_memdev, less-dropped, less-forgotten, less-none, less-set, less-then, less-unseen, lit_in, OtherName, points, points-none, spared-dropped}
 
 -- an object claims no more than before; where it is said strictly, no strong link comes to a bus

@@ -1,25 +1,25 @@
 -- A device that is added leaves the claims of all others, and the further objects that it brings claim nothing.
-use Rattle.std.proofs.Common.{◌≡◌, ◌⊎◌, inl, inr, refl, ap, sym, subst, ◌∙◌, ℕ, ◌+◌, ◌<◌, Bool, true, false, ◌==◌, List, [], ◌∷◌, filter, Option, Some, None, option_map, codes, arith}
+use Rattle.std.proofs.Common.{◌≡◌, ◌⊎◌, inl, inr, refl, ap, sym, subst, ◌∙◌, ℕ, ◌+◌, ◌<◌, Bool, true, false, ◌==◌, List, [], ◌∷◌, Option, Some, None, option_map, codes, arith}
 use Rattle.std.specs.Option.{option_or}
+use Rattle.std.specs.Bool.{⊤}
 use Rattle.std.proofs.lemmas.Bool.{eqb-true, eq-eqb}
 use Rattle.std.proofs.lemmas.Slice.Eq.{bytes_eq-Decides}
-use Rattle.qo_values.specs.declared.kinds.Act.{Act}
-use Rattle.qo_values.specs.declared.kinds.Act.TheVariants.{Realize, Enter, Hold, Exit}
+use Rattle.qo_values.specs.declared.kinds.Act.TheVariants.{Realize}
 use Rattle.qo_values.specs.declared.kinds.TypeId.{TypeId}
 use Rattle.qo_values.specs.declared.kinds.TypeId.TheVariants.{Object, Container, Machine, Device, SlotDevice, SlotUart, SlotTimer, SlotBridge, MemDimm, Bus, SlotBus, MemBus, Clock, MemoryBackend, MemoryBackendRam, Tag}
 use Rattle.qo_values.specs.declared.properties.Val.{Val}
 use Rattle.qo_values.specs.declared.properties.Val.TheVariants as val
 use Rattle.qo_values.specs.declared.ranges.Range.{Range}
 use Rattle.qo_model.specs.Board.{Board, Record, Slot, plain, child, strong, weak, alias, record_of, slots_at}
-use Rattle.qo_model.specs.Changes.{add, fresh, set, with_added, with_changed, with_val}
+use Rattle.qo_model.specs.Changes.{add, fresh, with_added, with_changed, with_val}
 use Rattle.qo_model.specs.Clocks.{acted, with_act_on}
 use Rattle.qo_model.specs.Devices.{clock_of, kid_name, plain_in, strong_in}
 use Rattle.qo_model.specs.Objects.{place_from}
 use Rattle.qo_model.specs.Opening.{first_value, fresh_record, fresh_slots}
 use Rattle.qo_model.specs.Paths.{canonical}
-use Rattle.qo_model.specs.Plug.{Spot, Wanted, acted_all, addressed_at, aliased, bus_births, clocked, counted, drafted, fitted, joined, link_named, name_for, owned, parent_for, row_made, rows_made, source_for, stood, valued, with_body_of, with_device, with_given, with_new, with_path, with_plugged, with_source}
+use Rattle.qo_model.specs.Plug.{Spot, Wanted, acted_all, addressed_at, aliased, bus_births, clocked, counted, drafted, fitted, link_named, name_for, owned, parent_for, row_made, rows_made, source_for, stood, with_body_of, with_device, with_given, with_new, with_path, with_plugged, with_source}
 use Rattle.qo_model.specs.Release.{edit, edited}
-use Rattle.qo_model.specs.Reset.{is_out, phased, plugged, post}
+use Rattle.qo_model.specs.Reset.{plugged, post}
 use Rattle.qo_model.specs.RowNames.{property_name}
 use Rattle.qo_model.specs.Types.{is_a, slots_of, types}
 use Rattle.qo_model.specs.Unplug.{is_named, set_named}
@@ -28,6 +28,8 @@ use Rattle.qo_model.specs.declared.properties.RowKind.{RowKind}
 use Rattle.qo_model.specs.declared.properties.RowKind.TheVariants as row
 use Rattle.qo_model.proofs.StepLemmas.{found-edited, found_at, found-birth}
 use Rattle.qo_sound.proofs.FoundLemmas.{found-append}
+use Rattle.qo_sound.proofs.MakeStepsLemmas.{all-any, KeepsActs, link-by, set-by, stand-by, step-acted_all, step-plugged}
+use Rattle.qo_sound.proofs.ReadLemmas.{plain-fitted}
 use Rattle.qo_sound.proofs.UnplugLemmas.{Found, found-at}
 use Rattle.qo_sound_claims.proofs.FewerLemmas.{act-range, at-record, LessRecord, near-none, near-step, NearAt, record-slots}
 use Rattle.qo_sound_claims.proofs.SlotLemmas.{ClaimsLess, is_memdev, less-added, less-filled, less-none, lit_in}
@@ -52,15 +54,6 @@ fresh-dark Clock = refl
 fresh-dark MemoryBackend = refl
 fresh-dark MemoryBackendRam = refl
 fresh-dark Tag = refl
-
-plain-fitted : (c : Board) (m : ℕ) (s : Slot) → plain_in (fitted c m s) ≡ plain_in s
-plain-fitted c m (plain v) = refl
-plain-fitted c m (child k) = refl
-plain-fitted c m (strong t None) = refl
-plain-fitted c m (strong t (Some k)) = refl
-plain-fitted c m (weak t None) = refl
-plain-fitted c m (weak t (Some k)) = refl
-plain-fitted c m (alias k property) = refl
 
 -- the board as the device is added to b
 module _ (b : Board) (absent : (m : ℕ) → b.born < m → record_of b m ≡ None) where
@@ -173,19 +166,10 @@ module _ (b : Board) (absent : (m : ℕ) → b.born < m → record_of b m ≡ No
 
   -- where it stands
   growing-set : (name : List ℕ) (v : Val) (c : Board) → Growing c → Growing (set_named n name v c)
-  unfolding set
-  growing-set name v c h = go (place_from (is_named name) 0 (slots_at c n)) refl
-    where
-      go : (o : Option ℕ) → place_from (is_named name) 0 (slots_at c n) ≡ o → Growing (set_named n name v c)
-      go None e = rw (set_named, e) h
-      go (Some i) e = rw (set_named, e) (growing-own (with_changed (with_val v) i) (λ r. refl) c h)
+  growing-set name v c h = set-by Growing n name c h v (λ i e. growing-own (with_changed (with_val v) i) (λ r. refl) c h)
 
   growing-link : (name : List ℕ) (m : ℕ) (c : Board) → Growing c → Growing (link_named n name m c)
-  growing-link name m c h = go (place_from (is_named name) 0 (slots_at c n)) refl
-    where
-      go : (o : Option ℕ) → place_from (is_named name) 0 (slots_at c n) ≡ o → Growing (link_named n name m c)
-      go None e = rw (link_named, e) h
-      go (Some i) e = rw (link_named, e) (growing-own (with_changed (fitted c m) i) (λ r. refl) c h)
+  growing-link name m c h = link-by Growing n name c h m (λ i e. growing-own (with_changed (fitted c m) i) (λ r. refl) c h)
 
   growing-addressed : (range : Option Range) (c : Board) → Growing c → Growing (addressed_at n range c)
   growing-addressed None c h = h
@@ -193,34 +177,29 @@ module _ (b : Board) (absent : (m : ℕ) → b.born < m → record_of b m ≡ No
 
   growing-stood : (a : Wanted) (spot : Spot) (c : Board) → Growing c → Growing (stood b n a spot c)
   growing-stood a spot c h =
-      let c1 : Board = add (parent_for a.id) (name_for b a.id) (child n) c in
-      let c2 : Board = joined b n a spot c in
-      let c3 : Board = edit n (with_given b a.props) c2 in
-      let c4 : Board = set_named n (codes "slot") (val.Uint spot.slot) c3 in
-      let c5 : Board = link_named n (codes "parent_bus") spot.bus c4 in
-      let c6 : Board = valued b n a.props spot c2 in
-      growing-own (with_body_of a.id spot.range) (λ r. refl) (addressed_at n spot.range c6)
-      (growing-addressed spot.range c6
-      (growing-set (codes "realized") (val.Bool true) c5
-      (growing-link (codes "parent_bus") spot.bus c4
-      (growing-set (codes "slot") (val.Uint spot.slot) c3
-      (growing-own (with_given b a.props) (λ r. refl) c2
-      (growing-add spot.bus (kid_name spot.slot) (strong Device (Some n)) refl (inr refl) c1
-      (growing-add (parent_for a.id) (name_for b a.id) (child n) refl (inl refl) c h)))))))
+      stand-by Growing b n a spot
+      (record {
+        named = growing-add (parent_for a.id) (name_for b a.id) (child n) refl (inl refl);
+        on_bus = growing-add spot.bus (kid_name spot.slot) (strong Device (Some n)) refl (inr refl);
+        given = growing-own (with_given b a.props) (λ r. refl);
+        placed = growing-set (codes "slot") (val.Uint spot.slot);
+        linked = growing-link (codes "parent_bus") spot.bus;
+        marked = growing-set (codes "realized") (val.Bool true);
+        addressed = growing-addressed spot.range;
+        bodied = growing-own (with_body_of a.id spot.range) (λ r. refl);
+      }) c h
 
   -- a clock gets its source
   growing-source : (m source : ℕ) (c : Board) → Growing c → Growing (link_named m (codes "source") source c)
-  growing-source m source c h = go (place_from (is_named (codes "source")) 0 (slots_at c m)) refl
+  growing-source m source c h = link-by Growing m (codes "source") c h source there
     where
-      go : (o : Option ℕ) → place_from (is_named (codes "source")) 0 (slots_at c m) ≡ o → Growing (link_named m (codes "source") source c)
-      go None e = rw (link_named, e) h
-      go (Some i) e =
+      there : (i : ℕ) → place_from (is_named (codes "source")) 0 (slots_at c m) ≡ Some i → Growing (edit m (with_changed (fitted c source) i) c)
+      there i e =
           let f : Found (is_named (codes "source")) (slots_at c m) i = found-at (is_named (codes "source")) i (slots_at c m) e in
-          rw (link_named, e)
-          (growing-slots m (with_changed (fitted c source) i) (λ r. refl) (λ r. refl) (λ r. refl) c
+          growing-slots m (with_changed (fitted c source) i) (λ r. refl) (λ r. refl) (λ r. refl) c
           (λ r q.
           less-filled (is_a r.kind (codes "mem-dimm")) (fitted c source) (plain-fitted c source) i r.slots f.entry (at-record c m i f.entry r f.at q)
-          (ap is_memdev ((bytes_eq-Decides f.entry.0 (codes "source")).0 f.passes))) h)
+          (ap is_memdev ((bytes_eq-Decides f.entry.0 (codes "source")).0 f.passes))) h
 
   growing-clocked : (source : ℕ) (c : Board) → Growing c → Growing (clocked source n c)
   growing-clocked source c h = go (clock_of c n)
@@ -233,44 +212,26 @@ module _ (b : Board) (absent : (m : ℕ) → b.born < m → record_of b m ≡ No
   growing-counted None c h = growing-like c _ refl refl h
   growing-counted (Some id) c h = h
 
-  -- acts
-  growing-acted : (act : Act) (m : ℕ) (c : Board) → Growing c → Growing (acted act m 0 c)
+  growing-acts : KeepsActs (λ m. ⊤) Growing
   unfolding acted
-  growing-acted act m c h =
-      growing-like (edit m (with_act_on act c.now 0) c) (acted act m 0 c) refl refl
-      (growing-edit m (with_act_on act c.now 0) (λ r. refl) c
-      (λ r e apart. record { kind = refl; range = act-range act c.now 0 r.registers; slots = less-none (is_a r.kind (codes "mem-dimm")) false r.slots }) h)
-
-  growing-acted_all : (act : Act) (ns : List ℕ) (c : Board) → Growing c → Growing (acted_all act ns c)
-  growing-acted_all act [] c h = h
-  growing-acted_all act (m ∷ ns) c h = growing-acted_all act ns (acted act m 0 c) (growing-acted act m c h)
-
-  growing-phased : (act : Act) (ns : List ℕ) (c : Board) → Growing c → Growing (phased act ns c)
-  growing-phased act [] c h = h
-  growing-phased act (m ∷ ns) c h = growing-phased act ns (acted act m 0 c) (growing-acted act m c h)
-
-  growing-plugged : (d : ℕ) (c : Board) → Growing c → Growing (plugged c d)
-  unfolding plugged
-  growing-plugged d c h =
-      let c1 : Board = phased Enter (post c d) c in
-      let c2 : Board = phased Hold (post c d) c1 in
-      growing-phased Exit (filter (is_out c) (post c d)) c2 (growing-phased Hold (post c d) c1 (growing-phased Enter (post c d) c h))
+  growing-acts act m period unbound on c h =
+      growing-like (edit m (with_act_on act c.now period) c) (acted act m period c) refl refl
+      (growing-edit m (with_act_on act c.now period) (λ r. refl) c
+      (λ r e apart.
+      record { kind = refl; range = act-range act c.now period r.registers; slots = less-none (is_a r.kind (codes "mem-dimm")) false r.slots }) h)
 
   pub growing-all : (t : TypeId) (a : Wanted) (spot : Spot) → Growing (with_plugged b t a spot)
   growing-all t a spot =
-      growing-like (edit n (with_path (canonical c3 n)) c3) _ refl refl
-      (growing-own (with_path (canonical c3 n)) (λ r. refl) c3
-      (growing-plugged n c2
-      (growing-acted_all Realize (n ∷ bus_births n t) (with_device b t a spot)
-      (growing-counted a.id (clocked (source_for b spot.bus) n c1)
-      (growing-clocked (source_for b spot.bus) c1
+      growing-like (edit n (with_path (canonical e n)) e) _ refl refl
+      (growing-own (with_path (canonical e n)) (λ r. refl) e
+      (step-plugged (λ m. ⊤) Growing growing-acts n d (all-any (post d n))
+      (step-acted_all (λ m. ⊤) Growing growing-acts Realize refl (n ∷ bus_births n t) (all-any (n ∷ bus_births n t)) (with_device b t a spot)
+      (growing-counted a.id _
+      (growing-clocked (source_for b spot.bus) (stood b n a spot (drafted b t))
       (growing-stood a spot (drafted b t) (growing-rows t (slots_of t) (with_new (fresh n t) b) (growing-first t))))))))
     where
-      c1 : Board
-      c1 = stood b n a spot (drafted b t)
+      d : Board
+      d = acted_all Realize (n ∷ bus_births n t) (with_device b t a spot)
 
-      c2 : Board
-      c2 = acted_all Realize (n ∷ bus_births n t) (with_device b t a spot)
-
-      c3 : Board
-      c3 = plugged c2 n
+      e : Board
+      e = plugged d n

@@ -1,8 +1,8 @@
 -- Where objects claim no more than before, the claims stay sound.
-use Rattle.std.proofs.Common.{◌≡◌, ◌≢◌, refl, ap, sym, ◌∙◌, ℕ, Bool, true, false, ◌&&◌, List, [], ◌∷◌, Option, Some, None, is_some, option_map, option_and_then, unwrap_or, codes}
+use Rattle.std.proofs.Common.{◌≡◌, ◌≢◌, refl, ap, sym, ◌∙◌, ℕ, true, false, ◌&&◌, List, [], ◌∷◌, Option, Some, None, is_some, option_map, option_and_then, unwrap_or, codes}
 use Rattle.std.specs.List.{list_any}
 use Rattle.std.specs.Str.{bytes_eq}
-use Rattle.std.proofs.lemmas.Bool.{and_parts}
+use Rattle.std.proofs.lemmas.Bool.{and_parts, and_from}
 use Rattle.std.proofs.lemmas.Option.{same_Some}
 use Rattle.qo_values.specs.Registers.{Registers, bare, bridge, dimm, timer, uart}
 use Rattle.qo_values.specs.declared.kinds.TypeId.{TypeId}
@@ -56,10 +56,6 @@ record Before (b c : Board) (name : List ℕ) (x : ℕ) : Type 0 where
   kind : is_a r.kind name ≡ true
   on : is_of b name x && is_realized b x ≡ true
 
-both : (t u : Bool) → t ≡ true → u ≡ true → t && u ≡ true
-both true u e k = k
-both false u e k = absurd (let clash : false ≡ true = e in cc)
-
 module _ (b c : Board) (before : SoundTree b) (after : SoundTree c) where
   -- an object that is as it was, or claims less
   abbrev pub Old : ℕ → Type 0
@@ -89,7 +85,7 @@ module _ (b c : Board) (before : SoundTree b) (after : SoundTree c) where
             lit = lit;
             kind = kind;
             on =
-                both (is_of b name x) (is_realized b x) (kind-at b x r q name ∙ kind) (realized-at b before x r q ∙ less.slots.lit lit);
+                and_from (is_of b name x) (is_realized b x) (kind-at b x r q name ∙ kind) (realized-at b before x r q ∙ less.slots.lit lit);
           }
 
   -- what it claims is what it claimed

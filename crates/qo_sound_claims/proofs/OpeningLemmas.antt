@@ -1,8 +1,7 @@
 -- The opening board has no rings, and nothing is realized on it.
-use Rattle.std.proofs.Common.{◌≡◌, refl, sym, ◌∙◌, rules, ℕ, Bool, true, false, ◌&&◌, List, [], codes, Option, Some, None, option_map, option_and_then, find}
+use Rattle.std.proofs.Common.{◌≡◌, refl, sym, ◌∙◌, rules, ℕ, Bool, true, false, ◌&&◌, List, [], codes, Option, Some, None, option_and_then}
 use Rattle.std.specs.List.{AllByRecursion, IsDistinct}
 use Rattle.std.specs.Option.{option_map_or}
-use Rattle.std.specs.Str.{bytes_eq}
 use Rattle.qo_model.specs.Board.{Record, Slot, record_of}
 use Rattle.qo_model.specs.Devices.{is_realized, is_true, plain_in}
 use Rattle.qo_model.specs.Opening.{opening_board}

@@ -33,26 +33,12 @@ use Rattle.qo_sound.proofs.FoundLemmas.{found-append}
 use Rattle.qo_sound.proofs.ReadLemmas.{named_in}
 use Rattle.qo_sound.proofs.UnplugLemmas.{Found, found-at}
 use Rattle.qo_sound_devices.proofs.DropLemmas.{edited-slots}
+use Rattle.qo_sound_devices.proofs.HoldsLemmas.{SlotIs, slot-none, slot-more}
 use Rattle.qo_sound_devices.proofs.PlainLemmas.{stay-add, stay-rows}
 use Rattle.qo_sound_devices.proofs.UnrealizeLemmas.{first-changed, named-other, none-found, other-name}
 use Rattle.qo_sound_clocks.proofs.LessLemmas.{Slots}
 use Rattle.qo_sound_clocks.proofs.StayLemmas.{acted-slots}
 use Rattle.qo_sound_claims.proofs.FewerLemmas.{act-range, at-record}
-
--- a slot under a name
-abbrev pub SlotIs : List ℕ → Slot → Slots → Type 0
-SlotIs name s slots = named_in name slots ≡ Some s
-
-slot-none : (name : List ℕ) (s : Slot) → SlotIs name s [] → ⊥
-slot-none name s e = absurd (let clash : None ≡ Some s = e in cc)
-
-slot-more : (name : List ℕ) (s : Slot) (y : List ℕ × Slot) (slots : Slots) → SlotIs name s slots → SlotIs name s (slots ++ y ∷ [])
-slot-more name s y [] e = absurd (let clash : None ≡ Some s = e in cc)
-slot-more name s y (x ∷ slots) e = go (bytes_eq x.0 name) refl (slot-more name s y slots)
-  where
-    go : (t : Bool) → bytes_eq x.0 name ≡ t → (SlotIs name s slots → SlotIs name s (slots ++ y ∷ [])) → SlotIs name s ((x ∷ slots) ++ y ∷ [])
-    go true p rest = rw p (rw p at e)
-    go false p rest = rw p (rest (rw p at e))
 
 slot-last : (name own : List ℕ) (s : Slot) → bytes_eq own name ≡ true → (slots : Slots) → named_in name slots ≡ None → SlotIs name s (slots ++ (own, s) ∷ [])
 slot-last name own s is [] e = rw is refl
@@ -357,6 +343,16 @@ module _ (b : Board) (absent : (m : ℕ) → b.born < m → record_of b m ≡ No
       (stay-add (SlotIs name s) (slot-none name s) (slot-more name s) n (parent_for a.id) (name_for b a.id) (child n) (drafted b t)
       (rows-are n name t s (slots_of t) e (with_new (fresh n t) b) (bare name)))))))
 
+  -- the board as the device stands, has been realized, and has been plugged
+  abbrev c1 : Board
+  c1 = stood b n a spot (drafted b t)
+
+  abbrev c2 : Board
+  c2 = acted_all Realize (n ∷ bus_births n t) (with_device b t a spot)
+
+  abbrev c3 : Board
+  c3 = plugged c2 n
+
   -- at its address
   addressed-is : (name : List ℕ) → bytes_eq (codes "addr") name ≡ false → (s : Slot) (range : Option Range) → SlotIs name s (slots_at has_values n)
       → SlotIs name s (slots_at (addressed_at n range has_values) n)
@@ -374,15 +370,6 @@ module _ (b : Board) (absent : (m : ℕ) → b.born < m → record_of b m ≡ No
       (clocked-is
       (any-edit (SlotIs name s) n n (with_body_of a.id spot.range) (λ r. refl) (addressed_at n spot.range has_values) (λ r e k. k) h)))))
     where
-      c1 : Board
-      c1 = stood b n a spot (drafted b t)
-
-      c2 : Board
-      c2 = acted_all Realize (n ∷ bus_births n t) (with_device b t a spot)
-
-      c3 : Board
-      c3 = plugged c2 n
-
       counted-is : (id : Option (List ℕ)) (c : Board) → SlotIs name s (slots_at c n) → SlotIs name s (slots_at (counted id c) n)
       counted-is None c k = k
       counted-is (Some id) c k = k
@@ -423,15 +410,6 @@ module _ (b : Board) (absent : (m : ℕ) → b.born < m → record_of b m ≡ No
     where
       c0 : Board
       c0 = addressed_at n spot.range has_values
-
-      c1 : Board
-      c1 = stood b n a spot (drafted b t)
-
-      c2 : Board
-      c2 = acted_all Realize (n ∷ bus_births n t) (with_device b t a spot)
-
-      c3 : Board
-      c3 = plugged c2 n
 
       there : SlotIs name (slot_given b a.props (name, s)).1 (slots_at c0 n)
       there = addressed-is name other (slot_given b a.props (name, s)).1 spot.range (valued-is name apart s e)

@@ -1,13 +1,13 @@
 -- Adding a device, taken or refused at any stage, keeps the backends sound: what bars it late is what the claims need.
-use Rattle.std.proofs.Common.{◌≡◌, ◌≢◌, ◌⊎◌, inl, inr, refl, ap, sym, subst, ◌∙◌, ℕ, zero, suc, ◌+◌, ◌<◌, ◌≤◌, ◌%◌, Bool, true, false, not, ◌&&◌, ◌==◌, List, [], ◌∷◌, ◌++◌, filter, find, map, Option, Some, None, is_some, option_map, option_and_then, codes, Result, Ok, Err, arith}
+use Rattle.std.proofs.Common.{◌≡◌, ◌≢◌, ◌⊎◌, inl, inr, refl, ap, sym, subst, ◌∙◌, ℕ, ◌+◌, ◌<◌, ◌%◌, Bool, true, false, not, ◌&&◌, ◌==◌, List, [], ◌∷◌, ◌++◌, filter, find, map, Option, Some, None, is_some, option_map, option_and_then, codes, Result, Ok, Err, arith}
 use Rattle.std.specs.Prelude.{if◌then◌else◌, nat_le, nat_lt, unwrap_or}
 use Rattle.std.specs.List.{flat_map, list_any}
 use Rattle.std.specs.Option.{option_map_or, option_or}
 use Rattle.std.specs.Str.{bytes_eq}
-use Rattle.std.proofs.lemmas.Bool.{and_parts, eqb-true, eq-eqb}
+use Rattle.std.proofs.lemmas.Bool.{and_parts, eqb-true, eq-eqb, not-true, not-false}
 use Rattle.std.proofs.lemmas.Option.{same_Some}
 use Rattle.std.proofs.lemmas.Slice.Eq.{bytes_eq-Decides}
-use Rattle.qo_values.specs.Placing.{fits_at, is_in_window, least, overlap, overlaps_any, place_of, range_at, window_size, window_start}
+use Rattle.qo_values.specs.Placing.{fits_at, is_in_window, overlap, overlaps_any, place_of, range_at, window_size, window_start}
 use Rattle.qo_values.specs.Registers.{dimm}
 use Rattle.qo_values.specs.declared.codes.Code.{Code}
 use Rattle.qo_values.specs.declared.codes.Code.TheVariants.{E19, E36, E37, E38, E39, E40, E41}
@@ -28,15 +28,14 @@ use Rattle.qo_model.proofs.StepLemmas.{found_at, found-birth}
 use Rattle.qo_sound.specs.Kept.{SoundTree}
 use Rattle.qo_sound.proofs.AddLemmas.{unbarred}
 use Rattle.qo_sound.proofs.DevicesStayLemmas.{devices_stay_lem}
-use Rattle.qo_sound.proofs.DraftLemmas.{found-low}
-use Rattle.qo_sound.proofs.FirmLemmas.{Firm}
-use Rattle.qo_sound.proofs.PlugLemmas.{or-none, plugged-rest, shut-above}
+use Rattle.qo_sound.proofs.PlugLemmas.{or-none, plugged-rest, shut-above, least-passes, stage-none}
 use Rattle.qo_sound.proofs.TargetLemmas.{FitsResult, target-fits}
 use Rattle.qo_sound.proofs.ViewLemmas.{AtRest, rest-from_sound, sound-from_rest}
 use Rattle.qo_sound_devices.specs.SoundDevices.{SoundDevices}
 use Rattle.qo_sound_devices.proofs.AcceptedLemmas.{Passes, passes}
 use Rattle.qo_sound_devices.proofs.PlugLemmas.{Accepted, behind-plug}
 use Rattle.qo_sound_devices.proofs.PluggedLemmas.{accepted-joined}
+use Rattle.qo_sound_clocks.proofs.PluggedLemmas.{absent-above}
 use Rattle.qo_sound_claims.specs.SoundBackends.{SoundBackends}
 use Rattle.qo_sound_claims.specs.SoundClaims.{HasRange, is_dimm_on, is_uart_on, NamesRing, StandsOn}
 use Rattle.qo_sound_claims.specs.SoundRings.{AreGoodRings}
@@ -177,24 +176,11 @@ addr-aligned b props e at k = go (find (λ (q : Given). bytes_eq q.0 (codes "add
 
 -- the range of a DIMM
 
-least-passes : (test : ℕ → Bool) (first more at : ℕ) → least test first more ≡ Some at → test at ≡ true
-unfolding least
-least-passes test first zero at e = absurd (let clash : None ≡ Some at = e in cc)
-least-passes test first (suc more) at e = go (test first) refl (least-passes test (first + 1) more at)
-  where
-    go : (t : Bool) → test first ≡ t → (least test (first + 1) more ≡ Some at → test at ≡ true) → test at ≡ true
-    go true p rest = ap test (sym (same_Some first at (rw p at e))) ∙ p
-    go false p rest = rest (rw p at e)
-
 record RangeFits (b : Board) (size : ℕ) (g : Range) : Type 0 where
   size_is : g.size ≡ size
   aligned : g.at % DIMM_ALIGN ≡ 0
   window : is_in_window g ≡ true
   clear : overlaps_any g (ranges_of b) ≡ false
-
-flipped : (u : Bool) → not u ≡ true → u ≡ false
-flipped true e = absurd (let clash : false ≡ true = e in cc)
-flipped false e = refl
 
 same_ok : (g k : Range) → ◌≡◌ {A = Result Range Code} (Ok g) (Ok k) → g ≡ k
 same_ok g k e = ap (λ (r : Result Range Code). elim r as (λ _. Range) [ Ok y ↦ y | Err code ↦ g ]) e
@@ -211,7 +197,7 @@ range-given b at size g aligned e = go (is_in_window (range_at at size) && not (
           size_is = refl;
           aligned = aligned;
           window = parts.0;
-          clear = flipped (overlaps_any (range_at at size) (ranges_of b)) parts.1;
+          clear = not-true (overlaps_any (range_at at size) (ranges_of b)) parts.1;
         })
     go false p = absurd (let clash : Err E40 ≡ Ok g = rw p at e in cc)
 
@@ -222,7 +208,7 @@ range-found b size g e = go (place_of (ranges_of b) size DIMM_ALIGN) refl
     go None p = absurd (let clash : Err E41 ≡ Ok g = rw (range_for, p) at e in cc)
     go (Some at) p =
         let is : range_at at size ≡ g = same_ok (range_at at size) g (rw (range_for, p) at e) in
-        let fits : fits_at (ranges_of b) size DIMM_ALIGN at ≡ true = least-passes (fits_at (ranges_of b) size DIMM_ALIGN) window_start window_size at p in
+        let fits : fits_at (ranges_of b) size DIMM_ALIGN at ≡ true = least-passes (fits_at (ranges_of b) size DIMM_ALIGN) window_size window_start at p in
         let one = and_parts ((at % DIMM_ALIGN == 0) && is_in_window (range_at at size)) (not (overlaps_any (range_at at size) (ranges_of b))) fits in
         let two = and_parts (at % DIMM_ALIGN == 0) (is_in_window (range_at at size)) one.0 in
         subst (RangeFits b size) is
@@ -230,7 +216,7 @@ range-found b size g e = go (place_of (ranges_of b) size DIMM_ALIGN) refl
           size_is = refl;
           aligned = eqb-true (at % DIMM_ALIGN) 0 two.0;
           window = two.1;
-          clear = flipped (overlaps_any (range_at at size) (ranges_of b)) one.1;
+          clear = not-true (overlaps_any (range_at at size) (ranges_of b)) one.1;
         })
 
 -- what a DIMM that nothing bars finds
@@ -415,20 +401,12 @@ record RingPasses (b : Board) (id : List ℕ) : Type 0 where
   there : id ≢ [] → has_ring b id ≡ true
   free : id ≢ [] → list_any (claims_ring b id) b.records ≡ false
 
-was-true : (u : Bool) → not u ≡ false → u ≡ true
-was-true true e = refl
-was-true false e = absurd (let clash : true ≡ false = e in cc)
-
 ring-passes : (b : Board) (id : List ℕ) → ring_barred b id ≡ None → RingPasses b id
 ring-passes b [] e = record { there = λ some. absurd (some refl); free = λ some. absurd (some refl) }
 ring-passes b (c ∷ id) e =
     let first = unbarred (not (has_ring b (c ∷ id))) E36 (if list_any (claims_ring b (c ∷ id)) b.records then Some E37 else None) e in
     let second = unbarred (list_any (claims_ring b (c ∷ id)) b.records) E37 None first.1 in
-    record { there = λ some. was-true (has_ring b (c ∷ id)) first.0; free = λ some. second.0 }
-
-stage-none : (stage : ℕ) (o : Option Code) → at_stage stage o ≡ None → o ≡ None
-stage-none stage None e = refl
-stage-none stage (Some code) e = absurd (let clash : Some (stage, code) ≡ None = e in cc)
+    record { there = λ some. not-false (has_ring b (c ∷ id)) first.0; free = λ some. second.0 }
 
 passes-realize : (b : Board) (t : TypeId) (bus : ℕ) (props : List Given) → barred_late b t bus props ≡ None → realize_barred b t props ≡ None
 passes-realize b t bus props e =
@@ -440,13 +418,6 @@ passes-realize b t bus props e =
     let three : (at_stage 6 (realize_barred b t props) ≡ None) × (first_of (at_stage 8 (notice_barred b) ∷ []) ≡ None) =
     or-none (at_stage 6 (realize_barred b t props)) (first_of (at_stage 8 (notice_barred b) ∷ [])) two.1 in
     stage-none 6 (realize_barred b t props) three.0
-
-absent-above : (b : Board) → Firm b → (m : ℕ) → b.born < m → record_of b m ≡ None
-absent-above b firm m high = go (record_of b m) refl
-  where
-    go : (o : Option Record) → record_of b m ≡ o → record_of b m ≡ None
-    go None q = q
-    go (Some r) q = absurd (let low : m ≤ b.born = found-low b.born m b.records r firm.within q in omega (arith, high, low))
 
 -- a device that is added
 module _ (b : Board) (a : Wanted) (devices : SoundDevices b) (h : SoundBackends b) (t : TypeId) (bus : ℕ) (k : Accepted b t bus a) where

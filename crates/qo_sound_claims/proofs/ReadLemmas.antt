@@ -1,10 +1,9 @@
 -- What is read of the claims of a board whose tree is sound, by the slots of each object.
-use Rattle.std.proofs.Common.{◌≡◌, refl, ap, sym, ◌∙◌, ℕ, Bool, true, false, ◌&&◌, List, [], ◌∷◌, find, Option, Some, None, is_some, option_map, option_and_then, codes}
+use Rattle.std.proofs.Common.{◌≡◌, refl, ap, sym, ◌∙◌, ℕ, Bool, true, false, List, [], ◌∷◌, Option, Some, None, is_some, option_map, option_and_then, codes}
 use Rattle.std.specs.List.{AllByRecursion, IsDistinct}
-use Rattle.std.specs.Option.{option_map_or, option_or}
+use Rattle.std.specs.Option.{option_map_or}
 use Rattle.std.specs.Str.{bytes_eq}
-use Rattle.std.proofs.lemmas.Bool.{eqb-true, eq-eqb}
-use Rattle.std.proofs.lemmas.Option.{same_Some}
+use Rattle.std.proofs.lemmas.Bool.{eqb-true, or_right, and_parts}
 use Rattle.std.proofs.lemmas.Slice.Eq.{bytes_eq-Decides}
 use Rattle.qo_values.specs.declared.kinds.TypeId.{TypeId}
 use Rattle.qo_values.specs.declared.properties.Val.{Val}
@@ -20,22 +19,14 @@ use Rattle.qo_sound.proofs.ReadLemmas.{named_in, slots_in}
 use Rattle.qo_sound.proofs.SlotLemmas.{names_in}
 use Rattle.qo_sound.proofs.ViewLemmas.{rest-from_sound}
 use Rattle.qo_sound_clocks.proofs.LessLemmas.{is_target, plain_of, Slots}
-use Rattle.qo_sound_clocks.proofs.ReadLemmas.{tree-named}
-use Rattle.qo_sound_claims.proofs.SlotLemmas.{is_memdev, lit_in, Names, or-right, points, points_it}
+use Rattle.qo_sound_clocks.proofs.ReadLemmas.{tree-named, target-seen, seen-target, plain-read}
+use Rattle.qo_sound_claims.proofs.SlotLemmas.{is_memdev, lit_in, Names, points, points_it}
 
 -- names of one kind
 abbrev is_name : List ℕ → Names
 is_name name own = bytes_eq own name
 
 -- a link is seen
-
-target-seen : (k : ℕ) (o : Option ℕ) → o ≡ Some k → is_target k o ≡ true
-target-seen k None e = cc
-target-seen k (Some m) e = eq-eqb m k (same_Some m k e)
-
-seen-target : (k : ℕ) (o : Option ℕ) → is_target k o ≡ true → o ≡ Some k
-seen-target k None e = cc
-seen-target k (Some m) e = ap (λ (j : ℕ). Some j) (eqb-true m k e)
 
 pub read-points : (name : List ℕ) (k : ℕ) (xs : Slots) → option_and_then strong_in (named_in name xs) ≡ Some k → points (is_name name) k xs ≡ true
 read-points name k [] e = cc
@@ -47,21 +38,11 @@ read-points name k (x ∷ xs) e = go (bytes_eq x.0 name) refl (read-points name 
         let own : strong_in x.1 ≡ Some k = rw p at e in
         let here : points_it (is_name name) k x ≡ true = rw p (target-seen k (strong_in x.1) own) in
         rw here refl
-    go false p rest = or-right (points_it (is_name name) k x) (points (is_name name) k xs) (rest (rw p at e))
+    go false p rest = or_right (points_it (is_name name) k x) (points (is_name name) k xs) (rest (rw p at e))
 
 -- where names differ, no other slot has the name of the first
 
 module _ (own name : List ℕ) (is : own ≡ name) where
-  none-plain : (xs : Slots) → AllByRecursion (λ m. bytes_eq own m ≡ false) (names_in xs) → plain_of name xs ≡ None
-  none-plain [] h = refl
-  none-plain (x ∷ xs) h = go (bytes_eq x.0 name) refl (none-plain xs h.1)
-    where
-      go : (t : Bool) → bytes_eq x.0 name ≡ t → plain_of name xs ≡ None → plain_of name (x ∷ xs) ≡ None
-      go true p rest =
-          let same : own ≡ x.0 = is ∙ sym ((bytes_eq-Decides x.0 name).0 p) in
-          absurd (let clash : true ≡ false = sym ((bytes_eq-Decides own x.0).1 same) ∙ h.0 in cc)
-      go false p rest = rw p rest
-
   none-points : (k : ℕ) (xs : Slots) → AllByRecursion (λ m. bytes_eq own m ≡ false) (names_in xs) → points (is_name name) k xs ≡ false
   none-points k [] h = refl
   none-points k (x ∷ xs) h = go (bytes_eq x.0 name) refl (none-points k xs h.1)
@@ -71,20 +52,6 @@ module _ (own name : List ℕ) (is : own ≡ name) where
           let same : own ≡ x.0 = is ∙ sym ((bytes_eq-Decides x.0 name).0 p) in
           absurd (let clash : true ≡ false = sym ((bytes_eq-Decides own x.0).1 same) ∙ h.0 in cc)
       go false p rest = rw p rest
-
-plain-read : (name : List ℕ) (xs : Slots) → IsDistinct bytes_eq (names_in xs) → option_and_then plain_in (named_in name xs) ≡ plain_of name xs
-unfolding IsDistinct
-plain-read name [] h = refl
-plain-read name (x ∷ xs) h = go (bytes_eq x.0 name) refl (plain-read name xs h.1)
-  where
-    or-none : (o : Option Val) → plain_of name xs ≡ None → o ≡ option_or o (plain_of name xs)
-    or-none None e = sym e
-    or-none (Some v) e = refl
-
-    go : (t : Bool) → bytes_eq x.0 name ≡ t → option_and_then plain_in (named_in name xs) ≡ plain_of name xs
-        → option_and_then plain_in (named_in name (x ∷ xs)) ≡ plain_of name (x ∷ xs)
-    go true p rest = rw p (or-none (plain_in x.1) (none-plain x.0 name ((bytes_eq-Decides x.0 name).0 p) xs h.0))
-    go false p rest = rw p rest
 
 points-read : (name : List ℕ) (k : ℕ) (xs : Slots) → IsDistinct bytes_eq (names_in xs) → points (is_name name) k xs ≡ true
     → option_and_then strong_in (named_in name xs) ≡ Some k
@@ -139,21 +106,17 @@ fits-live kinds t k (Some m) fits e = ap (λ (j : ℕ). is_some (kinds j)) (sym 
     go None q = absurd (let clash : false ≡ true = rw q at fits in cc)
     go (Some x) q = rw q refl
 
-and-right : (t u : Bool) → (t && u) ≡ true → u ≡ true
-and-right true u e = e
-and-right false u e = cc
-
 points-live : (kinds : ℕ → Option TypeId) (p : Names) (k : ℕ) (xs : Slots) → AllByRecursion (λ (s : List ℕ × Slot). Linked kinds s.1) xs
     → points p k xs ≡ true → is_some (kinds k) ≡ true
 points-live kinds p k [] h e = cc
 points-live kinds p k (x ∷ xs) h e = go (points_it p k x) refl (points-live kinds p k xs h.1)
   where
     here : (y : List ℕ × Slot) → Linked kinds y.1 → points_it p k y ≡ true → is_some (kinds k) ≡ true
-    here (own, plain v) l q = absurd (let clash : false ≡ true = and-right (p own) false q in cc)
-    here (own, child m) l q = absurd (let clash : false ≡ true = and-right (p own) false q in cc)
-    here (own, strong t target) l q = fits-live kinds t k target l (and-right (p own) (is_target k target) q)
-    here (own, weak t target) l q = absurd (let clash : false ≡ true = and-right (p own) false q in cc)
-    here (own, alias m property) l q = absurd (let clash : false ≡ true = and-right (p own) false q in cc)
+    here (own, plain v) l q = absurd (let clash : false ≡ true = (and_parts (p own) false q).1 in cc)
+    here (own, child m) l q = absurd (let clash : false ≡ true = (and_parts (p own) false q).1 in cc)
+    here (own, strong t target) l q = fits-live kinds t k target l ((and_parts (p own) (is_target k target) q).1)
+    here (own, weak t target) l q = absurd (let clash : false ≡ true = (and_parts (p own) false q).1 in cc)
+    here (own, alias m property) l q = absurd (let clash : false ≡ true = (and_parts (p own) false q).1 in cc)
 
     go : (t : Bool) → points_it p k x ≡ t → (points p k xs ≡ true → is_some (kinds k) ≡ true) → is_some (kinds k) ≡ true
     go true q rest = here x h.0 q

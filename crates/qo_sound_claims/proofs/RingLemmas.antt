@@ -16,35 +16,15 @@ use Rattle.qo_model.proofs.StepLemmas.{found_at, found-birth}
 use Rattle.qo_sound.proofs.RecordLemmas.{all-append, all-filter}
 use Rattle.qo_sound_claims.specs.ClaimsKept.{ring_frame}
 use Rattle.qo_sound_claims.specs.SoundBackends.{SoundBackends}
-use Rattle.qo_sound_claims.specs.SoundClaims.{HasRange, is_uart_on, NamesRing, SoundClaims}
+use Rattle.qo_sound_claims.specs.SoundClaims.{is_uart_on, SoundClaims}
 use Rattle.qo_sound_claims.specs.SoundRings.{IsGoodRing, ring_ids}
+use Rattle.qo_sound_claims.proofs.BesideLemmas.{moved-claims}
 use Rattle.qo_sound_claims.proofs.ReadLemmas.{kind-at}
 
 -- claims with other rings, where those that are named are still there
 pub other-rings : (b : Board) (rings : List Ring) → ((n : ℕ) (id : List ℕ) → is_uart_on b n ≡ true → text_at b n (codes "chardev") ≡ Some id → id ≢ []
     → has_ring b id ≡ true → list_any (λ (r : Ring). bytes_eq r.id id) rings ≡ true) → SoundClaims b → SoundClaims (record b { rings = rings })
-other-rings b rings still h =
-    record {
-      rings = λ n on.
-          let k : NamesRing b n = h.rings n on in
-          record { id = k.id; chardev = k.chardev; there = λ some. still n k.id on k.chardev some (k.there some) };
-      one_uart = h.one_uart;
-      ranges = λ d on.
-          let k : HasRange b d = h.ranges d on in
-          record {
-            range = k.range;
-            backend = k.backend;
-            memdev = k.memdev;
-            memory = k.memory;
-            addr = k.addr;
-            size = k.size;
-            aligned = k.aligned;
-            window = k.window;
-            stands = k.stands;
-          };
-      one_dimm = h.one_dimm;
-      apart = h.apart;
-    }
+other-rings b rings still h = moved-claims b b rings still h
 
 -- a ring more
 

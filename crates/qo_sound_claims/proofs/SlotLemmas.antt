@@ -1,9 +1,11 @@
 -- What claims read of the slots of an object, whatever stands between: values of plain slots, and targets of strong links under names that pass.
 -- Slots that claim no more than others do.
-use Rattle.std.proofs.Common.{◌≡◌, ◌⊎◌, inl, inr, refl, ap, sym, ◌∙◌, ℕ, zero, suc, Bool, true, false, cond, ◌&&◌, ◌||◌, List, [], ◌∷◌, ◌++◌, remove, slice_get, Option, Some, None, codes}
+use Rattle.std.proofs.Common.{◌≡◌, ◌⊎◌, inl, inr, refl, ap, sym, ◌∙◌, ℕ, zero, suc, Bool, true, false, ◌&&◌, ◌||◌, List, [], ◌∷◌, ◌++◌, remove, slice_get, Option, Some, None, codes}
 use Rattle.std.specs.List.{list_any}
 use Rattle.std.specs.Option.{option_map_or, option_or}
 use Rattle.std.specs.Str.{bytes_eq}
+use Rattle.std.proofs.Math.Bool.{and-false}
+use Rattle.std.proofs.lemmas.Bool.{or_right}
 use Rattle.std.proofs.lemmas.Option.{same_Some}
 use Rattle.qo_values.specs.declared.properties.Val.{Val}
 use Rattle.qo_model.specs.Board.{Slot, plain, child, strong, weak, alias}
@@ -13,7 +15,7 @@ use Rattle.qo_model.specs.Release.{forgotten_in, without_hold}
 use Rattle.qo_model.specs.Unplug.{unseen}
 use Rattle.qo_sound.proofs.ReadLemmas.{plain-forgotten, strong-forgotten, plain-unseen, strong-unseen, plain-pointed}
 use Rattle.qo_sound.proofs.SlotLemmas.{each_slot}
-use Rattle.qo_sound_clocks.proofs.LessLemmas.{is_target, plain_named, plain_of, Slots}
+use Rattle.qo_sound_clocks.proofs.LessLemmas.{is_target, plain_named, plain_of, Slots, or-less, absent, plain-each, plain-dropped, plain-changed, plain-apart, plain-taken}
 
 -- strong links under names that pass, to k
 abbrev pub Names : Type 0
@@ -108,24 +110,6 @@ less-fewer is_dimm is_bus xs ys h fewer stays =
       strongs = λ k d e. fewer is_any k e;
     }
 
--- tests
-
-pub or-right : (t u : Bool) → u ≡ true → (t || u) ≡ true
-or-right true u e = refl
-or-right false u e = e
-
-pub or-less : (t u v w : Bool) → (t ≡ true → v ≡ true) → (u ≡ true → w ≡ true) → (t || u) ≡ true → (v || w) ≡ true
-or-less true u v w first rest e = rw (first refl) refl
-or-less false u v w first rest e = or-right v w (rest e)
-
-and-false : (t : Bool) → (t && false) ≡ false
-and-false true = refl
-and-false false = refl
-
-absent : {A : Type 0} (t : Bool) (o : Option A) → option_or (cond t None None) o ≡ o
-absent true o = refl
-absent false o = refl
-
 -- a slot points where a test passes
 pub points-none : (p : Names) (k : ℕ) (x : List ℕ × Slot) → (strong_in x.1 ≡ None) ⊎ (p x.0 ≡ false) → points_it p k x ≡ false
 points-none p k x (inl e) = rw e (and-false (p x.0))
@@ -138,10 +122,6 @@ points-each : (g : Slot → Slot) → ((s : Slot) → strong_in (g s) ≡ strong
 points-each g same p k [] = refl
 points-each g same p k (x ∷ xs) = rw (same x.1, points-each g same p k xs) refl
 
-plain-each : (g : Slot → Slot) → ((s : Slot) → plain_in (g s) ≡ plain_in s) → (name : List ℕ) (xs : Slots) → plain_of name (each_slot g xs) ≡ plain_of name xs
-plain-each g same name [] = refl
-plain-each g same name (x ∷ xs) = rw (same x.1, plain-each g same name xs) refl
-
 pub less-forgotten : (is_dimm is_bus : Bool) (n : ℕ) (xs : Slots) → ClaimsLess is_dimm is_bus xs (each_slot (forgotten_in n) xs)
 less-forgotten is_dimm is_bus n xs =
     less-same is_dimm is_bus xs (each_slot (forgotten_in n) xs)
@@ -150,22 +130,13 @@ less-forgotten is_dimm is_bus n xs =
 
 -- one slot is let go
 
-plain-dropped : (name : List ℕ) (i : ℕ) (xs : Slots) → plain_of name (without_hold i xs) ≡ plain_of name xs
-plain-dropped name i [] = refl
-plain-dropped name (suc i) (x ∷ xs) = ap (option_or (plain_named name x)) (plain-dropped name i xs)
-plain-dropped name zero ((own, plain v) ∷ xs) = refl
-plain-dropped name zero ((own, child m) ∷ xs) = sym (absent (bytes_eq own name) (plain_of name xs))
-plain-dropped name zero ((own, strong t target) ∷ xs) = refl
-plain-dropped name zero ((own, weak t target) ∷ xs) = refl
-plain-dropped name zero ((own, alias m property) ∷ xs) = refl
-
 points-dropped : (p : Names) (k i : ℕ) (xs : Slots) → points p k (without_hold i xs) ≡ true → points p k xs ≡ true
 points-dropped p k i [] e = e
 points-dropped p k (suc i) (x ∷ xs) e =
     or-less (points_it p k x) (points p k (without_hold i xs)) (points_it p k x) (points p k xs) (λ q. q) (points-dropped p k i xs) e
 points-dropped p k zero ((own, plain v) ∷ xs) e = e
-points-dropped p k zero ((own, child m) ∷ xs) e = or-right (points_it p k (own, child m)) (points p k xs) e
-points-dropped p k zero ((own, strong t target) ∷ xs) e = or-right (points_it p k (own, strong t target)) (points p k xs) (rw (and-false (p own)) at e)
+points-dropped p k zero ((own, child m) ∷ xs) e = or_right (points_it p k (own, child m)) (points p k xs) e
+points-dropped p k zero ((own, strong t target) ∷ xs) e = or_right (points_it p k (own, strong t target)) (points p k xs) (rw (and-false (p own)) at e)
 points-dropped p k zero ((own, weak t target) ∷ xs) e = e
 points-dropped p k zero ((own, alias m property) ∷ xs) e = e
 
@@ -180,7 +151,7 @@ spared-dropped p k zero (y ∷ xs) x at none e = go y (sym (ap (λ (z : List ℕ
     go : (z : List ℕ × Slot) → points_it p k z ≡ false → points p k (z ∷ xs) ≡ true → points p k (without_hold zero (z ∷ xs)) ≡ true
     go (own, plain v) q f = f
     go (own, child m) q f = rw q at f
-    go (own, strong t target) q f = or-right (p own && false) (points p k xs) (rw q at f)
+    go (own, strong t target) q f = or_right (p own && false) (points p k xs) (rw q at f)
     go (own, weak t target) q f = f
     go (own, alias m property) q f = f
 
@@ -195,19 +166,10 @@ less-dropped is_dimm is_bus i xs stays =
 
 -- a strong link is removed
 
-plain-taken : (name : List ℕ) (i : ℕ) (xs : Slots) (x : List ℕ × Slot) → slice_get xs i ≡ Some x → plain_in x.1 ≡ None
-    → plain_of name (remove xs i) ≡ plain_of name xs
-plain-taken name zero [] x e none = refl
-plain-taken name (suc i) [] x e none = refl
-plain-taken name zero (y ∷ xs) x e none =
-    let gone : plain_in y.1 ≡ None = ap (λ (z : List ℕ × Slot). plain_in z.1) (same_Some y x e) ∙ none in
-    sym (rw gone (absent (bytes_eq y.0 name) (plain_of name xs)))
-plain-taken name (suc i) (y ∷ xs) x e none = ap (option_or (plain_named name y)) (plain-taken name i xs x e none)
-
 points-taken : (p : Names) (k i : ℕ) (xs : Slots) → points p k (remove xs i) ≡ true → points p k xs ≡ true
 points-taken p k zero [] e = e
 points-taken p k (suc i) [] e = e
-points-taken p k zero (x ∷ xs) e = or-right (points_it p k x) (points p k xs) e
+points-taken p k zero (x ∷ xs) e = or_right (points_it p k x) (points p k xs) e
 points-taken p k (suc i) (x ∷ xs) e =
     or-less (points_it p k x) (points p k (remove xs i)) (points_it p k x) (points p k xs) (λ q. q) (points-taken p k i xs) e
 
@@ -229,12 +191,6 @@ less-taken is_dimm is_bus i xs x at none blind =
     (λ k d l e. spared-taken is_memdev k i xs x at (points-none is_memdev k x (inl blind)) e)
 
 -- one slot is changed
-
-plain-changed : (g : Slot → Slot) → ((s : Slot) → plain_in (g s) ≡ plain_in s) → (name : List ℕ) (i : ℕ) (xs : Slots)
-    → plain_of name (changed_at g i xs) ≡ plain_of name xs
-plain-changed g same name i [] = refl
-plain-changed g same name zero (x ∷ xs) = rw (same x.1) refl
-plain-changed g same name (suc i) (x ∷ xs) = ap (option_or (plain_named name x)) (plain-changed g same name i xs)
 
 pub points-changed : (g : Slot → Slot) → ((s : Slot) → strong_in (g s) ≡ strong_in s) → (p : Names) (k i : ℕ) (xs : Slots)
     → points p k (changed_at g i xs) ≡ points p k xs
@@ -259,14 +215,6 @@ strong-val v (child m) = refl
 strong-val v (strong t target) = refl
 strong-val v (weak t target) = refl
 strong-val v (alias m property) = refl
-
-plain-apart : (g : Slot → Slot) (name : List ℕ) (i : ℕ) (xs : Slots) (x : List ℕ × Slot) → slice_get xs i ≡ Some x → bytes_eq x.0 name ≡ false
-    → plain_of name (changed_at g i xs) ≡ plain_of name xs
-plain-apart g name i [] x e apart = refl
-plain-apart g name zero (y ∷ xs) x e apart =
-    let other : bytes_eq y.0 name ≡ false = ap (λ (z : List ℕ × Slot). bytes_eq z.0 name) (same_Some y x e) ∙ apart in
-    rw other refl
-plain-apart g name (suc i) (y ∷ xs) x e apart = ap (option_or (plain_named name y)) (plain-apart g name i xs x e apart)
 
 -- a value that is no truth, or false, lights nothing
 unlit-set : (v : Val) → is_true v ≡ false → (i : ℕ) (xs : Slots) → lit_in (changed_at (with_val v) i xs) ≡ true → lit_in xs ≡ true

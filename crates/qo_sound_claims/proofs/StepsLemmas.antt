@@ -36,7 +36,7 @@ use Rattle.qo_sound_devices.proofs.DevicesLawLemmas.{devices_kept_lem}
 use Rattle.qo_sound_clocks.specs.RegistersKept.{registers_set, with_registers}
 use Rattle.qo_sound_clocks.proofs.KeepLemmas.{writes_keep_lem}
 use Rattle.qo_sound_clocks.proofs.RegisterLemmas.{registers_kept_lem}
-use Rattle.qo_sound_clocks.proofs.StepsLemmas.{kept-written}
+use Rattle.qo_sound_clocks.proofs.StepsLemmas.{kept-written, calls-kept}
 use Rattle.qo_sound_claims.specs.SoundBackends.{SoundBackends}
 use Rattle.qo_sound_claims.specs.SoundRings.{AreGoodRings}
 use Rattle.qo_sound_claims.proofs.BesideLemmas.{claims-beside}
@@ -146,7 +146,7 @@ set-goes b d c period e = go (is_some (source_of b c)) refl
     go : (t : Bool) → is_some (source_of b c) ≡ t → Goes b d
     go true p = absurd (let clash : Err E45 ≡ Ok d = rw (clock_set, p) at e in cc)
     go false p =
-        kept-written (Goes b) (goes-acted b) b (set_named c (codes "period") (val.Uint period) b) d c
+        kept-written (Goes b) (calls-kept (Goes b) (goes-acted b)) b (set_named c (codes "period") (val.Uint period) b) d c
         (goes-set b c (codes "period") period (record { chardev = refl; addr = refl; size = refl }) b (goes-none b)) (rw (clock_set, p) at e)
 
 scaled-goes : (b d : Board) (c mul div : ℕ) → clock_scaled b c mul div ≡ Ok d → Goes b d
@@ -158,7 +158,7 @@ scaled-goes b d c mul div e = go (eqb div 0) refl
     go : (t : Bool) → eqb div 0 ≡ t → Goes b d
     go true p = absurd (let clash : Err E46 ≡ Ok d = rw (clock_scaled, p) at e in cc)
     go false p =
-        kept-written (Goes b) (goes-acted b) b (set_named c (codes "div") (val.Uint div) mid) d c
+        kept-written (Goes b) (calls-kept (Goes b) (goes-acted b)) b (set_named c (codes "div") (val.Uint div) mid) d c
         (goes-set b c (codes "div") div (record { chardev = refl; addr = refl; size = refl }) mid
         (goes-set b c (codes "mul") mul (record { chardev = refl; addr = refl; size = refl }) b (goes-none b)))
         (rw (clock_scaled, p) at e)

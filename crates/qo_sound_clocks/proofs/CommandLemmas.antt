@@ -1,17 +1,15 @@
 -- The commands on objects change no clock: what they add is none, what they write is not a clock's, and what they let go may be one.
-use Rattle.std.proofs.Common.{◌≡◌, refl, ap, sym, subst, ◌∙◌, rules, ℕ, zero, suc, ◌+◌, Bool, true, false, not, ◌==◌, List, [], ◌∷◌, map, length, position, slice_get, Option, Some, None, option_map, option_and_then, codes, Result, Ok, Err, get_or, ◌<◌, arith}
+use Rattle.std.proofs.Common.{◌≡◌, refl, ap, sym, subst, ◌∙◌, rules, ℕ, zero, suc, ◌+◌, Bool, true, false, ◌==◌, List, [], ◌∷◌, map, length, position, slice_get, Option, Some, None, option_map, option_and_then, codes, Result, Ok, Err, get_or, ◌<◌}
 use Rattle.std.specs.List.{AllByRecursion}
 use Rattle.std.specs.Option.{option_map_or, option_or}
 use Rattle.std.specs.Str.{bytes_eq}
-use Rattle.std.proofs.lemmas.Bool.{eq-eqb}
-use Rattle.std.proofs.lemmas.Option.{same_Some}
+use Rattle.std.proofs.lemmas.Option.{slice_get-get_or}
 use Rattle.std.proofs.lemmas.Slice.Eq.{bytes_eq-Decides}
 use Rattle.std.proofs.lemmas.List.Quantifiers.{position-Some}
 use Rattle.qo_values.specs.Properties.{admits}
 use Rattle.qo_values.specs.Registers.{fresh_registers}
 use Rattle.qo_values.specs.declared.births.TheConstants.{OBJECTS_BIRTH}
 use Rattle.qo_values.specs.declared.codes.Code.{Code}
-use Rattle.qo_values.specs.declared.codes.Code.TheVariants.{E21, E22}
 use Rattle.qo_values.specs.declared.kinds.TypeId.{TypeId}
 use Rattle.qo_values.specs.declared.kinds.TypeId.TheVariants.{Object, Container, Machine, Device, SlotDevice, SlotUart, SlotTimer, SlotBridge, MemDimm, Bus, SlotBus, MemBus, Clock, MemoryBackend, MemoryBackendRam, Tag}
 use Rattle.qo_values.specs.declared.properties.Val.{Val}
@@ -23,17 +21,18 @@ use Rattle.qo_model.specs.Objects.{Given, added_as, added_by, barred, is_object_
 use Rattle.qo_model.specs.Opening.{fresh_slots}
 use Rattle.qo_model.specs.Paths.{attached}
 use Rattle.qo_model.specs.Properties.{link_target, link_written, linked, may_set, pointed_at, relinked, row_of_property, write, written, written_by}
-use Rattle.qo_model.specs.Release.{drop_slot, edited, emptied, let_go, pin, with_dropped, without_hold}
+use Rattle.qo_model.specs.Release.{drop_slot, edited, emptied, let_go, pin}
 use Rattle.qo_model.specs.Types.{TypeRow, is_a, row_named, types}
 use Rattle.qo_model.specs.declared.properties.Property.{Property}
 use Rattle.qo_model.specs.declared.properties.RowKind.{RowKind}
 use Rattle.qo_model.specs.declared.properties.RowKind.TheVariants as row
-use Rattle.qo_model.proofs.StepLemmas.{drop-record, found-edited, found_at, found-birth}
+use Rattle.qo_model.proofs.StepLemmas.{found-edited, found_at}
 use Rattle.qo_sound.specs.Kept.{SoundTree}
-use Rattle.qo_sound.proofs.AddLemmas.{unbarred}
+use Rattle.qo_sound.proofs.AddLemmas.{creatable}
 use Rattle.qo_sound.proofs.FoundLemmas.{found-append}
 use Rattle.qo_sound.proofs.KeptLemmas.{sound_kept_lem}
-use Rattle.qo_sound.proofs.ReadLemmas.{slots_in}
+use Rattle.qo_sound.proofs.ReadLemmas.{slots_in, dropped-at}
+use Rattle.qo_sound.proofs.SlotLemmas.{kept-slot}
 use Rattle.qo_sound_clocks.proofs.FewerLemmas.{edit-less, Fewer, fewer-after, fewer-drop, fewer-edit, fewer-let_go, fewer-none, fewer-pin, fewer-unpin}
 use Rattle.qo_sound_clocks.proofs.LessLemmas.{Less, less-blank, less-added, less-none, less-pointed, less-set, OtherName, Slots}
 use Rattle.qo_sound_clocks.proofs.QuietLemmas.{Quiet, quiet-all_given, quiet-blank}
@@ -70,31 +69,27 @@ never-set MemoryBackend = record { period = refl; mul = refl; div = refl; source
 never-set MemoryBackendRam = record { period = refl; mul = refl; div = refl; source = refl }
 never-set Tag = record { period = refl; mul = refl; div = refl; source = refl }
 
+-- what may be written is under no name that may not
+pub set-apart : (t : TypeId) (name : List ℕ) → MaySet t name ≡ true → (other : List ℕ) → MaySet t other ≡ false → bytes_eq name other ≡ false
+set-apart t name e other never = go (bytes_eq name other) refl
+  where
+    go : (u : Bool) → bytes_eq name other ≡ u → bytes_eq name other ≡ false
+    go true p = absurd (let clash : true ≡ false = sym e ∙ ap (MaySet t) ((bytes_eq-Decides name other).0 p) ∙ never in cc)
+    go false p = p
+
 pub set-other : (t : TypeId) (name : List ℕ) → MaySet t name ≡ true → OtherName name
 set-other t name e =
     record {
-      period = apart (codes "period") n.period;
-      mul = apart (codes "mul") n.mul;
-      div = apart (codes "div") n.div;
-      source = apart (codes "source") n.source;
+      period = set-apart t name e (codes "period") n.period;
+      mul = set-apart t name e (codes "mul") n.mul;
+      div = set-apart t name e (codes "div") n.div;
+      source = set-apart t name e (codes "source") n.source;
     }
   where
     n : NeverSet t
     n = never-set t
 
-    apart : (other : List ℕ) → MaySet t other ≡ false → bytes_eq name other ≡ false
-    apart other never = go (bytes_eq name other) refl
-      where
-        go : (u : Bool) → bytes_eq name other ≡ u → bytes_eq name other ≡ false
-        go true p = absurd (let clash : true ≡ false = sym e ∙ ap (MaySet t) ((bytes_eq-Decides name other).0 p) ∙ never in cc)
-        go false p = p
-
 -- the slot that is written
-
-slice-of : (xs : Slots) (i : ℕ) (d : List ℕ × Slot) → i < length xs → slice_get xs i ≡ Some (get_or xs i d)
-slice-of [] i d low = absurd (omega (arith, low))
-slice-of (x ∷ xs) zero d low = refl
-slice-of (x ∷ xs) (suc i) d low = slice-of xs i d (omega (arith, low))
 
 pub record SlotFound (name : List ℕ) (slots : Slots) (i : ℕ) : Type 0 where
   pub entry : List ℕ × Slot
@@ -106,7 +101,7 @@ position-slot name slots i e =
     let d : List ℕ × Slot = ([], plain val.Nothing) in
     let h : (i < length slots) × (bytes_eq (get_or slots i d).0 name ≡ true) × ((k : ℕ) → k < i → bytes_eq (get_or slots k d).0 name ≡ false) =
     position-Some (λ (s : List ℕ × Slot). bytes_eq s.0 name) slots i d e in
-    record { entry = get_or slots i d; at = slice-of slots i d h.0; passes = h.1 }
+    record { entry = get_or slots i d; at = slice_get-get_or slots i d h.0; passes = h.1 }
 
 set-fewer : (b : Board) (n i : ℕ) (v : Val) (x : List ℕ × Slot) → slice_get (slots_at b n) i ≡ Some x → OtherName x.0 → Fewer b (set n i v b)
 unfolding set
@@ -115,27 +110,6 @@ set-fewer b n i v x at other =
     (λ r q. less-set v i r.slots x (sym (ap (λ (o : Option Record). slice_get (slots_in o) i) q) ∙ at) other)
 
 -- a link that is written keeps its name
-
-pub kept-slot : (i : ℕ) (xs : Slots) (own : List ℕ) (s left : Slot) → slice_get xs i ≡ Some (own, s) → emptied s ≡ Some left
-    → slice_get (without_hold i xs) i ≡ Some (own, left)
-kept-slot i [] own s left e stays = cc
-kept-slot zero (x ∷ xs) own s left e stays =
-    ap (λ (y : List ℕ × Slot). slice_get (without_hold zero (y ∷ xs)) 0) (same_Some x (own, s) e)
-    ∙ ap (λ (o : Option Slot). slice_get (elim o as (λ _. Slots) [ None ↦ xs | Some l ↦ (own, l) ∷ xs ]) 0) stays
-kept-slot (suc i) (x ∷ xs) own s left e stays = kept-slot i xs own s left e stays
-
-pub dropped-at : (c : Board) (n i : ℕ) (x : List ℕ × Slot) → slice_get (slots_at c n) i ≡ Some x → (r : Record) → record_of (drop_slot c n i) n ≡ Some r
-    → without_hold i (slots_at c n) ≡ r.slots
-dropped-at c n i x at r e = go (record_of c n) refl
-  where
-    go : (o : Option Record) → record_of c n ≡ o → without_hold i (slots_at c n) ≡ r.slots
-    go None q = absurd (let clash : None ≡ Some x = sym (ap (λ (o : Option Record). slice_get (slots_in o) i) q) ∙ at in cc)
-    go (Some y) q =
-        let is : slots_in (option_map (edited n (with_dropped i)) (Some y)) ≡ r.slots =
-        sym (ap (λ (o : Option Record). slots_in (option_map (edited n (with_dropped i)) o)) q) ∙ sym (ap slots_in (drop-record c n i n)) ∙ ap slots_in e in
-        let own_birth : (y.birth == n) ≡ true = eq-eqb y.birth n (found-birth n c.records y q) in
-        let slots : without_hold i y.slots ≡ r.slots = rw (edited, own_birth) at is in
-        ap (λ (o : Option Record). without_hold i (slots_in o)) q ∙ slots
 
 module _ (b : Board) (n i : ℕ) (own : List ℕ) (s left : Slot)
     (at : slice_get (slots_at b n) i ≡ Some (own, s)) (stays : emptied s ≡ Some left) (other : OtherName own) where
@@ -296,16 +270,6 @@ with_object-fewer b t id props quiet x =
     go : (o : Option Record) → record_of b x ≡ o → Less (slots_in o) (slots_in (option_or (option_map (edited OBJECTS_BIRTH change) o) (found_at x (new ∷ []))))
     go None e = last ((b.born + 1) == x) refl
     go (Some r) e = at_record r (r.birth == OBJECTS_BIRTH) refl
-
-flipped : (u : Bool) → not u ≡ false → u ≡ true
-flipped true e = refl
-flipped false e = absurd (let clash : true ≡ false = e in cc)
-
-creatable : (b : Board) (row : TypeRow) (id : List ℕ) → barred b row id ≡ None → is_a row.id (codes "user-creatable") ≡ true
-creatable b row id e =
-    let first = unbarred row.is_abstract E21 _ e in
-    let second = unbarred (not (is_a row.id (codes "user-creatable"))) E22 _ first.1 in
-    flipped (is_a row.id (codes "user-creatable")) second.0
 
 added-fewer : (b : Board) (t : TypeId) (id : List ℕ) (props : List Given) → AllByRecursion Quiet (fresh_slots t) → (o : Option Code)
     → Fewer b (added_as b t id props o).board

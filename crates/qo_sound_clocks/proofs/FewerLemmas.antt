@@ -1,9 +1,7 @@
 -- Boards whose objects read no more as clocks than those of a board: small steps of objects that go, links that are emptied and values that are set.
 use Rattle.std.proofs.Common.{◌≡◌, refl, ap, sym, subst, ◌∙◌, ℕ, zero, suc, Bool, true, false, ◌==◌, List, [], ◌∷◌, length, remove, slice_get, Option, Some, None, option_map, codes, nat_eq}
 use Rattle.std.specs.List.{list_any}
-use Rattle.std.specs.Option.{option_map_or}
-use Rattle.std.proofs.lemmas.Bool.{eqb-true, eq-eqb}
-use Rattle.std.proofs.lemmas.Option.{same_Some}
+use Rattle.std.proofs.lemmas.Bool.{eqb-true}
 use Rattle.std.proofs.lemmas.Slice.Eq.{bytes_eq-Decides}
 use Rattle.qo_values.specs.declared.births.TheConstants.{ANONYMOUS_BIRTH, PERIPHERAL_BIRTH}
 use Rattle.qo_values.specs.declared.kinds.Act.{Act}
@@ -18,12 +16,13 @@ use Rattle.qo_model.specs.Depth.{by_depth}
 use Rattle.qo_model.specs.Devices.{bus_of, buses_of, clock_of, kids_of}
 use Rattle.qo_model.specs.Objects.{place_from}
 use Rattle.qo_model.specs.Paths.{births}
-use Rattle.qo_model.specs.Release.{after, drop_slot, edit, edited, finalise, finish, forgotten, let_go, pin, unpin, with_dropped, without_hold, without_pin}
+use Rattle.qo_model.specs.Release.{after, drop_slot, edit, edited, finalise, finish, forgotten, let_go, pin, unpin, with_dropped, without_pin}
 use Rattle.qo_model.specs.ReleaseKeeps.{KeepsRelease}
 use Rattle.qo_model.specs.Unplug.{apart_within, detach, disconnected, drained, each, first_of, is_bus_slot, is_child_slot, is_named, left_bus, left_parent, let_go_where, lost_bus, lost_buses, unseen, unseen_named, names_kid, set_named, take_slot, take_where, taken_by, unrealize, unrealize_turn, unrealized_bus, unrealized_device}
 use Rattle.qo_model.proofs.ReleaseKeepsLemmas.{after_keeps}
-use Rattle.qo_model.proofs.StepLemmas.{drop-record, finish-gone, finish-record, found-edited, found-birth}
-use Rattle.qo_sound.proofs.ReadLemmas.{slots_in}
+use Rattle.qo_model.proofs.StepLemmas.{finish-gone, finish-record, found-edited, found-birth}
+use Rattle.qo_sound.proofs.ReadLemmas.{slots_in, dropped-at}
+use Rattle.qo_sound.proofs.SlotLemmas.{kept-slot}
 use Rattle.qo_sound.proofs.UnplugLemmas.{Found, found-at}
 use Rattle.qo_sound_clocks.proofs.LessLemmas.{blank-none, Less, less-blank, less-dropped, less-forgotten, less-none, less-set, less-set_period, less-taken, less-then, less-unseen, OtherName, Slots}
 
@@ -192,13 +191,6 @@ module _ (b : Board) where
       go None e = rw (let_go_where, e) h
       go (Some i) e = rw (let_go_where, e) (fewer-let_go n i c h)
 
-  kept-strong : (i : ℕ) (xs : Slots) (own : List ℕ) (t : TypeId) (target : Option ℕ) → slice_get xs i ≡ Some (own, strong t target)
-      → slice_get (without_hold i xs) i ≡ Some (own, strong t None)
-  kept-strong i [] own t target e = cc
-  kept-strong zero (x ∷ xs) own t target e =
-      ap (λ (y : List ℕ × Slot). slice_get (without_hold zero (y ∷ xs)) 0) (same_Some x (own, strong t target) e)
-  kept-strong (suc i) (x ∷ xs) own t target e = kept-strong i xs own t target e
-
   -- a link to a kid is let go and removed
   fewer-taken : (n i : ℕ) (own : List ℕ) (t : TypeId) (target : Option ℕ) (c : Board) → slice_get (slots_at c n) i ≡ Some (own, strong t target)
       → Fewer b c → Fewer b (take_slot c n i)
@@ -211,19 +203,10 @@ module _ (b : Board) where
       d = drop_slot c n i
 
       cuts : (r : Record) → record_of d n ≡ Some r → Less r.slots (remove r.slots i)
-      cuts r e = go (record_of c n) refl
-        where
-          go : (o : Option Record) → record_of c n ≡ o → Less r.slots (remove r.slots i)
-          go None q = absurd (let clash : None ≡ Some (own, strong t target) = sym (ap (λ (o : Option Record). slice_get (slots_in o) i) q) ∙ at in cc)
-          go (Some x) q =
-              let was : slice_get x.slots i ≡ Some (own, strong t target) = sym (ap (λ (o : Option Record). slice_get (slots_in o) i) q) ∙ at in
-              let is : slots_in (option_map (edited n (with_dropped i)) (Some x)) ≡ r.slots =
-              sym (ap (λ (o : Option Record). slots_in (option_map (edited n (with_dropped i)) o)) q)
-              ∙ sym (ap slots_in (drop-record c n i n))
-              ∙ ap slots_in e in
-              let own_birth : (x.birth == n) ≡ true = eq-eqb x.birth n (found-birth n c.records x q) in
-              let slots : without_hold i x.slots ≡ r.slots = rw (edited, own_birth) at is in
-              less-taken i r.slots own (strong t None) (sym (ap (λ (ss : Slots). slice_get ss i) slots) ∙ kept-strong i x.slots own t target was) refl
+      cuts r e =
+          less-taken i r.slots own (strong t None)
+          (sym (ap (λ (ss : Slots). slice_get ss i) (dropped-at c n i (own, strong t target) at r e))
+          ∙ kept-slot i (slots_at c n) own (strong t target) (strong t None) at refl) refl
 
   fewer-take : (d n : ℕ) (c : Board) → Fewer b c → Fewer b (take_where (names_kid d) n c)
   fewer-take d n c h = go (place_from (names_kid d) 0 (slots_at c n)) refl

@@ -20,7 +20,7 @@ use Rattle.qo_sound_devices.proofs.ResetLemmas.{acted-below}
 use Rattle.qo_sound_devices.proofs.UnrealizeLemmas.{Dims, dims-set}
 use Rattle.qo_sound_clocks.specs.WritesKeep.{WritesKeepLaw}
 use Rattle.qo_sound_clocks.proofs.NotesLemmas.{scaled-notes, set-notes}
-use Rattle.qo_sound_clocks.proofs.StepsLemmas.{kept-scaled, kept-set, KeepsNumbers}
+use Rattle.qo_sound_clocks.proofs.StepsLemmas.{kept-scaled, kept-set, KeepsNumbers, calls-kept}
 
 -- the tree
 
@@ -77,10 +77,10 @@ devices-set name no_slot no_mark n v b h =
 pub writes_keep_lem : WritesKeepLaw
 writes_keep_lem =
     record {
-      set_tree = kept-set SoundTree tree-acted tree-set;
-      scaled_tree = kept-scaled SoundTree tree-acted tree-set;
-      set_devices = kept-set SoundDevices acted-below devices-set;
-      scaled_devices = kept-scaled SoundDevices acted-below devices-set;
+      set_tree = kept-set SoundTree (calls-kept SoundTree tree-acted) tree-set;
+      scaled_tree = kept-scaled SoundTree (calls-kept SoundTree tree-acted) tree-set;
+      set_devices = kept-set SoundDevices (calls-kept SoundDevices acted-below) devices-set;
+      scaled_devices = kept-scaled SoundDevices (calls-kept SoundDevices acted-below) devices-set;
       set_notes = set-notes;
       scaled_notes = scaled-notes;
     }

@@ -3,6 +3,7 @@ use Rattle.std.proofs.Common.{◌≡◌, ◌⊎◌, inl, inr, refl, ap, sym, sub
 use Rattle.std.specs.List.{list_any}
 use Rattle.std.specs.Option.{option_or}
 use Rattle.std.specs.Str.{bytes_eq}
+use Rattle.std.proofs.lemmas.Bool.{and_parts, or_right}
 use Rattle.std.proofs.lemmas.Option.{same_Some}
 use Rattle.std.proofs.lemmas.Slice.Eq.{bytes_eq-Decides}
 use Rattle.qo_values.specs.declared.properties.Val.{Val}
@@ -152,17 +153,10 @@ any-each p g less (x ∷ xs) e = go (p (x.0, g x.1)) refl (any-each p g less xs)
     go true q rest = rw (less x q) refl
     go false q rest = right (p x) (rest (rw q at e))
 
-plain-each : (g : Slot → Slot) → ((s : Slot) → plain_in (g s) ≡ plain_in s) → (name : List ℕ) (xs : Slots) → plain_of name (each_slot g xs) ≡ plain_of name xs
+pub plain-each : (g : Slot → Slot) → ((s : Slot) → plain_in (g s) ≡ plain_in s) → (name : List ℕ) (xs : Slots)
+    → plain_of name (each_slot g xs) ≡ plain_of name xs
 plain-each g same name [] = refl
 plain-each g same name (x ∷ xs) = rw (same x.1, plain-each g same name xs) refl
-
-and-right : (t u : Bool) → (t && u) ≡ true → u ≡ true
-and-right true u e = e
-and-right false u e = cc
-
-and-left : (t u : Bool) → (t && u) ≡ true → t ≡ true
-and-left true u e = refl
-and-left false u e = cc
 
 sees-forgotten : (n s : ℕ) (x : List ℕ × Slot) → sees_it s (x.0, forgotten_in n x.1) ≡ true → sees_it s x ≡ true
 sees-forgotten n s (name, plain v) e = e
@@ -172,7 +166,7 @@ sees-forgotten n s (name, weak t None) e = e
 sees-forgotten n s (name, weak t (Some m)) e = go (m == n) refl
   where
     go : (u : Bool) → (m == n) ≡ u → sees_it s (name, weak t (Some m)) ≡ true
-    go true p = absurd (let clash : false ≡ true = and-right (bytes_eq name (codes "source")) false (rw p at e) in cc)
+    go true p = absurd (let clash : false ≡ true = (and_parts (bytes_eq name (codes "source")) false (rw p at e)).1 in cc)
     go false p = rw p at e
 sees-forgotten n s (name, alias m property) e = e
 
@@ -187,11 +181,11 @@ less-forgotten n xs =
 
 -- one slot is let go
 
-absent : {A : Type 0} (t : Bool) (o : Option A) → option_or (cond t None None) o ≡ o
+pub absent : {A : Type 0} (t : Bool) (o : Option A) → option_or (cond t None None) o ≡ o
 absent true o = refl
 absent false o = refl
 
-plain-dropped : (name : List ℕ) (i : ℕ) (xs : Slots) → plain_of name (without_hold i xs) ≡ plain_of name xs
+pub plain-dropped : (name : List ℕ) (i : ℕ) (xs : Slots) → plain_of name (without_hold i xs) ≡ plain_of name xs
 plain-dropped name i [] = refl
 plain-dropped name (suc i) (x ∷ xs) = ap (option_or (plain_named name x)) (plain-dropped name i xs)
 plain-dropped name zero ((own, plain v) ∷ xs) = refl
@@ -200,27 +194,19 @@ plain-dropped name zero ((own, strong t target) ∷ xs) = refl
 plain-dropped name zero ((own, weak t target) ∷ xs) = refl
 plain-dropped name zero ((own, alias m property) ∷ xs) = refl
 
-pub or-right : (t u : Bool) → u ≡ true → (t || u) ≡ true
-or-right true u e = refl
-or-right false u e = e
-
-or-either : (t u : Bool) → (t || u) ≡ true → (t ≡ true) ⊎ (u ≡ true)
-or-either true u e = inl refl
-or-either false u e = inr e
-
 pub or-less : (t u v w : Bool) → (t ≡ true → v ≡ true) → (u ≡ true → w ≡ true) → (t || u) ≡ true → (v || w) ≡ true
 or-less true u v w first rest e = rw (first refl) refl
-or-less false u v w first rest e = or-right v w (rest e)
+or-less false u v w first rest e = or_right v w (rest e)
 
 sees-dropped : (s i : ℕ) (xs : Slots) → sees s (without_hold i xs) ≡ true → sees s xs ≡ true
 sees-dropped s i [] e = e
 sees-dropped s (suc i) (x ∷ xs) e = or-less (sees_it s x) (sees s (without_hold i xs)) (sees_it s x) (sees s xs) (λ k. k) (sees-dropped s i xs) e
 sees-dropped s zero ((own, plain v) ∷ xs) e = e
-sees-dropped s zero ((own, child m) ∷ xs) e = or-right (sees_it s (own, child m)) (sees s xs) e
+sees-dropped s zero ((own, child m) ∷ xs) e = or_right (sees_it s (own, child m)) (sees s xs) e
 sees-dropped s zero ((own, strong t target) ∷ xs) e = e
 sees-dropped s zero ((own, weak t target) ∷ xs) e =
     or-less (sees_it s (own, weak t None)) (sees s xs) (sees_it s (own, weak t target)) (sees s xs)
-    (λ k. absurd (let clash : false ≡ true = and-right (bytes_eq own (codes "source")) false k in cc)) (λ k. k) e
+    (λ k. absurd (let clash : false ≡ true = (and_parts (bytes_eq own (codes "source")) false k).1 in cc)) (λ k. k) e
 sees-dropped s zero ((own, alias m property) ∷ xs) e = e
 
 pub less-dropped : (i : ℕ) (xs : Slots) → Less xs (without_hold i xs)
@@ -231,29 +217,28 @@ less-dropped i xs =
 
 -- a strong link is let go and removed
 
-plain-taken : (name : List ℕ) (i : ℕ) (xs : Slots) (own : List ℕ) (o : Option Slot) (t : Slot) → slice_get xs i ≡ Some (own, t) → plain_in t ≡ None
+pub plain-taken : (name : List ℕ) (i : ℕ) (xs : Slots) (x : List ℕ × Slot) → slice_get xs i ≡ Some x → plain_in x.1 ≡ None
     → plain_of name (remove xs i) ≡ plain_of name xs
-plain-taken name zero [] own o t e none = refl
-plain-taken name (suc i) [] own o t e none = refl
-plain-taken name zero (x ∷ xs) own o t e none =
-    let is : x ≡ (own, t) = same_Some x (own, t) e in
-    let gone : plain_in x.1 ≡ None = ap (λ (y : List ℕ × Slot). plain_in y.1) is ∙ none in
-    sym (rw gone (absent (bytes_eq x.0 name) (plain_of name xs)))
-plain-taken name (suc i) (x ∷ xs) own o t e none = ap (option_or (plain_named name x)) (plain-taken name i xs own o t e none)
+plain-taken name zero [] x e none = refl
+plain-taken name (suc i) [] x e none = refl
+plain-taken name zero (y ∷ xs) x e none =
+    let gone : plain_in y.1 ≡ None = ap (λ (z : List ℕ × Slot). plain_in z.1) (same_Some y x e) ∙ none in
+    sym (rw gone (absent (bytes_eq y.0 name) (plain_of name xs)))
+plain-taken name (suc i) (y ∷ xs) x e none = ap (option_or (plain_named name y)) (plain-taken name i xs x e none)
 
 sees-taken : (s i : ℕ) (xs : Slots) → sees s (remove xs i) ≡ true → sees s xs ≡ true
 sees-taken s zero [] e = e
 sees-taken s (suc i) [] e = e
-sees-taken s zero (x ∷ xs) e = or-right (sees_it s x) (sees s xs) e
+sees-taken s zero (x ∷ xs) e = or_right (sees_it s x) (sees s xs) e
 sees-taken s (suc i) (x ∷ xs) e = or-less (sees_it s x) (sees s (remove xs i)) (sees_it s x) (sees s xs) (λ k. k) (sees-taken s i xs) e
 
 pub less-taken : (i : ℕ) (xs : Slots) (own : List ℕ) (t : Slot) → slice_get xs i ≡ Some (own, t) → plain_in t ≡ None → Less xs (remove xs i)
 less-taken i xs own t e none =
     less-same xs (remove xs i)
     (record {
-      period = plain-taken (codes "period") i xs own None t e none;
-      mul = plain-taken (codes "mul") i xs own None t e none;
-      div = plain-taken (codes "div") i xs own None t e none;
+      period = plain-taken (codes "period") i xs (own, t) e none;
+      mul = plain-taken (codes "mul") i xs (own, t) e none;
+      div = plain-taken (codes "div") i xs (own, t) e none;
     })
     (λ s k. sees-taken s i xs k)
 
@@ -276,7 +261,7 @@ sees-unseen : (s : ℕ) (x : List ℕ × Slot) → sees_it s (x.0, unseen x.1) �
 sees-unseen s (name, plain v) e = e
 sees-unseen s (name, child m) e = e
 sees-unseen s (name, strong t target) e = e
-sees-unseen s (name, weak t target) e = absurd (let clash : false ≡ true = and-right (bytes_eq name (codes "source")) false e in cc)
+sees-unseen s (name, weak t target) e = absurd (let clash : false ≡ true = (and_parts (bytes_eq name (codes "source")) false e).1 in cc)
 sees-unseen s (name, alias m property) e = e
 
 pub less-unseen : (i : ℕ) (xs : Slots) → Less xs (changed_at unseen i xs)
@@ -312,7 +297,7 @@ plain-set v name zero ((own, strong t target) ∷ xs) = inr refl
 plain-set v name zero ((own, weak t target) ∷ xs) = inr refl
 plain-set v name zero ((own, alias m property) ∷ xs) = inr refl
 
-plain-apart : (g : Slot → Slot) (name : List ℕ) (i : ℕ) (xs : Slots) (x : List ℕ × Slot) → slice_get xs i ≡ Some x → bytes_eq x.0 name ≡ false
+pub plain-apart : (g : Slot → Slot) (name : List ℕ) (i : ℕ) (xs : Slots) (x : List ℕ × Slot) → slice_get xs i ≡ Some x → bytes_eq x.0 name ≡ false
     → plain_of name (changed_at g i xs) ≡ plain_of name xs
 plain-apart g name i [] x e apart = refl
 plain-apart g name zero (y ∷ xs) x e apart =
@@ -386,7 +371,7 @@ less-added name t none blind xs =
       where
         go : (u : Bool) → sees_it s (name, t) ≡ u → false ≡ true
         go true p =
-            and-right (bytes_eq name (codes "source")) false (sym (ap (λ (o : Option ℕ). bytes_eq name (codes "source") && is_target s o) blind) ∙ p)
+            (and_parts (bytes_eq name (codes "source")) false (sym (ap (λ (o : Option ℕ). bytes_eq name (codes "source") && is_target s o) blind) ∙ p)).1
         go false p = rw p at e
     fewer s (y ∷ ys) e = or-less (sees_it s y) (sees s (ys ++ (name, t) ∷ [])) (sees_it s y) (sees s ys) (λ k. k) (fewer s ys) e
 

@@ -17,9 +17,10 @@ use Rattle.qo_model.specs.Notes.{deed_type}
 use Rattle.qo_model.specs.Paths.{is_child, parent_of, place_in, place_of}
 use Rattle.qo_model.specs.Unplug.{set_named}
 use Rattle.qo_model.proofs.FinalNotesGrowthLemmas.{act-keeps}
-use Rattle.qo_model.proofs.FinalNotesLemmas.{edit-keeps, edit-kind, kind-live, same-keep}
+use Rattle.qo_model.proofs.FinalNotesLemmas.{edit-kind, kind-live, same-keep}
 use Rattle.qo_model.proofs.StepLemmas.{found_at}
-use Rattle.qo_sound.proofs.MakeStepsLemmas.{KeepsEdits, step-set}
+use Rattle.qo_sound.proofs.MakeStepsLemmas.{step-set}
+use Rattle.qo_sound.proofs.NotesKeptLemmas.{notes-edits}
 use Rattle.qo_sound_clocks.proofs.StepsLemmas.{same_ok}
 
 -- the parent of an object is there
@@ -103,10 +104,6 @@ notes-written b new d c h e = go (list_any (overflows new) (c ∷ clocks_below b
     go false p =
         let is : Ok (spread b new c) ≡ Ok d = rw (clock_written, p) at e in
         subst NotesInOrder (same_ok (spread b new c) d is) (all-tell b new (clocks_below b c) new (record { notes = h; kinds = λ x. refl })).notes
-
-notes-edits : KeepsEdits NotesInOrder
-notes-edits n change same c o =
-    edit-keeps n change (λ r. ap (λ (x : Record). x.birth) (same r)) (λ r. ap (λ (x : Record). x.kind) (same r)) c o
 
 pub set-notes : (b d : Board) (c period : ℕ) → clock_set b c period ≡ Ok d → NotesInOrder b → NotesInOrder d
 set-notes b d c period e h = go (is_some (source_of b c)) refl

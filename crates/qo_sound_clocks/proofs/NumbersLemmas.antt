@@ -20,6 +20,7 @@ use Rattle.qo_model.specs.Unplug.{set_named}
 use Rattle.qo_sound.specs.Kept.{SoundTree}
 use Rattle.qo_sound.proofs.FoundLemmas.{all-found}
 use Rattle.qo_sound.proofs.KeptLemmas.{sound_kept_lem}
+use Rattle.qo_sound.proofs.QuietStepsLemmas.{quiet-asked, quiet-held, quiet-pulse, quiet-released}
 use Rattle.qo_sound.proofs.ReadLemmas.{slots_in}
 use Rattle.qo_sound_clocks.specs.NumbersKept.{NumbersKeptLaw}
 use Rattle.qo_sound_clocks.specs.SoundNumbers.{NumbersFit, SoundNumbers}
@@ -28,8 +29,8 @@ use Rattle.qo_sound_clocks.proofs.LessLemmas.{Blank, div_in, Less, mul_in, own_i
 use Rattle.qo_sound_clocks.proofs.PlugLemmas.{Growing}
 use Rattle.qo_sound_clocks.proofs.PluggedLemmas.{growing, kept-plug}
 use Rattle.qo_sound_clocks.proofs.ReadLemmas.{Reads, tree-reads}
-use Rattle.qo_sound_clocks.proofs.StayLemmas.{kept-acted, kept-asked, kept-beside, kept-detach, kept-held, kept-pulse, kept-released, kept-reset, KeptByFewer}
-use Rattle.qo_sound_clocks.proofs.StepsLemmas.{kept-written}
+use Rattle.qo_sound_clocks.proofs.StayLemmas.{kept-acted, kept-beside, kept-detach, kept-reset, KeptByFewer}
+use Rattle.qo_sound_clocks.proofs.StepsLemmas.{kept-written, calls-kept}
 use Rattle.qo_sound_clocks.proofs.WriteLemmas.{IsSetAt, number-at, number-here, plain_at_name, set-at}
 
 abbrev number_by : List ℕ → ℕ → Slots → ℕ
@@ -191,7 +192,7 @@ set-numbers b d c period wide e h = go (is_some (source_of b c)) refl
 
     go : (t : Bool) → is_some (source_of b c) ≡ t → SoundNumbers d
     go true p = absurd (let clash : Err E45 ≡ Ok d = rw (clock_set, p) at e in cc)
-    go false p = kept-written SoundNumbers (kept-acted SoundNumbers same-numbers) b new d c fits (rw (clock_set, p) at e)
+    go false p = kept-written SoundNumbers (calls-kept SoundNumbers (kept-acted SoundNumbers same-numbers)) b new d c fits (rw (clock_set, p) at e)
 
 scaled-numbers : (b d : Board) (c mul div : ℕ) → mul < 2 ^ 32 → div < 2 ^ 32 → clock_scaled b c mul div ≡ Ok d → SoundNumbers b → SoundNumbers d
 scaled-numbers b d c mul div wide also e h = go (eqb div 0) refl
@@ -224,18 +225,18 @@ scaled-numbers b d c mul div wide also e h = go (eqb div 0) refl
 
     go : (t : Bool) → eqb div 0 ≡ t → SoundNumbers d
     go true p = absurd (let clash : Err E46 ≡ Ok d = rw (clock_scaled, p) at e in cc)
-    go false p = kept-written SoundNumbers (kept-acted SoundNumbers same-numbers) b new d c fits (rw (clock_scaled, p) at e)
+    go false p = kept-written SoundNumbers (calls-kept SoundNumbers (kept-acted SoundNumbers same-numbers)) b new d c fits (rw (clock_scaled, p) at e)
 
 pub numbers_kept_lem : NumbersKeptLaw
 numbers_kept_lem =
     record {
       opening = opening-numbers;
       beside = kept-beside SoundNumbers same-numbers;
-      asked_for = kept-asked SoundNumbers same-numbers;
+      asked_for = quiet-asked SoundNumbers (kept-beside SoundNumbers same-numbers) (kept-acted SoundNumbers same-numbers);
       acts = kept-acted SoundNumbers same-numbers;
-      held_so = kept-held SoundNumbers same-numbers;
-      released_so = kept-released SoundNumbers same-numbers;
-      pulsed = kept-pulse SoundNumbers same-numbers;
+      held_so = quiet-held SoundNumbers (kept-beside SoundNumbers same-numbers) (kept-acted SoundNumbers same-numbers);
+      released_so = quiet-released SoundNumbers (kept-beside SoundNumbers same-numbers) (kept-acted SoundNumbers same-numbers);
+      pulsed = quiet-pulse SoundNumbers (kept-beside SoundNumbers same-numbers) (kept-acted SoundNumbers same-numbers);
       set = set-numbers;
       scaled = scaled-numbers;
       change = kept-change SoundNumbers fewer-numbers;

@@ -1,12 +1,11 @@
 -- The clocks of the opening board are sound: none goes by another.
-use Rattle.std.proofs.Common.{◌≡◌, ◌≢◌, refl, ap, sym, subst, ◌∙◌, ℕ, ◌^◌, ◌<◌, Bool, true, false, ◌&&◌, not, ◌==◌, List, [], find, Option, Some, None, is_none, option_map, option_and_then, unwrap_or, codes, rules, arith}
+use Rattle.std.proofs.Common.{◌≡◌, ◌≢◌, refl, ap, sym, subst, ◌∙◌, ℕ, ◌^◌, ◌<◌, Bool, true, false, ◌&&◌, not, ◌==◌, List, [], Option, Some, None, is_none, option_and_then, unwrap_or, codes, rules, arith}
 use Rattle.std.specs.Prelude.{nat_lt}
 use Rattle.std.specs.List.{AllByRecursion}
 use Rattle.std.specs.Option.{option_map_or}
-use Rattle.std.specs.Str.{bytes_eq}
 use Rattle.std.proofs.lemmas.Bool.{and_parts}
 use Rattle.std.proofs.lemmas.Bool.Decides.{nat_tests}
-use Rattle.qo_model.specs.Board.{Record, Slot, record_of, slots_at}
+use Rattle.qo_model.specs.Board.{Record, record_of, slots_at}
 use Rattle.qo_model.specs.Clocks.{child_period, div_of, mul_of, own_period, scaled_by, source_of, weak_in}
 use Rattle.qo_model.specs.Devices.{number_in, plain_in}
 use Rattle.qo_model.specs.Opening.{opening_board}

@@ -1,40 +1,41 @@
 -- A device that is added brings clocks as new, which go by an older clock; the others stay as they are.
-use Rattle.std.proofs.Common.{◌≡◌, ◌⊎◌, inl, inr, refl, ap, sym, subst, ◌∙◌, rules, ℕ, zero, suc, ◌+◌, ◌<◌, ◌≤◌, Bool, true, false, ◌==◌, List, [], ◌∷◌, filter, find, Option, Some, None, option_map, option_and_then, codes, arith}
+use Rattle.std.proofs.Common.{◌≡◌, ◌⊎◌, inl, inr, refl, ap, sym, subst, ◌∙◌, rules, ℕ, zero, suc, ◌+◌, ◌<◌, ◌≤◌, Bool, true, false, ◌==◌, List, [], ◌∷◌, find, Option, Some, None, option_map, option_and_then, codes, arith}
 use Rattle.std.specs.Bool.{⊤}
 use Rattle.std.specs.List.{AllByRecursion}
 use Rattle.std.specs.Option.{option_or}
 use Rattle.std.specs.Str.{bytes_eq}
-use Rattle.std.proofs.lemmas.Bool.{and_parts, eqb-true, or_cases}
+use Rattle.std.proofs.lemmas.Bool.{and_parts, eqb-true, or_cases, or_right}
 use Rattle.std.proofs.lemmas.Option.{same_Some}
 use Rattle.qo_values.specs.Kinds.{type_name}
-use Rattle.qo_values.specs.declared.kinds.Act.{Act}
-use Rattle.qo_values.specs.declared.kinds.Act.TheVariants.{Realize, Enter, Hold, Exit}
+use Rattle.qo_values.specs.declared.kinds.Act.TheVariants.{Realize}
 use Rattle.qo_values.specs.declared.kinds.TypeId.{TypeId}
 use Rattle.qo_values.specs.declared.kinds.TypeId.TheVariants.{Object, Container, Machine, Device, SlotDevice, SlotUart, SlotTimer, SlotBridge, MemDimm, Bus, SlotBus, MemBus, Clock, MemoryBackend, MemoryBackendRam, Tag}
 use Rattle.qo_values.specs.declared.properties.Val.{Val}
 use Rattle.qo_values.specs.declared.properties.Val.TheVariants as val
 use Rattle.qo_values.specs.declared.ranges.Range.{Range}
 use Rattle.qo_model.specs.Board.{Board, Record, Slot, plain, child, strong, weak, alias, record_of, slots_at}
-use Rattle.qo_model.specs.Changes.{add, changed_at, fresh, set, with_added, with_changed, with_val}
+use Rattle.qo_model.specs.Changes.{add, changed_at, fresh, with_added, with_changed, with_val}
 use Rattle.qo_model.specs.Clocks.{acted, weak_in}
 use Rattle.qo_model.specs.Devices.{child_named, clock_of, kid_name, plain_in}
-use Rattle.qo_model.specs.Objects.{Given, given_to, place_from, slot_given}
+use Rattle.qo_model.specs.Objects.{Given, slot_given}
 use Rattle.qo_model.specs.Opening.{first_value, fresh_record, fresh_slots}
 use Rattle.qo_model.specs.Paths.{canonical, is_of, only_of}
-use Rattle.qo_model.specs.Plug.{Spot, Wanted, acted_all, addressed_at, aliased, bus_births, clocked, counted, drafted, fitted, joined, link_named, name_for, owned, parent_for, row_made, rows_made, source_for, stood, valued, with_body_of, with_device, with_given, with_new, with_path, with_plugged, with_source}
+use Rattle.qo_model.specs.Plug.{Spot, Wanted, acted_all, addressed_at, aliased, bus_births, clocked, counted, drafted, fitted, link_named, name_for, owned, parent_for, row_made, rows_made, source_for, stood, with_body_of, with_device, with_given, with_new, with_path, with_plugged, with_source}
 use Rattle.qo_model.specs.Release.{edit, edited}
-use Rattle.qo_model.specs.Reset.{is_out, phased, plugged, post}
+use Rattle.qo_model.specs.Reset.{plugged, post}
 use Rattle.qo_model.specs.RowNames.{property_name}
 use Rattle.qo_model.specs.Types.{is_a, slots_of, types}
-use Rattle.qo_model.specs.Unplug.{is_named, set_named}
+use Rattle.qo_model.specs.Unplug.{set_named}
 use Rattle.qo_model.specs.declared.properties.Property.{Property}
 use Rattle.qo_model.specs.declared.properties.RowKind.{RowKind}
 use Rattle.qo_model.specs.declared.properties.RowKind.TheVariants as row
 use Rattle.qo_model.proofs.StepLemmas.{found-edited, found_at, found-birth}
 use Rattle.qo_sound.proofs.FoundLemmas.{found-append}
-use Rattle.qo_sound.proofs.ReadLemmas.{slots_in}
+use Rattle.qo_sound.proofs.GivenLemmas.{given-cases}
+use Rattle.qo_sound.proofs.MakeStepsLemmas.{all-any, KeepsActs, link-by, set-by, stand-by, step-acted_all, step-plugged}
+use Rattle.qo_sound.proofs.ReadLemmas.{slots_in, plain-fitted}
 use Rattle.qo_sound.proofs.RecordLemmas.{all-append, all-map}
-use Rattle.qo_sound_clocks.proofs.LessLemmas.{Blank, blank-none, div_in, is_target, Less, less-added, less-blank, less-none, less-then, mul_in, number-same, or-right, own_in, plain-changed, plain_of, sees, sees_it, Slots}
+use Rattle.qo_sound_clocks.proofs.LessLemmas.{Blank, blank-none, div_in, is_target, Less, less-added, less-blank, less-none, less-then, mul_in, number-same, own_in, plain-changed, plain_of, sees, sees_it, Slots}
 use Rattle.qo_sound_clocks.proofs.QuietLemmas.{is_read, Quiet, quiet-blank, quiet-given}
 use Rattle.qo_sound_clocks.proofs.StayLemmas.{acted-slots}
 
@@ -155,37 +156,10 @@ new-fitted k c m (name, weak t (Some j)) h = h
 new-fitted k c m (name, alias j property) h = h
 
 above-given : (k : ℕ) (b : Board) (props : List Given) (s : List ℕ × Slot) → Above k s → Above k (slot_given b props s)
-above-given k b props (name, s) h = go (find (λ (p : Given). bytes_eq p.0 name) props) refl
-  where
-    given : (t : Slot) (v : Val) → Above k (name, t) → Above k (name, given_to b t v)
-    given (plain old) v j = tt
-    given (child m) v j = j
-    given (strong t target) (val.Text path) j = tt
-    given (strong t target) (val.Bool v) j = tt
-    given (strong t target) (val.Int v) j = tt
-    given (strong t target) (val.Uint v) j = tt
-    given (strong t target) val.Nothing j = tt
-    given (weak t target) (val.Text path) j = tt
-    given (weak t target) (val.Bool v) j = tt
-    given (weak t target) (val.Int v) j = tt
-    given (weak t target) (val.Uint v) j = tt
-    given (weak t target) val.Nothing j = tt
-    given (alias m property) v j = tt
-
-    go : (o : Option Given) → find (λ (p : Given). bytes_eq p.0 name) props ≡ o → Above k (slot_given b props (name, s))
-    go None e = rw (slot_given, e) h
-    go (Some p) e = rw (slot_given, e) (given s p.1 h)
+above-given k b props (name, s) h =
+    given-cases b props (λ x y. Above k (name, x) → Above k (name, y)) (λ x j. j) (λ old v j. tt) (λ t target path j. tt) (λ t target path j. tt) (name, s) h
 
 -- the source that a clock is given
-
-plain-fitted : (c : Board) (m : ℕ) (s : Slot) → plain_in (fitted c m s) ≡ plain_in s
-plain-fitted c m (plain v) = refl
-plain-fitted c m (child k) = refl
-plain-fitted c m (strong t None) = refl
-plain-fitted c m (strong t (Some k)) = refl
-plain-fitted c m (weak t None) = refl
-plain-fitted c m (weak t (Some k)) = refl
-plain-fitted c m (alias k property) = refl
 
 only-that : (c : Board) (name : List ℕ) (m s : ℕ) → is_target s (only_of c name m) ≡ true → s ≡ m
 only-that c name m s e = go (is_of c name m) refl
@@ -209,7 +183,7 @@ sees-fitted c m s i [] e = inl e
 sees-fitted c m s zero (x ∷ xs) e = go (or_cases (sees_it s (x.0, fitted c m x.1)) (sees s xs) e)
   where
     go : (sees_it s (x.0, fitted c m x.1) ≡ true) ⊎ (sees s xs ≡ true) → (sees s (x ∷ xs) ≡ true) ⊎ (s ≡ m)
-    go (inr rest) = inl (or-right (sees_it s x) (sees s xs) rest)
+    go (inr rest) = inl (or_right (sees_it s x) (sees s xs) rest)
     go (inl here) = by (sees-fitted_it c m s x here)
       where
         by : (sees_it s x ≡ true) ⊎ (s ≡ m) → (sees s (x ∷ xs) ≡ true) ⊎ (s ≡ m)
@@ -223,7 +197,7 @@ sees-fitted c m s (suc i) (x ∷ xs) e = go (or_cases (sees_it s x) (sees s (cha
     go (inr there) rest = by (rest there)
       where
         by : (sees s xs ≡ true) ⊎ (s ≡ m) → (sees s (x ∷ xs) ≡ true) ⊎ (s ≡ m)
-        by (inl own) = inl (or-right (sees_it s x) (sees s xs) own)
+        by (inl own) = inl (or_right (sees_it s x) (sees s xs) own)
         by (inr is) = inr is
 
 calm-fitted : (c : Board) (source i : ℕ) (xs : Slots) → Calm source xs → Calm source (changed_at (fitted c source) i xs)
@@ -442,23 +416,14 @@ module _ (b : Board) (source : ℕ) where
 
   -- where it stands
   growing-set : (name : List ℕ) (v : Val) (c : Board) → Growing c → Growing (set_named n name v c)
-  unfolding set
-  growing-set name v c h = go (place_from (is_named name) 0 (slots_at c n)) refl
-    where
-      go : (o : Option ℕ) → place_from (is_named name) 0 (slots_at c n) ≡ o → Growing (set_named n name v c)
-      go None e = rw (set_named, e) h
-      go (Some i) e =
-          rw (set_named, e)
-          (growing-own (with_changed (with_val v) i) (λ r. refl) (λ r k. news-changed b.born (with_val v) (new-val b.born v) i r.slots k) c h)
+  growing-set name v c h =
+      set-by Growing n name c h v
+      (λ i e. growing-own (with_changed (with_val v) i) (λ r. refl) (λ r k. news-changed b.born (with_val v) (new-val b.born v) i r.slots k) c h)
 
   growing-link : (name : List ℕ) (m : ℕ) (c : Board) → Growing c → Growing (link_named n name m c)
-  growing-link name m c h = go (place_from (is_named name) 0 (slots_at c n)) refl
-    where
-      go : (o : Option ℕ) → place_from (is_named name) 0 (slots_at c n) ≡ o → Growing (link_named n name m c)
-      go None e = rw (link_named, e) h
-      go (Some i) e =
-          rw (link_named, e)
-          (growing-own (with_changed (fitted c m) i) (λ r. refl) (λ r k. news-changed b.born (fitted c m) (new-fitted b.born c m) i r.slots k) c h)
+  growing-link name m c h =
+      link-by Growing n name c h m
+      (λ i e. growing-own (with_changed (fitted c m) i) (λ r. refl) (λ r k. news-changed b.born (fitted c m) (new-fitted b.born c m) i r.slots k) c h)
 
   growing-given : (props : List Given) (c : Board) → Growing c → Growing (edit n (with_given b props) c)
   growing-given props c h =
@@ -473,64 +438,44 @@ module _ (b : Board) (source : ℕ) where
 
   pub growing-stood : (a : Wanted) (spot : Spot) (c : Board) → Growing c → Growing (stood b n a spot c)
   growing-stood a spot c h =
-      let c1 : Board = add (parent_for a.id) (name_for b a.id) (child n) c in
-      let c2 : Board = joined b n a spot c in
-      let c3 : Board = edit n (with_given b a.props) c2 in
-      let c4 : Board = set_named n (codes "slot") (val.Uint spot.slot) c3 in
-      let c5 : Board = link_named n (codes "parent_bus") spot.bus c4 in
-      let c6 : Board = valued b n a.props spot c2 in
-      growing-own (with_body_of a.id spot.range) (λ r. refl) (λ r k. k) (addressed_at n spot.range c6)
-      (growing-addressed spot.range c6
-      (growing-set (codes "realized") (val.Bool true) c5
-      (growing-link (codes "parent_bus") spot.bus c4
-      (growing-set (codes "slot") (val.Uint spot.slot) c3
-      (growing-given a.props c2
-      (growing-add spot.bus (kid_name spot.slot) (strong Device (Some n)) refl refl (tt, tt) c1
-      (growing-add (parent_for a.id) (name_for b a.id) (child n) refl refl (tt, omega arith) c h)))))))
+      stand-by Growing b n a spot
+      (record {
+        named = λ d. growing-add (parent_for a.id) (name_for b a.id) (child n) refl refl (tt, omega arith) d;
+        on_bus = λ d. growing-add spot.bus (kid_name spot.slot) (strong Device (Some n)) refl refl (tt, tt) d;
+        given = growing-given a.props;
+        placed = growing-set (codes "slot") (val.Uint spot.slot);
+        linked = growing-link (codes "parent_bus") spot.bus;
+        marked = growing-set (codes "realized") (val.Bool true);
+        addressed = growing-addressed spot.range;
+        bodied = growing-own (with_body_of a.id spot.range) (λ r. refl) (λ r k. k);
+      }) c h
 
   growing-clocked : (c : Board) → Growing c → Growing (clocked source n c)
   growing-clocked c h = go (clock_of c n) refl
     where
-      at_place : (x : ℕ) → b.born < x → (o : Option ℕ) → place_from (is_named (codes "source")) 0 (slots_at c x) ≡ o
-          → Growing (link_named x (codes "source") source c)
-      at_place x high None e = rw (link_named, e) h
-      at_place x high (Some i) e = rw (link_named, e) (growing-source x i high c h)
-
       go : (o : Option ℕ) → clock_of c n ≡ o → Growing (with_source source o c)
       go None e = h
       go (Some x) e =
           let (own, new) = child-in (NewSlot b.born) (codes "clk") (slots_at c n) h.device x e in
-          at_place x new.1 (place_from (is_named (codes "source")) 0 (slots_at c x)) refl
+          link-by Growing x (codes "source") c h source (λ i q. growing-source x i new.1 c h)
 
   growing-counted : (id : Option (List ℕ)) (c : Board) → Growing c → Growing (counted id c)
   growing-counted None c h = growing-like c _ (λ m. refl) refl h
   growing-counted (Some id) c h = h
 
   -- acts
-  growing-acted_all : (act : Act) (ns : List ℕ) (c : Board) → Growing c → Growing (acted_all act ns c)
+  growing-acts : KeepsActs (λ m. ⊤) Growing
   unfolding acted
-  growing-acted_all act [] c h = h
-  growing-acted_all act (x ∷ ns) c h = growing-acted_all act ns (acted act x 0 c) (growing-like c (acted act x 0 c) (acted-slots act x 0 c) refl h)
-
-  growing-phased : (act : Act) (ns : List ℕ) (c : Board) → Growing c → Growing (phased act ns c)
-  unfolding acted
-  growing-phased act [] c h = h
-  growing-phased act (x ∷ ns) c h = growing-phased act ns (acted act x 0 c) (growing-like c (acted act x 0 c) (acted-slots act x 0 c) refl h)
-
-  growing-plugged : (d : ℕ) (c : Board) → Growing c → Growing (plugged c d)
-  unfolding plugged
-  growing-plugged d c h =
-      let c1 : Board = phased Enter (post c d) c in
-      let c2 : Board = phased Hold (post c d) c1 in
-      growing-phased Exit (filter (is_out c) (post c d)) c2 (growing-phased Hold (post c d) c1 (growing-phased Enter (post c d) c h))
+  growing-acts act x period unbound on c h = growing-like c (acted act x period c) (acted-slots act x period c) refl h
 
 pub growing-all : (b : Board) (t : TypeId) (a : Wanted) (spot : Spot) → ((m : ℕ) → b.born < m → record_of b m ≡ None) → is_a t (codes "device") ≡ true
     → Growing b (source_for b spot.bus) (with_plugged b t a spot)
 growing-all b t a spot absent device =
     growing-like b source (edit m (with_path (canonical c3 m)) c3) _ (λ x. refl) refl
     (growing-edit b source m (with_path (canonical c3 m)) (λ r. refl) (λ r. less-none r.slots) (λ r k. k) c3
-    (growing-plugged b source m c2
-    (growing-acted_all b source Realize (m ∷ bus_births m t) (with_device b t a spot)
+    (step-plugged (λ x. ⊤) (Growing b source) (growing-acts b source) m c2 (all-any (post c2 m))
+    (step-acted_all (λ x. ⊤) (Growing b source) (growing-acts b source) Realize refl (m ∷ bus_births m t) (all-any (m ∷ bus_births m t))
+    (with_device b t a spot)
     (growing-counted b source a.id (clocked source m c1)
     (growing-clocked b source c1
     (growing-stood b source a spot (drafted b t)

@@ -1,8 +1,7 @@
 -- Adding a device, taken or refused at any stage, keeps clocks sound.
-use Rattle.std.proofs.Common.{◌≡◌, refl, ap, sym, ◌∙◌, ℕ, ◌<◌, ◌≤◌, Bool, true, false, not, List, Option, Some, None, is_some, codes, arith}
+use Rattle.std.proofs.Common.{◌≡◌, refl, ap, sym, ◌∙◌, ℕ, ◌<◌, ◌≤◌, true, false, List, Option, Some, None, is_some, codes, arith}
 use Rattle.std.specs.List.{AllByRecursion}
 use Rattle.qo_values.specs.declared.codes.Code.{Code}
-use Rattle.qo_values.specs.declared.codes.Code.TheVariants.{E21, E22}
 use Rattle.qo_values.specs.declared.kinds.TypeId.{TypeId}
 use Rattle.qo_model.specs.Board.{Board, Record, Slot, kind_of, record_of, slots_at}
 use Rattle.qo_model.specs.Devices.{bridge_of, clock_of}
@@ -10,11 +9,11 @@ use Rattle.qo_model.specs.Plug.{Spot, Wanted, barred_early, barred_late, bus_for
 use Rattle.qo_model.specs.Types.{TypeRow, is_a, row_named}
 use Rattle.qo_model.proofs.StepLemmas.{is_some-map}
 use Rattle.qo_sound.specs.Kept.{SoundTree}
-use Rattle.qo_sound.proofs.AddLemmas.{unbarred}
 use Rattle.qo_sound.proofs.DraftLemmas.{found-low}
 use Rattle.qo_sound.proofs.FirmLemmas.{Firm, Linked}
 use Rattle.qo_sound.proofs.FoundLemmas.{all-found}
 use Rattle.qo_sound.proofs.KeptLemmas.{sound_kept_lem}
+use Rattle.qo_sound.proofs.PlugLemmas.{device-of}
 use Rattle.qo_sound.proofs.ReadLemmas.{slots_in}
 use Rattle.qo_sound.proofs.ViewLemmas.{rest-from_sound}
 use Rattle.qo_sound_clocks.specs.SoundClocks.{SoundClocks}
@@ -33,7 +32,7 @@ module _ (b : Board) (firm : Firm b) where
       go None q = absurd (let clash : false ≡ true = sym (ap is_some q) ∙ e in cc)
       go (Some r) q = found-low b.born m b.records r firm.within q
 
-  absent-above : (m : ℕ) → b.born < m → record_of b m ≡ None
+  pub absent-above : (m : ℕ) → b.born < m → record_of b m ≡ None
   absent-above m high = go (record_of b m) refl
     where
       go : (o : Option Record) → record_of b m ≡ o → record_of b m ≡ None
@@ -92,16 +91,6 @@ plugged-clocks b t a spot device tree after h =
     g : Growing b (source_for b spot.bus) c
     g = growing b t a spot device tree
 
-flipped : (u : Bool) → not u ≡ false → u ≡ true
-flipped true e = refl
-flipped false e = absurd (let clash : true ≡ false = e in cc)
-
-is-device : (driver : List ℕ) (row : TypeRow) → row_named driver ≡ Some row → type_barred driver ≡ None → is_a row.id (codes "device") ≡ true
-is-device driver row p e =
-    let first = unbarred row.is_abstract E21 _ (rw (type_barred, p) at e) in
-    let second = unbarred (not (is_a row.id (codes "device"))) E22 _ first.1 in
-    flipped (is_a row.id (codes "device")) second.0
-
 -- at each stage
 module _ (P : Board → Type 0) (b : Board) (a : Wanted) (h : P b)
     (given_up : (t : TypeId) (bus stage : ℕ) → P (plug_attempt b t bus stage))
@@ -125,7 +114,7 @@ module _ (P : Board → Type 0) (b : Board) (a : Wanted) (h : P b)
     where
       go : (row : Option TypeRow) → row_named a.driver ≡ row → P (plug_by b a None).board
       go None p = rw (plug_by, p) h
-      go (Some row) p = rw (plug_by, p) (kept-as row.id (barred_early b row.id a) (is-device a.driver row p e) (rw (plug_by, p) at after))
+      go (Some row) p = rw (plug_by, p) (kept-as row.id (barred_early b row.id a) (device-of row (rw (type_barred, p) at e)) (rw (plug_by, p) at after))
 
   pub kept-plug : SoundTree (plug b a).board → P (plug b a).board
   unfolding plug

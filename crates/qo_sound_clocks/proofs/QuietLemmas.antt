@@ -1,14 +1,15 @@
 -- Slots under other names than those of clocks: they read as no clock, and stay so.
-use Rattle.std.proofs.Common.{◌≡◌, refl, ap, sym, ◌∙◌, ℕ, Bool, true, false, cond, ◌&&◌, ◌||◌, List, [], ◌∷◌, map, find, Option, Some, None, codes}
+use Rattle.std.proofs.Common.{◌≡◌, refl, ap, sym, ◌∙◌, ℕ, Bool, true, false, cond, ◌||◌, List, [], ◌∷◌, map, Option, None, codes}
 use Rattle.std.specs.Bool.{⊤}
 use Rattle.std.specs.List.{AllByRecursion}
 use Rattle.std.specs.Option.{option_or}
 use Rattle.std.specs.Str.{bytes_eq}
+use Rattle.std.proofs.Math.Bool.{and-false}
+use Rattle.std.proofs.lemmas.Bool.{or_parts}
 use Rattle.std.proofs.lemmas.Slice.Eq.{bytes_eq-Decides}
-use Rattle.qo_values.specs.declared.properties.Val.{Val}
-use Rattle.qo_values.specs.declared.properties.Val.TheVariants as val
 use Rattle.qo_model.specs.Board.{Board, Slot, plain, child, strong, weak, alias}
-use Rattle.qo_model.specs.Objects.{Given, given_to, slot_given}
+use Rattle.qo_model.specs.Objects.{Given, slot_given}
+use Rattle.qo_sound.proofs.GivenLemmas.{given-cases}
 use Rattle.qo_sound.proofs.RecordLemmas.{all-map}
 use Rattle.qo_sound_clocks.proofs.LessLemmas.{Blank, OtherName, plain_of, sees, Slots}
 
@@ -16,15 +17,11 @@ use Rattle.qo_sound_clocks.proofs.LessLemmas.{Blank, OtherName, plain_of, sees, 
 abbrev pub is_read : List ℕ → Bool
 is_read name = bytes_eq name (codes "period") || (bytes_eq name (codes "mul") || (bytes_eq name (codes "div") || bytes_eq name (codes "source")))
 
-either-false : (t u : Bool) → (t || u) ≡ false → (t ≡ false) × (u ≡ false)
-either-false true u e = absurd (let clash : true ≡ false = e in cc)
-either-false false u e = (refl, e)
-
 pub other-name : (name : List ℕ) → is_read name ≡ false → OtherName name
 other-name name e =
-    let one = either-false (bytes_eq name (codes "period")) _ e in
-    let two = either-false (bytes_eq name (codes "mul")) _ one.1 in
-    let three = either-false (bytes_eq name (codes "div")) _ two.1 in
+    let one = or_parts (bytes_eq name (codes "period")) _ e in
+    let two = or_parts (bytes_eq name (codes "mul")) _ one.1 in
+    let three = or_parts (bytes_eq name (codes "div")) _ two.1 in
     record { period = one.0; mul = two.0; div = three.0; source = three.1 }
 
 -- a slot that is not read as a clock's
@@ -36,10 +33,6 @@ Quiet s = ⊤
 skip : {A : Type 0} (t : Bool) {o : Option A} → o ≡ None → option_or (cond t None None) o ≡ None
 skip true e = e
 skip false e = e
-
-and-false : (t : Bool) → (t && false) ≡ false
-and-false true = refl
-and-false false = refl
 
 quiet-plain : (name : List ℕ) → is_read name ≡ true → (xs : Slots) → AllByRecursion Quiet xs → plain_of name xs ≡ None
 quiet-plain name read [] h = refl
@@ -73,26 +66,8 @@ quiet-blank xs h =
 
 -- the values given to a new object
 pub quiet-given : (b : Board) (props : List Given) (s : List ℕ × Slot) → Quiet s → Quiet (slot_given b props s)
-quiet-given b props (name, s) h = go (find (λ (p : Given). bytes_eq p.0 name) props) refl
-  where
-    given : (t : Slot) (v : Val) → Quiet (name, t) → Quiet (name, given_to b t v)
-    given (plain old) v k = k
-    given (child m) v k = tt
-    given (strong t target) (val.Text path) k = tt
-    given (strong t target) (val.Bool v) k = tt
-    given (strong t target) (val.Int v) k = tt
-    given (strong t target) (val.Uint v) k = tt
-    given (strong t target) val.Nothing k = tt
-    given (weak t target) (val.Text path) k = k
-    given (weak t target) (val.Bool v) k = k
-    given (weak t target) (val.Int v) k = k
-    given (weak t target) (val.Uint v) k = k
-    given (weak t target) val.Nothing k = k
-    given (alias m property) v k = tt
-
-    go : (o : Option Given) → find (λ (p : Given). bytes_eq p.0 name) props ≡ o → Quiet (slot_given b props (name, s))
-    go None e = rw (slot_given, e) h
-    go (Some p) e = rw (slot_given, e) (given s p.1 h)
+quiet-given b props (name, s) h =
+    given-cases b props (λ x y. Quiet (name, x) → Quiet (name, y)) (λ x k. k) (λ old v k. k) (λ t target path k. tt) (λ t target path k. k) (name, s) h
 
 pub quiet-all_given : (b : Board) (props : List Given) (xs : Slots) → AllByRecursion Quiet xs → AllByRecursion Quiet (map (slot_given b props) xs)
 quiet-all_given b props xs h = all-map Quiet Quiet (slot_given b props) (quiet-given b props) xs h

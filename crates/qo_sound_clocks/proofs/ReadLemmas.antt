@@ -1,13 +1,13 @@
 -- What is read of the clocks of a board whose tree is sound, by the slots of each object.
-use Rattle.std.proofs.Common.{◌≡◌, refl, ap, sym, ◌∙◌, ℕ, Bool, true, false, ◌||◌, List, [], ◌∷◌, find, Option, Some, None, option_map, option_and_then, unwrap_or, codes}
+use Rattle.std.proofs.Common.{◌≡◌, refl, ap, sym, ◌∙◌, ℕ, Bool, true, false, List, [], ◌∷◌, Option, Some, None, option_and_then, unwrap_or, codes}
 use Rattle.std.specs.List.{AllByRecursion, IsDistinct}
-use Rattle.std.specs.Option.{option_map_or, option_or}
+use Rattle.std.specs.Option.{option_or}
 use Rattle.std.specs.Str.{bytes_eq}
-use Rattle.std.proofs.lemmas.Bool.{eqb-true, eq-eqb}
+use Rattle.std.proofs.lemmas.Bool.{eqb-true, eq-eqb, or_right}
 use Rattle.std.proofs.lemmas.Option.{same_Some}
 use Rattle.std.proofs.lemmas.Slice.Eq.{bytes_eq-Decides}
 use Rattle.qo_values.specs.declared.properties.Val.{Val}
-use Rattle.qo_model.specs.Board.{Board, Record, Slot, record_of, slots_at}
+use Rattle.qo_model.specs.Board.{Board, Record, record_of, slots_at}
 use Rattle.qo_model.specs.Clocks.{div_of, mul_of, own_period, source_of, weak_in}
 use Rattle.qo_model.specs.Devices.{number_in, plain_in}
 use Rattle.qo_sound.specs.Kept.{SoundTree}
@@ -20,17 +20,13 @@ use Rattle.qo_sound_clocks.proofs.LessLemmas.{div_in, is_target, mul_in, own_in,
 
 -- a source is seen
 
-target-seen : (s : ℕ) (o : Option ℕ) → o ≡ Some s → is_target s o ≡ true
+pub target-seen : (s : ℕ) (o : Option ℕ) → o ≡ Some s → is_target s o ≡ true
 target-seen s None e = cc
 target-seen s (Some m) e = eq-eqb m s (same_Some m s e)
 
-seen-target : (s : ℕ) (o : Option ℕ) → is_target s o ≡ true → o ≡ Some s
+pub seen-target : (s : ℕ) (o : Option ℕ) → is_target s o ≡ true → o ≡ Some s
 seen-target s None e = cc
 seen-target s (Some m) e = ap (λ (k : ℕ). Some k) (eqb-true m s e)
-
-or-right : (t u : Bool) → u ≡ true → (t || u) ≡ true
-or-right true u e = refl
-or-right false u e = e
 
 seen : (s : ℕ) (slots : Slots) → option_and_then weak_in (named_in (codes "source") slots) ≡ Some s → sees s slots ≡ true
 seen s [] e = cc
@@ -42,12 +38,12 @@ seen s (x ∷ xs) e = go (bytes_eq x.0 (codes "source")) refl (seen s xs)
         let own : weak_in x.1 ≡ Some s = rw p at e in
         let here : sees_it s x ≡ true = rw p (target-seen s (weak_in x.1) own) in
         rw here refl
-    go false p rest = or-right (sees_it s x) (sees s xs) (rest (rw p at e))
+    go false p rest = or_right (sees_it s x) (sees s xs) (rest (rw p at e))
 
 -- where names differ, no other slot has the name of the first
 
 module _ (own name : List ℕ) (is : own ≡ name) where
-  none-plain : (xs : Slots) → AllByRecursion (λ m. bytes_eq own m ≡ false) (names_in xs) → plain_of name xs ≡ None
+  pub none-plain : (xs : Slots) → AllByRecursion (λ m. bytes_eq own m ≡ false) (names_in xs) → plain_of name xs ≡ None
   none-plain [] h = refl
   none-plain (x ∷ xs) h = go (bytes_eq x.0 name) refl (none-plain xs h.1)
     where
@@ -67,7 +63,7 @@ module _ (own name : List ℕ) (is : own ≡ name) where
           absurd (let clash : true ≡ false = sym ((bytes_eq-Decides own x.0).1 same) ∙ h.0 in cc)
       go false p rest = rw p rest
 
-plain-read : (name : List ℕ) (xs : Slots) → IsDistinct bytes_eq (names_in xs) → option_and_then plain_in (named_in name xs) ≡ plain_of name xs
+pub plain-read : (name : List ℕ) (xs : Slots) → IsDistinct bytes_eq (names_in xs) → option_and_then plain_in (named_in name xs) ≡ plain_of name xs
 unfolding IsDistinct
 plain-read name [] h = refl
 plain-read name (x ∷ xs) h = go (bytes_eq x.0 name) refl (plain-read name xs h.1)

@@ -1,22 +1,19 @@
 -- The law: what other registers of an object keep. None of it speaks of registers but the moments of timers.
-use Rattle.std.proofs.Common.{◌≡◌, refl, ap, sym, ◌∙◌, ℕ, Bool, true, false, ◌==◌, List, find, filter_map, codes, Option, Some, None, option_map, option_and_then}
-use Rattle.std.specs.Option.{option_map_or}
-use Rattle.std.specs.Str.{bytes_eq}
+use Rattle.std.proofs.Common.{◌≡◌, refl, ap, sym, ◌∙◌, ℕ, false, None, option_map}
 use Rattle.qo_values.specs.Registers.{Registers}
-use Rattle.qo_model.specs.Board.{Board, Record, Slot, record_of, slots_at}
-use Rattle.qo_model.specs.Devices.{is_true, number_in, plain_in, strong_in}
+use Rattle.qo_model.specs.Board.{Board, record_of, slots_at}
 use Rattle.qo_model.specs.Release.{edited}
 use Rattle.qo_model.proofs.FinalNotesLemmas.{edit-keeps}
-use Rattle.qo_model.proofs.StepLemmas.{found-edited}
+use Rattle.qo_model.proofs.StepLemmas.{found-edited, map-edited, slots-edited}
 use Rattle.qo_sound.specs.Kept.{SoundTree}
 use Rattle.qo_sound.proofs.CutLemmas.{near-same_slots}
 use Rattle.qo_sound.proofs.FirmLemmas.{Firm}
-use Rattle.qo_sound.proofs.ReadLemmas.{slots_in, named_in}
+use Rattle.qo_sound.proofs.ReadLemmas.{slots_in}
 use Rattle.qo_sound.proofs.ViewLemmas.{AtRest, rest-from_sound, sound-from_rest}
 use Rattle.qo_sound.proofs.WorkLemmas.{Nearly}
 use Rattle.qo_sound_devices.specs.SoundDevices.{SoundDevices}
-use Rattle.qo_sound_devices.specs.SoundPlaces.{PlacesBut, child_entry, kid_entry}
-use Rattle.qo_sound_devices.proofs.AlikeLemmas.{Alike, bodiless}
+use Rattle.qo_sound_devices.specs.SoundPlaces.{PlacesBut}
+use Rattle.qo_sound_devices.proofs.AlikeLemmas.{Alike, bodiless, alike-same}
 use Rattle.qo_sound_devices.proofs.ListsLemmas.{lists-same}
 use Rattle.qo_sound_devices.proofs.LowLemmas.{moved-dimmed, stands-dimmed}
 use Rattle.qo_sound_devices.proofs.MovedLemmas.{places-moved}
@@ -34,38 +31,13 @@ module _ (b : Board) (n : ℕ) (registers : Registers) where
   found x = found-edited n (with_registers registers) (λ r. refl) x b.records
 
   slots-set : (x : ℕ) → slots_at set x ≡ slots_at b x
-  slots-set x = ap slots_in (found x) ∙ go (record_of b x)
-    where
-      at_record : (r : Record) (t : Bool) → (r.birth == n) ≡ t → (edited n (with_registers registers) r).slots ≡ r.slots
-      at_record r true p = rw (edited, p) refl
-      at_record r false p = rw (edited, p) refl
-
-      go : (o : Option Record) → slots_in (option_map (edited n (with_registers registers)) o) ≡ slots_in o
-      go None = refl
-      go (Some r) = at_record r (r.birth == n) refl
+  slots-set x = ap slots_in (found x) ∙ slots-edited n (with_registers registers) (λ r. refl) (record_of b x)
 
   body-set : (x : ℕ) → option_map bodiless (record_of set x) ≡ option_map bodiless (record_of b x)
-  body-set x = ap (option_map bodiless) (found x) ∙ go (record_of b x)
-    where
-      at_record : (r : Record) (t : Bool) → (r.birth == n) ≡ t → bodiless (edited n (with_registers registers) r) ≡ bodiless r
-      at_record r true p = rw (edited, p) refl
-      at_record r false p = rw (edited, p) refl
-
-      go : (o : Option Record) → option_map bodiless (option_map (edited n (with_registers registers)) o) ≡ option_map bodiless o
-      go None = refl
-      go (Some r) = ap Some (at_record r (r.birth == n) refl)
+  body-set x = ap (option_map bodiless) (found x) ∙ map-edited bodiless n (with_registers registers) (λ r. refl) (record_of b x)
 
   alike-set : (x : ℕ) → Alike b set x
-  alike-set x =
-      let slots = slots-set x in
-      record {
-        children = ap (filter_map child_entry) slots;
-        kids = ap (filter_map kid_entry) slots;
-        bus = ap (λ (ss : List (List ℕ × Slot)). option_and_then strong_in (named_in (codes "parent_bus") ss)) slots;
-        place = ap (λ (ss : List (List ℕ × Slot)). option_and_then number_in (option_and_then plain_in (named_in (codes "slot") ss))) slots;
-        realized = ap (λ (ss : List (List ℕ × Slot)). option_map_or is_true (option_and_then plain_in (named_in (codes "realized") ss)) false) slots;
-        body = body-set x;
-      }
+  alike-set x = alike-same b set x (slots-set x) (body-set x)
 
   dims-set : Dims b set
   dims-set = dims-alike b set refl alike-set

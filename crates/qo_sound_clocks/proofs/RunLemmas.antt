@@ -12,9 +12,7 @@ use Rattle.qo_model.specs.Opening.{opening_board}
 use Rattle.qo_model.specs.Plug.{cut_attempt}
 use Rattle.qo_sound_devices.specs.DeviceRuns.{Step, commands, adds, cuts, asks, refuses, lets_go, reads, acts, holds, releases, resets, sends, notice_read, stepped}
 use Rattle.qo_sound_devices.specs.SoundDevices.{SoundDevices}
-use Rattle.qo_sound_devices.specs.SoundLists.{IsOn}
-use Rattle.qo_sound_devices.proofs.DevicesLawLemmas.{devices_kept_lem}
-use Rattle.qo_sound_devices.proofs.PlugLemmas.{among-all}
+use Rattle.qo_sound_devices.proofs.DevicesLawLemmas.{devices_kept_lem, stepped-below}
 use Rattle.qo_sound_clocks.specs.ClockRuns.{ClockRunsLaw, ClockStep, goes, passes, scales, sets, behind_clock_steps, clock_stepped, SoundRun}
 use Rattle.qo_sound_clocks.specs.SoundClocks.{SoundClocks}
 use Rattle.qo_sound_clocks.specs.SoundNumbers.{SoundNumbers}
@@ -90,28 +88,6 @@ times-step b (releases n) h = times_kept_lem.released_so b n h
 times-step b resets h = times_kept_lem.reset b h
 times-step b sends h = h
 
-devices-step : (b : Board) (step : Step) → SoundDevices b → SoundDevices (stepped b step)
-devices-step b (commands change) h = devices_kept_lem.change b change h
-devices-step b (adds a) h = devices_kept_lem.plugged b a h
-devices-step b (cuts t i joined) h = devices_kept_lem.cut b t i joined h
-devices-step b (asks id) h = devices_kept_lem.asked_for b id h
-devices-step b (refuses n) h = devices_kept_lem.refused_by b n h
-devices-step b (lets_go n) h = go (among b.pending n) refl
-  where
-    go : (t : Bool) → among b.pending n ≡ t → SoundDevices (stepped b (lets_go n))
-    go true e = rw (stepped, e) (devices_kept_lem.detached b n h (among-all (IsOn b) b.pending h.lists.pending n e).0)
-    go false e = rw (stepped, e) h
-devices-step b reads h = go b.notices refl
-  where
-    go : (xs : List Notice) → b.notices ≡ xs → SoundDevices (notice_read b)
-    go [] e = rw (notice_read, e) h
-    go (notice ∷ others) e = rw (notice_read, e) (devices_kept_lem.read b notice others e h)
-devices-step b (acts act n period) h = devices_kept_lem.acts act n period b h
-devices-step b (holds n) h = devices_kept_lem.held_so b n h
-devices-step b (releases n) h = devices_kept_lem.released_so b n h
-devices-step b resets h = devices_kept_lem.reset b h
-devices-step b sends h = devices_kept_lem.beside b _ refl refl refl refl refl refl h
-
 below : (m n : ℕ) → nat_lt m n ≡ true → m < n
 below m n e = grind (arith, nat_tests, e)
 
@@ -139,7 +115,7 @@ scaled-run b c mul div wide also (Ok d) e h =
 step-run : (b : Board) (step : ClockStep) → SoundRun b → SoundRun (clock_stepped b step)
 step-run b (goes step) h =
     record {
-      devices = devices-step b step h.devices;
+      devices = stepped-below b step h.devices;
       clocks = clocks-step b step h.devices h.clocks;
       numbers = numbers-step b step h.devices h.numbers;
       times = times-step b step h.times;

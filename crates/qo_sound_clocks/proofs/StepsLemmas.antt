@@ -23,15 +23,22 @@ KeepsNumbers P =
     (name : List ℕ) → bytes_eq name (codes "slot") ≡ false → bytes_eq name (codes "realized") ≡ false → (n v : ℕ) (b : Board) → P b
     → P (set_named n name (val.Uint v) b)
 
+-- a call back, which is Pre with the Update that follows it, keeps P
+abbrev pub KeepsCalls : (Board → Type 0) → Type 0
+KeepsCalls P = (d old new : ℕ) (c : Board) → P c → P (acted Update d new (acted Pre d old c))
+
+pub calls-kept : (P : Board → Type 0) → ((act : Act) (n period : ℕ) (b : Board) → P b → P (acted act n period b)) → KeepsCalls P
+calls-kept P acts d old new c h = acts Update d new (acted Pre d old c) (acts Pre d old c h)
+
 -- the clocks below are called back
-module _ (P : Board → Type 0) (acts : (act : Act) (n period : ℕ) (b : Board) → P b → P (acted act n period b)) where
+module _ (P : Board → Type 0) (calls : KeepsCalls P) where
   kept-called : (old new e : Board) (c : ℕ) → P e → P (called old new e c)
   kept-called old new e c h = go (eqb (period old c) (period new c)) refl (parent_of new c) refl
     where
       go : (t : Bool) → eqb (period old c) (period new c) ≡ t → (o : Option ℕ) → parent_of new c ≡ o → P (called old new e c)
       go true p o q = rw (called, p) h
       go false p None q = rw (called, p, q) h
-      go false p (Some d) q = rw (called, p, q) (acts Update d (period new c) (acted Pre d (period old c) e) (acts Pre d (period old c) e h))
+      go false p (Some d) q = rw (called, p, q) (calls d (period old c) (period new c) e h)
 
   pub kept-all : (old new : Board) (cs : List ℕ) (e : Board) → P e → P (called_all old new cs e)
   kept-all old new [] e h = h

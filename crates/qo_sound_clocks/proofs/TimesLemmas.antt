@@ -39,7 +39,7 @@ use Rattle.qo_sound.proofs.DetachStepsLemmas.{KeepsEnds, KeepsLists, KeepsPins, 
 use Rattle.qo_sound.proofs.ChangeStepsLemmas.{step-object_del, step-sever, step-write}
 use Rattle.qo_sound_clocks.specs.SoundTimes.{IsTimely, SoundTimes}
 use Rattle.qo_sound_clocks.specs.TimesKept.{TimesKeptLaw}
-use Rattle.qo_sound_clocks.proofs.StepsLemmas.{kept-scaled, kept-set, KeepsNumbers}
+use Rattle.qo_sound_clocks.proofs.StepsLemmas.{kept-scaled, kept-set, KeepsNumbers, calls-kept}
 
 -- an object that is timely at a moment
 abbrev Timely : ℕ → Record → Type 0
@@ -414,8 +414,8 @@ times_kept_lem =
       held_so = held-times;
       released_so = released-times;
       pulsed = pulse-times;
-      set = kept-set SoundTimes acted-times times-numbers;
-      scaled = kept-scaled SoundTimes acted-times times-numbers;
+      set = kept-set SoundTimes (calls-kept SoundTimes acted-times) times-numbers;
+      scaled = kept-scaled SoundTimes (calls-kept SoundTimes acted-times) times-numbers;
       change = changed-times;
       plugged = plug-times;
       detached = detach-times;

@@ -1,5 +1,5 @@
 -- Where a write of a clock's numbers is not refused, the clocks are sound behind it.
-use Rattle.std.proofs.Common.{◌≡◌, ◌⊎◌, inl, inr, refl, ap, subst, sym, ◌∙◌, ℕ, zero, suc, Bool, true, false, eqb, List, [], ◌∷◌, find, slice_get, Option, Some, None, option_map, option_and_then, unwrap_or, codes, Ok, Err}
+use Rattle.std.proofs.Common.{◌≡◌, ◌⊎◌, inl, inr, refl, ap, subst, sym, ◌∙◌, ℕ, zero, suc, Bool, true, false, eqb, List, [], ◌∷◌, slice_get, Option, Some, None, option_map, option_and_then, unwrap_or, codes, Ok, Err}
 use Rattle.std.specs.List.{list_any}
 use Rattle.std.specs.Str.{bytes_eq}
 use Rattle.std.proofs.lemmas.Bool.{eqb-true, eq-eqb}
@@ -26,7 +26,7 @@ use Rattle.qo_sound_clocks.specs.SoundClocks.{SoundClocks}
 use Rattle.qo_sound_clocks.proofs.LessLemmas.{Slots}
 use Rattle.qo_sound_clocks.proofs.GrownLemmas.{same-sound}
 use Rattle.qo_sound_clocks.proofs.StayLemmas.{kept-acted}
-use Rattle.qo_sound_clocks.proofs.StepsLemmas.{kept-all, same_ok}
+use Rattle.qo_sound_clocks.proofs.StepsLemmas.{kept-all, same_ok, calls-kept}
 
 abbrev pub plain_at_name : List ℕ → Slots → Option Val
 plain_at_name name xs = option_and_then plain_in (named_in name xs)
@@ -194,7 +194,7 @@ module _ (b new : Board) (c : ℕ) (w : IsWritten b new c) (h : SoundClocks b) w
       go false p false q =
           let is : Ok (spread b new c) ≡ Ok d = rw (clock_written, p, q) at e in
           subst SoundClocks (same_ok (spread b new c) d is)
-          (kept-all SoundClocks (kept-acted SoundClocks same-sound) b new (clocks_below b c) new (written-sound kept not_zero p q))
+          (kept-all SoundClocks (calls-kept SoundClocks (kept-acted SoundClocks same-sound)) b new (clocks_below b c) new (written-sound kept not_zero p q))
 
 -- the writes
 

@@ -28,13 +28,13 @@ use Rattle.qo_sound_devices.proofs.RealizedLemmas.{rows-stay}
 use Rattle.qo_sound_devices.proofs.UnrealizeLemmas.{first-changed, named-other, none-found, other-name, reads}
 
 -- a slot under a name
-abbrev SlotIs : List ℕ → Slot → List (List ℕ × Slot) → Type 0
+abbrev pub SlotIs : List ℕ → Slot → List (List ℕ × Slot) → Type 0
 SlotIs name s slots = named_in name slots ≡ Some s
 
 pub slot-none : (name : List ℕ) (s : Slot) → SlotIs name s [] → ⊥
 slot-none name s e = absurd (let clash : None ≡ Some s = e in cc)
 
-slot-more : (name : List ℕ) (s : Slot) (y : List ℕ × Slot) (slots : List (List ℕ × Slot)) → SlotIs name s slots → SlotIs name s (slots ++ y ∷ [])
+pub slot-more : (name : List ℕ) (s : Slot) (y : List ℕ × Slot) (slots : List (List ℕ × Slot)) → SlotIs name s slots → SlotIs name s (slots ++ y ∷ [])
 slot-more name s y [] e = absurd (let clash : None ≡ Some s = e in cc)
 slot-more name s y (x ∷ slots) e = go (bytes_eq x.0 name) refl (slot-more name s y slots)
   where

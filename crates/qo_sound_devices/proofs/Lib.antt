@@ -22,6 +22,7 @@ pub mod MadeLemmas
 pub mod MovedLemmas
 pub mod PartLemmas
 pub mod PathLemmas
+pub mod PinLemmas
 mod PlaceRows
 pub mod PlacesLemmas
 pub mod PlainLemmas

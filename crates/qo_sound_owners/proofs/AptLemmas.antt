@@ -7,7 +7,6 @@ use Rattle.std.proofs.lemmas.Option.{same_Some}
 use Rattle.qo_values.specs.Registers.{Registers}
 use Rattle.qo_values.specs.declared.births.TheConstants.{MACHINE_BIRTH}
 use Rattle.qo_values.specs.declared.codes.Code.{Code}
-use Rattle.qo_values.specs.declared.codes.Code.TheVariants.{E21, E22}
 use Rattle.qo_values.specs.declared.kinds.TypeId.{TypeId}
 use Rattle.qo_values.specs.declared.kinds.TypeId.TheVariants.{Object, Container, Machine, Device, SlotDevice, SlotUart, SlotTimer, SlotBridge, MemDimm, Bus, SlotBus, MemBus, Clock, MemoryBackend, MemoryBackendRam, Tag}
 use Rattle.qo_model.specs.Board.{Board, Record, record_of}
@@ -19,15 +18,16 @@ use Rattle.qo_model.specs.Plug.{Wanted, drafted, plug, spot_of, with_path, with_
 use Rattle.qo_model.specs.ReleaseKeeps.{without_slots}
 use Rattle.qo_model.specs.Types.{TypeRow, is_a, row_named, slots_of, types}
 use Rattle.qo_model.proofs.StepLemmas.{found-birth}
+use Rattle.qo_sound.proofs.AddLemmas.{creatable}
 use Rattle.qo_sound.proofs.FoundLemmas.{all-found}
 use Rattle.qo_sound.proofs.MakeStepsLemmas.{RowPasses}
 use Rattle.qo_sound.proofs.PlugLemmas.{shut-above}
-use Rattle.qo_sound.proofs.TestLemmas.{decide}
 use Rattle.qo_sound.proofs.ViewLemmas.{AtRest, rest-from_sound}
 use Rattle.qo_sound_devices.specs.SoundDevices.{SoundDevices}
 use Rattle.qo_sound_devices.proofs.DraftedLemmas.{drafted-made}
 use Rattle.qo_sound_devices.proofs.MadeLemmas.{Made}
 use Rattle.qo_sound_devices.proofs.PlugLemmas.{Accepted, behind-plug}
+use Rattle.qo_sound_phases.proofs.LawLemmas.{is_machine}
 use Rattle.qo_sound_shapes.proofs.BoardLemmas.{AllOf, all-imply_of}
 use Rattle.qo_sound_shapes.proofs.CommandLemmas.{begun-devices}
 use Rattle.qo_sound_owners.specs.SoundOwners.{containers}
@@ -125,10 +125,6 @@ abbrev is_container : TypeId → Bool
 is_container Container = true
 is_container t = false
 
-abbrev is_machine : TypeId → Bool
-is_machine Machine = true
-is_machine t = false
-
 abbrev on_shelf : Record → Bool
 on_shelf r = not (is_container r.kind) || among containers r.birth
 
@@ -158,11 +154,6 @@ pub apt-opening : AllOf Apt opening_board
 apt-opening x r e = apt-fits r (all-found (λ (y : Record). fits y ≡ true) x opening_board.records all-fit r e)
 
 -- what nothing bars is of a type of objects that a user creates
-pub creatable : (b : Board) (row : TypeRow) (id : List ℕ) → barred b row id ≡ None → is_a row.id (codes "user-creatable") ≡ true
-creatable b row id e =
-    decide (row.is_abstract) (λ p. absurd (let bad : Some E21 ≡ None = rw (barred, p) at e in cc))
-    (λ p. decide (is_a row.id (codes "user-creatable")) (λ q. q) (λ q. absurd (let bad : Some E22 ≡ None = rw (barred, p, q) at e in cc)))
-
 -- commands on objects
 apt-object : (b : Board) (t : TypeId) (id : List ℕ) (props : List Given) (o : Option Code) → Plain t → AllOf Apt b → AllOf Apt (added_as b t id props o).board
 apt-object b t id props None plain h = fact-object Apt apt-slots apt-body Plain apt-fresh b t id props plain h

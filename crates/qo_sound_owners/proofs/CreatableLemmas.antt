@@ -17,13 +17,14 @@ use Rattle.qo_model.specs.Clocks.{acted}
 use Rattle.qo_model.specs.FinalNotesRuns.{behind_write, Change, added, changed, deleted, severed, wrote}
 use Rattle.qo_model.specs.Objects.{Given, added_as, added_by, barred, given_slots, is_object_named, object_add, object_del, place_from, sever, severed_from, refusal_of, with_attempt, with_object}
 use Rattle.qo_model.specs.Opening.{opening_board}
-use Rattle.qo_model.specs.Paths.{attached, births, is_of}
+use Rattle.qo_model.specs.Paths.{attached, is_of}
 use Rattle.qo_model.specs.Plug.{Wanted, plug, plug_attempt, spot_of, with_plugged}
 use Rattle.qo_model.specs.Properties.{write}
 use Rattle.qo_model.specs.Release.{edited, let_go, pin, unpin}
 use Rattle.qo_model.specs.Types.{TypeRow, is_a, row_named, types}
-use Rattle.qo_model.specs.Unplug.{apart_within, detach, left_bus, lost_buses, set_named, unrealize}
+use Rattle.qo_model.specs.Unplug.{detach, set_named, unrealize}
 use Rattle.qo_model.proofs.StepLemmas.{found_at, found-edited, found-birth}
+use Rattle.qo_sound.proofs.AddLemmas.{creatable}
 use Rattle.qo_sound.proofs.FirmLemmas.{edited-kind, Firm}
 use Rattle.qo_sound.proofs.FoundLemmas.{found-append}
 use Rattle.qo_sound.proofs.RecordLemmas.{all-append, all-both, all-imply}
@@ -35,15 +36,15 @@ use Rattle.qo_sound_devices.specs.SoundPlaces.{child_entries, child_entry}
 use Rattle.qo_sound_devices.proofs.AddLemmas.{entry-added}
 use Rattle.qo_sound_devices.proofs.DevicesLawLemmas.{devices_kept_lem}
 use Rattle.qo_sound_devices.proofs.JoinedLemmas.{done, Joined}
-use Rattle.qo_sound_devices.proofs.LowLemmas.{unrealize-dimmed}
+use Rattle.qo_sound_devices.proofs.PinLemmas.{pin-kind, pin-children}
 use Rattle.qo_sound_devices.proofs.PlacesLemmas.{all-within, child-live, children-there, IsThere, high-absent, kind-alike, linked-at, nothing, Within, within-all, within-same}
 use Rattle.qo_sound_devices.proofs.PlugLemmas.{Accepted, behind-plug}
 use Rattle.qo_sound_devices.proofs.PluggedLemmas.{accepted-joined}
-use Rattle.qo_sound_devices.proofs.UnrealizeLemmas.{Dimmed, dims-acted, dims-set, here}
-use Rattle.qo_sound_phases.proofs.ApartLemmas.{gone-apart, gone-before, gone-left_parent, Keeps, Walked, walked-let_go, walked-none, walked-pin, walked-unpin}
+use Rattle.qo_sound_devices.proofs.UnrealizeLemmas.{Dimmed, dims-acted, dims-set}
+use Rattle.qo_sound_phases.proofs.ApartLemmas.{Keeps, Walked, walked-let_go, walked-none, walked-pin, walked-unpin}
+use Rattle.qo_sound_phases.proofs.DetachLemmas.{dims, walked}
 use Rattle.qo_sound_phases.proofs.FixedLemmas.{Fixed, fixed-write}
 use Rattle.qo_sound_shapes.proofs.WholeLemmas.{edit-read}
-use Rattle.qo_sound_owners.proofs.AptLemmas.{creatable}
 
 abbrev pub IsCreatable : Board → List ℕ × ℕ → Type 0
 IsCreatable b e = is_of b (codes "user-creatable") e.1 ≡ true
@@ -183,35 +184,12 @@ creatable-wrote b n name v firm behind h = creatable-thin b (behind_write b (wri
 
 -- a device that is detached
 module _ (b : Board) (d : ℕ) where
-  dims : Dimmed (pin b d) (unrealize (pin b d) d)
-  dims = unrealize-dimmed (pin b d) d
-
-  before : Board
-  before = left_bus d (lost_buses (apart_within (length (births b))) (length (slots_at (unrealize (pin b d) d) d)) d (unrealize (pin b d) d))
-
-  walked : Walked (unrealize (pin b d) d) (Keeps (pin b d) (unrealize (pin b d) d) dims d) (detach b d)
-  unfolding detach before
-  walked =
-      walked-unpin (unrealize (pin b d) d) (Keeps (pin b d) (unrealize (pin b d) d) dims d) d _
-      (gone-left_parent (pin b d) (unrealize (pin b d) d) dims d d before
-      (gone-before (pin b d) (unrealize (pin b d) d) dims d (apart_within (length (births b)))
-      (λ x c v h. gone-apart (pin b d) (unrealize (pin b d) d) dims d (length (births b)) x c v h) d (unrealize (pin b d) d) here
-      (walked-none (unrealize (pin b d) d) (Keeps (pin b d) (unrealize (pin b d) d) dims d))))
-
-  pin-kind : (x : ℕ) → kind_of (pin b d) x ≡ kind_of b x
-  unfolding pin
-  pin-kind x = refl
-
-  pin-children : child_entries (pin b d) OBJECTS_BIRTH ≡ child_entries b OBJECTS_BIRTH
-  unfolding pin
-  pin-children = refl
-
   pub creatable-detach : Firm (detach b d) → Creatable b → Creatable (detach b d)
   creatable-detach firm h =
       creatable-thin (unrealize (pin b d) d) (detach b d) firm
-      (thin-walked (Keeps (pin b d) (unrealize (pin b d) d) dims d) (unrealize (pin b d) d) (detach b d) walked)
-      (creatable-same b (unrealize (pin b d) d) (λ x. kind-alike (pin b d) (unrealize (pin b d) d) x (dims.body x) ∙ pin-kind x)
-      (dims.children OBJECTS_BIRTH ∙ pin-children) h)
+      (thin-walked (Keeps (pin b d) (unrealize (pin b d) d) (dims b d) d) (unrealize (pin b d) d) (detach b d) (walked b d))
+      (creatable-same b (unrealize (pin b d) d) (λ x. kind-alike (pin b d) (unrealize (pin b d) d) x ((dims b d).body x) ∙ pin-kind b d x)
+      ((dims b d).children OBJECTS_BIRTH ∙ pin-children b d OBJECTS_BIRTH) h)
 
 -- a device that is added
 pub creatable-with_plugged : (b : Board) (a : Wanted) (t : TypeId) (bus : ℕ) → SoundDevices b → Accepted b t bus a → Creatable b

@@ -1,10 +1,11 @@
 -- The law: what keeps the owners of a board sound.
 use Rattle.std.proofs.Common.{refl}
 use Rattle.qo_model.specs.Plug.{cut_attempt, plug_attempt}
+use Rattle.qo_sound.proofs.QuietStepsLemmas.{quiet-asked, quiet-held, quiet-pulse, quiet-released}
 use Rattle.qo_sound_owners.specs.OwnersKept.{OwnersKeptLaw}
 use Rattle.qo_sound_owners.specs.SoundOwners.{SoundOwners}
 use Rattle.qo_sound_owners.proofs.OwnersLemmas.{acted-owners, changed-owners, clock_scaled-owners, clock_set-owners, detach-owners, opening-owners, plug-owners, registers-owners, same-owners}
-use Rattle.qo_sound_owners.proofs.QuietLemmas.{quiet-asked, quiet-held, quiet-pulse, quiet-released, quiet-reset}
+use Rattle.qo_sound_owners.proofs.QuietLemmas.{quiet-reset}
 
 pub owners_kept_lem : OwnersKeptLaw
 owners_kept_lem =

@@ -23,7 +23,7 @@ use Rattle.qo_model.specs.Types.{is_a}
 use Rattle.qo_model.specs.Unplug.{detach, set_named}
 use Rattle.qo_model.proofs.StepLemmas.{found-birth}
 use Rattle.qo_sound_clocks.specs.RegistersKept.{registers_set}
-use Rattle.qo_sound_clocks.proofs.StepsLemmas.{kept-written}
+use Rattle.qo_sound_clocks.proofs.StepsLemmas.{kept-written, calls-kept}
 use Rattle.qo_sound_devices.specs.SoundDevices.{SoundDevices}
 use Rattle.qo_sound_devices.specs.SoundPlaces.{path_of, stands}
 use Rattle.qo_sound_devices.proofs.DevicesLawLemmas.{devices_kept_lem}
@@ -104,7 +104,8 @@ clock_set-owners b d c period e h = go (is_some (source_of b c)) refl
 
     go : (t : Bool) → is_some (source_of b c) ≡ t → SoundOwners d
     go true p = absurd (let clash : Err E45 ≡ Ok d = rw (clock_set, p) at e in cc)
-    go false p = kept-written SoundOwners acted-owners b new d c (set-owners c (codes "period") (val.Uint period) refl refl b h) (rw (clock_set, p) at e)
+    go false p = kept-written SoundOwners (calls-kept SoundOwners acted-owners) b new d c (set-owners c (codes "period") (val.Uint period) refl refl b h)
+        (rw (clock_set, p) at e)
 
 pub clock_scaled-owners : (b d : Board) (c mul div : ℕ) → clock_scaled b c mul div ≡ Ok d → SoundOwners b → SoundOwners d
 clock_scaled-owners b d c mul div e h = go (eqb div 0) refl
@@ -118,7 +119,7 @@ clock_scaled-owners b d c mul div e h = go (eqb div 0) refl
     go : (t : Bool) → eqb div 0 ≡ t → SoundOwners d
     go true p = absurd (let clash : Err E46 ≡ Ok d = rw (clock_scaled, p) at e in cc)
     go false p =
-        kept-written SoundOwners acted-owners b new d c
+        kept-written SoundOwners (calls-kept SoundOwners acted-owners) b new d c
         (set-owners c (codes "div") (val.Uint div) refl refl mid (set-owners c (codes "mul") (val.Uint mul) refl refl b h)) (rw (clock_scaled, p) at e)
 
 -- what changes objects

@@ -1,8 +1,8 @@
 -- A device is taken out with all that is below it: what each step takes away, and what it leaves of others.
-use Rattle.std.proofs.Common.{◌≡◌, refl, ap, sym, subst, ◌∙◌, nat_eq, ℕ, zero, suc, ◌≤◌, Bool, true, false, ◌==◌, cond, eqb, List, [], ◌∷◌, filter_map, length, remove, slice_get, sum_by, Option, Some, None, is_some, option_map, arith, codes}
+use Rattle.std.proofs.Common.{◌≡◌, refl, ap, sym, subst, ◌∙◌, nat_eq, ℕ, zero, suc, ◌≤◌, Bool, true, false, ◌==◌, cond, List, [], ◌∷◌, filter_map, length, remove, slice_get, sum_by, Option, Some, None, is_some, option_map, arith, codes}
 use Rattle.std.specs.List.{cons_option, list_any}
 use Rattle.std.specs.Option.{option_map_or}
-use Rattle.std.proofs.lemmas.Bool.{eqb-true, eq-eqb}
+use Rattle.std.proofs.lemmas.Bool.{eqb-true}
 use Rattle.std.proofs.lemmas.List.Sums.{sum_by-cons}
 use Rattle.std.proofs.lemmas.Option.{same_Some}
 use Rattle.qo_values.specs.declared.births.TheConstants.{ANONYMOUS_BIRTH, PERIPHERAL_BIRTH}
@@ -16,26 +16,22 @@ use Rattle.qo_model.specs.Paths.{child_of, is_of}
 use Rattle.qo_model.specs.Release.{after, drop_slot, edit, edited, finalise, let_go, pin, put_in_order, unpin, with_dropped, without_first, without_hold, without_pin}
 use Rattle.qo_model.specs.Types.{is_a}
 use Rattle.qo_model.specs.Unplug.{apart_within, drained, first_of, is_bus_slot, is_child_slot, is_named, left_bus, left_parent, let_go_where, lost_bus, lost_buses, names_kid, take_slot, take_where, taken_by}
-use Rattle.qo_model.proofs.StepLemmas.{found-edited, is_some-map}
+use Rattle.qo_model.proofs.StepLemmas.{found-edited, is_some-map, map-edited}
 use Rattle.qo_sound.proofs.SlotLemmas.{one_child}
 use Rattle.qo_sound.proofs.TestLemmas.{decide, clash, clash-back}
 use Rattle.qo_sound.proofs.UnplugLemmas.{Found, found-at}
 use Rattle.qo_sound_devices.specs.SoundPlaces.{child_entries, child_entry, kid_entries, kid_entry, listed, names_it, owns, owns_it, stands}
 use Rattle.qo_sound_devices.proofs.AlikeLemmas.{after-alike, other-record}
-use Rattle.qo_sound_devices.proofs.DropLemmas.{children-fewer, children-kept, edited-slots, kids-fewer}
+use Rattle.qo_sound_devices.proofs.DetachLemmas.{under-more, listed-kid, owned-bus, first-among}
+use Rattle.qo_sound_devices.proofs.DropLemmas.{children-fewer, children-kept, edited-slots, kids-fewer, within-cons}
 use Rattle.qo_sound_devices.proofs.LowLemmas.{is-bus_of, IsBusOf, kids-listed}
 use Rattle.qo_sound_devices.proofs.MovedLemmas.{within-listed}
 use Rattle.qo_sound_devices.proofs.PlacesLemmas.{kind-alike, more, nothing, of-alike, of-live, same, Within, within-all, within-same}
 use Rattle.qo_sound_devices.proofs.StepsLemmas.{entries-removed, steps-after, within-any, within-then}
+use Rattle.qo_sound_devices.proofs.TakeLemmas.{none-listed}
 use Rattle.qo_sound_devices.proofs.UnrealizeLemmas.{Dimmed, Under}
-use Rattle.qo_sound_phases.proofs.BelowLemmas.{listed-kid, owned-bus}
-use Rattle.qo_sound_phases.proofs.UnrealizeLemmas.{under-more}
 
 -- lists of entries without some of them
-within-cons : (o : Option (List ℕ × ℕ)) {xs ys : List (List ℕ × ℕ)} → Within xs ys → Within (cons_option o xs) (cons_option o ys)
-within-cons None w = w
-within-cons (Some x) w = same x w
-
 within-skip : (o : Option (List ℕ × ℕ)) (xs : List (List ℕ × ℕ)) → Within xs (cons_option o xs)
 within-skip None xs = within-all xs
 within-skip (Some x) xs = more x (within-all xs)
@@ -87,7 +83,7 @@ module _ (b : Board) (Stays : ℕ → Type 0) where
         kids = λ x. within-then (entries kid_entry (λ r q. (fewer r q).kids) x) (h.kids x);
         kin = λ x e.
             let was : (is_live b x ≡ true) × (kind_of c x ≡ kind_of b x) = h.kin x (live x e) in
-            (was.0, ap (option_map (λ (r : Record). r.kind)) (found x) ∙ same_kind (record_of c x) ∙ was.1);
+            (was.0, ap (option_map (λ (r : Record). r.kind)) (found x) ∙ map-edited (λ (r : Record). r.kind) n change kind (record_of c x) ∙ was.1);
         still = λ x s e. kept x s ∙ h.still x s (live x e);
       }
     where
@@ -96,14 +92,6 @@ module _ (b : Board) (Stays : ℕ → Type 0) where
 
       live : (x : ℕ) → is_live (edit n change c) x ≡ true → is_live c x ≡ true
       live x e = sym (ap is_some (found x) ∙ is_some-map (edited n change) (record_of c x)) ∙ e
-
-      kind_in : (r : Record) (t : Bool) → (r.birth == n) ≡ t → (edited n change r).kind ≡ r.kind
-      kind_in r true p = rw (edited, p) (kind r)
-      kind_in r false p = rw (edited, p) refl
-
-      same_kind : (o : Option Record) → option_map (λ (r : Record). r.kind) (option_map (edited n change) o) ≡ option_map (λ (r : Record). r.kind) o
-      same_kind None = refl
-      same_kind (Some r) = ap Some (kind_in r (r.birth == n) refl)
 
       other : (x : ℕ) → (x == n) ≡ false → slots_at (edit n change c) x ≡ slots_at c x
       other x p =
@@ -242,10 +230,6 @@ module _ (b : Board) (Stays : ℕ → Type 0) where
       go false e = rw (unpin, e) h
 
 -- first kids, and first buses
-first-among : (ns : List ℕ) (m : ℕ) → first_of ns ≡ Some m → among ns m ≡ true
-first-among [] m e = absurd (let bad : None ≡ Some m = e in cc)
-first-among (n ∷ ns) m e = let own : eqb m n ≡ true = eq-eqb m n (sym (same_Some n m e)) in rw own refl
-
 -- a device d, unrealized with all that is below it, is taken out
 module _ (p u : Board) (dims : Dimmed p u) (d : ℕ) where
   -- what is below the device and the containers of devices may lose children; nothing else does
@@ -402,26 +386,13 @@ times-dropped d (suc i) (x ∷ slots) s e k = go (child_entry x) refl (times-dro
               (λ (z : List ℕ × ℕ). cond {A = ℕ} (names_it d z) 1 0) y (filter_map child_entry slots),
         ))
 
-none-child : (d k : ℕ) (slots : List (List ℕ × Slot)) → place_from (is_child_slot d) k slots ≡ None → listed d (filter_map child_entry slots) ≡ false
-none-child d k [] e = refl
-none-child d k ((name, plain v) ∷ slots) e = none-child d (suc k) slots e
-none-child d k ((name, strong t target) ∷ slots) e = none-child d (suc k) slots e
-none-child d k ((name, weak t target) ∷ slots) e = none-child d (suc k) slots e
-none-child d k ((name, alias m property) ∷ slots) e = none-child d (suc k) slots e
-none-child d k ((name, child m) ∷ slots) e = go (m == d) refl (none-child d (suc k) slots)
-  where
-    go : (t : Bool) → (m == d) ≡ t → (place_from (is_child_slot d) (suc k) slots ≡ None → listed d (filter_map child_entry slots) ≡ false)
-        → listed d (filter_map child_entry ((name, child m) ∷ slots)) ≡ false
-    go true q rest = absurd (let bad : Some k ≡ None = rw q at e in cc)
-    go false q rest = rw q (rest (rw q at e))
-
 -- a child at most once is none behind its slot
 pub unlisted-where : (d n : ℕ) (c : Board) → times d (child_entries c n) ≤ 1 → listed d (child_entries (let_go_where (is_child_slot d) n c) n) ≡ false
 unfolding let_go drop_slot
 unlisted-where d n c few = go (place_from (is_child_slot d) 0 (slots_at c n)) refl
   where
     go : (o : Option ℕ) → place_from (is_child_slot d) 0 (slots_at c n) ≡ o → listed d (child_entries (let_go_where (is_child_slot d) n c) n) ≡ false
-    go None e = rw (let_go_where, e) (none-child d 0 (slots_at c n) e)
+    go None e = rw (let_go_where, e) (none-listed d 0 (slots_at c n) e)
     go (Some i) e = rw (let_go_where, e) (at_record (record_of c n) refl)
       where
         f : Found (is_child_slot d) (slots_at c n) i

@@ -1,14 +1,13 @@
 -- What a reset goes over on a sound board: each object is below one other at most, and the list has none twice.
 use Rattle.std.proofs.Common.{◌≡◌, refl, ap, sym, subst, ◌∙◌, ℕ, suc, ◌+◌, ◌*◌, ◌<◌, ◌≤◌, Bool, true, false, not, ◌&&◌, ◌==◌, eqb, List, [], ◌∷◌, filter_map, length, sum_by, Option, Some, None, unwrap_or, arith, codes}
 use Rattle.std.specs.Prelude.{if◌then◌else◌}
-use Rattle.std.specs.List.{AllByRecursion, IsDistinct, list_any}
+use Rattle.std.specs.List.{AllByRecursion, IsDistinct}
 use Rattle.std.specs.Option.{option_map_or}
 use Rattle.std.specs.Str.{bytes_eq}
 use Rattle.std.proofs.lemmas.Bool.{eqb-true, eq-eqb}
 use Rattle.std.proofs.lemmas.List.Sums.{sum_by-cons}
 use Rattle.std.proofs.lemmas.Option.{same_Some}
 use Rattle.std.proofs.lemmas.Slice.Eq.{bytes_eq-Decides}
-use Rattle.std.proofs.Math.Bool.{or-true}
 use Rattle.qo_values.specs.declared.kinds.TypeId.{TypeId}
 use Rattle.qo_model.specs.Board.{Board, Record, Slot, plain, child, strong, weak, alias, kind_of, record_of, slots_at}
 use Rattle.qo_model.specs.Depth.{among, leads}
@@ -23,8 +22,9 @@ use Rattle.qo_sound.proofs.SlotLemmas.{names_in, one_child}
 use Rattle.qo_sound.proofs.TestLemmas.{decide, clash, clash-back}
 use Rattle.qo_sound.proofs.ViewLemmas.{rest-from_sound}
 use Rattle.qo_sound_devices.specs.SoundDevices.{SoundDevices}
-use Rattle.qo_sound_devices.specs.SoundPlaces.{child_entries, child_entry, IsHome, IsKid, kid_entries, kid_entry, listed, owns, owns_it, PlacesBut, stands}
+use Rattle.qo_sound_devices.specs.SoundPlaces.{child_entries, IsHome, IsKid, kid_entries, kid_entry, listed, owns, PlacesBut, stands}
 use Rattle.qo_sound_devices.proofs.AttachedLemmas.{owns-listed, parent-is}
+use Rattle.qo_sound_devices.proofs.DetachLemmas.{listed-kid, owned-bus}
 use Rattle.qo_sound_devices.proofs.DropLemmas.{names-at}
 use Rattle.qo_sound_devices.proofs.JoinedLemmas.{device-no_bus}
 use Rattle.qo_sound_devices.proofs.LowLemmas.{is-bus_of, IsBusOf, kid-of, kids-listed}
@@ -41,46 +41,6 @@ pub record Placed (b : Board) : Type 0 where
 
 pub placed : (b : Board) → SoundDevices b → Placed b
 placed b h = record { depth = h.places.0; places = h.places.1; firm = (rest-from_sound b h.tree).used.firm }
-
--- what is listed of slots
-
-pub listed-kid : (k : ℕ) (slots : List (List ℕ × Slot)) → listed k (filter_map kid_entry slots) ≡ true
-    → among (filter_map (λ (s : List ℕ × Slot). strong_in s.1) slots) k ≡ true
-listed-kid k [] e = cc
-listed-kid k ((name, plain v) ∷ slots) e = listed-kid k slots e
-listed-kid k ((name, child m) ∷ slots) e = listed-kid k slots e
-listed-kid k ((name, strong t None) ∷ slots) e = listed-kid k slots e
-listed-kid k ((name, strong t (Some m)) ∷ slots) e = go (m == k) refl (listed-kid k slots)
-  where
-    go : (u : Bool) → (m == k) ≡ u
-        → (listed k (filter_map kid_entry slots) ≡ true → among (filter_map (λ (s : List ℕ × Slot). strong_in s.1) slots) k ≡ true)
-        → among (filter_map (λ (s : List ℕ × Slot). strong_in s.1) ((name, strong t (Some m)) ∷ slots)) k ≡ true
-    go true p rest = let own : eqb k m ≡ true = grind (arith, p) in rw own refl
-    go false p rest = rw (rest (rw p at e)) (or-true (eqb k m))
-listed-kid k ((name, weak t target) ∷ slots) e = listed-kid k slots e
-listed-kid k ((name, alias m property) ∷ slots) e = listed-kid k slots e
-
-pub owned-bus : (b : Board) (q : ℕ) → is_of b (codes "bus") q ≡ true → (slots : List (List ℕ × Slot))
-    → list_any (owns_it q) (filter_map child_entry slots) ≡ true → among (filter_map (bus_in b) slots) q ≡ true
-owned-bus b q is [] e = cc
-owned-bus b q is ((name, plain v) ∷ slots) e = owned-bus b q is slots e
-owned-bus b q is ((name, strong t target) ∷ slots) e = owned-bus b q is slots e
-owned-bus b q is ((name, weak t target) ∷ slots) e = owned-bus b q is slots e
-owned-bus b q is ((name, alias m property) ∷ slots) e = owned-bus b q is slots e
-owned-bus b q is ((name, child k) ∷ slots) e = go (is_of b (codes "bus") k) refl (bytes_eq name clock_name) refl (k == q) refl (owned-bus b q is slots)
-  where
-    go : (t : Bool) → is_of b (codes "bus") k ≡ t → (u : Bool) → bytes_eq name clock_name ≡ u → (v : Bool) → (k == q) ≡ v
-        → (list_any (owns_it q) (filter_map child_entry slots) ≡ true → among (filter_map (bus_in b) slots) q ≡ true)
-        → among (filter_map (bus_in b) ((name, child k) ∷ slots)) q ≡ true
-    go true x false w true v rest = let own : eqb q k ≡ true = grind (arith, v) in rw (x, w, own) refl
-    go true x false w false v rest = rw (x, w) (rw (rest (rw v at e)) (or-true (eqb q k)))
-    go true x true w v y rest = rw (x, w) (rest (skip v y))
-      where
-        skip : (v : Bool) → (k == q) ≡ v → list_any (owns_it q) (filter_map child_entry slots) ≡ true
-        skip true y = rw (y, w) at e
-        skip false y = rw y at e
-    go false x u w true v rest = absurd (let clash : false ≡ true = sym x ∙ ap (is_of b (codes "bus")) (eqb-true k q v) ∙ is in cc)
-    go false x u w false v rest = rw x (rest (rw v at e))
 
 -- kids are listed once, where each stands under the name of its own place
 module _ (place : ℕ → List ℕ) where

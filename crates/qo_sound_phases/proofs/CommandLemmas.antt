@@ -18,7 +18,7 @@ use Rattle.qo_model.specs.References.{refs}
 use Rattle.qo_model.specs.Types.{TypeRow, is_a, row_named}
 use Rattle.qo_model.proofs.ReleaseLeavesLemmas.{release_leaves}
 use Rattle.qo_model.proofs.StaysLemmas.{changed-stays}
-use Rattle.qo_model.proofs.StepLemmas.{found_at, found-edited, is_some-map}
+use Rattle.qo_model.proofs.StepLemmas.{found_at, found-edited, is_some-map, map-edited}
 use Rattle.qo_model.proofs.TreeLemmas.{paths_lem}
 use Rattle.qo_sound.proofs.ChangeStepsLemmas.{step-object_del, step-sever, step-write}
 use Rattle.qo_sound.proofs.DetachStepsLemmas.{KeepsEnds, KeepsPins}
@@ -188,19 +188,14 @@ kin-edits b n change leaves c h = (h.0, kinds)
     found : (x : ℕ) → record_of (edit n change c) x ≡ option_map (edited n change) (record_of c x)
     found x = found-edited n change birth x c.records
 
-    kind_in : (r : Record) (t : Bool) → (r.birth == n) ≡ t → (edited n change r).kind ≡ r.kind
-    kind_in r true p = rw (edited, p) (ap (λ (y : Record). y.kind) (leaves r))
-    kind_in r false p = rw (edited, p) refl
-
-    same_kind : (o : Option Record) → option_map (λ (r : Record). r.kind) (option_map (edited n change) o) ≡ option_map (λ (r : Record). r.kind) o
-    same_kind None = refl
-    same_kind (Some r) = ap Some (kind_in r (r.birth == n) refl)
-
     kinds : (x : ℕ) → is_live (edit n change c) x ≡ true → (is_live b x ≡ true) × (kind_of (edit n change c) x ≡ kind_of b x)
     kinds x e =
         let before : (is_live b x ≡ true) × (kind_of c x ≡ kind_of b x) =
-        h.1 x (sym (ap is_some (found x) ∙ is_some-map (edited n change) (record_of c x)) ∙ e) in
-        (before.0, ap (option_map (λ (r : Record). r.kind)) (found x) ∙ same_kind (record_of c x) ∙ before.1)
+        h.1 x (sym (ap is_some (found x) ∙ is_some-map (edited n change) (record_of c x)) ∙ e) in (
+          before.0,
+          ap (option_map (λ (r : Record). r.kind)) (found x)
+              ∙ map-edited (λ (r : Record). r.kind) n change (λ r. ap (λ (y : Record). y.kind) (leaves r)) (record_of c x) ∙ before.1,
+        )
 
 kin-pins : (b : Board) → KeepsPins (Kin b)
 unfolding Kin

@@ -1,9 +1,8 @@
 -- A device that is detached, with all that is below it, keeps phases sound: its holds go with it.
-use Rattle.std.proofs.Common.{◌≡◌, refl, ap, sym, subst, ◌∙◌, ℕ, ◌≤◌, ◌<◌, leb, Bool, true, false, ◌==◌, eqb, List, [], ◌∷◌, length, sum_by, Option, Some, None, is_some, arith, codes}
+use Rattle.std.proofs.Common.{◌≡◌, refl, ap, sym, subst, ◌∙◌, ℕ, ◌≤◌, ◌<◌, Bool, true, false, ◌==◌, List, [], ◌∷◌, length, sum_by, Option, Some, None, is_some, arith, codes}
 use Rattle.std.specs.Prelude.{count_by, if◌then◌else◌}
 use Rattle.std.specs.List.{AllByRecursion, list_any}
 use Rattle.std.specs.Option.{option_map_or}
-use Rattle.std.proofs.lemmas.Bool.{eq-eqb}
 use Rattle.std.proofs.lemmas.Option.{same_Some}
 use Rattle.std.proofs.Math.Bool.{or-true}
 use Rattle.qo_values.specs.declared.births.TheConstants.{ANONYMOUS_BIRTH, MACHINE_BIRTH, MEMORY_BUS_BIRTH, PERIPHERAL_BIRTH, ROOT_BIRTH, ROOT_BUS_BIRTH}
@@ -29,11 +28,13 @@ use Rattle.qo_sound.proofs.ViewLemmas.{AtRest, rest-from_sound}
 use Rattle.qo_sound_devices.specs.SoundDevices.{SoundDevices}
 use Rattle.qo_sound_devices.specs.SoundPlaces.{child_entries, HasOwner, machines, bridges, IsHome, kid_entries, listed, owns, owns_it, stands}
 use Rattle.qo_sound_devices.proofs.AttachedLemmas.{owns-listed}
-use Rattle.qo_sound_devices.proofs.CommandLemmas.{goes-pins}
-use Rattle.qo_sound_devices.proofs.DetachLemmas.{detach-lit}
+use Rattle.qo_sound_devices.proofs.CommandLemmas.{goes-pins, put-one}
+use Rattle.qo_sound_devices.proofs.DetachLemmas.{detach-lit, under-more, owned-bus}
 use Rattle.qo_sound_devices.proofs.DevicesLawLemmas.{devices_kept_lem}
+use Rattle.qo_sound_devices.proofs.ListsLemmas.{members}
 use Rattle.qo_sound_devices.proofs.LowLemmas.{is-bus_of, IsBusOf, kid-of, kids-listed, stands-dimmed, under-stands, unrealize-dimmed}
 use Rattle.qo_sound_devices.proofs.MovedLemmas.{within-listed}
+use Rattle.qo_sound_devices.proofs.PinLemmas.{pin-stands, pin-bus, pin-children, pin-kind, pin-of, pin-realized}
 use Rattle.qo_sound_devices.proofs.PlacesLemmas.{child-live, of-live, or-cases, kind-alike, stands-live}
 use Rattle.qo_sound_devices.proofs.StepsLemmas.{within-any}
 use Rattle.qo_sound_devices.proofs.TakeLemmas.{aside-apart}
@@ -41,12 +42,12 @@ use Rattle.qo_sound_devices.proofs.UnrealizeLemmas.{Dimmed, Under, here, down}
 use Rattle.qo_sound_phases.specs.SoundPhases.{IsReached, machine, device, bus, SoundPhases}
 use Rattle.qo_sound_phases.specs.Phases as stage
 use Rattle.qo_sound_phases.proofs.ApartLemmas.{gone-apart, gone-before, gone-left_parent, Keeps, left-none, times, times-children, times-within, Walked, walked-none, walked-unpin}
-use Rattle.qo_sound_phases.proofs.BelowLemmas.{one-parent, owned-bus, Placed, post-reach, stands-no_bus}
+use Rattle.qo_sound_phases.proofs.BelowLemmas.{one-parent, Placed, post-reach, stands-no_bus}
 use Rattle.qo_sound_phases.proofs.FrameLemmas.{Frame, frame-post, frame-reached}
 use Rattle.qo_sound_phases.proofs.QuietLemmas.{Quiet, quiet-after, quiet-then}
 use Rattle.qo_sound_phases.proofs.ReachedLemmas.{machine-no_bus, machines-is, machines-listed, reach-above}
 use Rattle.qo_sound_phases.proofs.ShapeLemmas.{counted-same}
-use Rattle.qo_sound_phases.proofs.UnrealizeLemmas.{bus-loose, device-loose, Still, still-edits, still-none, unrealize-all_holds, unrealize-born, under-more, unrealize-count, unrealize-quiet}
+use Rattle.qo_sound_phases.proofs.UnrealizeLemmas.{bus-loose, device-loose, Still, still-edits, still-none, unrealize-all_holds, unrealize-born, unrealize-count, unrealize-quiet}
 
 -- what follows the unrealizing leaves births, holds and phases
 still-ends : (b : Board) (o : Option ℕ) (c : Board) → Still b c → Still b (after finalise c o)
@@ -65,19 +66,6 @@ still-ends b (Some m) c h = go (refs c m == 0) refl
         shape q = rw (after, q) refl
     go false e = rw (after, e) h
 
--- a list with its own members
-members : (xs : List ℕ) → AllByRecursion (λ x. among xs x ≡ true) xs
-members [] = tt
-members (x ∷ xs) =
-    (rw (eq-eqb x x refl) refl, all-imply (λ y. among xs y ≡ true) (λ y. among (x ∷ xs) y ≡ true) (λ y e. rw e (or-true (eqb y x))) xs (members xs))
-
-put-one : (n : ℕ) → among (put_in_order n (1 ∷ [])) 1 ≡ true
-put-one n = go (leb 1 n) refl
-  where
-    go : (t : Bool) → leb 1 n ≡ t → among (put_in_order n (1 ∷ [])) 1 ≡ true
-    go true p = rw (put_in_order, p) refl
-    go false p = rw (put_in_order, p) (or-true (eqb 1 n))
-
 -- what is below a device, seen from below
 data Chain (b : Board) (d : ℕ) : ℕ → Type 0 where
   itself : Chain b d d
@@ -86,6 +74,28 @@ data Chain (b : Board) (d : ℕ) : ℕ → Type 0 where
 turned : (b : Board) (d x y : ℕ) → Chain b d x → Under b x y → Chain b d y
 turned b d x y a here = a
 turned b d x y a (down m k im ik u) = turned b d k y (further x m a im ik) u
+
+-- what a detachment walks over
+module _ (b : Board) (d : ℕ) where
+  pub dims : Dimmed (pin b d) (unrealize (pin b d) d)
+  dims = unrealize-dimmed (pin b d) d
+
+  -- what was taken away
+  pub before : Board
+  before = left_bus d (lost_buses (apart_within (length (births b))) (length (slots_at (unrealize (pin b d) d) d)) d (unrealize (pin b d) d))
+
+  pub walked-before : Walked (unrealize (pin b d) d) (Keeps (pin b d) (unrealize (pin b d) d) dims d) before
+  unfolding before
+  walked-before =
+      gone-before (pin b d) (unrealize (pin b d) d) dims d (apart_within (length (births b)))
+      (λ x c v h. gone-apart (pin b d) (unrealize (pin b d) d) dims d (length (births b)) x c v h) d (unrealize (pin b d) d) here
+      (walked-none (unrealize (pin b d) d) (Keeps (pin b d) (unrealize (pin b d) d) dims d))
+
+  pub walked : Walked (unrealize (pin b d) d) (Keeps (pin b d) (unrealize (pin b d) d) dims d) (detach b d)
+  unfolding detach before
+  walked =
+      walked-unpin (unrealize (pin b d) d) (Keeps (pin b d) (unrealize (pin b d) d) dims d) d _
+      (gone-left_parent (pin b d) (unrealize (pin b d) d) dims d d before walked-before)
 
 module _ (b : Board) (d : ℕ) (s : SoundDevices b) (e : stands b d ≡ true) where
   rest : AtRest b
@@ -126,30 +136,6 @@ module _ (b : Board) (d : ℕ) (s : SoundDevices b) (e : stands b d ≡ true) wh
             };
       }
 
-  -- a pin changes nothing that is read here
-  pin-stands : (x : ℕ) → stands (pin b d) x ≡ stands b x
-  unfolding pin
-  pin-stands x = refl
-
-  pin-bus : (x : ℕ) → bus_of (pin b d) x ≡ bus_of b x
-  unfolding pin
-  pin-bus x = refl
-
-  pin-children : (x : ℕ) → child_entries (pin b d) x ≡ child_entries b x
-  unfolding pin
-  pin-children x = refl
-
-  pin-kind : (x : ℕ) → kind_of (pin b d) x ≡ kind_of b x
-  unfolding pin
-  pin-kind x = refl
-
-  pin-of : (name : List ℕ) (x : ℕ) → is_of (pin b d) name x ≡ is_of b name x
-  pin-of name x = ap (λ (o : Option TypeId). option_map_or (λ (t : TypeId). is_a t name) o false) (pin-kind x)
-
-  pin-realized : (x : ℕ) → is_realized (pin b d) x ≡ is_realized b x
-  unfolding pin
-  pin-realized x = refl
-
   pin-still : Still b (pin b d)
   unfolding pin
   pin-still = record { born = refl; holds = refl; quiet = λ n. refl }
@@ -159,39 +145,19 @@ module _ (b : Board) (d : ℕ) (s : SoundDevices b) (e : stands b d ≡ true) wh
       let k : SoundDevices (detach b d) = devices_kept_lem.detached b d s e in
       record { depth = k.places.0; places = k.places.1; firm = (rest-from_sound (detach b d) k.tree).used.firm }
 
-  dims : Dimmed (pin b d) (unrealize (pin b d) d)
-  dims = unrealize-dimmed (pin b d) d
-
   there : stands (pin b d) d ≡ true
-  there = pin-stands d ∙ e
+  there = pin-stands b d d ∙ e
 
   below-stands : (y : ℕ) → Under (pin b d) d y → stands (pin b d) y ≡ true
   below-stands y v = under-stands kp.depth None (λ x. false) (pin b d) kp.places d y v there
 
-  -- what was taken away
-  before : Board
-  before = left_bus d (lost_buses (apart_within (length (births b))) (length (slots_at (unrealize (pin b d) d) d)) d (unrealize (pin b d) d))
-
-  walked-before : Walked (unrealize (pin b d) d) (Keeps (pin b d) (unrealize (pin b d) d) dims d) before
-  unfolding before
-  walked-before =
-      gone-before (pin b d) (unrealize (pin b d) d) dims d (apart_within (length (births b)))
-      (λ x c v h. gone-apart (pin b d) (unrealize (pin b d) d) dims d (length (births b)) x c v h) d (unrealize (pin b d) d) here
-      (walked-none (unrealize (pin b d) d) (Keeps (pin b d) (unrealize (pin b d) d) dims d))
-
-  walked : Walked (unrealize (pin b d) d) (Keeps (pin b d) (unrealize (pin b d) d) dims d) (detach b d)
-  unfolding detach before
-  walked =
-      walked-unpin (unrealize (pin b d) d) (Keeps (pin b d) (unrealize (pin b d) d) dims d) d _
-      (gone-left_parent (pin b d) (unrealize (pin b d) d) dims d d before walked-before)
-
   -- it stands in no container any more
-  once-before : (n : ℕ) → times d (child_entries before n) ≤ 1
+  once-before : (n : ℕ) → times d (child_entries (before b d) n) ≤ 1
   unfolding times
   once-before n =
       let few : times d (child_entries (unrealize (pin b d) d) n) ≤ 1 =
-      subst (λ (xs : List (List ℕ × ℕ)). times d xs ≤ 1) (sym (dims.children n ∙ pin-children n)) (at_record (record_of b n) refl) in
-      omega (arith, few, times-within d (walked-before.children n))
+      subst (λ (xs : List (List ℕ × ℕ)). times d xs ≤ 1) (sym ((dims b d).children n ∙ pin-children b d n)) (at_record (record_of b n) refl) in
+      omega (arith, few, times-within d ((walked-before b d).children n))
     where
       at_record : (o : Option Record) → record_of b n ≡ o → times d (child_entries b n) ≤ 1
       at_record None q = rw q (omega arith)
@@ -201,7 +167,7 @@ module _ (b : Board) (d : ℕ) (s : SoundDevices b) (e : stands b d ≡ true) wh
 
   gone : stands (detach b d) d ≡ false
   unfolding detach before
-  gone = left-none d before (once-before PERIPHERAL_BIRTH) (once-before ANONYMOUS_BIRTH)
+  gone = left-none d (before b d) (once-before PERIPHERAL_BIRTH) (once-before ANONYMOUS_BIRTH)
 
   -- births, holds and phases
   still : Still (unrealize (pin b d) d) (detach b d)
@@ -213,25 +179,25 @@ module _ (b : Board) (d : ℕ) (s : SoundDevices b) (e : stands b d ≡ true) wh
   -- what was, of what is
   stood : (x : ℕ) → stands (detach b d) x ≡ true → stands (pin b d) x ≡ true
   stood x k =
-      sym (stands-dimmed (pin b d) (unrealize (pin b d) d) dims x)
+      sym (stands-dimmed (pin b d) (unrealize (pin b d) d) (dims b d) x)
       ∙ or-cases (listed x (child_entries (detach b d) PERIPHERAL_BIRTH)) (listed x (child_entries (detach b d) ANONYMOUS_BIRTH)) k
-      (λ l. rw (within-listed x (walked.children PERIPHERAL_BIRTH) l) refl)
-      (λ l. rw (within-listed x (walked.children ANONYMOUS_BIRTH) l) (or-true (listed x (child_entries (unrealize (pin b d) d) PERIPHERAL_BIRTH))))
+      (λ l. rw (within-listed x ((walked b d).children PERIPHERAL_BIRTH) l) refl)
+      (λ l. rw (within-listed x ((walked b d).children ANONYMOUS_BIRTH) l) (or-true (listed x (child_entries (unrealize (pin b d) d) PERIPHERAL_BIRTH))))
 
   kinds : (x : ℕ) → is_live (detach b d) x ≡ true → kind_of (detach b d) x ≡ kind_of (pin b d) x
-  kinds x live = (walked.kin x live).1 ∙ kind-alike (pin b d) (unrealize (pin b d) d) x (dims.body x)
+  kinds x live = ((walked b d).kin x live).1 ∙ kind-alike (pin b d) (unrealize (pin b d) d) x ((dims b d).body x)
 
   same-of : (name : List ℕ) (x : ℕ) → is_live (detach b d) x ≡ true → is_of (detach b d) name x ≡ is_of (pin b d) name x
   same-of name x live = ap (λ (o : Option TypeId). option_map_or (λ (t : TypeId). is_a t name) o false) (kinds x live)
 
   owned : (x q : ℕ) → owns (detach b d) x q ≡ true → owns (pin b d) x q ≡ true
-  owned x q o = sym (ap (list_any (owns_it q)) (dims.children x)) ∙ within-any (owns_it q) (walked.children x) o
+  owned x q o = sym (ap (list_any (owns_it q)) ((dims b d).children x)) ∙ within-any (owns_it q) ((walked b d).children x) o
 
   -- on the same bus
   home-before : (x : ℕ) (k : IsHome (detach b d) x) → bus_of (pin b d) x ≡ Some k.bus
   home-before x k =
       let is : is_of (pin b d) (codes "bus") k.bus ≡ true = sym (same-of (codes "bus") k.bus (of-live (detach b d) (codes "bus") k.bus k.is_bus)) ∙ k.is_bus in
-      let l : listed x (kid_entries (pin b d) k.bus) ≡ true = sym (ap (listed x) (dims.kids k.bus)) ∙ within-listed x (walked.kids k.bus) k.kid in
+      let l : listed x (kid_entries (pin b d) k.bus) ≡ true = sym (ap (listed x) ((dims b d).kids k.bus)) ∙ within-listed x ((walked b d).kids k.bus) k.kid in
       (kid-of kp.depth None (λ y. false) (pin b d) kp.places k.bus x is l).1
 
   -- what was below the device does not stand
@@ -278,21 +244,21 @@ module _ (b : Board) (d : ℕ) (s : SoundDevices b) (e : stands b d ≡ true) wh
 
   children-stay : (x : ℕ) → stands (detach b d) x ≡ true → child_entries (detach b d) x ≡ child_entries b x
   children-stay x k =
-      walked.still x (λ v. unstood x v k, shelf x (stood x k)) (stands-live (detach b d) kz.firm x k) ∙ dims.children x ∙ pin-children x
+      (walked b d).still x (λ v. unstood x v k, shelf x (stood x k)) (stands-live (detach b d) kz.firm x k) ∙ (dims b d).children x ∙ pin-children b d x
 
   machine-stays : child_entries (detach b d) MACHINE_BIRTH ≡ child_entries b MACHINE_BIRTH
   machine-stays =
-      walked.still MACHINE_BIRTH (λ v. clash (sym (below-stands MACHINE_BIRTH v) ∙ kp.places.aside.1.0), refl)
+      (walked b d).still MACHINE_BIRTH (λ v. clash (sym (below-stands MACHINE_BIRTH v) ∙ kp.places.aside.1.0), refl)
       (child-live (detach b d) kz.firm ROOT_BIRTH MACHINE_BIRTH kz.places.machine)
-      ∙ dims.children MACHINE_BIRTH
-      ∙ pin-children MACHINE_BIRTH
+      ∙ (dims b d).children MACHINE_BIRTH
+      ∙ pin-children b d MACHINE_BIRTH
 
   pub frame : Frame b (detach b d)
   frame =
       record {
-        kind = λ x was live. kinds x live ∙ pin-kind x;
-        stood = λ x k. sym (pin-stands x) ∙ stood x k;
-        bus = λ x k. let home : IsHome (detach b d) x = kz.places.home x k (λ w. cc) in home.on ∙ sym (sym (pin-bus x) ∙ home-before x home);
+        kind = λ x was live. kinds x live ∙ pin-kind b d x;
+        stood = λ x k. sym (pin-stands b d x) ∙ stood x k;
+        bus = λ x k. let home : IsHome (detach b d) x = kz.places.home x k (λ w. cc) in home.on ∙ sym (sym (pin-bus b d x) ∙ home-before x home);
         children = children-stay;
         machine = machine-stays;
       }
@@ -340,7 +306,7 @@ module _ (b : Board) (d : ℕ) (s : SoundDevices b) (e : stands b d ≡ true) wh
 
   -- a hold that is left is on what is still reached
   lit-before : (x : ℕ) → stands b x ≡ true → is_realized (pin b d) x ≡ true
-  lit-before x k = pin-realized x ∙ kb.places.each x k refl
+  lit-before x k = pin-realized b d x ∙ kb.places.each x k refl
 
   pub lit-stands : (x : ℕ) → stands b x ≡ true → is_realized (unrealize (pin b d) d) x ≡ true → stands (detach b d) x ≡ true
   lit-stands x k lit = detach-lit s.places.0 b d rest s.places.1 e x k lit
@@ -349,7 +315,7 @@ module _ (b : Board) (d : ℕ) (s : SoundDevices b) (e : stands b d ≡ true) wh
   machines-stay : (r : ℕ) → among (ROOT_BUS_BIRTH ∷ MEMORY_BUS_BIRTH ∷ []) r ≡ true → IsReached b r → IsReached (detach b d) r
   machines-stay r j i =
       let live : is_live (detach b d) r ≡ true = child-live (detach b d) kz.firm MACHINE_BIRTH r (machines-listed (detach b d) kz r j) in
-      bus (same-of (codes "bus") r live ∙ pin-of (codes "bus") r ∙ machines-is b kb r j i) (machines j)
+      bus (same-of (codes "bus") r live ∙ pin-of b d (codes "bus") r ∙ machines-is b kb r j i) (machines j)
 
   hold-stays : (r : ℕ) → among (unrealize (pin b d) d).holds r ≡ true → IsReached b r → IsReached (detach b d) r
   hold-stays r on (machine at) = machine at
@@ -359,10 +325,10 @@ module _ (b : Board) (d : ℕ) (s : SoundDevices b) (e : stands b d ≡ true) wh
   hold-stays r on (bus is by) = owner by
     where
       still-is : is_live (detach b d) r ≡ true → is_of (detach b d) (codes "bus") r ≡ true
-      still-is live = same-of (codes "bus") r live ∙ pin-of (codes "bus") r ∙ is
+      still-is live = same-of (codes "bus") r live ∙ pin-of b d (codes "bus") r ∙ is
 
       was-bus : is_of (pin b d) (codes "bus") r ≡ true
-      was-bus = pin-of (codes "bus") r ∙ is
+      was-bus = pin-of b d (codes "bus") r ∙ is
 
       owner : HasOwner b r → IsReached (detach b d) r
       owner (machines j) = machines-stay r j (bus is by)
@@ -376,7 +342,7 @@ module _ (b : Board) (d : ℕ) (s : SoundDevices b) (e : stands b d ≡ true) wh
 
           goes : is_realized (unrealize (pin b d) d) q ≡ false → IsReached (detach b d) r
           goes dim =
-              let own : owns (pin b d) q r ≡ true = ap (list_any (owns_it r)) (pin-children q) ∙ o in
+              let own : owns (pin b d) q r ≡ true = ap (list_any (owns_it r)) (pin-children b d q) ∙ o in
               clash (sym on ∙ bus-loose (pin b d) q r (owned-bus (pin b d) r was-bus (slots_at (pin b d) q) own) d (lit-before q t) dim)
 
   quiet : Quiet b (detach b d)
@@ -397,7 +363,7 @@ module _ (b : Board) (d : ℕ) (s : SoundDevices b) (e : stands b d ≡ true) wh
             ∙ ap (λ (m : ℕ). Some (if m == 0 then stage.out else stage.held)) (sym (counts n i));
         holds = subst (AllByRecursion (IsReached (detach b d))) (sym still.holds) left;
         buses = (machines-stay ROOT_BUS_BIRTH refl h.buses.0, (machines-stay MEMORY_BUS_BIRTH refl h.buses.1.0, tt));
-        lone = λ n i. h.lone n (sym (kinds n (sym (is_some-map (λ (r : Record). r.kind) (record_of (detach b d) n)) ∙ ap is_some i) ∙ pin-kind n) ∙ i);
+        lone = λ n i. h.lone n (sym (kinds n (sym (is_some-map (λ (r : Record). r.kind) (record_of (detach b d) n)) ∙ ap is_some i) ∙ pin-kind b d n) ∙ i);
       }
     where
       on : AllByRecursion (IsReached b) (unrealize (pin b d) d).holds

@@ -1,7 +1,6 @@
 -- Objects that steps leave where they are: each that is still there has the same children, bus and type.
 use Rattle.std.proofs.Common.{inr, ◌≡◌, refl, ap, sym, subst, ◌∙◌, ℕ, zero, suc, ◌<◌, Bool, true, false, ◌==◌, List, [], ◌∷◌, filter_map, find, length, position, slice_get, Option, Some, None, is_some, option_map, option_and_then, arith, codes}
 use Rattle.std.specs.Prelude.{get_or}
-use Rattle.std.specs.List.{cons_option}
 use Rattle.std.specs.Option.{option_map_or}
 use Rattle.std.specs.Str.{bytes_eq}
 use Rattle.std.proofs.lemmas.Bool.{eqb-true}
@@ -27,7 +26,7 @@ use Rattle.qo_model.specs.declared.properties.Property.{Property}
 use Rattle.qo_model.specs.declared.properties.RowKind.{RowKind}
 use Rattle.qo_model.specs.declared.properties.RowKind.TheVariants as row
 use Rattle.qo_model.proofs.EditLemmas.{StandsAt, stands-at}
-use Rattle.qo_model.proofs.StepLemmas.{found-edited, is_some-map}
+use Rattle.qo_model.proofs.StepLemmas.{found-edited, is_some-map, map-edited}
 use Rattle.qo_sound.proofs.FirmLemmas.{Firm}
 use Rattle.qo_sound.proofs.ReadLemmas.{named_in}
 use Rattle.qo_sound.proofs.TestLemmas.{decide, clash, clash-back}
@@ -36,7 +35,8 @@ use Rattle.qo_sound_devices.proofs.AlikeLemmas.{after-alike, other-record}
 use Rattle.qo_sound_devices.proofs.DropLemmas.{children-kept, edited-slots, names-at, strong-dropped}
 use Rattle.qo_sound_devices.proofs.PlacesLemmas.{kind-alike}
 use Rattle.qo_sound_devices.proofs.StepsLemmas.{steps-after}
-use Rattle.qo_sound_devices.proofs.UnrealizeLemmas.{named-other}
+use Rattle.qo_sound_devices.proofs.UnrealizeLemmas.{named-other, entries-changed}
+use Rattle.qo_sound_devices.proofs.WriteLemmas.{child-entry-pointed}
 
 -- an object as it was
 pub record SameAt (b c : Board) (x : ℕ) : Type 0 where
@@ -117,14 +117,6 @@ fixed-edit On n change birth kind b same x on e = decide (x == n) own other
             found_own : record_of (edit n change b) n ≡ option_map (edited n change) (record_of b n)
             found_own = found-edited n change birth n b.records
 
-            kind_in : (y : Record) (t : Bool) → (y.birth == n) ≡ t → (edited n change y).kind ≡ y.kind
-            kind_in y true w = rw (edited, w) (kind y)
-            kind_in y false w = rw (edited, w) refl
-
-            kinds : (o : Option Record) → option_map (λ (y : Record). y.kind) (option_map (edited n change) o) ≡ option_map (λ (y : Record). y.kind) o
-            kinds None = refl
-            kinds (Some y) = ap Some (kind_in y (y.birth == n) refl)
-
             at_record : (o : Option Record) → record_of b n ≡ o → SameAt b (edit n change b) n
             at_record None q = clash-back (sym (ap is_some (found_own ∙ ap (option_map (edited n change)) q)) ∙ live)
             at_record (Some r) q =
@@ -138,7 +130,7 @@ fixed-edit On n change birth kind b same x on e = decide (x == n) own other
                       ap (λ (ss : List (List ℕ × Slot)). option_and_then strong_in (named_in (codes "parent_bus") ss)) now
                       ∙ s.bus
                       ∙ sym (ap (λ (ss : List (List ℕ × Slot)). option_and_then strong_in (named_in (codes "parent_bus") ss)) before);
-                  kind = ap (option_map (λ (y : Record). y.kind)) found_own ∙ kinds (record_of b n);
+                  kind = ap (option_map (λ (y : Record). y.kind)) found_own ∙ map-edited (λ (y : Record). y.kind) n change kind (record_of b n);
                 }
 
 -- an edit of none of them
@@ -189,30 +181,20 @@ unlinked b n name row e may = decide (bytes_eq name (codes "parent_bus")) (λ q.
         clash (sym (ap (λ (o : Option Property). option_map_or (λ (r : Property). may_set r.mark) o false) its ∙ may) ∙ link-unset t)
 
 -- a slot of another name is changed
-entries-changed : (g : Slot → Slot) → ((s : List ℕ × Slot) → child_entry (s.0, g s.1) ≡ child_entry s) → (i : ℕ) (slots : List (List ℕ × Slot))
-    → filter_map child_entry (changed_at g i slots) ≡ filter_map child_entry slots
-entries-changed g same i [] = refl
-entries-changed g same zero (s ∷ slots) = ap (λ (o : Option (List ℕ × ℕ)). cons_option o (filter_map child_entry slots)) (same s)
-entries-changed g same (suc i) (s ∷ slots) = ap (cons_option (child_entry s)) (entries-changed g same i slots)
-
-child-val : (v : Val) (s : List ℕ × Slot) → child_entry (s.0, with_val v s.1) ≡ child_entry s
+pub child-val : (v : Val) (s : List ℕ × Slot) → child_entry (s.0, with_val v s.1) ≡ child_entry s
 child-val v (name, plain w) = refl
 child-val v (name, child m) = refl
 child-val v (name, strong t target) = refl
 child-val v (name, weak t target) = refl
 child-val v (name, alias m property) = refl
 
-child-points : (m : ℕ) (s : List ℕ × Slot) → child_entry (s.0, pointed m s.1) ≡ child_entry s
-child-points m (name, plain w) = refl
-child-points m (name, child k) = refl
-child-points m (name, strong t target) = refl
-child-points m (name, weak t target) = refl
-child-points m (name, alias k property) = refl
-
 changed-slots : (g : Slot → Slot) → ((s : List ℕ × Slot) → child_entry (s.0, g s.1) ≡ child_entry s) → (i : ℕ) (slots : List (List ℕ × Slot))
     → (s : List ℕ × Slot) → slice_get slots i ≡ Some s → bytes_eq s.0 (codes "parent_bus") ≡ false → SameSlots slots (changed_at g i slots)
 changed-slots g same i slots s at apart =
-    record { children = entries-changed g same i slots; bus = ap (option_and_then strong_in) (named-other g (codes "parent_bus") i slots s at apart) }
+    record {
+      children = entries-changed child_entry g same i slots;
+      bus = ap (option_and_then strong_in) (named-other g (codes "parent_bus") i slots s at apart);
+    }
 
 -- the slot at a place, which is under another name
 record Other (b : Board) (n i : ℕ) : Type 0 where
@@ -307,7 +289,7 @@ module _ (On : ℕ → Type 0) (b : Board) (firm : Firm b) (n i : ℕ) (other : 
     where
       points : (to : Option ℕ) → Fixed On (drop_slot b n i) (pointed_at to n i (drop_slot b n i))
       points None = fixed-none On (drop_slot b n i)
-      points (Some m) = fixed-changed On (pointed m) (child-points m) n i (drop_slot b n i) (still-other s e none)
+      points (Some m) = fixed-changed On (pointed m) (child-entry-pointed m) n i (drop_slot b n i) (still-other s e none)
 
   fixed-linked : (s : Slot) → slot_at b n i ≡ Some s → child_of s ≡ None → (target : Result (Option ℕ) Code) → Fixed On b (behind_write b (linked b n i target))
   fixed-linked s e none (Ok target) = fixed-relinked s e none target

@@ -14,7 +14,9 @@ use Rattle.qo_model.specs.Types.{is_a}
 use Rattle.qo_sound.proofs.TestLemmas.{clash}
 use Rattle.qo_sound_devices.specs.SoundPlaces.{child_entries, HasOwner, machines, bridges, listed, owns, owns_it, stands}
 use Rattle.qo_sound_devices.proofs.AttachedLemmas.{owns-listed}
-use Rattle.qo_sound_devices.proofs.PlacesLemmas.{child-live, stands-live}
+use Rattle.qo_sound_devices.proofs.LowLemmas.{stands-dimmed}
+use Rattle.qo_sound_devices.proofs.PlacesLemmas.{child-live, stands-live, kind-alike}
+use Rattle.qo_sound_devices.proofs.UnrealizeLemmas.{Dims}
 use Rattle.qo_sound_phases.specs.SoundPhases.{IsReached, machine, device, bus}
 use Rattle.qo_sound_phases.proofs.BelowLemmas.{bus-leads, kid-leads, leads-cases, one-parent, Placed, post-reach, reach-post, stands-no_bus}
 use Rattle.qo_sound_phases.proofs.ForestLemmas.{Reach, itself, further}
@@ -29,6 +31,17 @@ pub record Frame (b c : Board) : Type 0 where
   pub bus : (x : ℕ) → stands c x ≡ true → bus_of c x ≡ bus_of b x
   pub children : (x : ℕ) → stands c x ≡ true → child_entries c x ≡ child_entries b x
   pub machine : child_entries c MACHINE_BIRTH ≡ child_entries b MACHINE_BIRTH
+
+-- what leaves all that is read of places
+pub dims-frame : (b c : Board) → Dims b c → Frame b c
+dims-frame b c k =
+    record {
+      kind = λ x was live. kind-alike b c x (k.dimmed.body x);
+      stood = λ x s. sym (stands-dimmed b c k.dimmed x) ∙ s;
+      bus = λ x s. k.dimmed.bus x;
+      children = λ x s. k.dimmed.children x;
+      machine = k.dimmed.children MACHINE_BIRTH;
+    }
 
 module _ (b c : Board) (kb : Placed b) (kc : Placed c) (f : Frame b c) where
   frame-of : (name : List ℕ) (x : ℕ) → is_live b x ≡ true → is_live c x ≡ true → is_of c name x ≡ is_of b name x

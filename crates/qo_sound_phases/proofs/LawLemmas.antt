@@ -85,7 +85,7 @@ asked-phases b id h = go (device_at b id) refl
     go (Some d) e = rw (asked, e) (of d)
 
 -- no phase, no hold, and one machine
-abbrev is_machine : TypeId → Bool
+abbrev pub is_machine : TypeId → Bool
 is_machine Machine = true
 is_machine t = false
 

@@ -4,11 +4,12 @@ use Rattle.std.specs.Prelude.{if◌then◌else◌}
 use Rattle.std.specs.List.{AllByRecursion, IsDistinct, flat_map}
 use Rattle.std.proofs.lemmas.Bool.{eqb-true, eq-eqb}
 use Rattle.std.proofs.lemmas.List.Folds.{list_any-append}
-use Rattle.std.proofs.Math.Bool.{or-true}
+use Rattle.std.proofs.Math.Bool.{or-true, and-false}
 use Rattle.qo_values.specs.declared.kinds.Act.{Act}
 use Rattle.qo_model.specs.declared.notes.Deed.TheVariants.{Did}
 use Rattle.qo_model.specs.Depth.{among}
 use Rattle.qo_model.specs.Plug.{did}
+use Rattle.qo_sound.proofs.RecordLemmas.{all-filter}
 use Rattle.qo_sound.proofs.TestLemmas.{decide, clash, clash-back}
 use Rattle.qo_sound_phases.specs.Phases.{phase_of, phases_of}
 
@@ -51,20 +52,8 @@ among-filter p n (x ∷ xs) = go (p x) refl (eqb n x) refl (among-filter p n xs)
     go true e false k rest = rw (e, k) rest
     go false e true k rest =
         let no : p n ≡ false = ap p (eqb-true n x k) ∙ e in
-        rw (e, k) (rest ∙ rw no (none (among xs n)) ∙ sym no)
-      where
-        none : (t : Bool) → t && false ≡ false
-        none true = refl
-        none false = refl
+        rw (e, k) (rest ∙ rw no (and-false (among xs n)) ∙ sym no)
     go false e false k rest = rw (e, k) rest
-
-all-filter : (P : ℕ → Type 0) (p : ℕ → Bool) (xs : List ℕ) → AllByRecursion P xs → AllByRecursion P (filter p xs)
-all-filter P p [] h = tt
-all-filter P p (x ∷ xs) h = go (p x) refl (all-filter P p xs h.1)
-  where
-    go : (t : Bool) → p x ≡ t → AllByRecursion P (filter p xs) → AllByRecursion P (filter p (x ∷ xs))
-    go true e rest = rw e (h.0, rest)
-    go false e rest = rw e rest
 
 pub distinct-filter : (p : ℕ → Bool) (xs : List ℕ) → IsDistinct eqb xs → IsDistinct eqb (filter p xs)
 unfolding IsDistinct

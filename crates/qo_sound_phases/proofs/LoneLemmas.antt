@@ -8,7 +8,6 @@ use Rattle.std.proofs.lemmas.Option.{same_Some}
 use Rattle.qo_values.specs.Registers.{fresh_registers}
 use Rattle.qo_values.specs.declared.births.TheConstants.{OBJECTS_BIRTH}
 use Rattle.qo_values.specs.declared.codes.Code.{Code}
-use Rattle.qo_values.specs.declared.codes.Code.TheVariants.{E21, E22}
 use Rattle.qo_values.specs.declared.kinds.TypeId.{TypeId}
 use Rattle.qo_values.specs.declared.kinds.TypeId.TheVariants.{Object, Container, Machine, Device, SlotDevice, SlotUart, SlotTimer, SlotBridge, MemDimm, Bus, SlotBus, MemBus, Clock, MemoryBackend, MemoryBackendRam, Tag}
 use Rattle.qo_model.specs.Board.{Board, Record, child, is_live, kind_of, record_of}
@@ -19,6 +18,7 @@ use Rattle.qo_model.specs.Plug.{Spot, Wanted, drafted, with_plugged}
 use Rattle.qo_model.specs.Release.{after, edited, finalise}
 use Rattle.qo_model.specs.Types.{TypeRow, is_a, row_named, slots_of, types}
 use Rattle.qo_model.proofs.StepLemmas.{found_at, found-edited, is_some-map}
+use Rattle.qo_sound.proofs.AddLemmas.{creatable}
 use Rattle.qo_sound.proofs.ChangeStepsLemmas.{step-object_del, step-sever, step-write}
 use Rattle.qo_sound.proofs.DetachStepsLemmas.{KeepsEnds, KeepsPins}
 use Rattle.qo_sound.proofs.FirmLemmas.{edited-kinds}
@@ -169,11 +169,6 @@ lone-added : (b : Board) (t : TypeId) (id : List ℕ) (props : List Given) (refu
     → LoneMachine (added_as b t id props refusal).board
 lone-added b t id props None other h = lone-object b t id props other h
 lone-added b t id props (Some code) other h = h
-
-creatable : (b : Board) (row : TypeRow) (id : List ℕ) → barred b row id ≡ None → is_a row.id (codes "user-creatable") ≡ true
-creatable b row id e =
-    decide (row.is_abstract) (λ p. absurd (let bad : Some E21 ≡ None = rw (barred, p) at e in cc))
-    (λ p. decide (is_a row.id (codes "user-creatable")) (λ q. q) (λ q. absurd (let bad : Some E22 ≡ None = rw (barred, p, q) at e in cc)))
 
 lone-by : (b : Board) (row : TypeRow) (id : List ℕ) (props : List Given) (refusal : Option Code) → barred b row id ≡ refusal → LoneMachine b
     → LoneMachine (added_by b row id props refusal).board

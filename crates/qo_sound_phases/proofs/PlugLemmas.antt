@@ -7,7 +7,7 @@ use Rattle.std.specs.Option.{option_or}
 use Rattle.std.proofs.lemmas.Bool.{eqb-true}
 use Rattle.std.proofs.lemmas.List.Folds.{find-append, list_any-append}
 use Rattle.std.proofs.lemmas.Option.{same_Some}
-use Rattle.std.proofs.Math.Bool.{or-false, or-true}
+use Rattle.std.proofs.Math.Bool.{or-true}
 use Rattle.qo_values.specs.declared.births.TheConstants.{ANONYMOUS_BIRTH, MACHINE_BIRTH, PERIPHERAL_BIRTH, ROOT_BIRTH}
 use Rattle.qo_values.specs.declared.codes.Code.{Code}
 use Rattle.qo_values.specs.declared.kinds.Act.{Act}
@@ -33,7 +33,7 @@ use Rattle.qo_sound.proofs.ViewLemmas.{rest-from_sound}
 use Rattle.qo_sound_devices.specs.SoundDevices.{SoundDevices}
 use Rattle.qo_sound_devices.specs.SoundPlaces.{child_entries, HasOwner, machines, bridges, IsHome, listed, owns, owns_it, stands}
 use Rattle.qo_sound_devices.proofs.AttachedLemmas.{owns-listed}
-use Rattle.qo_sound_devices.proofs.JoinedLemmas.{deepened, done, Joined, named_entry, new-stands, numbered_entry, old-stands, places-joined}
+use Rattle.qo_sound_devices.proofs.JoinedLemmas.{deepened, done, Joined, named_entry, new-stands, numbered_entry, old-stands, places-joined, only-listed}
 use Rattle.qo_sound_devices.proofs.PlacesLemmas.{child-live, kind-alike, of-alike, of-live, or-cases, stands-live}
 use Rattle.qo_sound_devices.proofs.PlugLemmas.{Accepted}
 use Rattle.qo_sound_devices.proofs.PluggedLemmas.{accepted-joined}
@@ -148,15 +148,12 @@ told-so n f =
 any-last : (d : ℕ) (xs ys : List (List ℕ × ℕ)) → listed d (xs ++ ys) ≡ true → {A : Type 0} → (listed d xs ≡ true → A) → (listed d ys ≡ true → A) → A
 any-last d xs ys e f g = or-cases (listed d xs) (listed d ys) (sym (list_any-append (λ (x : List ℕ × ℕ). x.1 == d) xs ys) ∙ e) f g
 
-one-entry : (name : List ℕ) (n d : ℕ) → listed d ((name, n) ∷ []) ≡ true → d ≡ n
-one-entry name n d e = sym (eqb-true n d (sym (or-false (n == d)) ∙ e))
-
 named-only : (id : Option (List ℕ)) (n d : ℕ) → listed d (named_entry id n) ≡ true → d ≡ n
 named-only None n d e = clash-back e
-named-only (Some id) n d e = one-entry id n d e
+named-only (Some id) n d e = only-listed id n d e
 
 numbered-only : (b : Board) (id : Option (List ℕ)) (n d : ℕ) → listed d (numbered_entry b id n) ≡ true → d ≡ n
-numbered-only b None n d e = one-entry (anonymous_name b.anonymous) n d e
+numbered-only b None n d e = only-listed (anonymous_name b.anonymous) n d e
 numbered-only b (Some id) n d e = clash-back e
 
 module _ (b : Board) (kb : Placed b) (h : SoundPhases b) (n on slot : ℕ) (id : Option (List ℕ)) (t : TypeId) (c : Board) (kc : Placed c)

@@ -1,5 +1,5 @@
 -- Boards of one shape: a reset goes over the same objects, and as many holds are on each and above it.
-use Rattle.std.proofs.Common.{◌≡◌, refl, ap, ap₂, sym, ◌∙◌, append-nil, append_assoc, ℕ, zero, suc, ◌+◌, Bool, cond, true, false, not, ◌&&◌, ◌==◌, List, [], ◌∷◌, ◌++◌, filter_map, length, map, Option, Some, None, option_map, codes}
+use Rattle.std.proofs.Common.{◌≡◌, refl, ap, ap₂, sym, ◌∙◌, append-nil, append_assoc, ℕ, zero, suc, ◌+◌, Bool, cond, false, not, ◌&&◌, List, [], ◌∷◌, ◌++◌, filter_map, length, map, Option, Some, None, option_map, codes}
 use Rattle.std.specs.Prelude.{count_by, if◌then◌else◌}
 use Rattle.std.specs.List.{cons_option, flat_map}
 use Rattle.std.specs.Option.{option_map_or}
@@ -16,7 +16,7 @@ use Rattle.qo_model.specs.Plug.{did}
 use Rattle.qo_model.specs.Reset.{below, count, phased, post, post_turn}
 use Rattle.qo_model.specs.Types.{is_a}
 use Rattle.qo_model.specs.Release.{edit, edited}
-use Rattle.qo_model.proofs.StepLemmas.{found-edited}
+use Rattle.qo_model.proofs.StepLemmas.{found-edited, map-edited, slots-edited}
 use Rattle.qo_sound.proofs.FirmLemmas.{edited-births}
 
 -- the same objects, by birth, type and slots
@@ -48,30 +48,13 @@ pub shape-edit : (n : ℕ) (change : Record → Record) → ((r : Record) → (c
     → ((r : Record) → (change r).slots ≡ r.slots) → (b : Board) → SameShape b (edit n change b)
 shape-edit n change birth kind slots b =
     record {
-      slots = λ x. ap (λ (o : Option Record). option_map_or (λ (r : Record). r.slots) o []) (found x) ∙ same_slots (record_of b x);
-      kind = λ x. ap (option_map (λ (r : Record). r.kind)) (found x) ∙ same_kind (record_of b x);
+      slots = λ x. ap (λ (o : Option Record). option_map_or (λ (r : Record). r.slots) o []) (found x) ∙ slots-edited n change slots (record_of b x);
+      kind = λ x. ap (option_map (λ (r : Record). r.kind)) (found x) ∙ map-edited (λ (r : Record). r.kind) n change kind (record_of b x);
       size = ap (length {A = ℕ}) (edited-births n change birth kind b.records);
     }
   where
     found : (x : ℕ) → record_of (edit n change b) x ≡ option_map (edited n change) (record_of b x)
     found x = found-edited n change birth x b.records
-
-    slots_in : (r : Record) (t : Bool) → (r.birth == n) ≡ t → (edited n change r).slots ≡ r.slots
-    slots_in r true p = rw (edited, p) (slots r)
-    slots_in r false p = rw (edited, p) refl
-
-    kind_in : (r : Record) (t : Bool) → (r.birth == n) ≡ t → (edited n change r).kind ≡ r.kind
-    kind_in r true p = rw (edited, p) (kind r)
-    kind_in r false p = rw (edited, p) refl
-
-    same_slots : (o : Option Record)
-        → option_map_or (λ (r : Record). r.slots) (option_map (edited n change) o) [] ≡ option_map_or (λ (r : Record). r.slots) o []
-    same_slots None = refl
-    same_slots (Some r) = slots_in r (r.birth == n) refl
-
-    same_kind : (o : Option Record) → option_map (λ (r : Record). r.kind) (option_map (edited n change) o) ≡ option_map (λ (r : Record). r.kind) o
-    same_kind None = refl
-    same_kind (Some r) = ap Some (kind_in r (r.birth == n) refl)
 
 -- counts by tests that say the same
 pub counted-same : (f g : ℕ → Bool) → ((r : ℕ) → f r ≡ g r) → (rs : List ℕ) → count_by f rs ≡ count_by g rs

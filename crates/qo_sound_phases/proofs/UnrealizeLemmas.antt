@@ -1,22 +1,21 @@
 -- Unrealizing notes no phase, and takes the holds from the device and from all that is below it.
-use Rattle.std.proofs.Common.{◌≡◌, refl, ap, sym, subst, ◌∙◌, ℕ, zero, suc, Bool, true, false, ◌==◌, cond, eqb, List, [], ◌∷◌, length, Option, Some, None, arith, codes}
+use Rattle.std.proofs.Common.{◌≡◌, refl, ap, sym, subst, ◌∙◌, ℕ, zero, suc, Bool, true, false, ◌==◌, cond, eqb, List, [], ◌∷◌, length, arith, codes}
 use Rattle.std.specs.Prelude.{count_by}
 use Rattle.std.specs.List.{AllByRecursion}
 use Rattle.std.proofs.lemmas.Bool.{eqb-true}
 use Rattle.std.proofs.lemmas.List.Sums.{sum_by-cons}
 use Rattle.qo_values.specs.declared.kinds.Act.TheVariants.{Unrealize}
 use Rattle.qo_values.specs.declared.properties.Val.TheVariants as val
-use Rattle.qo_model.specs.Board.{Board, slots_at}
-use Rattle.qo_model.specs.Changes.{with_changed}
+use Rattle.qo_model.specs.Board.{Board}
 use Rattle.qo_model.specs.Clocks.{acted, device_period}
 use Rattle.qo_model.specs.Depth.{among, by_depth}
 use Rattle.qo_model.specs.Devices.{buses_of, clock_of, is_realized, kids_of}
-use Rattle.qo_model.specs.Objects.{place_from}
 use Rattle.qo_model.specs.Paths.{births}
-use Rattle.qo_model.specs.Unplug.{disconnected, each, is_named, set_named, unrealize, unrealize_turn, unrealized_bus, unrealized_device, unseen, unseen_named, without_all}
-use Rattle.qo_sound.proofs.MakeStepsLemmas.{KeepsEdits, step-set}
-use Rattle.qo_sound.proofs.TestLemmas.{decide, clash, clash-back}
-use Rattle.qo_sound_devices.proofs.UnrealizeLemmas.{dims-bus, each-keeps, fades-device, Under, here, down}
+use Rattle.qo_model.specs.Unplug.{disconnected, each, set_named, unrealize, unrealize_turn, unrealized_bus, unrealized_device, without_all}
+use Rattle.qo_sound.proofs.MakeStepsLemmas.{KeepsEdits, step-set, step-disconnected}
+use Rattle.qo_sound.proofs.TestLemmas.{decide, clash}
+use Rattle.qo_sound_devices.proofs.DetachLemmas.{under-more}
+use Rattle.qo_sound_devices.proofs.UnrealizeLemmas.{dims-bus, each-keeps, fades-device, Under, here, each-makes}
 use Rattle.qo_sound_phases.proofs.QuietLemmas.{Quiet, quiet-acted, quiet-then}
 
 -- what steps on objects leave: births, holds and phases
@@ -30,17 +29,6 @@ still-none b = record { born = refl; holds = refl; quiet = λ n. refl }
 
 pub still-edits : (b : Board) → KeepsEdits (Still b)
 still-edits b n change leaves c h = record { born = h.born; holds = h.holds; quiet = h.quiet }
-
-still-unseen : (b : Board) (n : ℕ) (name : List ℕ) (c : Board) → Still b c → Still b (unseen_named n name c)
-still-unseen b n name c h = go (place_from (is_named name) 0 (slots_at c n)) refl
-  where
-    go : (o : Option ℕ) → place_from (is_named name) 0 (slots_at c n) ≡ o → Still b (unseen_named n name c)
-    go None e = rw (unseen_named, e) h
-    go (Some i) e = rw (unseen_named, e) (still-edits b n (with_changed unseen i) (λ r. refl) c h)
-
-still-disconnected : (b : Board) (o : Option ℕ) (c : Board) → Still b c → Still b (disconnected o c)
-still-disconnected b None c h = h
-still-disconnected b (Some n) c h = step-set (Still b) (still-edits b) n (codes "period") (val.Uint 0) _ (still-unseen b n (codes "source") c h)
 
 still-acted : (n period : ℕ) (c : Board) → Still c (acted Unrealize n period c)
 unfolding acted
@@ -58,7 +46,7 @@ lets-device d c = record { born = same.born; holds = ap (without_all d) same.hol
     same : Still c (set_named d (codes "realized") (val.Bool false) (disconnected (clock_of c d) (acted Unrealize d (device_period c d) c)))
     same =
         step-set (Still c) (still-edits c) d (codes "realized") (val.Bool false) _
-        (still-disconnected c (clock_of c d) _ (still-acted d (device_period c d) c))
+        (step-disconnected (Still c) (still-edits c) (clock_of c d) _ (still-acted d (device_period c d) c))
 
 pub lets-bus : (m : ℕ) (c : Board) → Lets m c (unrealized_bus m c)
 lets-bus m c =
@@ -95,11 +83,6 @@ without-count f n none (h ∷ hs) = go (h == n) refl (without-count f n none hs)
     go false p rest =
         rw p (omega (arith, rest, sum_by-cons (λ x. cond {A = ℕ} (f x) 1 0) h hs, sum_by-cons (λ x. cond {A = ℕ} (f x) 1 0) h (without_all n hs)))
 
--- below what is below a device are others
-pub under-more : (b : Board) (d x m k : ℕ) → Under b d x → among (buses_of b x) m ≡ true → among (kids_of b m) k ≡ true → Under b d k
-under-more b d x m k here im ik = down m k im ik here
-under-more b d x m k (down n j jn jk u) im ik = down n j jn jk (under-more b j x m k u im ik)
-
 -- the steps on the device, on what is below it, and on the buses there
 module _ (b : Board) (d : ℕ) (P : Board → Type 0) (device : (x : ℕ) (c : Board) → Under b d x → P c → P (unrealized_device x c))
     (bus : (x m : ℕ) (c : Board) → Under b d x → among (buses_of b x) m ≡ true → P c → P (unrealized_bus m c)) where
@@ -120,17 +103,6 @@ module _ (b : Board) (d : ℕ) (P : Board → Type 0) (device : (x : ℕ) (c : B
   pub unrealize-walk : P b → P (unrealize b d)
   unfolding unrealize
   unrealize-walk h = walk (suc (length (births b))) d b here h
-
-each-makes : (P : Board → Type 0) (f : ℕ → Board → Board) (ns : List ℕ) (k : ℕ) → among ns k ≡ true → ((c : Board) → P (f k c))
-    → ((n : ℕ) (c : Board) → P c → P (f n c)) → (c : Board) → P (each f ns c)
-each-makes P f [] k e makes keeps c = clash-back e
-each-makes P f (n ∷ ns) k e makes keeps c = go (eqb k n) refl (each-makes P f ns k)
-  where
-    go : (t : Bool) → eqb k n ≡ t
-        → (among ns k ≡ true → ((x : Board) → P (f k x)) → ((m : ℕ) (x : Board) → P x → P (f m x)) → (x : Board) → P (each f ns x))
-        → P (each f ns (f n c))
-    go true p rest = each-keeps P f ns (λ m q. keeps m) (f n c) (subst (λ (m : ℕ). P (f m c)) (eqb-true k n p) (makes c))
-    go false p rest = rest (rw p at e) makes keeps (f n c)
 
 -- no hold is left on a device that is realized no more, nor on its buses
 abbrev IsLoose : ℕ → ℕ → Board → Type 0

@@ -2,7 +2,6 @@
 use Rattle.std.proofs.Common.{◌≡◌, refl, ap, sym, subst, ◌∙◌, ℕ, false, eqb, List, [], ◌∷◌, codes, Option, Some, None, is_some, Ok, Err, arith}
 use Rattle.std.specs.List.{list_any}
 use Rattle.std.specs.Str.{bytes_eq}
-use Rattle.qo_values.specs.declared.births.TheConstants.{MACHINE_BIRTH}
 use Rattle.qo_values.specs.declared.codes.Code.TheVariants.{E45, E46, E47}
 use Rattle.qo_values.specs.declared.kinds.Act.{Act}
 use Rattle.qo_values.specs.declared.kinds.Act.TheVariants.{Pre, Update}
@@ -26,20 +25,20 @@ use Rattle.qo_sound_clocks.proofs.StepsLemmas.{same_ok}
 use Rattle.qo_sound_phases.specs.Phases.{phase_of}
 use Rattle.qo_sound_phases.specs.SoundPhases.{IsReached, machine, device, bus, SoundPhases}
 use Rattle.qo_sound_phases.proofs.BelowLemmas.{placed}
-use Rattle.qo_sound_phases.proofs.FrameLemmas.{Frame}
+use Rattle.qo_sound_phases.proofs.FrameLemmas.{Frame, dims-frame}
 use Rattle.qo_sound_phases.proofs.QuietLemmas.{frame-phases, Quiet, quiet-acted, quiet-then}
 
 -- what a write leaves
-record Leaves (b c : Board) : Type 0 where
+record LeavesPhases (b c : Board) : Type 0 where
   dims : Dims b c
   holds : c.holds ≡ b.holds
   born : c.born ≡ b.born
   quiet : Quiet b c
 
-leaves-none : (b : Board) → Leaves b b
+leaves-none : (b : Board) → LeavesPhases b b
 leaves-none b = record { dims = dims-none b; holds = refl; born = refl; quiet = λ n. refl }
 
-leaves-then : (b c d : Board) → Leaves b c → Leaves c d → Leaves b d
+leaves-then : (b c d : Board) → LeavesPhases b c → LeavesPhases c d → LeavesPhases b d
 leaves-then b c d h k =
     record {
       dims = dims-then b c d h.dims k.dims;
@@ -48,58 +47,51 @@ leaves-then b c d h k =
       quiet = quiet-then b c d h.quiet k.quiet;
     }
 
-leaves-acted : (act : Act) → phase_of (Did act) ≡ None → (n period : ℕ) (b : Board) → Leaves b (acted act n period b)
+leaves-acted : (act : Act) → phase_of (Did act) ≡ None → (n period : ℕ) (b : Board) → LeavesPhases b (acted act n period b)
 unfolding acted
 leaves-acted act none n period b =
     record { dims = dims-acted act n period b; holds = refl; born = refl; quiet = quiet-acted act n period none b }
 
 leaves-set : (name : List ℕ) → bytes_eq name (codes "slot") ≡ false → bytes_eq name (codes "realized") ≡ false → (n v : ℕ) (b : Board)
-    → Leaves b (set_named n name (val.Uint v) b)
+    → LeavesPhases b (set_named n name (val.Uint v) b)
 unfolding set
 leaves-set name no_slot no_mark n v b = go (place_from (is_named name) 0 (slots_at b n)) refl
   where
     dims : Dims b (set_named n name (val.Uint v) b)
     dims = dims-set n name (val.Uint v) no_slot no_mark b
 
-    go : (o : Option ℕ) → place_from (is_named name) 0 (slots_at b n) ≡ o → Leaves b (set_named n name (val.Uint v) b)
+    go : (o : Option ℕ) → place_from (is_named name) 0 (slots_at b n) ≡ o → LeavesPhases b (set_named n name (val.Uint v) b)
     go None e = record { dims = dims; holds = rw (set_named, e) refl; born = rw (set_named, e) refl; quiet = λ m. rw (set_named, e) refl }
     go (Some i) e = record { dims = dims; holds = rw (set_named, e) refl; born = rw (set_named, e) refl; quiet = λ m. rw (set_named, e) refl }
 
 -- the clocks below are called back
-leaves-called : (old new b : Board) (c : ℕ) → Leaves b (called old new b c)
+leaves-called : (old new b : Board) (c : ℕ) → LeavesPhases b (called old new b c)
 leaves-called old new b c =
     decide (eqb (period old c) (period new c)) (λ p. rw (called, p) (leaves-none b)) (λ p. by p (parent_of new c) refl)
   where
-    by : eqb (period old c) (period new c) ≡ false → (o : Option ℕ) → parent_of new c ≡ o → Leaves b (called old new b c)
+    by : eqb (period old c) (period new c) ≡ false → (o : Option ℕ) → parent_of new c ≡ o → LeavesPhases b (called old new b c)
     by p None q = rw (called, p, q) (leaves-none b)
     by p (Some d) q =
         let mid : Board = acted Pre d (period old c) b in
         rw (called, p, q)
         (leaves-then b mid (acted Update d (period new c) mid) (leaves-acted Pre refl d (period old c) b) (leaves-acted Update refl d (period new c) mid))
 
-leaves-all : (old new : Board) (cs : List ℕ) (b : Board) → Leaves b (called_all old new cs b)
+leaves-all : (old new : Board) (cs : List ℕ) (b : Board) → LeavesPhases b (called_all old new cs b)
 leaves-all old new [] b = leaves-none b
 leaves-all old new (c ∷ cs) b =
     leaves-then b (called old new b c) (called_all old new (c ∷ cs) b) (leaves-called old new b c) (leaves-all old new cs (called old new b c))
 
-leaves-written : (b new d : Board) (c : ℕ) → Leaves b new → clock_written b new c ≡ Ok d → Leaves b d
+leaves-written : (b new d : Board) (c : ℕ) → LeavesPhases b new → clock_written b new c ≡ Ok d → LeavesPhases b d
 leaves-written b new d c h e =
     decide (list_any (overflows new) (c ∷ clocks_below b c)) (λ p. absurd (let clash : Err E47 ≡ Ok d = rw (clock_written, p) at e in cc))
     (λ p.
     let is : Ok (spread b new c) ≡ Ok d = rw (clock_written, p) at e in
-    subst (Leaves b) (same_ok (spread b new c) d is) (leaves-then b new (spread b new c) h (leaves-all b new (clocks_below b c) new)))
+    subst (LeavesPhases b) (same_ok (spread b new c) d is) (leaves-then b new (spread b new c) h (leaves-all b new (clocks_below b c) new)))
 
 -- a device, a bus and the machine are where they were
-module _ (b d : Board) (s : SoundDevices b) (t : SoundDevices d) (h : SoundPhases b) (k : Leaves b d) where
+module _ (b d : Board) (s : SoundDevices b) (t : SoundDevices d) (h : SoundPhases b) (k : LeavesPhases b d) where
   frame : Frame b d
-  frame =
-      record {
-        kind = λ x was live. kind-alike b d x (k.dims.dimmed.body x);
-        stood = λ x e. sym (stands-dimmed b d k.dims.dimmed x) ∙ e;
-        bus = λ x e. k.dims.dimmed.bus x;
-        children = λ x e. k.dims.dimmed.children x;
-        machine = k.dims.dimmed.children MACHINE_BIRTH;
-      }
+  frame = dims-frame b d k.dims
 
   reached-still : (x : ℕ) → IsReached b x → IsReached d x
   reached-still x (machine at) = machine at
@@ -118,7 +110,7 @@ module _ (b d : Board) (s : SoundDevices b) (t : SoundDevices d) (h : SoundPhase
 pub set-phases : (b d : Board) (c period : ℕ) → clock_set b c period ≡ Ok d → SoundDevices b → SoundPhases b → SoundPhases d
 set-phases b d c period e s h = leaves-phases b d s (writes_keep_lem.set_devices b d c period e s) h left
   where
-    left : Leaves b d
+    left : LeavesPhases b d
     left =
         decide (is_some (source_of b c)) (λ p. absurd (let clash : Err E45 ≡ Ok d = rw (clock_set, p) at e in cc))
         (λ p.
@@ -133,7 +125,7 @@ scaled-phases b d c mul div e s h = leaves-phases b d s (writes_keep_lem.scaled_
     end : Board
     end = set_named c (codes "div") (val.Uint div) mid
 
-    left : Leaves b d
+    left : LeavesPhases b d
     left =
         decide (eqb div 0) (λ p. absurd (let clash : Err E46 ≡ Ok d = rw (clock_scaled, p) at e in cc))
         (λ p.

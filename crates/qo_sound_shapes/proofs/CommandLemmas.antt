@@ -1,5 +1,5 @@
 -- The commands on objects keep the shape.
-use Rattle.std.proofs.Common.{◌≡◌, refl, ap, sym, subst, ◌∙◌, rules, ℕ, zero, suc, ◌<◌, ◌≤◌, ◌+◌, Bool, true, false, not, eqb, List, [], ◌∷◌, length, filter_map, map, position, slice_get, codes, Option, Some, None, is_some, option_map, option_and_then, Result, Ok, Err, arith}
+use Rattle.std.proofs.Common.{◌≡◌, refl, ap, sym, subst, ◌∙◌, rules, ℕ, zero, suc, ◌<◌, ◌≤◌, ◌+◌, Bool, true, false, eqb, List, [], ◌∷◌, length, filter_map, map, position, slice_get, codes, Option, Some, None, is_some, option_map, option_and_then, Result, Ok, Err, arith}
 use Rattle.std.specs.Prelude.{get_or}
 use Rattle.std.specs.Bool.{⊤}
 use Rattle.std.specs.List.{AllByRecursion}
@@ -12,7 +12,6 @@ use Rattle.qo_values.specs.Properties.{admits}
 use Rattle.qo_values.specs.Registers.{fresh_registers}
 use Rattle.qo_values.specs.declared.births.TheConstants.{ANONYMOUS_BIRTH, MACHINE_BIRTH, MEMORY_BUS_BIRTH, OBJECTS_BIRTH, PERIPHERAL_BIRTH, ROOT_BIRTH, ROOT_BUS_BIRTH, SYSTEM_CLOCK_BIRTH}
 use Rattle.qo_values.specs.declared.codes.Code.{Code}
-use Rattle.qo_values.specs.declared.codes.Code.TheVariants.{E21, E22}
 use Rattle.qo_values.specs.declared.kinds.TypeId.{TypeId}
 use Rattle.qo_values.specs.declared.kinds.TypeId.TheVariants.{Container}
 use Rattle.qo_values.specs.declared.properties.Val.{Val}
@@ -31,22 +30,25 @@ use Rattle.qo_model.specs.declared.properties.Property.{Property}
 use Rattle.qo_model.specs.declared.properties.RowKind.{RowKind}
 use Rattle.qo_model.specs.declared.properties.RowKind.TheVariants as row
 use Rattle.qo_model.proofs.StepLemmas.{found-birth}
-use Rattle.qo_sound.proofs.AddLemmas.{unbarred}
+use Rattle.qo_sound.proofs.AddLemmas.{creatable}
 use Rattle.qo_sound.proofs.FirmLemmas.{Firm}
 use Rattle.qo_sound.proofs.SlotLemmas.{names-changed, names-each, names_in}
 use Rattle.qo_sound.proofs.ViewLemmas.{rest-from_sound}
 use Rattle.qo_sound_devices.specs.SoundDevices.{SoundDevices}
 use Rattle.qo_sound_devices.specs.SoundPlaces.{child_entries, child_entry, IsKid, kid_entries, kid_entry, listed, PlacesBut, stands}
+use Rattle.qo_sound_devices.proofs.AlikeLemmas.{child-entry-forgotten}
 use Rattle.qo_sound_devices.proofs.AttachedLemmas.{owner-attached}
 use Rattle.qo_sound_devices.proofs.DevicesLawLemmas.{devices_kept_lem}
+use Rattle.qo_sound_devices.proofs.PartLemmas.{slot-is}
 use Rattle.qo_sound_devices.proofs.PlacesLemmas.{child-live, high-absent, stands-live}
+use Rattle.qo_sound_phases.proofs.FixedLemmas.{child-val}
 use Rattle.qo_sound_shapes.specs.SoundShape.{HasSlots, IsChildSlot, is_child_row, IsAsRow, IsFurther, IsShaped, SoundShape}
 use Rattle.qo_sound_shapes.proofs.BoardLemmas.{all-after, all-edit, all-imply_of, all-let_go, all-new, all-pin, all-unpin, AllOf, good-all, OpeningLive, shape-all}
 use Rattle.qo_sound_shapes.proofs.GoodLemmas.{Good, good-added, good-changed, good-dropped, good-forgotten, good-slots, is_first, mild-pointed, rows-pointed}
 use Rattle.qo_sound_shapes.proofs.MadeLemmas.{created-own, fresh-has, fresh-like, given-has, good-new}
 use Rattle.qo_sound_shapes.proofs.QuietLemmas.{good-set, RowTakes, slot-of, Takes}
 use Rattle.qo_sound_shapes.proofs.RowLemmas.{has-dropped, held-slots, IsHolding, link-apart, NoKidLinks, none-kid, Slots}
-use Rattle.qo_sound_shapes.proofs.WholeLemmas.{entries-changed, entries-each, entries-let_go, entries_in, entry-val, Kept, kept-of, kept-slots, names-let_go, whole-kept}
+use Rattle.qo_sound_shapes.proofs.WholeLemmas.{entries-changed, entries-each, entries-let_go, entries_in, Kept, kept-of, kept-slots, names-let_go, whole-kept}
 
 -- on a board that is sound as far as devices go the machine's objects are there
 pub live-devices : (b : Board) → SoundDevices b → OpeningLive b
@@ -146,15 +148,7 @@ module _ (o : Board) where
   full-forgotten : (n : ℕ) (r : Record) → Full o r → Full o (forgotten n r)
   full-forgotten n r h =
       full-slots r (map (λ (s : List ℕ × Slot). (s.0, forgotten_in n s.1)) r.slots) (good-forgotten n r h.good) (names-each (forgotten_in n) r.slots)
-      (entries-each (forgotten_in n) (entry-forgotten n) r.slots) h
-    where
-      entry-forgotten : (n : ℕ) (s : List ℕ × Slot) → child_entry (s.0, forgotten_in n s.1) ≡ child_entry s
-      entry-forgotten n (name, plain v) = refl
-      entry-forgotten n (name, child m) = refl
-      entry-forgotten n (name, strong t target) = refl
-      entry-forgotten n (name, weak t None) = refl
-      entry-forgotten n (name, weak t (Some m)) = refl
-      entry-forgotten n (name, alias m property) = refl
+      (entries-each (forgotten_in n) (child-entry-forgotten n) r.slots) h
 
   full-dropped : (i : ℕ) (r : Record) → ((s : List ℕ × Slot) → slice_get r.slots i ≡ Some s → child_of s.1 ≡ None) → NoKidLinks r.kind → Full o r
       → Full o (with_dropped i r)
@@ -178,7 +172,7 @@ module _ (o : Board) where
       → Takes r.kind name v → Full o r → Full o (with_changed (with_val v) i r)
   full-set name v i r entry at named takes h =
       full-slots r (changed_at (with_val v) i r.slots) (good-set name v i r entry at named takes h.good) (names-changed (with_val v) i r.slots)
-      (entries-changed (with_val v) (entry-val v) i r.slots) h
+      (entries-changed (with_val v) (child-val v) i r.slots) h
 
   module _ (aside : stands o OBJECTS_BIRTH ≡ false) where
     -- at `/objects`
@@ -359,10 +353,6 @@ module _ (base : Board) (aside : stands base OBJECTS_BIRTH ≡ false) where
       → AllOf (Full base) (object_add b driver id props).board
   added-all b driver id props apart begun h = go (row_named driver) refl
     where
-      flipped : (u : Bool) → not u ≡ false → u ≡ true
-      flipped true e = refl
-      flipped false e = absurd (let clash : true ≡ false = e in cc)
-
       taken : (row : TypeRow) → is_a row.id (codes "user-creatable") ≡ true → (o : Option Code) → refusal_of b row.id props ≡ o
           → AllOf (Full base) (added_as b row.id id props o).board
       taken row creatable (Some code) e = h
@@ -370,21 +360,13 @@ module _ (base : Board) (aside : stands base OBJECTS_BIRTH ≡ false) where
 
       by : (row : TypeRow) (o : Option Code) → barred b row id ≡ o → AllOf (Full base) (added_by b row id props o).board
       by row (Some code) e = h
-      by row None e =
-          let first = unbarred row.is_abstract E21 _ e in
-          let second = unbarred (not (is_a row.id (codes "user-creatable"))) E22 _ first.1 in
-          taken row (flipped (is_a row.id (codes "user-creatable")) second.0) (refusal_of b row.id props) refl
+      by row None e = taken row (creatable b row id e) (refusal_of b row.id props) refl
 
       go : (row : Option TypeRow) → row_named driver ≡ row → AllOf (Full base) (object_add b driver id props).board
       go None p = rw (object_add, p) h
       go (Some row) p = rw (object_add, p) (by row (barred b row id) refl)
 
   -- `qom-set`
-
-  slot-at : (b : Board) (n i : ℕ) (r : Record) (s : List ℕ × Slot) → record_of b n ≡ Some r → slice_get r.slots i ≡ Some s → slot_at b n i ≡ Some s.1
-  slot-at b n i r s e at =
-      ap (λ (o : Option Record). option_map (λ (x : List ℕ × Slot). x.1) (slice_get (option_map_or (λ (y : Record). y.slots) o []) i)) e
-      ∙ ap (option_map (λ (x : List ℕ × Slot). x.1)) at
 
   module _ (b : Board) (h : AllOf (Full base) b) (n i : ℕ) where
     -- an object that has no links to kids
@@ -399,7 +381,7 @@ module _ (base : Board) (aside : stands base OBJECTS_BIRTH ≡ false) where
         dropped : AllOf (Full base) (drop_slot b n i)
         dropped =
             all-edit (Full base) n (with_dropped i) (λ r. refl) b
-            (λ r q own k. full-dropped base i r (λ x at. ap child_of (same_Some x.1 s (sym (slot-at b n i r x q at) ∙ e)) ∙ none) (apart r q) k) h
+            (λ r q own k. full-dropped base i r (λ x at. ap child_of (same_Some x.1 s (sym (slot-is b n i r x q at) ∙ e)) ∙ none) (apart r q) k) h
 
         points : (to : Option ℕ) → AllOf (Full base) (pointed_at to n i (drop_slot b n i))
         points None = dropped

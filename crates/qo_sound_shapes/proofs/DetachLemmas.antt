@@ -3,7 +3,7 @@ use Rattle.std.proofs.Common.{◌≡◌, ◌⊎◌, inl, inr, refl, ap, sym, sub
 use Rattle.std.specs.List.{AllByRecursion}
 use Rattle.std.specs.Option.{option_map_or}
 use Rattle.std.specs.Str.{bytes_eq}
-use Rattle.std.proofs.lemmas.Bool.{and_parts, eq-eqb, eqb-true}
+use Rattle.std.proofs.lemmas.Bool.{and_parts, eq-eqb, eqb-true, not-true}
 use Rattle.std.proofs.lemmas.Option.{same_Some}
 use Rattle.std.proofs.lemmas.Slice.Eq.{bytes_eq-Decides}
 use Rattle.qo_values.specs.declared.births.TheConstants.{ANONYMOUS_BIRTH, MACHINE_BIRTH, PERIPHERAL_BIRTH, ROOT_BIRTH}
@@ -14,7 +14,7 @@ use Rattle.qo_values.specs.declared.kinds.TypeId.TheVariants.{Object, Container,
 use Rattle.qo_values.specs.declared.properties.Val.{Val}
 use Rattle.qo_values.specs.declared.properties.Val.TheVariants as val
 use Rattle.qo_model.specs.Board.{Board, Record, Slot, plain, child, strong, weak, alias, kind_of, record_of, slot_at, slots_at}
-use Rattle.qo_model.specs.Changes.{cut, set, with_changed, with_cut, with_val}
+use Rattle.qo_model.specs.Changes.{cut, with_changed, with_cut, with_val}
 use Rattle.qo_model.specs.Clocks.{acted, device_period, with_act_on}
 use Rattle.qo_model.specs.Depth.{by_depth}
 use Rattle.qo_model.specs.Devices.{bus_in, bus_of, buses_of, clock_name, clock_of, kids_of, strong_in}
@@ -31,6 +31,7 @@ use Rattle.qo_model.specs.declared.properties.RowKind.{RowKind}
 use Rattle.qo_model.specs.declared.properties.RowKind.TheVariants as row
 use Rattle.qo_model.proofs.StepLemmas.{found-birth}
 use Rattle.qo_sound.proofs.FirmLemmas.{FitsKind, Linked}
+use Rattle.qo_sound.proofs.MakeStepsLemmas.{set-by}
 use Rattle.qo_sound.proofs.ReadLemmas.{slots_in}
 use Rattle.qo_sound.proofs.RecordLemmas.{all-both, all-map}
 use Rattle.qo_sound.proofs.SlotLemmas.{all-changed, all-dropped}
@@ -235,18 +236,15 @@ module _ (kinds : ℕ → Option TypeId) where
   -- unrealizing
 
   keeps-set : (n : ℕ) (name : List ℕ) (v : Val) → ((t : TypeId) → Takes t name v) → (c : Board) → H c → H (set_named n name v c)
-  unfolding set
-  keeps-set n name v takes c h = go (place_from (is_named name) 0 (slots_at c n)) refl
+  keeps-set n name v takes c h = set-by H n name c h v there
     where
-      go : (o : Option ℕ) → place_from (is_named name) 0 (slots_at c n) ≡ o → H (set_named n name v c)
-      go None e = rw (set_named, e) h
-      go (Some i) e =
+      there : (i : ℕ) → place_from (is_named name) 0 (slots_at c n) ≡ Some i → H (edit n (with_changed (with_val v) i) c)
+      there i e =
           let f : Found (is_named name) (slots_at c n) i = found-at (is_named name) i (slots_at c n) e in
-          rw (set_named, e)
-          (all-edit (Kinded kinds) n (with_changed (with_val v) i) (λ r. refl) c
+          all-edit (Kinded kinds) n (with_changed (with_val v) i) (λ r. refl) c
           (λ r q own k.
           keeps-changed (with_val v) (val-linked v) i r
-          (good-set name v i r f.entry (slot-of c n i r f.entry q f.at) f.passes (takes r.kind) k.good) k) h)
+          (good-set name v i r f.entry (slot-of c n i r f.entry q f.at) f.passes (takes r.kind) k.good) k) h
 
   keeps-unseen : (n : ℕ) (name : List ℕ) (c : Board) → H c → H (unseen_named n name c)
   keeps-unseen n name c h = go (place_from (is_named name) 0 (slots_at c n)) refl
@@ -318,17 +316,13 @@ module _ (kinds : ℕ → Option TypeId) where
   keeps-bus_slot : (m d : ℕ) (c : Board) → IsKind kinds (codes "device") d → H c → H (let_go_where (is_bus_slot m) d c)
   keeps-bus_slot m d c device h = go (place_from (is_bus_slot m) 0 (slots_at c d)) refl
     where
-      other : (t : Bool) → not t ≡ true → t ≡ false
-      other true e = absurd (let clash : false ≡ true = e in cc)
-      other false e = refl
-
       go : (o : Option ℕ) → place_from (is_bus_slot m) 0 (slots_at c d) ≡ o → H (let_go_where (is_bus_slot m) d c)
       go None e = rw (let_go_where, e) h
       go (Some i) e =
           let f : Found (is_bus_slot m) (slots_at c d) i = found-at (is_bus_slot m) i (slots_at c d) e in
           rw (let_go_where, e)
           (keeps-apart d i c device f.entry f.at
-          (other (bytes_eq f.entry.0 clock_name) (and_parts (is_child m f.entry.1) (not (bytes_eq f.entry.0 clock_name)) f.passes).1) h)
+          (not-true (bytes_eq f.entry.0 clock_name) (and_parts (is_child m f.entry.1) (not (bytes_eq f.entry.0 clock_name)) f.passes).1) h)
 
   keeps-link : (d : ℕ) (c : Board) → IsKind kinds (codes "device") d → H c → H (let_go_where (is_named (codes "parent_bus")) d c)
   keeps-link d c device h = go (place_from (is_named (codes "parent_bus")) 0 (slots_at c d)) refl

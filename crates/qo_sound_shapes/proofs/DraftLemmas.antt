@@ -4,7 +4,7 @@ use Rattle.std.specs.Bool.{⊤}
 use Rattle.std.specs.List.{AllByRecursion, list_any}
 use Rattle.std.specs.Option.{option_map_or, option_or}
 use Rattle.std.specs.Str.{bytes_eq}
-use Rattle.std.proofs.lemmas.Bool.{and_parts, eq-eqb, eqb-true}
+use Rattle.std.proofs.lemmas.Bool.{and_parts, eq-eqb, eqb-true, not-true}
 use Rattle.std.proofs.lemmas.List.{append_assoc}
 use Rattle.std.proofs.lemmas.List.Folds.{find-append}
 use Rattle.std.proofs.lemmas.Slice.Eq.{bytes_eq-Decides}
@@ -325,14 +325,10 @@ module _ (t : TypeId) (n : ℕ) where
       go true q rest clocked =
           let one = and_parts (is_child_row p.kind) (not has && ready true ps) (rw q at may) in
           let two = and_parts (not has) (ready true ps) one.1 in
-          let none : has ≡ false = flip has two.0 in
+          let none : has ≡ false = not-true has two.0 in
           let it : Next true ps c (row_made n t (property_name p.name) p.kind c) =
           clock-row p ps q one.0 kin.0 c low begun (subst (λ (u : Bool). AllOf (Draft u (p ∷ ps)) c) none h) in
           clocked two.1 fits.1 kin.1 (row_made n t (property_name p.name) p.kind c) (omega (arith, low, it.high)) (omega (arith, begun, it.high)) it.all
-        where
-          flip : (u : Bool) → not u ≡ true → u ≡ false
-          flip true e = absurd (let clash : false ≡ true = e in cc)
-          flip false e = refl
       go false q rest clocked =
           let one = and_parts (row_ready has p.kind) (ready has ps) (rw q at may) in
           let it : Next has ps c (row_made n t (property_name p.name) p.kind c) = other-row has p ps q one.0 fits.0 kin.0 c low begun h in

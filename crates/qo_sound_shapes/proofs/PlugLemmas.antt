@@ -1,9 +1,10 @@
 -- A device that is added stands in its place, and is shaped as its type says, as all others are.
-use Rattle.std.proofs.Common.{◌≡◌, ◌⊎◌, inl, inr, refl, ap, sym, subst, ◌∙◌, ℕ, zero, suc, ◌<◌, ◌≤◌, ◌+◌, ◌-◌, ◌^◌, ◌%◌, ◌&&◌, ◌||◌, Bool, true, false, not, ◌==◌, List, [], ◌∷◌, ◌++◌, filter, map, find, codes, Option, Some, None, is_some, option_map, option_and_then, arith}
+use Rattle.std.proofs.Common.{◌≡◌, ◌⊎◌, inl, inr, refl, ap, sym, subst, ◌∙◌, ℕ, zero, suc, ◌<◌, ◌≤◌, ◌+◌, ◌-◌, ◌^◌, ◌%◌, ◌&&◌, ◌||◌, Bool, true, false, not, ◌==◌, List, [], ◌∷◌, ◌++◌, map, find, codes, Option, Some, None, is_some, option_map, option_and_then, arith}
 use Rattle.std.specs.Prelude.{nat_le}
 use Rattle.std.specs.List.{list_any}
 use Rattle.std.specs.Option.{option_map_or}
 use Rattle.std.specs.Str.{bytes_eq}
+use Rattle.std.specs.Bool.{⊤}
 use Rattle.std.proofs.lemmas.Bool.{and_parts, eqb-true, or_cases}
 use Rattle.std.proofs.lemmas.List.Folds.{list_any-append}
 use Rattle.std.proofs.Math.Bool.{or-true}
@@ -15,8 +16,7 @@ use Rattle.qo_values.specs.Properties.{admits}
 use Rattle.qo_values.specs.Registers.{fresh_registers}
 use Rattle.qo_values.specs.declared.births.TheConstants.{ANONYMOUS_BIRTH, PERIPHERAL_BIRTH}
 use Rattle.qo_values.specs.declared.codes.Code.TheVariants.{E17, E19}
-use Rattle.qo_values.specs.declared.kinds.Act.{Act}
-use Rattle.qo_values.specs.declared.kinds.Act.TheVariants.{Realize, Enter, Hold, Exit}
+use Rattle.qo_values.specs.declared.kinds.Act.TheVariants.{Realize}
 use Rattle.qo_values.specs.declared.kinds.TypeId.{TypeId}
 use Rattle.qo_values.specs.declared.kinds.TypeId.TheVariants.{Object, Container, Machine, Device, SlotDevice, SlotUart, SlotTimer, SlotBridge, MemDimm, Bus, SlotBus, MemBus, Clock, MemoryBackend, MemoryBackendRam, Tag}
 use Rattle.qo_values.specs.declared.limits.TheConstants.{BUS_SLOTS, DIMM_ALIGN}
@@ -24,18 +24,18 @@ use Rattle.qo_values.specs.declared.properties.Val.{Val}
 use Rattle.qo_values.specs.declared.properties.Val.TheVariants as val
 use Rattle.qo_values.specs.declared.ranges.Range.{Range}
 use Rattle.qo_model.specs.Board.{Board, Record, Slot, child, strong, is_live, kind_of, record_of, slots_at}
-use Rattle.qo_model.specs.Changes.{add, changed_at, set, with_added, with_changed, with_val}
+use Rattle.qo_model.specs.Changes.{add, changed_at, with_added, with_changed, with_val}
 use Rattle.qo_model.specs.Clocks.{acted, with_act_on}
 use Rattle.qo_model.specs.Depth.{among}
 use Rattle.qo_model.specs.Devices.{anonymous_name, clock_of, kid_name, number_in}
 use Rattle.qo_model.specs.Objects.{Given, misfit, place_from, refusal_by, refusal_of, slot_given}
 use Rattle.qo_model.specs.Opening.{opening_board}
 use Rattle.qo_model.specs.Paths.{canonical}
-use Rattle.qo_model.specs.Plug.{Spot, Wanted, acted_all, addressed_at, bus_births, bus_type, clocked, counted, drafted, fitted, joined, link_named, name_for, number_for, ok_in, parent_for, plug, range_for, range_of, ranges_of, registers_on, size_of, source_for, spot_of, stood, target_for, told_plug, valued, with_body_of, with_device, with_given, with_path, with_plugged, with_source}
+use Rattle.qo_model.specs.Plug.{Spot, Wanted, acted_all, addressed_at, bus_births, bus_type, clocked, counted, drafted, fitted, link_named, name_for, number_for, ok_in, parent_for, plug, range_for, range_of, ranges_of, registers_on, size_of, source_for, spot_of, stood, target_for, told_plug, with_body_of, with_device, with_given, with_path, with_plugged, with_source}
 use Rattle.qo_model.specs.Properties.{row_of_property}
 use Rattle.qo_model.specs.Release.{edit}
 use Rattle.qo_model.specs.RowNames.{property_name}
-use Rattle.qo_model.specs.Reset.{is_out, phased, plugged, post}
+use Rattle.qo_model.specs.Reset.{plugged, post}
 use Rattle.qo_model.specs.Types.{is_a, multiple_of, slots_of, types}
 use Rattle.qo_model.specs.Unplug.{is_named, set_named}
 use Rattle.qo_model.specs.declared.properties.First.TheVariants as first
@@ -43,6 +43,7 @@ use Rattle.qo_model.specs.declared.properties.Property.{Property}
 use Rattle.qo_model.specs.declared.properties.RowKind.{RowKind}
 use Rattle.qo_model.specs.declared.properties.RowKind.TheVariants as row
 use Rattle.qo_model.proofs.StepLemmas.{found-birth}
+use Rattle.qo_sound.proofs.MakeStepsLemmas.{all-any, KeepsActs, link-by, set-by, stand-by, step-acted_all, step-plugged}
 use Rattle.qo_sound.proofs.PlugLemmas.{shut-above}
 use Rattle.qo_sound.proofs.RecordLemmas.{all-imply}
 use Rattle.qo_sound.proofs.SlotLemmas.{names-changed, names_in}
@@ -320,27 +321,20 @@ module _ (kinds : ℕ → Option TypeId) (new : ℕ) where
   placed-kind n t e r own h = same_Some r.kind t (sym h.kind ∙ ap kinds own ∙ e)
 
   placed-set : (n : ℕ) (name : List ℕ) (v : Val) → ((t : TypeId) → Takes t name v) → (c : Board) → H c → H (set_named n name v c)
-  unfolding set
-  placed-set n name v takes c h = go (place_from (is_named name) 0 (slots_at c n)) refl
+  placed-set n name v takes c h = set-by H n name c h v there
     where
-      go : (o : Option ℕ) → place_from (is_named name) 0 (slots_at c n) ≡ o → H (set_named n name v c)
-      go None e = rw (set_named, e) h
-      go (Some i) e =
+      there : (i : ℕ) → place_from (is_named name) 0 (slots_at c n) ≡ Some i → H (edit n (with_changed (with_val v) i) c)
+      there i e =
           let f : Found (is_named name) (slots_at c n) i = found-at (is_named name) i (slots_at c n) e in
-          rw (set_named, e)
-          (placed-edit n (with_changed (with_val v) i) (λ r. refl) (λ r. refl) (rows-changed (with_val v) i) c
-          (λ r q own k. good-set name v i r f.entry (slot-of c n i r f.entry q f.at) f.passes (takes r.kind) k.good) h)
+          placed-edit n (with_changed (with_val v) i) (λ r. refl) (λ r. refl) (rows-changed (with_val v) i) c
+          (λ r q own k. good-set name v i r f.entry (slot-of c n i r f.entry q f.at) f.passes (takes r.kind) k.good) h
 
   placed-link : (n : ℕ) (name : List ℕ) (m : ℕ) (c : Board) → H c → H (link_named n name m c)
-  placed-link n name m c h = go (place_from (is_named name) 0 (slots_at c n)) refl
-    where
-      go : (o : Option ℕ) → place_from (is_named name) 0 (slots_at c n) ≡ o → H (link_named n name m c)
-      go None e = rw (link_named, e) h
-      go (Some i) e =
-          rw (link_named, e)
-          (placed-edit n (with_changed (fitted c m) i) (λ r. refl) (λ r. refl) (rows-changed (fitted c m) i) c
-          (λ r q own k.
-          good-changed (fitted c m) (mild-fitted c m) i r (λ p s row at is. rows-fitted c m p.kind s.1 is.fits) k.good) h)
+  placed-link n name m c h =
+      link-by H n name c h m
+      (λ i e.
+      placed-edit n (with_changed (fitted c m) i) (λ r. refl) (λ r. refl) (rows-changed (fitted c m) i) c
+      (λ r q own k. good-changed (fitted c m) (mild-fitted c m) i r (λ p s row at is. rows-fitted c m p.kind s.1 is.fits) k.good) h)
 
   -- a further slot more
   placed-add : (n : ℕ) (name : List ℕ) (s : Slot) → ((r : Record) → r.birth ≡ n → Placed kinds new r
@@ -351,25 +345,10 @@ module _ (kinds : ℕ → Option TypeId) (new : ℕ) where
       placed-edit n (with_added name s) (λ r. refl) (λ r. refl) (λ r k. rows-added r.kind r.slots (name, s) k) c
       (λ r e own k. good-added name s r (more r own k).0 (more r own k).1 k.good) h
 
-  placed-acted : (act : Act) (n period : ℕ) (c : Board) → H c → H (acted act n period c)
+  placed-acts : KeepsActs (λ m. ⊤) H
   unfolding acted
-  placed-acted act n period c h =
+  placed-acts act n period unbound on c h =
       placed-edit n (with_act_on act c.now period) (λ r. refl) (λ r. refl) (λ r k. k) c (λ r e own k. good-act act c.now period r k.good) h
-
-  placed-acted_all : (act : Act) (ns : List ℕ) (c : Board) → H c → H (acted_all act ns c)
-  placed-acted_all act [] c h = h
-  placed-acted_all act (n ∷ ns) c h = placed-acted_all act ns (acted act n 0 c) (placed-acted act n 0 c h)
-
-  placed-phased : (act : Act) (ns : List ℕ) (c : Board) → H c → H (phased act ns c)
-  placed-phased act [] c h = h
-  placed-phased act (n ∷ ns) c h = placed-phased act ns (acted act n 0 c) (placed-acted act n 0 c h)
-
-  placed-plugged : (d : ℕ) (c : Board) → H c → H (plugged c d)
-  unfolding plugged
-  placed-plugged d c h =
-      let c1 : Board = phased Enter (post c d) c in
-      let c2 : Board = phased Hold (post c d) c1 in
-      placed-phased Exit (filter (is_out c) (post c d)) c2 (placed-phased Hold (post c d) c1 (placed-phased Enter (post c d) c h))
 
   placed-told : (n : ℕ) (c : Board) → H c → H (told_plug n c)
   placed-told n c h =
@@ -451,18 +430,17 @@ module _ (kinds : ℕ → Option TypeId) (new : ℕ) where
 
     placed-stood : (c : Board) → H c → H (stood b n a (spot_of b t bus a.props) c)
     placed-stood c h =
-        let c1 : Board = add (parent_for a.id) (name_for b a.id) (child n) c in
-        let c2 : Board = joined b n a spot c in
-        let c3 : Board = edit n (with_given b a.props) c2 in
-        let c4 : Board = set_named n (codes "slot") (val.Uint spot.slot) c3 in
-        let c5 : Board = link_named n (codes "parent_bus") spot.bus c4 in
-        let c6 : Board = valued b n a.props spot c2 in
-        placed-body spot.range refl (addressed_at n spot.range c6)
-        (placed-address spot.range refl c6
-        (placed-set n (codes "realized") (val.Bool true) (λ k. takes-realized k true) c5
-        (placed-link n (codes "parent_bus") spot.bus c4
-        (placed-set n (codes "slot") (val.Uint spot.slot) (λ k. takes-slot k spot.slot low) c3
-        (placed-given c2 (placed-kid spot.slot low c1 (placed-container c h)))))))
+        stand-by H b n a spot
+        (record {
+          named = placed-container;
+          on_bus = placed-kid spot.slot low;
+          given = placed-given;
+          placed = placed-set n (codes "slot") (val.Uint spot.slot) (λ k. takes-slot k spot.slot low);
+          linked = placed-link n (codes "parent_bus") spot.bus;
+          marked = placed-set n (codes "realized") (val.Bool true) (λ k. takes-realized k true);
+          addressed = placed-address spot.range refl;
+          bodied = placed-body spot.range refl;
+        }) c h
 
   placed-source : (source : ℕ) (o : Option ℕ) (c : Board) → H c → H (with_source source o c)
   placed-source source None c h = h
@@ -519,9 +497,10 @@ module _ (b : Board) (t : TypeId) (bus : ℕ) (a : Wanted) (devices : SoundDevic
   placed : AllOf (Placed (kind_of (drafted b t)) (b.born + 1)) (with_plugged b t a (spot_of b t bus a.props))
   placed =
       let m : ℕ = b.born + 1 in
-      placed-told kinds m m (plugged (acted_all Realize (m ∷ bus_births m t) (with_device b t a its_spot)) m)
-      (placed-plugged kinds m m (acted_all Realize (m ∷ bus_births m t) (with_device b t a its_spot))
-      (placed-acted_all kinds m Realize (m ∷ bus_births m t) (with_device b t a its_spot)
+      let run : Board = acted_all Realize (m ∷ bus_births m t) (with_device b t a its_spot) in
+      placed-told kinds m m (plugged run m)
+      (step-plugged (λ x. ⊤) (H kinds m) (placed-acts kinds m) m run (all-any (post run m))
+      (step-acted_all (λ x. ⊤) (H kinds m) (placed-acts kinds m) Realize refl (m ∷ bus_births m t) (all-any (m ∷ bus_births m t)) (with_device b t a its_spot)
       (placed-counted kinds m a.id (clocked (source_for b its_spot.bus) m (stood b m a its_spot (drafted b t)))
       (placed-source kinds m (source_for b its_spot.bus) (clock_of (stood b m a its_spot (drafted b t)) m) (stood b m a its_spot (drafted b t))
       (placed-stood kinds m b m t a bus made.kind (omega (arith, begun)) home goal.low (passes b t bus a k).properties (drafted b t) begin)))))

@@ -47,12 +47,13 @@ use Rattle.qo_sound.proofs.RecordLemmas.{all-imply}
 use Rattle.qo_sound.proofs.SlotLemmas.{names-changed, names_in}
 use Rattle.qo_sound.proofs.UnplugLemmas.{Found, found-at}
 use Rattle.qo_sound_clocks.specs.RegistersKept.{registers_set, with_registers}
-use Rattle.qo_sound_clocks.proofs.StepsLemmas.{kept-written}
+use Rattle.qo_sound_clocks.proofs.StepsLemmas.{kept-written, calls-kept}
+use Rattle.qo_sound_phases.proofs.FixedLemmas.{child-val}
 use Rattle.qo_sound_shapes.specs.SoundShape.{is_like, IsAsRow, IsOfRow, SoundShape}
 use Rattle.qo_sound_shapes.proofs.BoardLemmas.{all-edit, all-same, good-all, OpeningLive, shape-all, shape-live}
 use Rattle.qo_sound_shapes.proofs.GoodLemmas.{Good, good-changed, mild-val}
 use Rattle.qo_sound_shapes.proofs.RowLemmas.{IsRowOf}
-use Rattle.qo_sound_shapes.proofs.WholeLemmas.{edit-read, entries-changed, entries_in, entry-val, whole-same}
+use Rattle.qo_sound_shapes.proofs.WholeLemmas.{edit-read, entries-changed, entries_in, whole-same}
 
 -- the machine's objects stay there
 
@@ -300,7 +301,7 @@ set-shape n name v takes b h = go (place_from (is_named name) 0 (slots_at b n)) 
         let f : Found (is_named name) (slots_at b n) i = found-at (is_named name) i (slots_at b n) e in
         rw (set_named, e)
         (edit-shape n (with_changed (with_val v) i) (λ r. refl) (λ r. refl) (λ r. names-changed (with_val v) i r.slots)
-        (λ r. entries-changed (with_val v) (entry-val v) i r.slots) b
+        (λ r. entries-changed (with_val v) (child-val v) i r.slots) b
         (λ r q k. good-set name v i r f.entry (slot-of b n i r f.entry q f.at) f.passes (takes r.kind) k) h)
 
 -- numbers of clocks
@@ -378,7 +379,8 @@ clock_set-shape b d c period low e h = go (is_some (source_of b c)) refl
     go : (t : Bool) → is_some (source_of b c) ≡ t → SoundShape d
     go true p = absurd (let clash : Err E45 ≡ Ok d = rw (clock_set, p) at e in cc)
     go false p =
-        kept-written SoundShape acted-shape b new d c (set-shape c (codes "period") (val.Uint period) (λ t. takes-period t period low) b h)
+        kept-written SoundShape (calls-kept SoundShape acted-shape) b new d c
+        (set-shape c (codes "period") (val.Uint period) (λ t. takes-period t period low) b h)
         (rw (clock_set, p) at e)
 
 pub clock_scaled-shape : (b d : Board) (c mul div : ℕ) → mul < 2 ^ 32 → div < 2 ^ 32 → clock_scaled b c mul div ≡ Ok d → SoundShape b → SoundShape d
@@ -393,6 +395,6 @@ clock_scaled-shape b d c mul div low also e h = go (eqb div 0) refl
     go : (t : Bool) → eqb div 0 ≡ t → SoundShape d
     go true p = absurd (let clash : Err E46 ≡ Ok d = rw (clock_scaled, p) at e in cc)
     go false p =
-        kept-written SoundShape acted-shape b new d c
+        kept-written SoundShape (calls-kept SoundShape acted-shape) b new d c
         (set-shape c (codes "div") (val.Uint div) (λ t. takes-div t div also) mid
         (set-shape c (codes "mul") (val.Uint mul) (λ t. takes-mul t mul low) b h)) (rw (clock_scaled, p) at e)

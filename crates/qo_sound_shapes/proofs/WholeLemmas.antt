@@ -8,9 +8,8 @@ use Rattle.std.proofs.lemmas.Option.{same_Some}
 use Rattle.std.proofs.Math.Bool.{or-true}
 use Rattle.qo_values.specs.declared.births.TheConstants.{ANONYMOUS_BIRTH, PERIPHERAL_BIRTH}
 use Rattle.qo_values.specs.declared.kinds.TypeId.{TypeId}
-use Rattle.qo_values.specs.declared.properties.Val.{Val}
 use Rattle.qo_model.specs.Board.{Board, Record, Slot, plain, child, strong, weak, alias, kind_of, record_of, slots_at}
-use Rattle.qo_model.specs.Changes.{changed_at, with_val}
+use Rattle.qo_model.specs.Changes.{changed_at}
 use Rattle.qo_model.specs.Depth.{among}
 use Rattle.qo_model.specs.Objects.{has_slot}
 use Rattle.qo_model.specs.Paths.{child_of}
@@ -81,13 +80,6 @@ entries-each g same [] = refl
 entries-each g same (s ∷ slots) =
     ap (λ (o : Option (List ℕ × ℕ)). cons_option o (entries_in (map (λ (x : List ℕ × Slot). (x.0, g x.1)) slots))) (same s)
     ∙ ap (cons_option (child_entry s)) (entries-each g same slots)
-
-pub entry-val : (v : Val) (s : List ℕ × Slot) → child_entry (s.0, with_val v s.1) ≡ child_entry s
-entry-val v (name, plain w) = refl
-entry-val v (name, child m) = refl
-entry-val v (name, strong t target) = refl
-entry-val v (name, weak t target) = refl
-entry-val v (name, alias m property) = refl
 
 -- a slot that is no child is let go
 pub names-let_go : (i : ℕ) (slots : Slots) → ((s : List ℕ × Slot) → slice_get slots i ≡ Some s → child_of s.1 ≡ None)
