@@ -1,6 +1,6 @@
 -- Objects without slots that are made behind each other, and end.
-use Rattle.std.proofs.Common.{◌≡◌, refl, ap, sym, subst, ◌∙◌, ℕ, zero, suc, ◌+◌, ◌<◌, ◌≤◌, true, false, eqb, List, [], ◌∷◌, ◌++◌, map, filter_map, sum_by, length, take, slice_get, append_assoc, append-nil, Option, Some, None, IsSomeAnd, option_map, option_to_list, inl, inr, arith}
-use Rattle.std.specs.Prelude.{◌⊎◌, OnErr, OnOk, Result, Ok, Err, drop}
+use Rattle.std.proofs.Common.{◌≡◌, refl, ap, sym, subst, ◌∙◌, ℕ, suc, ◌+◌, ◌<◌, ◌≤◌, true, false, eqb, List, [], ◌∷◌, ◌++◌, map, filter_map, sum_by, length, take, slice_get, append_assoc, append-nil, Option, Some, None, IsSomeAnd, option_map, option_to_list, inr, arith}
+use Rattle.std.specs.Prelude.{OnErr, OnOk, Result, Ok, Err, drop}
 use Rattle.std.specs.declared.alloc.AllocError.{AllocError}
 use Rattle.std.specs.List.{AllByRecursion}
 use Rattle.std.specs.Option.{option_map_or}
@@ -14,7 +14,7 @@ use Rattle.qo_values.specs.declared.kinds.TypeId.{TypeId}
 use Rattle.qo_slots.specs.declared.keys.Key.{Key}
 use Rattle.qo_kinds.proofs.BodyLemmas.{fresh-bare}
 use Rattle.qo_table.specs.Rows.{IsLive, edit, row_at, without}
-use Rattle.qo_notes.specs.Log.{Log, noted_all}
+use Rattle.qo_notes.specs.Log.{noted_all}
 use Rattle.qo_notes.proofs.Logs.{parts_lem}
 use Rattle.qo_model.specs.FinalNotes.{ending}
 use Rattle.qo_model.specs.Objects.{init_notes}

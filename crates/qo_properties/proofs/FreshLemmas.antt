@@ -1,11 +1,9 @@
 -- The slots of a new object, row by row.
-use Rattle.std.proofs.Common.{◌≡◌, refl, ap, sym, subst, ◌∙◌, ℕ, zero, suc, ◌+◌, ◌<◌, ◌≤◌, Bool, true, false, ◌&&◌, nat_le, eqb, List, [], ◌∷◌, ◌++◌, length, take, filter_map, slice_get, get_or, ◌⊎◌, inl, inr, Option, Some, None, option_map, option_to_list, append_assoc, append-nil, arith}
-use Rattle.std.specs.List.{cons_option, list_all}
-use Rattle.std.proofs.lemmas.Bool.Decides.{nat_tests}
+use Rattle.std.proofs.Common.{◌≡◌, refl, ap, sym, ◌∙◌, ℕ, ◌+◌, ◌<◌, ◌≤◌, Bool, true, false, eqb, List, [], ◌∷◌, ◌++◌, length, take, filter_map, slice_get, get_or, ◌⊎◌, inl, inr, Option, Some, None, option_map, option_to_list, append_assoc, append-nil, arith}
+use Rattle.std.specs.List.{cons_option}
 use Rattle.std.proofs.lemmas.List.{map-append, take_more}
 use Rattle.std.proofs.lemmas.Option.{get_or_from_slice_get, slice_get_cases}
 use Rattle.std.proofs.lemmas.List.Elements.{filter_map-append}
-use Rattle.qo_values.specs.Names.{IsName, is_name_byte}
 use Rattle.qo_values.specs.declared.kinds.TypeId.{TypeId}
 use Rattle.qo_values.specs.declared.kinds.TypeId.TheVariants.{Object, Container, Machine, Device, SlotDevice, SlotUart, SlotTimer, SlotBridge, MemDimm, Bus, SlotBus, MemBus, Clock, MemoryBackend, MemoryBackendRam, Tag}
 use Rattle.qo_slots.specs.declared.keys.Key.{Key}
@@ -53,14 +51,6 @@ module _ (n : ℕ) where
 
 -- the slots of the first properties, one by one
 
-and-left : (a b : Bool) → (a && b) ≡ true → a ≡ true
-and-left true b all = refl
-and-left false b all = cc
-
-and-right : (a b : Bool) → (a && b) ≡ true → b ≡ true
-and-right true b all = all
-and-right false b all = cc
-
 module _ {X : Type 0} where
   pub within : (xs : List X) (i : ℕ) (x : X) → slice_get xs i ≡ Some x → i < length xs
   within xs i x at = go (slice_get_cases xs i).1
@@ -76,11 +66,6 @@ module _ {X : Type 0} where
       go (inl some) = let e : slice_get xs i ≡ Some some.0 = some.2 in cc
       go (inr none) = none.0
 
-  pub passes-at : (p : X → Bool) (xs : List X) (i : ℕ) (x : X) → list_all p xs ≡ true → slice_get xs i ≡ Some x → p x ≡ true
-  passes-at p [] i x all at = cc
-  passes-at p (y ∷ ys) zero x all at = let same : y ≡ x = cc in subst (λ (z : X). p z ≡ true) same (and-left (p y) (list_all p ys) all)
-  passes-at p (y ∷ ys) (suc i) x all at = passes-at p ys i x (and-right (p y) (list_all p ys) all) at
-
 cons_as : {Y : Type 0} (o : Option Y) → cons_option o [] ≡ option_to_list o
 cons_as None = refl
 cons_as (Some y) = refl
@@ -91,7 +76,7 @@ next-slot {X = X} {Y = Y} f i xs x at =
     ∙ filter_map-append f (take i xs) (x ∷ [])
     ∙ ap (λ (ys : List Y). filter_map f (take i xs) ++ ys) (cons_as (f x))
 
--- how many properties there are, and their names
+-- how many properties there are
 
 pub few-slots : (t : TypeId) → length (slots_of t) ≤ 9
 unfolding types
@@ -111,38 +96,6 @@ few-slots Clock = omega arith
 few-slots MemoryBackend = omega arith
 few-slots MemoryBackendRam = omega arith
 few-slots Tag = omega arith
-
-abbrev pub is_name : List ℕ → Bool
-is_name bytes = nat_le 1 (length bytes) && (nat_le (length bytes) 140 && list_all is_name_byte bytes)
-
-are-names : (t : TypeId) → list_all (λ (p : Property). is_name (property_name p.name)) (slots_of t) ≡ true
-unfolding types
-are-names Object = refl
-are-names Container = refl
-are-names Machine = refl
-are-names Device = refl
-are-names SlotDevice = refl
-are-names SlotUart = refl
-are-names SlotTimer = refl
-are-names SlotBridge = refl
-are-names MemDimm = refl
-are-names Bus = refl
-are-names SlotBus = refl
-are-names MemBus = refl
-are-names Clock = refl
-are-names MemoryBackend = refl
-are-names MemoryBackendRam = refl
-are-names Tag = refl
-
-pub named-of : (bytes : List ℕ) → is_name bytes ≡ true → IsName bytes
-named-of bytes is =
-    let some : nat_le 1 (length bytes) ≡ true = and-left _ _ is in
-    let rest : (nat_le (length bytes) 140 && list_all is_name_byte bytes) ≡ true = and-right _ _ is in
-    let short : nat_le (length bytes) 140 ≡ true = and-left _ _ rest in
-    record { some = grind (arith, nat_tests); short = grind (arith, nat_tests); printable = and-right _ _ rest }
-
-pub name-at : (t : TypeId) (i : ℕ) (p : Property) → slice_get (slots_of t) i ≡ Some p → IsName (property_name p.name)
-name-at t i p at = named-of (property_name p.name) (passes-at (λ (q : Property). is_name (property_name q.name)) (slots_of t) i p (are-names t) at)
 
 -- what a new object shows
 
@@ -174,8 +127,7 @@ shows-fresh b v s n t =
 
 pub record RowAt (t : TypeId) (i : ℕ) (r : Property) : Type 0 where
   pub within : i < length (slots_of t)
-  pub name : IsName (property_name r.name)
   pub next : first_slots (i + 1) t ≡ first_slots i t ++ option_to_list (slot_begun t r)
 
 pub row-at : (t : TypeId) (i : ℕ) (r : Property) → Some r ≡ slice_get (slots_of t) i → RowAt t i r
-row-at t i r is = record { within = within (slots_of t) i r (sym is); name = name-at t i r (sym is); next = next-slot (slot_begun t) i (slots_of t) r (sym is) }
+row-at t i r is = record { within = within (slots_of t) i r (sym is); next = next-slot (slot_begun t) i (slots_of t) r (sym is) }

@@ -1,5 +1,5 @@
 -- How the slots of an object are listed, by the heap.
-use Rattle.std.proofs.Common.{◌≡◌, refl, ap, sym, ◌∙◌, ℕ, zero, suc, ◌+◌, ◌<◌, List, [], ◌∷◌, map, length, drop, slice_get, Option, Some, None, IfSome, option_map, codes, arith}
+use Rattle.std.proofs.Common.{◌≡◌, refl, ap, sym, ◌∙◌, ℕ, zero, suc, ◌<◌, List, [], ◌∷◌, map, length, slice_get, Option, Some, None, IfSome, option_map, codes, arith}
 use Rattle.std.specs.Option.{option_and_then, option_map_or}
 use Rattle.qo_values.specs.declared.properties.Val.{Val}
 use Rattle.qo_values.specs.declared.kinds.TypeId.{TypeId}

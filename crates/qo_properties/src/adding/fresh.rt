@@ -5,7 +5,6 @@ ghost use Rattle.qo_values.specs.Names.{IsName};
 ghost use Rattle.qo_model.specs.Board.{Board};
 ghost use Rattle.qo_model.specs.Changes.{with_fresh_slots};
 ghost use Rattle.qo_model.specs.Opening.{first_value};
-ghost use Rattle.qo_model.specs.RowNames.{property_name};
 ghost use Rattle.qo_model.specs.Types.{slots_of};
 ghost use Rattle.qo_table.specs.Rows.{IsLive};
 ghost use Rattle.qo_object.specs.declared.slots.Slot.TheVariants.{Plain, Link};
@@ -13,7 +12,7 @@ ghost use Rattle.qo_heap.specs.Board.{Shows};
 ghost use Rattle.qo_heap.specs.Objects.{with_edit};
 ghost use Rattle.qo_properties.specs.Fresh.{first_slots, new_slots, slot_begun, with_slots};
 
-use qo_heap::{Heap, Oid, Steps};
+use qo_heap::{Heap, Oid, SlotName, Steps};
 use qo_model::{First, Property, RowKind};
 use qo_types::TypeTable;
 use qo_values::{Name, PropType, Text, TypeId, Val};
@@ -52,21 +51,18 @@ pub fn add_row<L: Ledger>(
     alloc: Global,
     steps: &mut Steps<L>,
 ) -> Result<(), AllocError>
-    requires live { IsLive heap.old.rows o }
-    requires name { IsName (property_name row.name) }
+    requires { IsLive heap.old.rows o }
     ensures ok { OnOk result (heap.new ≡ with_edit o.birth (with_slots (option_to_list (slot_begun kind row))) heap.old) }
     ensures err { OnErr result (heap.new ≡ heap.old) }
 {
     match row.kind {
         RowKind::Plain(_, first) => {
-            let name = name_of(row.name.as_str(), alloc)?;
             let val = first_val(kind, first, alloc)?;
-            heap.add_plain(o, name, val, steps)?;
+            heap.add_plain(o, SlotName::row(row.name), val, steps)?;
             Ok(())
         }
         RowKind::Link { ty, strong } => {
-            let name = name_of(row.name.as_str(), alloc)?;
-            heap.add_link(o, name, ty, strong, None, steps)?;
+            heap.add_link(o, SlotName::row(row.name), ty, strong, None, steps)?;
             Ok(())
         }
         RowKind::Child(_) => Ok(()),

@@ -19,9 +19,9 @@ use crate::adding::filling::{plan_of, settle};
 use crate::adding::fresh::add_fresh_slots;
 use crate::adding::given::check_given;
 use crate::refusals::Refusal;
-use qo_heap::{Heap, Oid, Steps};
+use qo_heap::{Heap, Oid, SlotName, Steps};
 use qo_life::create;
-use qo_values::{Name, PropList, TypeId};
+use qo_values::{PropList, TypeId};
 use std::alloc::{AllocError, Global};
 use std::sync::ledger::Ledger;
 
@@ -58,7 +58,7 @@ pub fn attempt<L: Ledger>(
 fn furnish<L: Ledger>(
     heap: &mut Heap,
     parent: Oid,
-    name: Name,
+    name: SlotName,
     o: Oid,
     kind: TypeId,
     alloc: Global,
@@ -79,7 +79,7 @@ fn furnish<L: Ledger>(
 pub fn make_child<L: Ledger>(
     heap: &mut Heap,
     parent: Oid,
-    name: Name,
+    name: SlotName,
     kind: TypeId,
     alloc: Global,
     steps: &mut Steps<L>,
@@ -122,6 +122,7 @@ pub fn add_filled<L: Ledger>(
     } = admitted;
     heap.facts();
     let plan = plan_of(heap, kind, props, alloc, steps)?;
+    let name = SlotName::own(name);
     let made = make_child(heap, objects, name, kind, alloc, steps)?;
     settle(heap, made, plan, steps);
     heap.unpin(made, steps);

@@ -16,7 +16,7 @@ ghost use Rattle.qo_properties.specs.Start.{IsMade, KeepsNames, with_new, with_n
 
 use crate::adding::fresh::{add_fresh_slots, name_of};
 use crate::reading::lookup::place_named;
-use qo_heap::{Heap, Oid, Steps};
+use qo_heap::{Heap, Oid, SlotName, Steps};
 use qo_values::{SYSTEM_PERIOD, TypeId, Val};
 use std::alloc::{AllocError, Global};
 use std::sync::ledger::Ledger;
@@ -54,7 +54,7 @@ fn make_child<L: Ledger>(
     heap.facts();
     let child = make_new(heap, kind, alloc, steps)?;
     let name = name_of(name, alloc)?;
-    heap.add_child(parent, name, child, steps)?;
+    heap.add_child(parent, SlotName::own(name), child, steps)?;
     heap.facts();
     heap.unpin(child, steps);
     Ok(child)

@@ -1,5 +1,4 @@
 -- The further objects end one by one, and then the first.
-use Rattle.std.proofs.Common.{inl, refl}
 use Rattle.qo_properties.proofs.AttemptLemmas.{done-err, done-ok, last-alone, last-bare, last-live, last-pinned, may-begin, next-alone, next-bare, next-ends, next-fewer, next-live, next-pinned}
 use Rattle.qo_properties.proofs.adding.attempts.attempt_whole.Goals as goal
 

@@ -1,7 +1,7 @@
-use Rattle.std.proofs.Common.{◌≡◌, ◌∙◌, ◌+◌, ◌<◌, ◌≤◌, ap, length, subst, sym, take, arith}
+use Rattle.std.proofs.Common.{◌∙◌, ◌+◌, ◌<◌, ◌≤◌, length, subst, sym, arith}
 use Rattle.qo_model.specs.Types.{slots_of}
 use Rattle.qo_properties.specs.Attempts.{MadeFurther}
-use Rattle.qo_properties.proofs.FreshLemmas.{few-slots, past, row-at}
+use Rattle.qo_properties.proofs.FreshLemmas.{few-slots, row-at}
 use Rattle.qo_properties.proofs.AttemptLemmas.{is-further, made-all, made-more, made-none, made-same}
 use Rattle.qo_properties.proofs.adding.attempts.make_further.Goals.{in-Child+in_ok-create, in_default-kind}
 use Rattle.qo_properties.proofs.adding.attempts.make_further.Goals as goal

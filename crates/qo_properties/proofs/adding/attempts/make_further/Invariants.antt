@@ -1,4 +1,4 @@
-use Rattle.std.proofs.Common.{◌≡◌, ◌-◌, ◌≤◌, length}
+use Rattle.std.proofs.Common.{◌-◌, ◌≤◌, length}
 use Rattle.qo_model.specs.Types.{slots_of}
 use Rattle.qo_properties.specs.Attempts.{MadeFurther}
 use Rattle.qo_properties.proofs.adding.attempts.make_further.Given as goal

@@ -12,13 +12,9 @@ use Rattle.qo_properties.proofs.adding.fresh.add_fresh_slots.Goals as goal
 pub loop-row-init : goal.loop-row-init
 loop-row-init g c = (with-none c.args.o.birth c.args.heap.now, omega arith)
 
-pub add_row-requires-clause-live : goal.add_row-requires-clause-live
-add_row-requires-clause-live g c =
+pub add_row-requires : goal.add_row-requires
+add_row-requires g c =
     rw c.loop-row.invariant.0 (live-edit c.args.o.birth (with_slots (first_slots c.loop-row.place c.args.kind)) c.args.heap.now.rows c.args.o c.requires.live)
-
-pub add_row-requires-clause-name : goal.add_row-requires-clause-name
-add_row-requires-clause-name g c =
-    (row-at c.args.kind c.loop-row.place c.in-Some.row c.in-Some.ensures).name
 
 pub overflow_add-place : goal.overflow_add-place
 overflow_add-place g c =

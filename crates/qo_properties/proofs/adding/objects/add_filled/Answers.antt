@@ -22,18 +22,22 @@ settle-requires-clause-live g c =
 
 pub settle-requires-clause-targets : goal.settle-requires-clause-targets
 settle-requires-clause-targets g c =
-    all-live (IsLive c.args.heap.now.rows) (IsLive c.make_child.new.heap.rows) (child-keeps c.facts.ensures c.in_ok-made.ensures.made) c.in_ok-plan.plan.items c.in_ok-plan.ensures.live
+    all-live (IsLive c.args.heap.now.rows) (IsLive c.make_child.new.heap.rows) (child-keeps c.facts.ensures c.in_ok-made.ensures.made)
+    c.in_ok-plan.plan.items c.in_ok-plan.ensures.live
 
 pub settle-requires-clause-fits : goal.settle-requires-clause-fits
 settle-requires-clause-fits g c =
     subst (λ (l : List Named). AllZip Fits c.in_ok-plan.plan.items l) (sym (child-slots c.facts.ensures c.in_ok-made.ensures.made)) c.in_ok-plan.ensures.fits
 
 pub unpin-requires-clause-live : goal.unpin-requires-clause-live
-unpin-requires-clause-live g c = rw c.settle.ensures (live-edit c.in_ok-made.made.birth (with_filled 0 c.in_ok-plan.plan.items) c.make_child.new.heap.rows c.in_ok-made.made (child-live c.facts.ensures c.in_ok-made.ensures.made))
+unpin-requires-clause-live g c =
+    rw c.settle.ensures (live-edit c.in_ok-made.made.birth (with_filled 0 c.in_ok-plan.plan.items) c.make_child.new.heap.rows c.in_ok-made.made (child-live
+    c.facts.ensures c.in_ok-made.ensures.made))
 
 pub unpin-requires-clause-pinned : goal.unpin-requires-clause-pinned
 unpin-requires-clause-pinned g c =
-    let one : pins_of c.settle.new.heap c.in_ok-made.made.birth ≡ 1 = child-pins c.facts.ensures c.in_ok-made.ensures.made c.settle.new.heap (with_filled 0 c.in_ok-plan.plan.items) refl c.settle.ensures in
+    let one : pins_of c.settle.new.heap c.in_ok-made.made.birth ≡ 1 = child-pins c.facts.ensures c.in_ok-made.ensures.made c.settle.new.heap (with_filled 0
+    c.in_ok-plan.plan.items) refl c.settle.ensures in
     omega arith
 
 pub returns-in_err-made-clause-pins : goal.returns-in_err-made-clause-pins
@@ -41,16 +45,22 @@ returns-in_err-made-clause-pins g c = tried-pins c.args.heap.now c.make_child.ne
 
 pub returns-clause-ok : goal.returns-clause-ok
 returns-clause-ok g c = λ b s.
-    subst (λ (x : Objects). Shows (with_object b c.args.admitted.kind c.args.admitted.name c.args.props.now) x)
-    (sym (child-settled c.facts.ensures c.in_ok-made.ensures.made c.settle.new.heap c.unpin.new.self c.in_ok-plan.plan.items c.settle.ensures c.unpin.ensures.now))
+    rw (← c.own-name.ensures) (
+    subst (λ (x : Objects). Shows (with_object b c.args.admitted.kind c.own-name.result c.args.props.now) x)
+    (sym (child-settled c.facts.ensures c.in_ok-made.ensures.made c.settle.new.heap c.unpin.new.self c.in_ok-plan.plan.items c.settle.ensures
+    c.unpin.ensures.now))
     (
-    shows-object b c.args.heap.now s c.in_ok-made.made c.args.admitted.objects c.requires.objects c.in_ok-made.ensures.made.birth c.args.admitted.name c.args.admitted.kind c.args.props.now (filled c.in_ok-plan.plan.items (new_slots c.args.admitted.kind))
-    (filled-given b c.args.props.now c.in_ok-plan.plan.items (new_slots c.args.admitted.kind) (c.in_ok-plan.ensures.told b s) ∙ ap (map (slot_given b c.args.props.now)) (new-shown c.args.admitted.kind (slots_of c.args.admitted.kind)))
+    shows-object b c.args.heap.now s c.in_ok-made.made c.args.admitted.objects c.requires.objects c.in_ok-made.ensures.made.birth c.own-name.result
+    c.args.admitted.kind c.args.props.now (filled c.in_ok-plan.plan.items (new_slots c.args.admitted.kind))
+    (filled-given b c.args.props.now c.in_ok-plan.plan.items (new_slots c.args.admitted.kind) (c.in_ok-plan.ensures.told b s) ∙ ap (map (slot_given b
+    c.args.props.now)) (new-shown c.args.admitted.kind (slots_of c.args.admitted.kind)))
+    )
     )
 
 pub returns-clause-pins : goal.returns-clause-pins
 returns-clause-pins g c =
-    object-pins c.args.heap.now c.in_ok-made.made c.args.admitted.objects c.args.admitted.name c.args.admitted.kind (filled c.in_ok-plan.plan.items (new_slots c.args.admitted.kind)) c.unpin.new.self
+    object-pins c.args.heap.now c.in_ok-made.made c.args.admitted.objects c.own-name.result c.args.admitted.kind (filled c.in_ok-plan.plan.items (new_slots
+    c.args.admitted.kind)) c.unpin.new.self
     (child-settled c.facts.ensures c.in_ok-made.ensures.made c.settle.new.heap c.unpin.new.self c.in_ok-plan.plan.items c.settle.ensures c.unpin.ensures.now)
 
 pub returns-in_err-made-clause-book : goal.returns-in_err-made-clause-book
@@ -58,5 +68,6 @@ returns-in_err-made-clause-book g c = tried-keeps c.args.heap.now c.make_child.n
 
 pub returns-clause-book : goal.returns-clause-book
 returns-clause-book g c =
-    object-keeps c.args.heap.now c.in_ok-made.made c.args.admitted.objects c.args.admitted.name c.args.admitted.kind (filled c.in_ok-plan.plan.items (new_slots c.args.admitted.kind)) c.unpin.new.self
+    object-keeps c.args.heap.now c.in_ok-made.made c.args.admitted.objects c.own-name.result c.args.admitted.kind (filled c.in_ok-plan.plan.items
+    (new_slots c.args.admitted.kind)) c.unpin.new.self
     (child-settled c.facts.ensures c.in_ok-made.ensures.made c.settle.new.heap c.unpin.new.self c.in_ok-plan.plan.items c.settle.ensures c.unpin.ensures.now)

@@ -1,5 +1,5 @@
 -- The slot tells whether it is an alias, and what that passes on to.
-use Rattle.std.proofs.Common.{◌≡◌, ap, sym, ◌∙◌, ℕ, None, Some}
+use Rattle.std.proofs.Common.{ap, sym, ◌∙◌, ℕ, None, Some}
 use Rattle.qo_model.specs.ClockProperties.{led_by, own_property}
 use Rattle.qo_object.specs.declared.slots.Slot.{Slot}
 use Rattle.qo_object.specs.Shown.{shown_slot}

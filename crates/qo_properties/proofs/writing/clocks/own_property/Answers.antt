@@ -1,7 +1,7 @@
 -- The slot tells whether it has a value, and the row whether it is one of those.
-use Rattle.std.proofs.Common.{◌≡◌, ap, sym, ◌∙◌, None, Some}
+use Rattle.std.proofs.Common.{ap, sym, ◌∙◌, None, Some}
 use Rattle.qo_model.specs.Board.{plain}
-use Rattle.qo_model.specs.ClockProperties.{in_slot, own_property, set_row}
+use Rattle.qo_model.specs.ClockProperties.{in_slot, set_row}
 use Rattle.qo_object.specs.declared.slots.Slot.{Slot}
 use Rattle.qo_object.specs.Shown.{shown_slot}
 use Rattle.qo_properties.proofs.ClockLemmas.{in-other, own-is}
