@@ -99,7 +99,7 @@ pub plug-ok : (b : Board) (p : Parts) (driver : List ℕ) (id bus : Option (List
     → Plugs b (wanted driver id bus props) (Ok device) p → ((x : Board) → done_of x d ≡ returned x empty)
     → Came (added b (DeviceAdd driver id bus props)) d p
 unfolding added
-plug-ok b p driver id bus props device d (none, now) so =
+plug-ok b p driver id bus props device d (none, now, kept) so =
     let add = plug b (wanted driver id bus props) in
     came-as (plugged add) (returned add.board empty) d p (rw (plugged, none) refl) (came-value add.board empty d p now so)
 
