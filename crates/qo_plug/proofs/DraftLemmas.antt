@@ -39,37 +39,9 @@ use Rattle.qo_heap.proofs.ShowsChanges.{shows-added, shows-made}
 use Rattle.qo_properties.specs.Adding.{IsChild, given_up, with_newest}
 use Rattle.qo_properties.specs.Fresh.{begun, first_slots, new_slots, slot_begun, with_slots}
 use Rattle.qo_properties.proofs.AddLemmas.{all-first, child-settled, newest-beside, newest-content, newest-live, shows-tried}
-use Rattle.qo_properties.proofs.FreshLemmas.{RowAt, is_name, named-of, new-shown, past, row-at, with-none}
+use Rattle.qo_properties.proofs.FreshLemmas.{RowAt, new-shown, past, row-at, with-none}
 use Rattle.qo_plug.specs.Drafts.{Fell, Grows, IsDraft, Makes, bare, created, held_draft, stopped, unjoined, is_own, own_slots, own_slots_of}
 use Rattle.qo_plug.proofs.GrowsLemmas.{fresh-quiet, grows-edit, grows-newest, grows-none, grows-then, live-low, row-before}
-
--- the names of properties are names
-is-named : (p : PropertyName) → is_name (property_name p) ≡ true
-is-named prop.Type = refl
-is-named prop.Realized = refl
-is-named prop.ParentBus = refl
-is-named prop.Slot = refl
-is-named prop.Peer = refl
-is-named prop.Watch = refl
-is-named prop.Clk = refl
-is-named prop.ClockPeriod = refl
-is-named prop.Chardev = refl
-is-named prop.Bus0 = refl
-is-named prop.Memdev = refl
-is-named prop.Addr = refl
-is-named prop.Period = refl
-is-named prop.Mul = refl
-is-named prop.Div = refl
-is-named prop.Source = refl
-is-named prop.Size = refl
-is-named prop.Text = refl
-is-named prop.Number = refl
-is-named prop.Flag = refl
-is-named prop.Next = refl
-is-named prop.Seen = refl
-
-pub property-named : (p : PropertyName) → IsName (property_name p)
-property-named p = named-of (property_name p) (is-named p)
 
 -- what is no child names none as a child
 pub no-child : (s : Slot) → ((key : Key) → s ≡ Child key → ⊥) → child_named (shown_slot s) ≡ None

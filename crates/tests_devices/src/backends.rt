@@ -2,7 +2,7 @@
 ghost use Rattle.std.specs.Prelude.{◌≡◌, ◌<◌};
 
 use qo_backends::range_for;
-use qo_heap::{Heap, Steps};
+use qo_heap::{Heap, SlotName, Steps};
 use qo_kinds::Body;
 use qo_values::{Code, Name, TypeId, Val};
 use std::alloc::{AllocError, Global};
@@ -27,7 +27,7 @@ fn placed<L: Ledger>(alloc: Global, blank: Blank) -> Result<bool, AllocError>
         return Ok(false);
     };
     let name = Name::from_string(String::from_str(alloc, "realized")?);
-    heap.add_plain(dimm, name, Val::Bool(true), &mut steps)?;
+    heap.add_plain(dimm, SlotName::own(name), Val::Bool(true), &mut steps)?;
     let Some(dimm) = heap.by_birth(1) else {
         return Ok(false);
     };

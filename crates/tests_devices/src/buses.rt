@@ -22,7 +22,7 @@ fn joined<L: Ledger>(alloc: Global, blank: Blank) -> Result<bool, AllocError>
     let (Some(bus), Some(dev)) = (heap.by_birth(1), heap.by_birth(2)) else {
         return Ok(false);
     };
-    join_bus(&mut heap, bus, dev, kid_name(3, alloc)?, &mut steps)?;
+    join_bus(&mut heap, bus, dev, kid_name(3), &mut steps)?;
     let Some(bus) = heap.by_birth(1) else {
         return Ok(false);
     };
@@ -38,7 +38,7 @@ fn joins(rt: HostRuntime) -> Result<(), Fail> {
 
 #[test]
 fn names(rt: HostRuntime) -> Result<(), Fail> {
-    assert_eq!(rt; kid_name(7, rt.alloc())?.as_str(), "child[7]");
+    assert_eq!(rt; kid_name(7).as_str(), "child[7]");
     assert_eq!(rt; anonymous_name(12, rt.alloc())?.as_str(), "device[12]");
     Ok(())
 }

@@ -3,6 +3,7 @@ ghost use Rattle.std.specs.Prelude.{◌≡◌};
 ghost use Rattle.std.specs.List.{list_all};
 ghost use Rattle.qo_values.specs.Names.{is_name_byte};
 
+use qo_object::SlotName;
 use qo_values::Name;
 use std::alloc::Global;
 
@@ -21,12 +22,12 @@ fn are_name_bytes(bytes: &[u8]) -> bool
 }
 
 /// The name that a text is, if it is one.
-pub(crate) fn name_of(alloc: Global, text: &str) -> Option<Name> {
+pub(crate) fn name_of(alloc: Global, text: &str) -> Option<SlotName> {
     let text = String::from_str(alloc, text).ok()?;
     let bytes = text.as_bytes();
     let (few, fine) = (bytes.len() <= 140, are_name_bytes(bytes));
     if bytes.is_empty() || !few || !fine {
         return None;
     }
-    Some(Name::from_string(text))
+    Some(SlotName::own(Name::from_string(text)))
 }
