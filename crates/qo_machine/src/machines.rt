@@ -11,6 +11,7 @@ ghost use Rattle.qo_machine.specs.Runs.{closed_where};
 use crate::outs::Outs;
 use crate::replying::{EMPTY, changed_text, guest_text, reply_text};
 use crate::serving::{serve_items, serve_lines};
+use json::Scratch;
 use qo_causes::{Input, Lane, Moment, What};
 use qo_commands::ask;
 use qo_events::DeviceEvent;
@@ -75,6 +76,8 @@ pub struct Machine {
     guest_line: Vec<u8>,
     ended: bool,
     spent: bool,
+    /// Room for reading messages, which is kept from one to the next.
+    scratch: Box<Scratch>,
 }
 
 impl Model for Machine {
@@ -133,6 +136,7 @@ impl Machine {
             guest_line: Vec::new(alloc),
             ended: false,
             spent: false,
+            scratch: Box::new(alloc, Scratch::new(alloc))?,
         })
     }
 
@@ -382,7 +386,7 @@ impl Machine {
         ensures board { self.new.board ≡ self.old.board }
         ensures lasts { self.new.spent ≡ self.old.spent }
     {
-        self.sessions[usize::from(session)].act(alloc, item)
+        self.sessions[usize::from(session)].act(alloc, item, &mut self.scratch)
     }
 
     /// What a command comes to that leaves the board, and the text of its reply.

@@ -111,9 +111,7 @@ fn make_property<L: Ledger>(
         RowKind::Plain(_, _) => add_row(heap, device, kind, row, alloc, steps),
         RowKind::Link { .. } => add_row(heap, device, kind, row, alloc, steps),
         RowKind::Child(further) => make_kid(heap, device, row.name, further, alloc, steps),
-        RowKind::Alias { child, of } => {
-            make_alias(heap, device, row.name, child, of, steps)
-        }
+        RowKind::Alias { child, of } => { make_alias(heap, device, row.name, child, of, steps) }
     }
 }
 

@@ -11,6 +11,8 @@ mod framing;
 #[cfg(test)]
 mod guest;
 #[cfg(test)]
+mod json_values;
+#[cfg(test)]
 mod replies;
 #[cfg(test)]
 mod requests;

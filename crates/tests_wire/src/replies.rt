@@ -1,6 +1,7 @@
 //! That the calls which allocate succeed with ample memory; their clauses say with what.
 
 use qo_causes::Moment;
+use qo_json::Json;
 use qo_replies::{
     Event, PropertyList, error_text, event_text, greeting, json_text, return_text, return_written,
     version,
@@ -14,7 +15,11 @@ fn replies_are_made(rt: HostRuntime) -> Result<(), Fail> {
     let id = Text::from_string(String::from_str(alloc, "7")?);
     let version = version(alloc)?;
     assert!(rt; !greeting(alloc)?.as_slice().is_empty());
-    assert!(rt; !json_text(alloc, &version)?.as_str().is_empty());
+    assert!(rt;
+        !json_text(alloc, &Json::of(alloc, &version)?)?
+            .as_str()
+            .is_empty()
+    );
     assert!(rt;
         !return_text(alloc, Some(&id), &version)?
             .as_slice()

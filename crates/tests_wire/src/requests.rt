@@ -1,4 +1,5 @@
 //! What no clause says: messages written by hand, read where there is enough memory.
+use json::Scratch;
 use qo_requests::{Call, Change, Command, Parsed, ReadError, Request, read};
 use qo_values::Code;
 use std::alloc::Global;
@@ -19,8 +20,8 @@ fn short(alloc: Global, request: &Request) -> Result<String, Fail> {
 }
 
 /// What a message is read into, in short: the request, or the code, each with the id.
-fn told(alloc: Global, message: &str) -> Result<String, Fail> {
-    let text = match read(alloc, message.as_bytes()) {
+fn told(alloc: Global, message: &str, scratch: &mut Scratch) -> Result<String, Fail> {
+    let text = match read(alloc, message.as_bytes(), scratch) {
         Ok(Parsed { id, request }) => match id {
             Some(id) => format!(in alloc; "{} {}", id.as_str(), short(alloc, &request)?.as_str())?,
             None => short(alloc, &request)?,
@@ -43,8 +44,14 @@ fn told(alloc: Global, message: &str) -> Result<String, Fail> {
     Ok(text)
 }
 
-fn gives(rt: &impl Abort, alloc: Global, message: &str, want: &str) -> Result<(), Fail> {
-    let given = told(alloc, message)?;
+fn gives(
+    rt: &impl Abort,
+    alloc: Global,
+    message: &str,
+    want: &str,
+    scratch: &mut Scratch,
+) -> Result<(), Fail> {
+    let given = told(alloc, message, scratch)?;
     assert!(rt; given.as_str() == want, "{message}: {given}");
     Ok(())
 }
@@ -114,8 +121,9 @@ const READ: [(&str, &str); 16] = [
 
 #[test]
 fn reads_messages(rt: HostRuntime) -> Result<(), Fail> {
+    let mut scratch = Scratch::new(rt.alloc());
     for (message, want) in READ {
-        gives(&rt, rt.alloc(), message, want)?;
+        gives(&rt, rt.alloc(), message, want, &mut scratch)?;
     }
     Ok(())
 }

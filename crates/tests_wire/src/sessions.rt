@@ -1,5 +1,6 @@
 //! Sessions with ample memory.
 
+use json::Scratch;
 use qo_framing::Item;
 use qo_requests::{Call, Query};
 use qo_sessions::{Mode, Session, SessionAct};
@@ -42,8 +43,9 @@ fn add_word(
     session: &mut Session,
     item: &Item,
     words: &mut String,
+    scratch: &mut Scratch,
 ) -> Result<(), Fail> {
-    let act = session.act(alloc, item)?;
+    let act = session.act(alloc, item, scratch)?;
     words.push_str(word(&act))?;
     Ok(())
 }
@@ -52,8 +54,9 @@ fn add_word(
 fn acts(alloc: Global, session: &mut Session, bytes: &[u8]) -> Result<String, Fail> {
     let items = session.feed(alloc, bytes)?;
     let mut words = String::new(alloc);
+    let mut scratch = Scratch::new(alloc);
     for item in &items {
-        add_word(alloc, session, item, &mut words)?;
+        add_word(alloc, session, item, &mut words, &mut scratch)?;
     }
     Ok(words)
 }

@@ -9,7 +9,7 @@ use Rattle.qo_commands.proofs.CommandLemmas.{types_no_float}
 use Rattle.qo_commands.proofs.commands.ask.Goals as goal
 
 pub returned_value-requires : goal.returned_value-requires
-returned_value-requires g c = 
+returned_value-requires g c =
     ap has_float c.in_ok-types-in-QomListTypes.ensures
     ∙ types_no_float (types_of (option_map_or (λ name. name.now) c.as_ref.result (codes "object")) c.unwrap_or.result)
 
