@@ -1,6 +1,7 @@
 -- The clocks that go by a clock, place by place, and whether a period below overflows.
 use Rattle.std.proofs.Common.{◌≡◌, refl, ap, sym, ◌∙◌, ℕ, zero, suc, ◌+◌, ◌^◌, ◌≤◌, Bool, true, false, ◌||◌, nat_le, cond, List, [], ◌∷◌, ◌++◌, take, length, slice_get, Option, Some, None, option_map, option_and_then, arith}
 use Rattle.std.specs.List.{cons_option, list_any}
+use Rattle.std.proofs.Math.Bool.{or-false}
 use Rattle.std.proofs.lemmas.List.Folds.{list_any-append}
 use Rattle.std.proofs.lemmas.Option.{same_Some}
 use Rattle.qo_slots.specs.declared.keys.Key.{Key}
@@ -61,10 +62,6 @@ over-more v levels c period i o e none =
 pub over-other : (v : Objects) (levels c period i : ℕ) → None ≡ at_place v c i → over_to v levels c period i ≡ false
     → over_to v levels c period (i + 1) ≡ false
 over-other v levels c period i e none = over-more v levels c period i None e none
-
-or-false : (t : Bool) → (t || false) ≡ t
-or-false true = refl
-or-false false = refl
 
 over-kid : (v : Objects) (levels c period i : ℕ) (k : Key) → Some k ≡ at_place v c i → over_to v levels c period i ≡ false
     → over_to v levels c period (i + 1) ≡ over_at v (overflows_on v levels) period k.birth

@@ -1,10 +1,7 @@
 -- A number written to the slot of a name on a board, and what other names and other objects read.
-use Rattle.std.proofs.Common.{◌≡◌, refl, ap, ap₂, subst, sym, ◌∙◌, ℕ, zero, suc, ◌+◌, Bool, true, false, cond, eqb, ◌==◌, List, [], ◌∷◌, map, find, Option, Some, None, option_map, arith}
-use Rattle.std.specs.Option.{option_map_or}
+use Rattle.std.proofs.Common.{◌≡◌, refl, ap, ap₂, subst, sym, ◌∙◌, ℕ, ◌+◌, Bool, true, false, cond, eqb, ◌==◌, List, [], ◌∷◌, map, Option, Some, None, option_map, arith, slice_get}
 use Rattle.std.specs.Str.{bytes_eq}
 use Rattle.std.proofs.lemmas.Bool.{eqb-true, eq-eqb}
-use Rattle.std.proofs.lemmas.Option.{same_Some}
-use Rattle.std.proofs.lemmas.Slice.Eq.{bytes_eq-Decides}
 use Rattle.qo_values.specs.declared.properties.Val.{Val}
 use Rattle.qo_model.specs.Board.{Board, Record, Slot, record_of, slot_named, slots_at}
 use Rattle.qo_model.specs.Changes.{changed_at, set, with_changed, with_val}
@@ -12,77 +9,18 @@ use Rattle.qo_model.specs.Objects.{place_from}
 use Rattle.qo_model.specs.Paths.{births}
 use Rattle.qo_model.specs.Release.{edit, edited}
 use Rattle.qo_model.specs.Unplug.{is_named, set_named}
-use Rattle.qo_model.proofs.StepLemmas.{found-edited}
-
-abbrev Named : Type 0
-Named = List ℕ × Slot
-
-abbrev named_in : List ℕ → List Named → Option Slot
-named_in name slots = option_map (λ (s : Named). s.1) (find (λ s. bytes_eq s.0 name) slots)
-
--- slots: the first of a name is changed, which leaves the other names
-
-first-later : (own : List ℕ) (k j : ℕ) (slots : List Named) → place_from (is_named own) k slots ≡ Some j → (m : ℕ) × (j ≡ m + k)
-first-later own k j [] e = cc
-first-later own k j (s ∷ slots) e = go (is_named own s) refl (first-later own (suc k) j slots)
-  where
-    go : (t : Bool) → is_named own s ≡ t → (place_from (is_named own) (suc k) slots ≡ Some j → (m : ℕ) × (j ≡ m + suc k)) → (m : ℕ) × (j ≡ m + k)
-    go true p rest = let is : k ≡ j = same_Some k j (rw p at e) in (0, omega (arith, is))
-    go false p rest = let (m, is) = rest (rw p at e) in (suc m, omega (arith, is))
-
-first-changed : (g : Slot → Slot) (own : List ℕ) (slots : List Named) (k j i : ℕ) → place_from (is_named own) k slots ≡ Some j → j ≡ i + k
-    → named_in own (changed_at g i slots) ≡ option_map g (named_in own slots)
-first-changed g own [] k j i e is = refl
-first-changed g own (s ∷ slots) k j i e is = go (is_named own s) refl i is (first-changed g own slots (suc k) j)
-  where
-    go : (t : Bool) → is_named own s ≡ t → (m : ℕ) → j ≡ m + k
-        → ((n : ℕ) → place_from (is_named own) (suc k) slots ≡ Some j → j ≡ n + suc k → named_in own (changed_at g n slots) ≡ option_map g (named_in own slots))
-        → named_in own (changed_at g m (s ∷ slots)) ≡ option_map g (named_in own (s ∷ slots))
-    go true p zero q rest = rw p refl
-    go true p (suc m) q rest = absurd (let same : k ≡ j = same_Some k j (rw p at e) in omega (arith, same, q))
-    go false p zero q rest =
-        let (n, far) = first-later own (suc k) j slots (rw p at e) in
-        absurd (omega (arith, far, q))
-    go false p (suc m) q rest = rw p (rest m (rw p at e) (omega (arith, q)))
+use Rattle.qo_model.proofs.FirstLemmas.{first-changed, found-from, named_in, named-other, none-found, other-name, slots_in}
+use Rattle.qo_model.proofs.StepLemmas.{found-edited, found-birth}
 
 -- of another name
-other-changed : (g : Slot → Slot) (own name : List ℕ) → bytes_eq own name ≡ false → (slots : List Named) (k j i : ℕ)
+other-changed : (g : Slot → Slot) (own name : List ℕ) → bytes_eq own name ≡ false → (slots : List (List ℕ × Slot)) (k j i : ℕ)
     → place_from (is_named own) k slots ≡ Some j → j ≡ i + k → named_in name (changed_at g i slots) ≡ named_in name slots
-other-changed g own name apart [] k j i e is = refl
-other-changed g own name apart (s ∷ slots) k j i e is = go (is_named own s) refl i is (other-changed g own name apart slots (suc k) j)
-  where
-    alike : (xs ys : List Named) → named_in name xs ≡ named_in name ys → named_in name (s ∷ xs) ≡ named_in name (s ∷ ys)
-    alike xs ys same = by (bytes_eq s.0 name)
-      where
-        by : (t : Bool) → option_map (λ (x : Named). x.1) (cond t (Some s) (find (λ x. bytes_eq x.0 name) xs))
-            ≡ option_map (λ (x : Named). x.1) (cond t (Some s) (find (λ x. bytes_eq x.0 name) ys))
-        by true = refl
-        by false = same
-
-    go : (t : Bool) → is_named own s ≡ t → (m : ℕ) → j ≡ m + k
-        → ((n : ℕ) → place_from (is_named own) (suc k) slots ≡ Some j → j ≡ n + suc k → named_in name (changed_at g n slots) ≡ named_in name slots)
-        → named_in name (changed_at g m (s ∷ slots)) ≡ named_in name (s ∷ slots)
-    go true p zero q rest =
-        let not : bytes_eq s.0 name ≡ false = subst (λ (x : List ℕ). bytes_eq x name ≡ false) (sym ((bytes_eq-Decides s.0 own).0 p)) apart in
-        rw not refl
-    go true p (suc m) q rest = absurd (let same : k ≡ j = same_Some k j (rw p at e) in omega (arith, same, q))
-    go false p zero q rest =
-        let (n, far) = first-later own (suc k) j slots (rw p at e) in
-        absurd (omega (arith, far, q))
-    go false p (suc m) q rest = alike (changed_at g m slots) slots (rest m (rw p at e) (omega (arith, q)))
-
-none-named : (own : List ℕ) (slots : List Named) (k : ℕ) → place_from (is_named own) k slots ≡ None → named_in own slots ≡ None
-none-named own [] k e = refl
-none-named own (s ∷ slots) k e = go (is_named own s) refl (none-named own slots (suc k))
-  where
-    go : (t : Bool) → is_named own s ≡ t → (place_from (is_named own) (suc k) slots ≡ None → named_in own slots ≡ None) → named_in own (s ∷ slots) ≡ None
-    go true p rest = absurd (let clash : Some k ≡ None = rw p at e in cc)
-    go false p rest = rw p (rest (rw p at e))
+other-changed g own name apart slots k j i e is =
+    let (m, (far, found)) = found-from (is_named own) k j slots e in
+    let same : i ≡ m = omega (arith, is, far) in
+    named-other g name i slots found.entry (ap (slice_get slots) same ∙ found.at) (other-name own name apart found.entry found.passes)
 
 -- the slots of an object once one is changed
-
-abbrev slots_in : Option Record → List Named
-slots_in o = option_map_or (λ (r : Record). r.slots) o []
 
 edited-own : (n i : ℕ) (g : Slot → Slot) (o : Option Record) → ((r : Record) → o ≡ Some r → r.birth ≡ n)
     → slots_in (option_map (edited n (with_changed g i)) o) ≡ changed_at g i (slots_in o)
@@ -97,14 +35,6 @@ edited-other n m i g apart None own = refl
 edited-other n m i g apart (Some r) own =
     let not : (r.birth == n) ≡ false = ap (λ (k : ℕ). eqb k n) (own r refl) ∙ apart in
     ap (λ (t : Bool). (cond t (with_changed g i r) r).slots) not
-
-found-birth : (n : ℕ) (rs : List Record) (r : Record) → find (λ (x : Record). x.birth == n) rs ≡ Some r → r.birth ≡ n
-found-birth n [] r e = cc
-found-birth n (x ∷ rs) r e = go (x.birth == n) refl (found-birth n rs r)
-  where
-    go : (t : Bool) → (x.birth == n) ≡ t → (find (λ (y : Record). y.birth == n) rs ≡ Some r → r.birth ≡ n) → r.birth ≡ n
-    go true p rest = let same : x ≡ r = same_Some x r (rw p at e) in ap (λ (y : Record). y.birth) (sym same) ∙ eqb-true x.birth n p
-    go false p rest = rest (rw p at e)
 
 module _ (b : Board) (n : ℕ) (own : List ℕ) (v : Val) where
   abbrev new : Board
@@ -150,7 +80,7 @@ module _ (b : Board) (n : ℕ) (own : List ℕ) (v : Val) where
     where
       go : (o : Option ℕ) → place_from (is_named own) 0 (slots_at b n) ≡ o → slot_named (into o) n own ≡ option_map (with_val v) (slot_named b n own)
       go None e =
-          let none : slot_named b n own ≡ None = none-named own (slots_at b n) 0 e in
+          let none : slot_named b n own ≡ None = none-found own (slots_at b n) 0 e in
           none ∙ sym (ap (option_map (with_val v)) none)
       go (Some i) e =
           ap (named_in own) (edit-slots n i ∙ edited-own n i (with_val v) (record_of b n) (found-birth n b.records))

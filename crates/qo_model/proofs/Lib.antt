@@ -13,6 +13,7 @@ pub mod FinalNotesGrowthLemmas
 pub mod FinalNotesLemmas
 mod FinalNotesRows
 pub mod FinalNotesRunsLemmas
+pub mod FirstLemmas
 pub mod GraphLemmas
 mod HotplugRows
 pub mod OpeningLemmas

@@ -4,12 +4,13 @@ use Rattle.std.proofs.Common.{nat_eq, ◌≡◌, refl, ap, ap₂, sym, ◌∙◌
 use Rattle.std.specs.Option.{option_map_or}
 use Rattle.std.proofs.lemmas.Bool.{eq-eqb}
 use Rattle.std.proofs.Math.Bool.{or-true}
-use Rattle.qo_model.specs.Board.{Slot, slot_at, held, Board, Record, record_of, is_live}
+use Rattle.qo_model.specs.Board.{Slot, slot_at, held, Board, Record, record_of, is_live, DeviceEvent}
 use Rattle.qo_model.specs.Depth.{among}
 use Rattle.qo_model.specs.Paths.{births}
 use Rattle.qo_model.specs.Release.{after, let_go, unpin, without_pin, edited, with_dropped, drop_slot, forgotten, finish, finalise, final_notes, deleted_event}
 use Rattle.qo_model.specs.Laws.{LeavesLaw}
 use Rattle.qo_model.specs.ReleaseKeeps.{KeepsRelease, without_slots, Leaves}
+use Rattle.qo_model.specs.declared.notes.Note.{Note}
 use Rattle.qo_model.proofs.ReleaseKeepsLemmas.{release_keeps, after_keeps}
 use Rattle.qo_model.proofs.StepLemmas.{live-among, drop-record, drop-live, finish-record, finish-live, drop-births, finish-births}
 
@@ -67,9 +68,14 @@ leaves-none b =
       events_gain = ([], sym (append-nil b.events));
     }
 
-leaves-drop : (b c : Board) (n i : ℕ) → Leaves b c → Leaves b (drop_slot c n i)
-unfolding drop_slot
-leaves-drop b c n i h =
+-- other objects, notes and events, where they are gained and lost so
+leaves-other : (b c : Board) (records : List Record) (notes : List Note) (events : List DeviceEvent)
+    → births (record c { records = records }) ≡ filter (is_live (record c { records = records })) (births b)
+    → ((n : ℕ) → is_live (record c { records = records }) n ≡ true
+    → option_map without_slots (record_of (record c { records = records }) n) ≡ option_map without_slots (record_of b n))
+    → (more : List Note) × (notes ≡ b.notes ++ more) → (more : List DeviceEvent) × (events ≡ b.events ++ more) → Leaves b c
+    → Leaves b (record c { records = records; notes = notes; events = events })
+leaves-other b c records notes events go same noted told h =
     record {
       born = h.born;
       anonymous = h.anonymous;
@@ -80,34 +86,31 @@ leaves-drop b c n i h =
       notices = h.notices;
       rings = h.rings;
       pins = h.pins;
-      births_go = drop-births c n i ∙ h.births_go ∙ filter-ext (is_live c) (is_live (drop_slot c n i)) (λ x. sym (drop-live c n i x)) (births b);
-      same = λ x e. ap (option_map without_slots) (drop-record c n i x) ∙ without-edited n i (record_of c x) ∙ h.same x (sym (drop-live c n i x) ∙ e);
-      notes_gain = h.notes_gain;
-      events_gain = h.events_gain;
+      births_go = go;
+      same = same;
+      notes_gain = noted;
+      events_gain = told;
     }
+
+leaves-drop : (b c : Board) (n i : ℕ) → Leaves b c → Leaves b (drop_slot c n i)
+unfolding drop_slot
+leaves-drop b c n i h =
+    leaves-other b c (drop_slot c n i).records c.notes c.events
+    (drop-births c n i ∙ h.births_go ∙ filter-ext (is_live c) (is_live (drop_slot c n i)) (λ x. sym (drop-live c n i x)) (births b))
+    (λ x e. ap (option_map without_slots) (drop-record c n i x) ∙ without-edited n i (record_of c x) ∙ h.same x (sym (drop-live c n i x) ∙ e))
+    h.notes_gain h.events_gain h
 
 leaves-finish : (b c : Board) (n : ℕ) → Leaves b c → Leaves b (finish c n)
 unfolding finish
 leaves-finish b c n h =
-    record {
-      born = h.born;
-      anonymous = h.anonymous;
-      now = h.now;
-      running = h.running;
-      holds = h.holds;
-      pending = h.pending;
-      notices = h.notices;
-      rings = h.rings;
-      pins = h.pins;
-      births_go =
-          finish-births c n
-          ∙ ap (filter (λ (x : ℕ). not (x == n))) h.births_go
-          ∙ filter-twice (λ (x : ℕ). not (x == n)) (is_live c) (births b)
-          ∙ filter-ext (λ (x : ℕ). not (x == n) && is_live c x) (is_live (finish c n)) (λ x. sym (finish-live c n x)) (births b);
-      same = λ x e. same x (x == n) refl e;
-      notes_gain = gained c.notes b.notes (option_map_or final_notes (record_of c n) []) h.notes_gain;
-      events_gain = gained c.events b.events (option_to_list (option_and_then deleted_event (record_of c n))) h.events_gain;
-    }
+    leaves-other b c (finish c n).records (finish c n).notes (finish c n).events
+    (finish-births c n
+    ∙ ap (filter (λ (x : ℕ). not (x == n))) h.births_go
+    ∙ filter-twice (λ (x : ℕ). not (x == n)) (is_live c) (births b)
+    ∙ filter-ext (λ (x : ℕ). not (x == n) && is_live c x) (is_live (finish c n)) (λ x. sym (finish-live c n x)) (births b))
+    (λ x e. same x (x == n) refl e)
+    (gained c.notes b.notes (option_map_or final_notes (record_of c n) []) h.notes_gain)
+    (gained c.events b.events (option_to_list (option_and_then deleted_event (record_of c n))) h.events_gain) h
   where
     gained : {A : Type 0} (xs ys more : List A) → (zs : List A) × (xs ≡ ys ++ zs) → (zs : List A) × (xs ++ more ≡ ys ++ zs)
     gained xs ys more p = (p.0 ++ more, ap (λ us. us ++ more) p.1 ∙ append_assoc ys p.0 more)

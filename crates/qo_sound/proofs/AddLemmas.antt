@@ -77,7 +77,7 @@ name-free id (s ∷ slots) e = go (bytes_eq s.0 id) refl (name-free id slots)
     go false p rest = (p, rest (rw p at e))
 
 -- the object that is made, and the notes behind it
-abbrev made : Board → TypeId → List Given → Record
+abbrev pub made : Board → TypeId → List Given → Record
 made b t props = record { birth = b.born + 1; kind = t; slots = given_slots b t props; registers = fresh_registers t; device_id = None; kept_path = None }
 
 abbrev noted : Board → TypeId → List Note

@@ -16,7 +16,7 @@ use Rattle.qo_model.proofs.EditLemmas.{StandsAt, stands-at}
 use Rattle.qo_model.proofs.StepLemmas.{live-among, one_of}
 use Rattle.qo_sound.proofs.RecordLemmas.{all-edited, sum-edited}
 use Rattle.qo_sound.proofs.SlotLemmas.{clocks_in, names_in, one_child}
-use Rattle.qo_sound.proofs.FirmLemmas.{Linked, parents_in, Firm, edited-births, firm-edit}
+use Rattle.qo_sound.proofs.FirmLemmas.{Linked, parents_in, Firm, edited-births, firm-edit, firm-beside}
 use Rattle.qo_sound.proofs.WorkLemmas.{HasOwn, Nearly}
 
 -- lists without the member at a place
@@ -170,15 +170,7 @@ pub near-beside : (o : Option ℕ) (b : Board) (holds pending : List ℕ) (notic
     → Nearly o (record b { holds = holds; pending = pending; notices = notices; notes = notes })
 near-beside o b holds pending notices notes h =
     record {
-      firm = record {
-        rising = h.firm.rising;
-        within = h.firm.within;
-        begun = h.firm.begun;
-        named = h.firm.named;
-        linked = h.firm.linked;
-        one_parent = h.firm.one_parent;
-        none_round = h.firm.none_round;
-      };
+      firm = firm-beside b (record b { holds = holds; pending = pending; notices = notices; notes = notes }) h.firm;
       aliases = h.aliases;
       used = h.used;
     }

@@ -33,7 +33,7 @@ use Rattle.qo_model.proofs.GraphLemmas.{births_at}
 use Rattle.qo_model.proofs.StepLemmas.{found_at, found-edited, found-birth}
 use Rattle.qo_sound.proofs.RecordLemmas.{all-append}
 use Rattle.qo_sound.proofs.SlotLemmas.{clocks_in, names_in, one_child}
-use Rattle.qo_sound.proofs.FirmLemmas.{Linked, parents_of, edited-leads}
+use Rattle.qo_sound.proofs.FirmLemmas.{Linked, parents_of, edited-leads, firm-beside}
 use Rattle.qo_sound.proofs.FreshLemmas.{fresh-names, new-lone}
 use Rattle.qo_sound.proofs.MadeLemmas.{IsNew, children-none, grown, grown-leads, grown-near, grown-new, grown-old, grown-parents, new-absent}
 use Rattle.qo_sound.proofs.NamedLemmas.{IsNameless, Step, stayed, new_one, leads-first, named-near, named-parents, named-step}
@@ -48,15 +48,7 @@ held_up n b = record b { pins = n ∷ b.pins }
 pub near-held_up : (n : ℕ) (b : Board) → Nearly (Some n) b → Nearly None (held_up n b)
 near-held_up n b h =
     record {
-      firm = record {
-        rising = h.firm.rising;
-        within = h.firm.within;
-        begun = h.firm.begun;
-        named = h.firm.named;
-        linked = h.firm.linked;
-        one_parent = h.firm.one_parent;
-        none_round = h.firm.none_round;
-      };
+      firm = firm-beside b (held_up n b) h.firm;
       aliases = h.aliases;
       used = used;
     }
@@ -76,15 +68,7 @@ near-held_up n b h =
 pub near-let_down : (n : ℕ) (b : Board) → Nearly None (held_up n b) → Nearly (Some n) b
 near-let_down n b h =
     record {
-      firm = record {
-        rising = h.firm.rising;
-        within = h.firm.within;
-        begun = h.firm.begun;
-        named = h.firm.named;
-        linked = h.firm.linked;
-        one_parent = h.firm.one_parent;
-        none_round = h.firm.none_round;
-      };
+      firm = firm-beside (held_up n b) b h.firm;
       aliases = h.aliases;
       used = used;
     }

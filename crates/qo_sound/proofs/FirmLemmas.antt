@@ -58,6 +58,19 @@ pub record Firm (b : Board) : Type 0 where
   pub one_parent : (x : ℕ) → parents_of b x ≤ 1
   pub none_round : (n : ℕ) → ¬ (Leads (children_of b) n n)
 
+-- a board with the same objects and births
+pub firm-beside : (b c : Board) → Firm b → Firm (record c { records = b.records; born = b.born })
+firm-beside b c f =
+    record {
+      rising = f.rising;
+      within = f.within;
+      begun = f.begun;
+      named = f.named;
+      linked = f.linked;
+      one_parent = f.one_parent;
+      none_round = f.none_round;
+    }
+
 -- births that are taken, and notes
 pub firm-born : (b : Board) (born : ℕ) (notes : List Note) → b.born ≤ born → Firm b → Firm (record b { born = born; notes = notes })
 firm-born b born notes later f =

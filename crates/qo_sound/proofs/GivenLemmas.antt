@@ -16,6 +16,7 @@ use Rattle.qo_model.specs.References.{refs, refs_in}
 use Rattle.qo_model.specs.Release.{edit}
 use Rattle.qo_model.specs.SoundAliases.{is_open, lasting, PassesTo}
 use Rattle.qo_model.specs.Unplug.{is_named}
+use Rattle.qo_model.proofs.FirstLemmas.{Found, found-at}
 use Rattle.qo_model.proofs.StepLemmas.{one_of}
 use Rattle.qo_sound.proofs.RecordLemmas.{all-map, sum-edited}
 use Rattle.qo_sound.proofs.SlotLemmas.{clocks-cons, clocks_in, one_child}
@@ -27,7 +28,7 @@ use Rattle.qo_sound.proofs.WorkLemmas.{HasOwn, Nearly}
 use Rattle.qo_sound.proofs.ChangeLemmas.{IsGentle, near-changed}
 use Rattle.qo_sound.proofs.CutLemmas.{near-edit}
 use Rattle.qo_sound.proofs.DraftLemmas.{HoldsNone}
-use Rattle.qo_sound.proofs.UnplugLemmas.{Found, Sits, found-at, slot-of}
+use Rattle.qo_sound.proofs.UnplugLemmas.{Sits, slot-of}
 
 -- a link of a name points at what is of its type
 

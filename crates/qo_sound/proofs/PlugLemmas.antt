@@ -28,7 +28,7 @@ use Rattle.qo_model.specs.Release.{edit}
 use Rattle.qo_model.specs.Reset.{is_out, phased, plugged, post}
 use Rattle.qo_model.specs.SoundAliases.{is_open}
 use Rattle.qo_model.specs.Types.{TypeRow, is_a, row_named, types}
-use Rattle.qo_sound.proofs.FirmLemmas.{Firm, edited-kinds, firm-born}
+use Rattle.qo_sound.proofs.FirmLemmas.{Firm, edited-kinds, firm-born, firm-beside}
 use Rattle.qo_sound.proofs.NamedLemmas.{IsNameless, named-near}
 use Rattle.qo_sound.proofs.WorkLemmas.{Nearly}
 use Rattle.qo_sound.proofs.ViewLemmas.{AtRest}
@@ -122,15 +122,7 @@ counted-sits None c h =
     record {
       near =
           record {
-            firm = record {
-              rising = g.rising;
-              within = g.within;
-              begun = g.begun;
-              named = g.named;
-              linked = g.linked;
-              one_parent = g.one_parent;
-              none_round = g.none_round;
-            };
+            firm = firm-beside c (counted None c) g;
             aliases = h.near.aliases;
             used = h.near.used;
           };

@@ -1,7 +1,5 @@
 -- What is read of slots, by their names and of each alone, and what it stays through.
-use Rattle.std.proofs.Common.{◌≡◌, refl, ℕ, List, [], find, Option, Some, None, option_map, ap, sym, ◌∙◌, true, ◌==◌, slice_get}
-use Rattle.std.specs.Option.{option_map_or}
-use Rattle.std.specs.Str.{bytes_eq}
+use Rattle.std.proofs.Common.{◌≡◌, refl, ℕ, List, Option, Some, None, option_map, ap, sym, ◌∙◌, true, ◌==◌, slice_get}
 use Rattle.std.proofs.lemmas.Bool.{eq-eqb}
 use Rattle.qo_values.specs.declared.properties.Val.{Val}
 use Rattle.qo_model.specs.Board.{Record, Slot, plain, child, strong, weak, alias, Board, record_of, slots_at}
@@ -11,14 +9,8 @@ use Rattle.qo_model.specs.Devices.{plain_in, strong_in}
 use Rattle.qo_model.specs.Release.{forgotten_in, drop_slot, edited, with_dropped, without_hold}
 use Rattle.qo_model.specs.Unplug.{unseen}
 use Rattle.qo_model.specs.Plug.{fitted}
+use Rattle.qo_model.proofs.FirstLemmas.{slots_in}
 use Rattle.qo_model.proofs.StepLemmas.{drop-record, found-birth}
-
--- the slots of an object, where it is there, and the one of a name
-abbrev pub slots_in : Option Record → List (List ℕ × Slot)
-slots_in o = option_map_or (λ (r : Record). r.slots) o []
-
-abbrev pub named_in : List ℕ → List (List ℕ × Slot) → Option Slot
-named_in name slots = option_map (λ (s : List ℕ × Slot). s.1) (find (λ s. bytes_eq s.0 name) slots)
 
 -- an object's end empties weak links alone
 pub plain-forgotten : (n : ℕ) (s : Slot) → plain_in (forgotten_in n s) ≡ plain_in s

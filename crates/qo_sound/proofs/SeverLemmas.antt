@@ -10,6 +10,7 @@ use Rattle.qo_model.specs.References.{refs}
 use Rattle.qo_model.specs.Release.{let_go, pin, put_in_order, unpin, without_first, without_pin}
 use Rattle.qo_model.proofs.PinLemmas.{put-among, put-back, severed-pins, unpin-pins}
 use Rattle.qo_sound.proofs.CountLemmas.{one_at, times}
+use Rattle.qo_sound.proofs.FirmLemmas.{firm-beside}
 use Rattle.qo_sound.proofs.WorkLemmas.{Nearly, after-firm}
 use Rattle.qo_sound.proofs.ViewLemmas.{AtRest}
 use Rattle.qo_sound.proofs.ChangeLemmas.{near-unlinked}
@@ -38,15 +39,7 @@ pub near-pin : (b : Board) (n : ℕ) → Nearly None b → Nearly None (pin b n)
 unfolding pin
 near-pin b n h =
     record {
-      firm = record {
-        rising = h.firm.rising;
-        within = h.firm.within;
-        begun = h.firm.begun;
-        named = h.firm.named;
-        linked = h.firm.linked;
-        one_parent = h.firm.one_parent;
-        none_round = h.firm.none_round;
-      };
+      firm = firm-beside b (pin b n) h.firm;
       aliases = h.aliases;
       used = λ m there none. h.used m there (omega (arith, none, put-times n m b.pins));
     }
@@ -71,15 +64,7 @@ near-unpin b n e h = rw (unpin, e) (after-firm (without_pin b n) (Some n) free)
     free : Nearly (Some n) (without_pin b n)
     free =
         record {
-          firm = record {
-            rising = h.firm.rising;
-            within = h.firm.within;
-            begun = h.firm.begun;
-            named = h.firm.named;
-            linked = h.firm.linked;
-            one_parent = h.firm.one_parent;
-            none_round = h.firm.none_round;
-          };
+          firm = firm-beside b (without_pin b n) h.firm;
           aliases = h.aliases;
           used = used;
         }

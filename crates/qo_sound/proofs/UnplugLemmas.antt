@@ -1,5 +1,5 @@
 -- A device that is detached, with all that is below it: each step keeps the tree of the board sound.
-use Rattle.std.proofs.Common.{nat_eq, ◌≡◌, refl, ap, sym, subst, ◌∙◌, ℕ, zero, suc, ◌+◌, ◌≤◌, Bool, true, false, not, ◌&&◌, ◌==◌, List, [], ◌∷◌, filter, length, slice_get, codes, Option, Some, None, option_map, arith}
+use Rattle.std.proofs.Common.{nat_eq, ◌≡◌, refl, ap, sym, subst, ◌∙◌, ℕ, zero, suc, ◌≤◌, Bool, true, false, not, ◌&&◌, ◌==◌, List, [], ◌∷◌, filter, length, slice_get, codes, Option, Some, None, option_map, arith}
 use Rattle.std.specs.List.{list_any}
 use Rattle.std.specs.Option.{option_map_or}
 use Rattle.std.specs.Str.{bytes_eq}
@@ -22,6 +22,7 @@ use Rattle.qo_model.specs.Paths.{births, child_of, is_child}
 use Rattle.qo_model.specs.Release.{drop_slot, let_go, pin, put_in_order, unpin, without_first}
 use Rattle.qo_model.specs.SoundAliases.{is_clock_slot, is_open, PassesTo}
 use Rattle.qo_model.specs.Unplug.{apart_within, detach, disconnected, drained, each, first_of, is_bus_slot, is_child_slot, is_named, left_bus, let_go_where, lost_bus, lost_buses, unseen, unseen_named, names_kid, set_named, take_slot, take_where, taken_by, unheld, unnoticed, unrealize, unrealize_turn, unrealized_device, without_all}
+use Rattle.qo_model.proofs.FirstLemmas.{Found, found-at}
 use Rattle.qo_model.proofs.PinLemmas.{IsUp, put-among, put-back, put-up, release-pins, unpin-pins}
 use Rattle.qo_model.proofs.ReleaseLeavesLemmas.{let_go-leaves}
 use Rattle.qo_model.proofs.StepLemmas.{one_of}
@@ -32,30 +33,6 @@ use Rattle.qo_sound.proofs.ViewLemmas.{AtRest}
 use Rattle.qo_sound.proofs.ChangeLemmas.{IsGentle, emptied-at, gentle-val, near-changed, near-drop, near-let_go, open-last, other-lasts}
 use Rattle.qo_sound.proofs.SeverLemmas.{near-pin, near-unpin, pin-pins}
 use Rattle.qo_sound.proofs.CutLemmas.{near-beside, near-cut, near-same_slots}
-
--- where a search finds a slot
-
-pub record Found (p : List ℕ × Slot → Bool) (slots : List (List ℕ × Slot)) (j : ℕ) : Type 0 where
-  pub entry : List ℕ × Slot
-  pub at : slice_get slots j ≡ Some entry
-  pub passes : p entry ≡ true
-
-pub found-from : (p : List ℕ × Slot → Bool) (i j : ℕ) (slots : List (List ℕ × Slot)) → place_from p i slots ≡ Some j → (k : ℕ) × ((j ≡ k + i) × Found p slots k)
-found-from p i j [] e = cc
-found-from p i j (s ∷ slots) e = go (p s) refl (found-from p (suc i) j slots)
-  where
-    go : (t : Bool) → p s ≡ t → (place_from p (suc i) slots ≡ Some j → (k : ℕ) × ((j ≡ k + suc i) × Found p slots k))
-        → (k : ℕ) × ((j ≡ k + i) × Found p (s ∷ slots) k)
-    go true q rest = let is : i ≡ j = same_Some i j (rw q at e) in (0, (omega (arith, is), record { entry = s; at = refl; passes = q }))
-    go false q rest =
-        let (k, (is, found)) = rest (rw q at e) in
-        (suc k, (omega (arith, is), record { entry = found.entry; at = found.at; passes = found.passes }))
-
-pub found-at : (p : List ℕ × Slot → Bool) (j : ℕ) (slots : List (List ℕ × Slot)) → place_from p 0 slots ≡ Some j → Found p slots j
-found-at p j slots e =
-    let (k, (is, found)) = found-from p 0 j slots e in
-    let same : j ≡ k = omega (arith, is) in
-    subst (λ (m : ℕ). Found p slots m) (sym same) found
 
 pub slot-of : (b : Board) (n i : ℕ) (s : List ℕ × Slot) → slice_get (slots_at b n) i ≡ Some s → slot_at b n i ≡ Some s.1
 slot-of b n i s e = ap (option_map (λ (x : List ℕ × Slot). x.1)) e

@@ -22,9 +22,9 @@ use Rattle.qo_model.specs.Types.{slots_of, types}
 use Rattle.qo_model.specs.declared.properties.Property.{Property}
 use Rattle.qo_model.specs.declared.properties.RowKind.{RowKind}
 use Rattle.qo_model.specs.declared.properties.RowKind.TheVariants as row
+use Rattle.qo_model.proofs.FirstLemmas.{slots_in}
 use Rattle.qo_model.proofs.StepLemmas.{found_at, found-edited}
 use Rattle.qo_sound.proofs.GivenLemmas.{given-cases}
-use Rattle.qo_sound.proofs.ReadLemmas.{slots_in}
 use Rattle.qo_sound.proofs.RecordLemmas.{all-append, all-imply}
 use Rattle.qo_sound.proofs.TestLemmas.{clash-back}
 use Rattle.qo_sound_devices.proofs.SourceLemmas.{add-other}

@@ -23,10 +23,10 @@ use Rattle.qo_model.specs.Plug.{Spot, Wanted, acted_all, addressed_at, bus_birth
 use Rattle.qo_model.specs.Release.{edit}
 use Rattle.qo_model.specs.Types.{is_a, slots_of, types}
 use Rattle.qo_model.specs.Unplug.{is_named, set_named}
+use Rattle.qo_model.proofs.FirstLemmas.{slots_in, named_in}
 use Rattle.qo_model.proofs.StepLemmas.{found-edited, map-edited}
 use Rattle.qo_sound.proofs.MakeStepsLemmas.{link-by}
 use Rattle.qo_sound.proofs.PlugLemmas.{plugged-rest, shut-above}
-use Rattle.qo_sound.proofs.ReadLemmas.{named_in, slots_in}
 use Rattle.qo_sound.proofs.RecordLemmas.{all-map}
 use Rattle.qo_sound.proofs.TestLemmas.{decide, clash}
 use Rattle.qo_sound.proofs.ViewLemmas.{AtRest, rest-from_sound}

@@ -17,9 +17,9 @@ use Rattle.qo_model.specs.Paths.{births}
 use Rattle.qo_model.specs.Plug.{source_for}
 use Rattle.qo_model.specs.Release.{edit, pin, put_in_order}
 use Rattle.qo_model.specs.Unplug.{apart_within, detach, disconnected, first_of, is_named, set_named, taken_by, unrealize, unrealized_bus, unrealized_device, unseen, unseen_named}
+use Rattle.qo_model.proofs.FirstLemmas.{named_in, first-changed, none-found, named-changed}
 use Rattle.qo_sound.proofs.KeptLemmas.{sound_kept_lem}
 use Rattle.qo_sound.proofs.MakeStepsLemmas.{set-by}
-use Rattle.qo_sound.proofs.ReadLemmas.{named_in}
 use Rattle.qo_sound.proofs.SeverLemmas.{near-pin, pin-pins}
 use Rattle.qo_sound.proofs.TestLemmas.{decide, clash}
 use Rattle.qo_sound.proofs.UnplugLemmas.{held-unrealize, Sits}
@@ -33,7 +33,7 @@ use Rattle.qo_sound_devices.proofs.LowLemmas.{unrealize-dimmed, unrealize-only}
 use Rattle.qo_sound_devices.proofs.PinLemmas.{pin-realized, pin-clock, pin-bus}
 use Rattle.qo_sound_devices.proofs.ResetLemmas.{detached-below, first-on}
 use Rattle.qo_sound_devices.proofs.SourceLemmas.{edit-other}
-use Rattle.qo_sound_devices.proofs.UnrealizeLemmas.{Dimmed, dimmed-none, dimmed-then, dims-bus, Fades, fades-device, first-changed, named-changed, none-found, reads}
+use Rattle.qo_sound_devices.proofs.UnrealizeLemmas.{Dimmed, dimmed-none, dimmed-then, dims-bus, Fades, fades-device, reads}
 use Rattle.qo_sound_clocks.proofs.FewerLemmas.{Fewer, fewer-apart, fewer-none, fewer-taken_by, fewer-unpin}
 use Rattle.qo_sound_clocks.proofs.ReadLemmas.{named-reads, Reads, tree-reads}
 use Rattle.qo_sound_clocks.proofs.StayLemmas.{acted-slots}

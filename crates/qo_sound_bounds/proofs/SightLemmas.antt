@@ -29,14 +29,15 @@ use Rattle.qo_model.specs.Unplug.{apart_within, drained, first_of, is_bus_slot, 
 use Rattle.qo_model.specs.declared.properties.Property.{Property}
 use Rattle.qo_model.specs.declared.properties.RowKind.{RowKind}
 use Rattle.qo_model.specs.declared.properties.RowKind.TheVariants as row
+use Rattle.qo_model.proofs.FirstLemmas.{slots_in, Found, found-at}
 use Rattle.qo_model.proofs.ReleaseKeepsLemmas.{after_keeps}
 use Rattle.qo_model.proofs.StepLemmas.{drop-record, finish-gone, finish-record, found_at, found-edited, is_some-map, found-birth, drop-live}
 use Rattle.qo_sound.proofs.FoundLemmas.{found-append}
-use Rattle.qo_sound.proofs.ReadLemmas.{slots_in, dropped-at}
+use Rattle.qo_sound.proofs.ReadLemmas.{dropped-at}
 use Rattle.qo_sound.proofs.SlotLemmas.{each_slot, kept-slot}
 use Rattle.qo_sound.proofs.TestLemmas.{decide, clash, clash-back}
-use Rattle.qo_sound.proofs.UnplugLemmas.{Found, found-at}
-use Rattle.qo_sound_clocks.proofs.CommandLemmas.{MaySet, position-slot, set-other, SlotFound}
+use Rattle.qo_sound_devices.proofs.WriteLemmas.{SlotFound, position-slot}
+use Rattle.qo_sound_clocks.proofs.CommandLemmas.{MaySet, set-other}
 use Rattle.qo_sound_clocks.proofs.LessLemmas.{or-less, OtherName, sees, sees_it, Slots}
 
 -- slots that see no less

@@ -16,8 +16,8 @@ use Rattle.qo_model.specs.Paths.{attached}
 use Rattle.qo_model.specs.Plug.{notice_barred}
 use Rattle.qo_model.specs.Release.{without_first}
 use Rattle.qo_model.specs.Reset.{held, is_out, phased, post, pulse, released}
+use Rattle.qo_model.proofs.FirstLemmas.{named_in}
 use Rattle.qo_sound.proofs.KeptLemmas.{sound_kept_lem}
-use Rattle.qo_sound.proofs.ReadLemmas.{named_in}
 use Rattle.qo_sound.proofs.TestLemmas.{decide}
 use Rattle.qo_sound_devices.specs.SoundDevices.{SoundDevices}
 use Rattle.qo_sound_devices.specs.SoundPlaces.{child_entry, stands}

@@ -10,8 +10,8 @@ use Rattle.qo_model.specs.Objects.{with_attempt}
 use Rattle.qo_model.specs.Opening.{opening_board}
 use Rattle.qo_model.specs.Plug.{cut_attempt, plug_attempt}
 use Rattle.qo_model.specs.Types.{types}
+use Rattle.qo_model.proofs.FirstLemmas.{slots_in}
 use Rattle.qo_sound.proofs.FoundLemmas.{all-found}
-use Rattle.qo_sound.proofs.ReadLemmas.{slots_in}
 use Rattle.qo_sound.proofs.TestLemmas.{clash}
 use Rattle.qo_sound_devices.specs.SoundPlaces.{stands}
 use Rattle.qo_sound_devices.proofs.DevicesLawLemmas.{devices_kept_lem}

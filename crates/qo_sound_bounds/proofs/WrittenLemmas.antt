@@ -8,8 +8,9 @@ use Rattle.qo_model.specs.Changes.{set, with_val}
 use Rattle.qo_model.specs.Clocks.{acted, source_of, weak_in}
 use Rattle.qo_model.specs.Objects.{place_from}
 use Rattle.qo_model.specs.Unplug.{is_named, set_named}
-use Rattle.qo_sound.proofs.ReadLemmas.{named_in, weak-val}
-use Rattle.qo_sound_devices.proofs.UnrealizeLemmas.{Dims, dims-acted, dims-none, dims-set, dims-then, named-changed, reads}
+use Rattle.qo_model.proofs.FirstLemmas.{named_in, named-changed}
+use Rattle.qo_sound.proofs.ReadLemmas.{weak-val}
+use Rattle.qo_sound_devices.proofs.UnrealizeLemmas.{Dims, dims-acted, dims-none, dims-set, dims-then, reads}
 use Rattle.qo_sound_clocks.proofs.StayLemmas.{acted-slots}
 use Rattle.qo_sound_clocks.proofs.StepsLemmas.{KeepsNumbers}
 

@@ -5,7 +5,6 @@ use Rattle.std.specs.Option.{option_map_or, option_or}
 use Rattle.std.specs.Str.{bytes_eq}
 use Rattle.std.proofs.lemmas.Slice.Eq.{bytes_eq-Decides}
 use Rattle.qo_values.specs.Properties.{admits}
-use Rattle.qo_values.specs.Registers.{fresh_registers}
 use Rattle.qo_values.specs.declared.births.TheConstants.{OBJECTS_BIRTH}
 use Rattle.qo_values.specs.declared.codes.Code.{Code}
 use Rattle.qo_values.specs.declared.kinds.TypeId.{TypeId}
@@ -25,17 +24,18 @@ use Rattle.qo_model.specs.Types.{TypeRow, is_a, row_named, types}
 use Rattle.qo_model.specs.declared.properties.Property.{Property}
 use Rattle.qo_model.specs.declared.properties.RowKind.{RowKind}
 use Rattle.qo_model.specs.declared.properties.RowKind.TheVariants as row
+use Rattle.qo_model.proofs.FirstLemmas.{Found, found-at}
 use Rattle.qo_model.proofs.StepLemmas.{found-edited, found_at}
-use Rattle.qo_sound.proofs.AddLemmas.{creatable}
+use Rattle.qo_sound.proofs.AddLemmas.{creatable, made}
 use Rattle.qo_sound.proofs.FoundLemmas.{found-append}
 use Rattle.qo_sound.proofs.ReadLemmas.{dropped-at}
 use Rattle.qo_sound.proofs.RecordLemmas.{all-map}
 use Rattle.qo_sound.proofs.SlotLemmas.{kept-slot}
-use Rattle.qo_sound.proofs.UnplugLemmas.{Found, found-at}
 use Rattle.qo_sound_devices.specs.SoundDevices.{SoundDevices}
 use Rattle.qo_sound_devices.proofs.PlugLemmas.{stands-device}
 use Rattle.qo_sound_devices.proofs.SayLemmas.{devices_say_lem}
-use Rattle.qo_sound_clocks.proofs.CommandLemmas.{MaySet, SlotFound, position-slot, set-apart}
+use Rattle.qo_sound_devices.proofs.WriteLemmas.{SlotFound, position-slot}
+use Rattle.qo_sound_clocks.proofs.CommandLemmas.{MaySet, set-apart}
 use Rattle.qo_sound_clocks.proofs.LessLemmas.{Slots}
 use Rattle.qo_sound_claims.proofs.FewerLemmas.{at-record, Fewer, fewer-after, fewer-drop, fewer-let_go, fewer-none, fewer-pin, fewer-slots, fewer-unpin, Harmless, LessRecord, NearAt, record-none, record-slots, spares-harmless, Spares}
 use Rattle.qo_sound_claims.proofs.ReadLemmas.{realized-at}
@@ -272,22 +272,11 @@ created-dark Tag e = search rules
 with_object-fewer : (b : Board) (t : TypeId) (id : List ℕ) (props : List Given) → AllByRecursion Dark (fresh_slots t)
     → Fewer false b (with_object b t id props)
 with_object-fewer b t id props dark x =
-    rw (found-append x (map (edited OBJECTS_BIRTH change) b.records) (new ∷ []), found-edited OBJECTS_BIRTH change (λ r. refl) x b.records)
+    rw (found-append x (map (edited OBJECTS_BIRTH change) b.records) (made b t props ∷ []), found-edited OBJECTS_BIRTH change (λ r. refl) x b.records)
     (go (record_of b x) refl)
   where
     change : Record → Record
     change = with_added id (child (b.born + 1))
-
-    new : Record
-    new =
-        record {
-          birth = b.born + 1;
-          kind = t;
-          slots = map (slot_given b props) (fresh_slots t);
-          registers = fresh_registers t;
-          device_id = None;
-          kept_path = None;
-        }
 
     at_record : (r : Record) (u : Bool) → (r.birth == OBJECTS_BIRTH) ≡ u → LessRecord false r (edited OBJECTS_BIRTH change r)
     at_record r true p =
@@ -296,11 +285,11 @@ with_object-fewer b t id props dark x =
         (less-added (is_a r.kind (codes "mem-dimm")) false id (child (b.born + 1)) refl (inl refl) (inl refl) r.slots))
     at_record r false p = rw (edited, p) (record-none false r)
 
-    last : (u : Bool) → ((b.born + 1) == x) ≡ u → NearAt false None (found_at x (new ∷ []))
-    last true p = rw p (dark-lit new.slots (all-map Dark Dark (slot_given b props) (λ s k. k) (fresh_slots t) dark))
+    last : (u : Bool) → ((b.born + 1) == x) ≡ u → NearAt false None (found_at x (made b t props ∷ []))
+    last true p = rw p (dark-lit (made b t props).slots (all-map Dark Dark (slot_given b props) (λ s k. k) (fresh_slots t) dark))
     last false p = rw p tt
 
-    go : (o : Option Record) → record_of b x ≡ o → NearAt false o (option_or (option_map (edited OBJECTS_BIRTH change) o) (found_at x (new ∷ [])))
+    go : (o : Option Record) → record_of b x ≡ o → NearAt false o (option_or (option_map (edited OBJECTS_BIRTH change) o) (found_at x (made b t props ∷ [])))
     go None e = last ((b.born + 1) == x) refl
     go (Some r) e = at_record r (r.birth == OBJECTS_BIRTH) refl
 

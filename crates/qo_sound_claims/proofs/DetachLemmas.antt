@@ -14,10 +14,10 @@ use Rattle.qo_model.specs.Paths.{births, is_child, is_of}
 use Rattle.qo_model.specs.Release.{drop_slot, edit, pin, without_hold}
 use Rattle.qo_model.specs.Types.{is_a, types}
 use Rattle.qo_model.specs.Unplug.{apart_within, detach, drained, first_of, is_bus_slot, is_child_slot, is_named, left_bus, left_parent, let_go_where, lost_bus, lost_buses, names_kid, take_slot, take_where, taken_by, unrealize}
+use Rattle.qo_model.proofs.FirstLemmas.{slots_in, Found, found-at}
 use Rattle.qo_sound.specs.Kept.{SoundTree}
-use Rattle.qo_sound.proofs.ReadLemmas.{slots_in, dropped-at}
+use Rattle.qo_sound.proofs.ReadLemmas.{dropped-at}
 use Rattle.qo_sound.proofs.SlotLemmas.{kept-slot}
-use Rattle.qo_sound.proofs.UnplugLemmas.{Found, found-at}
 use Rattle.qo_sound_devices.specs.SoundPlaces.{kid_entry, listed, PlacesBut, stands}
 use Rattle.qo_sound_devices.proofs.DetachLemmas.{first-among}
 use Rattle.qo_sound_devices.proofs.LowLemmas.{is-bus_of, kid-of}

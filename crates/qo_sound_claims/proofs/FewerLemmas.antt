@@ -24,10 +24,9 @@ use Rattle.qo_model.specs.ReleaseKeeps.{KeepsRelease}
 use Rattle.qo_model.specs.Reset.{phased}
 use Rattle.qo_model.specs.Types.{is_a}
 use Rattle.qo_model.specs.Unplug.{disconnected, each, is_named, let_go_where, set_named, unrealize, unrealize_turn, unrealized_bus, unrealized_device, unseen, unseen_named}
+use Rattle.qo_model.proofs.FirstLemmas.{slots_in, Found, found-at}
 use Rattle.qo_model.proofs.ReleaseKeepsLemmas.{after_keeps}
 use Rattle.qo_model.proofs.StepLemmas.{drop-record, finish-gone, finish-record, found-edited, found-birth}
-use Rattle.qo_sound.proofs.ReadLemmas.{slots_in}
-use Rattle.qo_sound.proofs.UnplugLemmas.{Found, found-at}
 use Rattle.qo_sound.proofs.WorkLemmas.{births_of}
 use Rattle.qo_sound_devices.proofs.AlikeLemmas.{apart-first, other-record}
 use Rattle.qo_sound_claims.proofs.SlotLemmas.{ClaimsLess, is_memdev, less-dropped, less-forgotten, less-none, less-set, less-then, less-unseen, lit_in, OtherName, points, points-none, spared-dropped}

@@ -26,11 +26,11 @@ use Rattle.qo_model.specs.Unplug.{is_named, set_named}
 use Rattle.qo_model.specs.declared.properties.Property.{Property}
 use Rattle.qo_model.specs.declared.properties.RowKind.{RowKind}
 use Rattle.qo_model.specs.declared.properties.RowKind.TheVariants as row
+use Rattle.qo_model.proofs.FirstLemmas.{Found, found-at}
 use Rattle.qo_model.proofs.StepLemmas.{found-edited, found_at, found-birth}
 use Rattle.qo_sound.proofs.FoundLemmas.{found-append}
 use Rattle.qo_sound.proofs.MakeStepsLemmas.{all-any, KeepsActs, link-by, set-by, stand-by, step-acted_all, step-plugged}
 use Rattle.qo_sound.proofs.ReadLemmas.{plain-fitted}
-use Rattle.qo_sound.proofs.UnplugLemmas.{Found, found-at}
 use Rattle.qo_sound_claims.proofs.FewerLemmas.{act-range, at-record, LessRecord, near-none, near-step, NearAt, record-slots}
 use Rattle.qo_sound_claims.proofs.SlotLemmas.{ClaimsLess, is_memdev, less-added, less-filled, less-none, lit_in}
 

@@ -28,14 +28,12 @@ use Rattle.qo_model.specs.Unplug.{is_named, set_named}
 use Rattle.qo_model.specs.declared.properties.Property.{Property}
 use Rattle.qo_model.specs.declared.properties.RowKind.{RowKind}
 use Rattle.qo_model.specs.declared.properties.RowKind.TheVariants as row
+use Rattle.qo_model.proofs.FirstLemmas.{named_in, Found, found-at, first-changed, none-found, named-other, other-name}
 use Rattle.qo_model.proofs.StepLemmas.{found-edited, found_at, found-birth}
 use Rattle.qo_sound.proofs.FoundLemmas.{found-append}
-use Rattle.qo_sound.proofs.ReadLemmas.{named_in}
-use Rattle.qo_sound.proofs.UnplugLemmas.{Found, found-at}
 use Rattle.qo_sound_devices.proofs.DropLemmas.{edited-slots}
 use Rattle.qo_sound_devices.proofs.HoldsLemmas.{SlotIs, slot-none, slot-more}
 use Rattle.qo_sound_devices.proofs.PlainLemmas.{stay-add, stay-rows}
-use Rattle.qo_sound_devices.proofs.UnrealizeLemmas.{first-changed, named-other, none-found, other-name}
 use Rattle.qo_sound_clocks.proofs.LessLemmas.{Slots}
 use Rattle.qo_sound_clocks.proofs.StayLemmas.{acted-slots}
 use Rattle.qo_sound_claims.proofs.FewerLemmas.{act-range, at-record}

@@ -448,6 +448,15 @@ module _ (b : Board) (a : Wanted) (devices : SoundDevices b) (h : SoundBackends 
   old : (x : ℕ) → (x == n) ≡ false → Old b c devices.tree after x
   old x apart = grown.others x apart
 
+  memory-apart : (m : ℕ) → is_of b (codes "memory-backend") m ≡ true → (m == n) ≡ false
+  memory-apart m e = go (m == n) refl
+    where
+      go : (u : Bool) → (m == n) ≡ u → (m == n) ≡ false
+      go true p =
+          let none : record_of b m ≡ None = ap (record_of b) (eqb-true m n p) ∙ absent n (omega arith) in
+          absurd (let clash : false ≡ true = rw none at e in cc)
+      go false p = p
+
   kind : kind_of c n ≡ Some t
   kind = (accepted-joined devices.places.0 b a rest devices.places.1 t bus k).kind
 
@@ -546,15 +555,6 @@ module _ (b : Board) (a : Wanted) (devices : SoundDevices b) (h : SoundBackends 
     memory-old : is_of b (codes "memory-backend") fits.backend ≡ true
     memory-old = target-memory b a.props fits.backend fits.target
 
-    apart-of : (m : ℕ) → is_of b (codes "memory-backend") m ≡ true → (m == n) ≡ false
-    apart-of m e = go (m == n) refl
-      where
-        go : (u : Bool) → (m == n) ≡ u → (m == n) ≡ false
-        go true p =
-            let none : record_of b m ≡ None = ap (record_of b) (eqb-true m n p) ∙ absent n (omega arith) in
-            absurd (let clash : false ≡ true = rw none at e in cc)
-        go false p = p
-
     there : is_some (kind_of c fits.backend) ≡ true
     there = go (record_of c n) refl
       where
@@ -565,7 +565,7 @@ module _ (b : Board) (a : Wanted) (devices : SoundDevices b) (h : SoundBackends 
     range-own : HasRange c n
     range-own =
         let memory : (is_of c (codes "memory-backend") fits.backend ≡ true) × (size_of c fits.backend ≡ size_of b fits.backend) =
-        memory-same b c devices.tree after fits.backend (old fits.backend (apart-of fits.backend memory-old)) there memory-old in
+        memory-same b c devices.tree after fits.backend (old fits.backend (memory-apart fits.backend memory-old)) there memory-old in
         record {
           range = fits.range;
           backend = fits.backend;
@@ -631,16 +631,7 @@ module _ (b : Board) (a : Wanted) (devices : SoundDevices b) (h : SoundBackends 
       let its : is_dimm_on c n ≡ true = subst (λ (y : ℕ). is_dimm_on c y ≡ true) is on in
       subst (HasRange c) (sym is) (range-own (is-dimm its))
   all-ranges x (inr apart) on =
-      ranges-old b c devices.tree after same h.claims x (old x apart) (λ m e. old m (no-new m e)) on
-    where
-      no-new : (m : ℕ) → is_of b (codes "memory-backend") m ≡ true → (m == n) ≡ false
-      no-new m e = go (m == n) refl
-        where
-          go : (u : Bool) → (m == n) ≡ u → (m == n) ≡ false
-          go true p =
-              let none : record_of b m ≡ None = ap (record_of b) (eqb-true m n p) ∙ absent n (omega arith) in
-              absurd (let clash : false ≡ true = rw none at e in cc)
-          go false p = p
+      ranges-old b c devices.tree after same h.claims x (old x apart) (λ m e. old m (memory-apart m e)) on
 
   all-one_dimm : (x y m : ℕ) → (x ≡ n) ⊎ ((x == n) ≡ false) → (y ≡ n) ⊎ ((y == n) ≡ false) → is_dimm_on c x ≡ true → is_dimm_on c y ≡ true
       → backend_of c x ≡ Some m → backend_of c y ≡ Some m → x ≡ y

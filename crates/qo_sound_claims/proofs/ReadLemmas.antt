@@ -12,10 +12,10 @@ use Rattle.qo_model.specs.Devices.{is_realized, is_true, plain_at, plain_in, str
 use Rattle.qo_model.specs.Paths.{is_of}
 use Rattle.qo_model.specs.Plug.{backend_of}
 use Rattle.qo_model.specs.Types.{is_a}
+use Rattle.qo_model.proofs.FirstLemmas.{slots_in, named_in}
 use Rattle.qo_sound.specs.Kept.{SoundTree}
 use Rattle.qo_sound.proofs.FirmLemmas.{FitsKind, HasNames, Linked}
 use Rattle.qo_sound.proofs.FoundLemmas.{all-found}
-use Rattle.qo_sound.proofs.ReadLemmas.{named_in, slots_in}
 use Rattle.qo_sound.proofs.SlotLemmas.{names_in}
 use Rattle.qo_sound.proofs.ViewLemmas.{rest-from_sound}
 use Rattle.qo_sound_clocks.proofs.LessLemmas.{is_target, plain_of, Slots}

@@ -1,13 +1,10 @@
 -- The commands on objects change no clock: what they add is none, what they write is not a clock's, and what they let go may be one.
-use Rattle.std.proofs.Common.{◌≡◌, refl, ap, sym, subst, ◌∙◌, rules, ℕ, zero, suc, ◌+◌, Bool, true, false, ◌==◌, List, [], ◌∷◌, map, length, position, slice_get, Option, Some, None, option_map, option_and_then, codes, Result, Ok, Err, get_or, ◌<◌}
+use Rattle.std.proofs.Common.{◌≡◌, refl, ap, sym, subst, ◌∙◌, rules, ℕ, zero, suc, ◌+◌, Bool, true, false, ◌==◌, List, [], ◌∷◌, map, length, position, slice_get, Option, Some, None, option_map, option_and_then, codes, Result, Ok, Err}
 use Rattle.std.specs.List.{AllByRecursion}
 use Rattle.std.specs.Option.{option_map_or, option_or}
 use Rattle.std.specs.Str.{bytes_eq}
-use Rattle.std.proofs.lemmas.Option.{slice_get-get_or}
 use Rattle.std.proofs.lemmas.Slice.Eq.{bytes_eq-Decides}
-use Rattle.std.proofs.lemmas.List.Quantifiers.{position-Some}
 use Rattle.qo_values.specs.Properties.{admits}
-use Rattle.qo_values.specs.Registers.{fresh_registers}
 use Rattle.qo_values.specs.declared.births.TheConstants.{OBJECTS_BIRTH}
 use Rattle.qo_values.specs.declared.codes.Code.{Code}
 use Rattle.qo_values.specs.declared.kinds.TypeId.{TypeId}
@@ -17,7 +14,7 @@ use Rattle.qo_values.specs.declared.properties.Val.TheVariants as val
 use Rattle.qo_model.specs.Board.{Board, Record, Slot, plain, child, strong, weak, alias, is_live, kind_of, record_of, slot_at, slots_at, held}
 use Rattle.qo_model.specs.Changes.{point, pointed, set, with_added, with_changed, with_val}
 use Rattle.qo_model.specs.FinalNotesRuns.{Change, added, deleted, wrote, severed, behind_write, changed}
-use Rattle.qo_model.specs.Objects.{Given, added_as, added_by, barred, is_object_named, object_add, object_del, place_from, refusal_of, sever, severed_from, slot_given, with_object}
+use Rattle.qo_model.specs.Objects.{Given, added_as, added_by, barred, is_object_named, object_add, object_del, place_from, refusal_of, sever, severed_from, with_object}
 use Rattle.qo_model.specs.Opening.{fresh_slots}
 use Rattle.qo_model.specs.Paths.{attached}
 use Rattle.qo_model.specs.Properties.{link_target, link_written, linked, may_set, pointed_at, relinked, row_of_property, write, written, written_by}
@@ -26,13 +23,15 @@ use Rattle.qo_model.specs.Types.{TypeRow, is_a, row_named, types}
 use Rattle.qo_model.specs.declared.properties.Property.{Property}
 use Rattle.qo_model.specs.declared.properties.RowKind.{RowKind}
 use Rattle.qo_model.specs.declared.properties.RowKind.TheVariants as row
+use Rattle.qo_model.proofs.FirstLemmas.{slots_in}
 use Rattle.qo_model.proofs.StepLemmas.{found-edited, found_at}
 use Rattle.qo_sound.specs.Kept.{SoundTree}
-use Rattle.qo_sound.proofs.AddLemmas.{creatable}
+use Rattle.qo_sound.proofs.AddLemmas.{creatable, made}
 use Rattle.qo_sound.proofs.FoundLemmas.{found-append}
 use Rattle.qo_sound.proofs.KeptLemmas.{sound_kept_lem}
-use Rattle.qo_sound.proofs.ReadLemmas.{slots_in, dropped-at}
+use Rattle.qo_sound.proofs.ReadLemmas.{dropped-at}
 use Rattle.qo_sound.proofs.SlotLemmas.{kept-slot}
+use Rattle.qo_sound_devices.proofs.WriteLemmas.{SlotFound, position-slot}
 use Rattle.qo_sound_clocks.proofs.FewerLemmas.{edit-less, Fewer, fewer-after, fewer-drop, fewer-edit, fewer-let_go, fewer-none, fewer-pin, fewer-unpin}
 use Rattle.qo_sound_clocks.proofs.LessLemmas.{Less, less-blank, less-added, less-none, less-pointed, less-set, OtherName, Slots}
 use Rattle.qo_sound_clocks.proofs.QuietLemmas.{Quiet, quiet-all_given, quiet-blank}
@@ -90,18 +89,6 @@ set-other t name e =
     n = never-set t
 
 -- the slot that is written
-
-pub record SlotFound (name : List ℕ) (slots : Slots) (i : ℕ) : Type 0 where
-  pub entry : List ℕ × Slot
-  pub at : slice_get slots i ≡ Some entry
-  pub passes : bytes_eq entry.0 name ≡ true
-
-pub position-slot : (name : List ℕ) (slots : Slots) (i : ℕ) → position (λ (s : List ℕ × Slot). bytes_eq s.0 name) slots ≡ Some i → SlotFound name slots i
-position-slot name slots i e =
-    let d : List ℕ × Slot = ([], plain val.Nothing) in
-    let h : (i < length slots) × (bytes_eq (get_or slots i d).0 name ≡ true) × ((k : ℕ) → k < i → bytes_eq (get_or slots k d).0 name ≡ false) =
-    position-Some (λ (s : List ℕ × Slot). bytes_eq s.0 name) slots i d e in
-    record { entry = get_or slots i d; at = slice_get-get_or slots i d h.0; passes = h.1 }
 
 set-fewer : (b : Board) (n i : ℕ) (v : Val) (x : List ℕ × Slot) → slice_get (slots_at b n) i ≡ Some x → OtherName x.0 → Fewer b (set n i v b)
 unfolding set
@@ -242,32 +229,22 @@ created-quiet Tag e = search rules
 
 with_object-fewer : (b : Board) (t : TypeId) (id : List ℕ) (props : List Given) → AllByRecursion Quiet (fresh_slots t) → Fewer b (with_object b t id props)
 with_object-fewer b t id props quiet x =
-    rw (found-append x (map (edited OBJECTS_BIRTH change) b.records) (new ∷ []), found-edited OBJECTS_BIRTH change (λ r. refl) x b.records)
+    rw (found-append x (map (edited OBJECTS_BIRTH change) b.records) (made b t props ∷ []), found-edited OBJECTS_BIRTH change (λ r. refl) x b.records)
     (go (record_of b x) refl)
   where
     change : Record → Record
     change = with_added id (child (b.born + 1))
 
-    new : Record
-    new =
-        record {
-          birth = b.born + 1;
-          kind = t;
-          slots = map (slot_given b props) (fresh_slots t);
-          registers = fresh_registers t;
-          device_id = None;
-          kept_path = None;
-        }
-
     at_record : (r : Record) (u : Bool) → (r.birth == OBJECTS_BIRTH) ≡ u → Less r.slots (edited OBJECTS_BIRTH change r).slots
     at_record r true p = rw (edited, p) (less-added id (child (b.born + 1)) refl refl r.slots)
     at_record r false p = rw (edited, p) (less-none r.slots)
 
-    last : (u : Bool) → ((b.born + 1) == x) ≡ u → Less [] (slots_in (found_at x (new ∷ [])))
-    last true p = rw p (less-blank [] new.slots (quiet-blank new.slots (quiet-all_given b props (fresh_slots t) quiet)))
+    last : (u : Bool) → ((b.born + 1) == x) ≡ u → Less [] (slots_in (found_at x (made b t props ∷ [])))
+    last true p = rw p (less-blank [] (made b t props).slots (quiet-blank (made b t props).slots (quiet-all_given b props (fresh_slots t) quiet)))
     last false p = rw p (less-none [])
 
-    go : (o : Option Record) → record_of b x ≡ o → Less (slots_in o) (slots_in (option_or (option_map (edited OBJECTS_BIRTH change) o) (found_at x (new ∷ []))))
+    go : (o : Option Record) → record_of b x ≡ o
+        → Less (slots_in o) (slots_in (option_or (option_map (edited OBJECTS_BIRTH change) o) (found_at x (made b t props ∷ []))))
     go None e = last ((b.born + 1) == x) refl
     go (Some r) e = at_record r (r.birth == OBJECTS_BIRTH) refl
 

@@ -19,11 +19,11 @@ use Rattle.qo_model.specs.Paths.{births}
 use Rattle.qo_model.specs.Release.{after, drop_slot, edit, edited, finalise, finish, forgotten, let_go, pin, unpin, with_dropped, without_pin}
 use Rattle.qo_model.specs.ReleaseKeeps.{KeepsRelease}
 use Rattle.qo_model.specs.Unplug.{apart_within, detach, disconnected, drained, each, first_of, is_bus_slot, is_child_slot, is_named, left_bus, left_parent, let_go_where, lost_bus, lost_buses, unseen, unseen_named, names_kid, set_named, take_slot, take_where, taken_by, unrealize, unrealize_turn, unrealized_bus, unrealized_device}
+use Rattle.qo_model.proofs.FirstLemmas.{slots_in, Found, found-at}
 use Rattle.qo_model.proofs.ReleaseKeepsLemmas.{after_keeps}
 use Rattle.qo_model.proofs.StepLemmas.{finish-gone, finish-record, found-edited, found-birth}
-use Rattle.qo_sound.proofs.ReadLemmas.{slots_in, dropped-at}
+use Rattle.qo_sound.proofs.ReadLemmas.{dropped-at}
 use Rattle.qo_sound.proofs.SlotLemmas.{kept-slot}
-use Rattle.qo_sound.proofs.UnplugLemmas.{Found, found-at}
 use Rattle.qo_sound_clocks.proofs.LessLemmas.{blank-none, Less, less-blank, less-dropped, less-forgotten, less-none, less-set, less-set_period, less-taken, less-then, less-unseen, OtherName, Slots}
 
 -- each object reads no more on the second board

@@ -7,8 +7,8 @@ use Rattle.std.proofs.lemmas.Nat.{le-div}
 use Rattle.qo_model.specs.Board.{Board, slots_at}
 use Rattle.qo_model.specs.Clocks.{child_period, div_of, mul_of, own_period, period, scaled, scaled_by, source_of, weak_in}
 use Rattle.qo_model.specs.Devices.{number_at, number_in, plain_in}
+use Rattle.qo_model.proofs.FirstLemmas.{named_in}
 use Rattle.qo_model.proofs.PeriodLemmas.{period-fed, period-own, scaled-zero}
-use Rattle.qo_sound.proofs.ReadLemmas.{named_in}
 use Rattle.qo_sound_clocks.specs.SoundClocks.{SoundClocks}
 use Rattle.qo_sound_clocks.proofs.FewerLemmas.{Fewer}
 use Rattle.qo_sound_clocks.proofs.LessLemmas.{Blank, div_in, Less, mul_in, own_in, sees, Slots}

@@ -17,11 +17,11 @@ use Rattle.qo_model.specs.Opening.{opening_board}
 use Rattle.qo_model.specs.Plug.{Spot, Wanted, plug, plug_attempt, source_for, with_plugged}
 use Rattle.qo_model.specs.Types.{is_a, types}
 use Rattle.qo_model.specs.Unplug.{set_named}
+use Rattle.qo_model.proofs.FirstLemmas.{slots_in}
 use Rattle.qo_sound.specs.Kept.{SoundTree}
 use Rattle.qo_sound.proofs.FoundLemmas.{all-found}
 use Rattle.qo_sound.proofs.KeptLemmas.{sound_kept_lem}
 use Rattle.qo_sound.proofs.QuietStepsLemmas.{quiet-asked, quiet-held, quiet-pulse, quiet-released}
-use Rattle.qo_sound.proofs.ReadLemmas.{slots_in}
 use Rattle.qo_sound_clocks.specs.NumbersKept.{NumbersKeptLaw}
 use Rattle.qo_sound_clocks.specs.SoundNumbers.{NumbersFit, SoundNumbers}
 use Rattle.qo_sound_clocks.proofs.CommandLemmas.{kept-change}

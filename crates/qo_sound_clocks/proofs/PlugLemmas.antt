@@ -29,11 +29,12 @@ use Rattle.qo_model.specs.Unplug.{set_named}
 use Rattle.qo_model.specs.declared.properties.Property.{Property}
 use Rattle.qo_model.specs.declared.properties.RowKind.{RowKind}
 use Rattle.qo_model.specs.declared.properties.RowKind.TheVariants as row
+use Rattle.qo_model.proofs.FirstLemmas.{slots_in}
 use Rattle.qo_model.proofs.StepLemmas.{found-edited, found_at, found-birth}
 use Rattle.qo_sound.proofs.FoundLemmas.{found-append}
 use Rattle.qo_sound.proofs.GivenLemmas.{given-cases}
 use Rattle.qo_sound.proofs.MakeStepsLemmas.{all-any, KeepsActs, link-by, set-by, stand-by, step-acted_all, step-plugged}
-use Rattle.qo_sound.proofs.ReadLemmas.{slots_in, plain-fitted}
+use Rattle.qo_sound.proofs.ReadLemmas.{plain-fitted}
 use Rattle.qo_sound.proofs.RecordLemmas.{all-append, all-map}
 use Rattle.qo_sound_clocks.proofs.LessLemmas.{Blank, blank-none, div_in, is_target, Less, less-added, less-blank, less-none, less-then, mul_in, number-same, own_in, plain-changed, plain_of, sees, sees_it, Slots}
 use Rattle.qo_sound_clocks.proofs.QuietLemmas.{is_read, Quiet, quiet-blank, quiet-given}

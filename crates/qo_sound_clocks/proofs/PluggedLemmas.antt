@@ -7,6 +7,7 @@ use Rattle.qo_model.specs.Board.{Board, Record, Slot, kind_of, record_of, slots_
 use Rattle.qo_model.specs.Devices.{bridge_of, clock_of}
 use Rattle.qo_model.specs.Plug.{Spot, Wanted, barred_early, barred_late, bus_for, plug, plug_as, plug_attempt, plug_by, plug_late, source_for, spot_of, type_barred, with_plugged}
 use Rattle.qo_model.specs.Types.{TypeRow, is_a, row_named}
+use Rattle.qo_model.proofs.FirstLemmas.{slots_in}
 use Rattle.qo_model.proofs.StepLemmas.{is_some-map}
 use Rattle.qo_sound.specs.Kept.{SoundTree}
 use Rattle.qo_sound.proofs.DraftLemmas.{found-low}
@@ -14,7 +15,6 @@ use Rattle.qo_sound.proofs.FirmLemmas.{Firm, Linked}
 use Rattle.qo_sound.proofs.FoundLemmas.{all-found}
 use Rattle.qo_sound.proofs.KeptLemmas.{sound_kept_lem}
 use Rattle.qo_sound.proofs.PlugLemmas.{device-of}
-use Rattle.qo_sound.proofs.ReadLemmas.{slots_in}
 use Rattle.qo_sound.proofs.ViewLemmas.{rest-from_sound}
 use Rattle.qo_sound_clocks.specs.SoundClocks.{SoundClocks}
 use Rattle.qo_sound_clocks.proofs.GrownLemmas.{grown-sound, same-sound}

@@ -4,11 +4,11 @@ use Rattle.qo_values.specs.Registers.{Registers}
 use Rattle.qo_model.specs.Board.{Board, record_of, slots_at}
 use Rattle.qo_model.specs.Release.{edited}
 use Rattle.qo_model.proofs.FinalNotesLemmas.{edit-keeps}
+use Rattle.qo_model.proofs.FirstLemmas.{slots_in}
 use Rattle.qo_model.proofs.StepLemmas.{found-edited, map-edited, slots-edited}
 use Rattle.qo_sound.specs.Kept.{SoundTree}
 use Rattle.qo_sound.proofs.CutLemmas.{near-same_slots}
 use Rattle.qo_sound.proofs.FirmLemmas.{Firm}
-use Rattle.qo_sound.proofs.ReadLemmas.{slots_in}
 use Rattle.qo_sound.proofs.ViewLemmas.{AtRest, rest-from_sound, sound-from_rest}
 use Rattle.qo_sound.proofs.WorkLemmas.{Nearly}
 use Rattle.qo_sound_devices.specs.SoundDevices.{SoundDevices}

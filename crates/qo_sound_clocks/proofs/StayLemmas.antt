@@ -7,11 +7,11 @@ use Rattle.qo_model.specs.Board.{Board, Record, record_of, slots_at}
 use Rattle.qo_model.specs.Clocks.{acted, with_act_on}
 use Rattle.qo_model.specs.Hotplug.{all_completed, completed, reset_whole}
 use Rattle.qo_model.specs.Unplug.{detach, first_of}
+use Rattle.qo_model.proofs.FirstLemmas.{slots_in}
 use Rattle.qo_model.proofs.StepLemmas.{found-edited, found_at, slots-edited}
 use Rattle.qo_sound.specs.Kept.{SoundTree}
 use Rattle.qo_sound.proofs.KeptLemmas.{sound_kept_lem}
 use Rattle.qo_sound.proofs.QuietStepsLemmas.{quiet-pulse}
-use Rattle.qo_sound.proofs.ReadLemmas.{slots_in}
 use Rattle.qo_sound_clocks.proofs.FewerLemmas.{Fewer, fewer-detach, fewer-none}
 use Rattle.qo_sound_clocks.proofs.ReadLemmas.{Reads, tree-reads}
 

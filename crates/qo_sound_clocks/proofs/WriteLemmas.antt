@@ -18,10 +18,10 @@ use Rattle.qo_model.specs.Paths.{births}
 use Rattle.qo_model.specs.Release.{edited}
 use Rattle.qo_model.specs.Unplug.{is_named, set_named}
 use Rattle.qo_model.proofs.ClockFitLemmas.{fits-new, IsWritten, written-then}
+use Rattle.qo_model.proofs.FirstLemmas.{slots_in, named_in, Found, found-at}
 use Rattle.qo_model.proofs.StepLemmas.{found-edited, found-birth}
 use Rattle.qo_sound.proofs.FirmLemmas.{edited-births}
-use Rattle.qo_sound.proofs.ReadLemmas.{slots_in, named_in, weak-val}
-use Rattle.qo_sound.proofs.UnplugLemmas.{Found, found-at}
+use Rattle.qo_sound.proofs.ReadLemmas.{weak-val}
 use Rattle.qo_sound_clocks.specs.SoundClocks.{SoundClocks}
 use Rattle.qo_sound_clocks.proofs.LessLemmas.{Slots}
 use Rattle.qo_sound_clocks.proofs.GrownLemmas.{same-sound}

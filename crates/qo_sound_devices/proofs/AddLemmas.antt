@@ -27,7 +27,7 @@ use Rattle.qo_sound.proofs.RecordLemmas.{all-imply}
 use Rattle.qo_sound.proofs.TestLemmas.{decide, clash-back}
 use Rattle.qo_sound.proofs.ViewLemmas.{AtRest}
 use Rattle.qo_sound_devices.specs.SoundPlaces.{child_entries, child_entry, HasOwner, machines, bridges, id_of, IsAnonymous, IsAtHome, IsHome, IsKid, IsPeripheral, kid_entries, kid_entry, listed, owns_it, PlacesBut, stands}
-use Rattle.qo_sound_devices.proofs.AlikeLemmas.{alike-record, bodiless}
+use Rattle.qo_sound_devices.proofs.AlikeLemmas.{alike-record, bodiless, realized_in}
 use Rattle.qo_sound_devices.proofs.PlacesLemmas.{child-live, Keeps, keeps-none, children-grown, high-absent, MoreChildren, rooted-same, no-more, id-alike, kept-alike, of-alike, of-live, owner-live, places-kept, SameBody, stands-live, suits-alike, peripheral-alike, anonymous-alike}
 
 -- a board with more objects, of which places do not speak; `/objects` has a child more
@@ -107,16 +107,10 @@ module _ (depth : ℕ → ℕ) (b c : Board) (g : Grown b c) (firm : Firm b) (h 
       record {
         machine = ap (listed MACHINE_BIRTH) first ∙ h.machine;
         objects = ap (listed OBJECTS_BIRTH) first ∙ h.objects;
-        parts = (
-          ap (listed PERIPHERAL_BIRTH) second ∙ h.parts.0,
-          (
-            ap (listed ANONYMOUS_BIRTH) second ∙ h.parts.1.0,
-            (
-              ap (listed ROOT_BUS_BIRTH) second ∙ h.parts.1.1.0,
-              (ap (listed MEMORY_BUS_BIRTH) second ∙ h.parts.1.1.1.0, (ap (listed SYSTEM_CLOCK_BIRTH) second ∙ h.parts.1.1.1.1.0, tt)),
-            ),
-          ),
-        );
+        parts =
+            all-imply (λ n. listed n (child_entries b MACHINE_BIRTH) ≡ true) (λ n. listed n (child_entries c MACHINE_BIRTH) ≡ true)
+            (λ n k. ap (listed n) second ∙ k)
+            (PERIPHERAL_BIRTH ∷ ANONYMOUS_BIRTH ∷ ROOT_BUS_BIRTH ∷ MEMORY_BUS_BIRTH ∷ SYSTEM_CLOCK_BIRTH ∷ []) h.parts;
         rooted = rooted-same b c (g.body 1 (owner-live b 1 MACHINE_BIRTH h.machine)) first second h.rooted;
         children = children;
         aside =
@@ -219,10 +213,6 @@ children-given b props [] = refl
 children-given b props (s ∷ slots) = ap₂ cons_option (child-given b props s) (children-given b props slots)
 
 -- what a user's object is
-abbrev realized_in : List (List ℕ × Slot) → Bool
-realized_in slots =
-    option_map_or is_true (option_and_then plain_in (option_map (λ (s : List ℕ × Slot). s.1) (find (λ s. bytes_eq s.0 (codes "realized")) slots))) false
-
 record IsUsers (b : Board) (t : TypeId) (props : List Given) : Type 0 where
   no_bus : is_a t (codes "bus") ≡ false
   no_device : is_a t (codes "device") ≡ false

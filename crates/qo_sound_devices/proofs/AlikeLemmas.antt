@@ -11,9 +11,10 @@ use Rattle.qo_model.specs.Depth.{among}
 use Rattle.qo_model.specs.Devices.{bus_of, is_realized, is_true, number_in, place_on, plain_in, strong_in}
 use Rattle.qo_model.specs.Release.{after, drop_slot, edited, finalise, finish, forgotten, forgotten_in, with_dropped}
 use Rattle.qo_model.specs.ReleaseKeeps.{KeepsRelease}
+use Rattle.qo_model.proofs.FirstLemmas.{slots_in, named_in}
 use Rattle.qo_model.proofs.ReleaseKeepsLemmas.{after_keeps}
 use Rattle.qo_model.proofs.StepLemmas.{drop-live, drop-record, finish-live, finish-record}
-use Rattle.qo_sound.proofs.ReadLemmas.{named_in, slots_in, plain-forgotten, strong-forgotten}
+use Rattle.qo_sound.proofs.ReadLemmas.{plain-forgotten, strong-forgotten}
 use Rattle.qo_sound.proofs.SlotLemmas.{each_slot}
 use Rattle.qo_sound.proofs.WorkLemmas.{births_of}
 use Rattle.qo_sound_devices.specs.SoundPlaces.{child_entries, child_entry, kid_entries, kid_entry}
@@ -51,7 +52,7 @@ bus_in slots = option_and_then strong_in (named_in (codes "parent_bus") slots)
 abbrev place_in : List (List ℕ × Slot) → Option ℕ
 place_in slots = option_and_then number_in (option_and_then plain_in (named_in (codes "slot") slots))
 
-abbrev realized_in : List (List ℕ × Slot) → Bool
+abbrev pub realized_in : List (List ℕ × Slot) → Bool
 realized_in slots = option_map_or is_true (option_and_then plain_in (named_in (codes "realized") slots)) false
 
 -- two records by their slots

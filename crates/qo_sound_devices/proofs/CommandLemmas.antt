@@ -15,10 +15,10 @@ use Rattle.qo_model.specs.Release.{after, drop_slot, finalise, let_go, pin, put_
 use Rattle.qo_model.specs.SoundGraph.{SoundGraph}
 use Rattle.qo_model.proofs.EditLemmas.{StandsAt, stands-at}
 use Rattle.qo_sound.proofs.ChangeLemmas.{near-deleted, near-unlinked}
-use Rattle.qo_sound.proofs.FirmLemmas.{Firm}
+use Rattle.qo_sound.proofs.FirmLemmas.{Firm, firm-beside}
+use Rattle.qo_model.proofs.FirstLemmas.{Found, found-at}
 use Rattle.qo_model.proofs.PinLemmas.{put-among, put-back, release-pins, severed-pins}
 use Rattle.qo_sound.proofs.SeverLemmas.{near-pin, near-unpin, pin-pins}
-use Rattle.qo_sound.proofs.UnplugLemmas.{Found, found-at}
 use Rattle.qo_sound.proofs.ViewLemmas.{AtRest, sound-from_rest}
 use Rattle.qo_sound.proofs.WorkLemmas.{Nearly}
 use Rattle.qo_sound_devices.specs.SoundPlaces.{HasOwner, kid_entry, PlacesBut, stands}
@@ -69,20 +69,11 @@ goes-pins depth left out b ps f pinned h =
   where
     firm : Firm (record b { pins = ps })
     firm =
-        record {
-          rising = f.rising;
-          within = f.within;
-          begun = f.begun;
-          named = f.named;
-          linked = f.linked;
-          one_parent = f.one_parent;
-          none_round = f.none_round;
-        }
+        firm-beside b (record b { pins = ps }) f
 
 -- a slot is let go of which places do not speak
 pub goes-let_go : (depth : ℕ → ℕ) (left : Option ℕ) (out : ℕ → Bool) (b : Board) (n i : ℕ) → Firm b → Firm (let_go b n i) → among b.pins 1 ≡ true
-    →
-    ((s : List ℕ × Slot) → slice_get (slots_at b n) i ≡ Some s → stands b n ≡ true → (is_some (child_of s.1) ≡ true) ⊎
+    → ((s : List ℕ × Slot) → slice_get (slots_at b n) i ≡ Some s → stands b n ≡ true → (is_some (child_of s.1) ≡ true) ⊎
     (bytes_eq s.0 (codes "parent_bus") ≡ false))
     → ((s : List ℕ × Slot) → slice_get (slots_at b n) i ≡ Some s → keeper b n ≡ true → child_of s.1 ≡ None)
     → ((s : List ℕ × Slot) → slice_get (slots_at b n) i ≡ Some s → is_of b (codes "bus") n ≡ true → HasOwner b n → kid_entry s ≡ None)

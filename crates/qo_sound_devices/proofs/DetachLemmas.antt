@@ -15,9 +15,10 @@ use Rattle.qo_model.specs.Paths.{births, is_child, is_of}
 use Rattle.qo_model.specs.Release.{after, drop_slot, finalise, let_go, pin, put_in_order, unpin, with_dropped, without_first, without_hold, without_pin}
 use Rattle.qo_model.specs.Unplug.{apart_within, detach, drained, first_of, is_bus_slot, left_bus, left_parent, let_go_where, lost_bus, lost_buses, taken_by, unrealize}
 use Rattle.qo_sound.proofs.FirmLemmas.{Firm}
+use Rattle.qo_model.proofs.FirstLemmas.{Found, found-at}
 use Rattle.qo_model.proofs.PinLemmas.{IsUp, put-among, put-back, put-up, unpin-pins}
 use Rattle.qo_sound.proofs.SeverLemmas.{near-pin, near-unpin, pin-pins}
-use Rattle.qo_sound.proofs.UnplugLemmas.{bus-apart, Found, found-at, held-unrealize, held-where_other, Sits}
+use Rattle.qo_sound.proofs.UnplugLemmas.{bus-apart, held-unrealize, held-where_other, Sits}
 use Rattle.qo_sound.proofs.ViewLemmas.{AtRest}
 use Rattle.qo_sound.proofs.WorkLemmas.{Nearly}
 use Rattle.qo_sound_devices.specs.SoundPlaces.{child_entries, child_entry, HasOwner, machines, bridges, IsHome, kid_entries, kid_entry, listed, owns, owns_it, PlacesBut, stands}

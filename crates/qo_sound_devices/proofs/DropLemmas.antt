@@ -11,9 +11,9 @@ use Rattle.qo_model.specs.Board.{Board, Record, Slot, plain, child, strong, weak
 use Rattle.qo_model.specs.Devices.{bus_of, is_realized, is_true, number_in, place_on, plain_in, strong_in}
 use Rattle.qo_model.specs.Paths.{child_of, is_of}
 use Rattle.qo_model.specs.Release.{drop_slot, edit, edited, with_dropped, without_hold}
+use Rattle.qo_model.proofs.FirstLemmas.{named_in}
 use Rattle.qo_model.proofs.StepLemmas.{found-edited, is_some-map, found-birth, map-edited}
 use Rattle.qo_sound.proofs.FoundLemmas.{all-found}
-use Rattle.qo_sound.proofs.ReadLemmas.{named_in}
 use Rattle.qo_sound.proofs.SlotLemmas.{names_in}
 use Rattle.qo_sound.proofs.FirmLemmas.{Firm, firm-drop, HasNames}
 use Rattle.qo_sound_devices.specs.SoundPlaces.{child_entries, child_entry, HasOwner, kid_entries, kid_entry, stands}

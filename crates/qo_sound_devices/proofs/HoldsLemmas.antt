@@ -19,13 +19,12 @@ use Rattle.qo_model.specs.Properties.{row_of_property}
 use Rattle.qo_model.specs.Release.{edit}
 use Rattle.qo_model.specs.Types.{is_a, types}
 use Rattle.qo_model.specs.Unplug.{is_named, set_named}
+use Rattle.qo_model.proofs.FirstLemmas.{named_in, Found, found-at, first-changed, none-found, named-other, other-name}
 use Rattle.qo_sound.proofs.FirmLemmas.{Firm}
-use Rattle.qo_sound.proofs.ReadLemmas.{named_in}
-use Rattle.qo_sound.proofs.UnplugLemmas.{Found, found-at}
 use Rattle.qo_sound_devices.proofs.DropLemmas.{edited-slots}
 use Rattle.qo_sound_devices.proofs.PlainLemmas.{stay-add, stay-given}
 use Rattle.qo_sound_devices.proofs.RealizedLemmas.{rows-stay}
-use Rattle.qo_sound_devices.proofs.UnrealizeLemmas.{first-changed, named-other, none-found, other-name, reads}
+use Rattle.qo_sound_devices.proofs.UnrealizeLemmas.{reads}
 
 -- a slot under a name
 abbrev pub SlotIs : List ℕ → Slot → List (List ℕ × Slot) → Type 0

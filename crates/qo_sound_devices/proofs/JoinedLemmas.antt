@@ -502,16 +502,10 @@ module _ (depth : ℕ → ℕ) (b : Board) (n bus slot : ℕ) (id : Option (List
       record {
         machine = ap (listed MACHINE_BIRTH) first ∙ h.machine;
         objects = ap (listed OBJECTS_BIRTH) first ∙ h.objects;
-        parts = (
-          ap (listed PERIPHERAL_BIRTH) second ∙ h.parts.0,
-          (
-            ap (listed ANONYMOUS_BIRTH) second ∙ h.parts.1.0,
-            (
-              ap (listed ROOT_BUS_BIRTH) second ∙ h.parts.1.1.0,
-              (ap (listed MEMORY_BUS_BIRTH) second ∙ h.parts.1.1.1.0, (ap (listed SYSTEM_CLOCK_BIRTH) second ∙ h.parts.1.1.1.1.0, tt)),
-            ),
-          ),
-        );
+        parts =
+            all-imply (λ n. listed n (child_entries b MACHINE_BIRTH) ≡ true) (λ n. listed n (child_entries c MACHINE_BIRTH) ≡ true)
+            (λ n k. ap (listed n) second ∙ k)
+            (PERIPHERAL_BIRTH ∷ ANONYMOUS_BIRTH ∷ ROOT_BUS_BIRTH ∷ MEMORY_BUS_BIRTH ∷ SYSTEM_CLOCK_BIRTH ∷ []) h.parts;
         rooted = rooted-same b c (j.body 1 (owner-live b 1 MACHINE_BIRTH h.machine)) first second h.rooted;
         children = at_home;
         aside = (

@@ -1,5 +1,5 @@
 -- A device leaves its bus, and its container.
-use Rattle.std.proofs.Common.{inl, inr, ◌≡◌, ◌≢◌, refl, ap, ap₂, sym, subst, ◌∙◌, ℕ, zero, suc, ◌+◌, Bool, true, false, ◌||◌, ◌==◌, List, [], ◌∷◌, filter_map, find, slice_get, Option, Some, None, option_map, option_and_then, arith, codes}
+use Rattle.std.proofs.Common.{inl, inr, ◌≡◌, ◌≢◌, refl, ap, ap₂, sym, subst, ◌∙◌, ℕ, zero, suc, Bool, true, false, ◌||◌, ◌==◌, List, [], ◌∷◌, filter_map, find, slice_get, Option, Some, None, option_map, option_and_then, codes}
 use Rattle.std.specs.List.{AllByRecursion, cons_option, IsDistinct}
 use Rattle.std.specs.Option.{option_map_or}
 use Rattle.std.specs.Str.{bytes_eq}
@@ -17,12 +17,13 @@ use Rattle.qo_model.specs.Paths.{child_of, is_of}
 use Rattle.qo_model.specs.Release.{after, drop_slot, finalise, with_dropped, without_hold}
 use Rattle.qo_model.specs.Unplug.{is_named, names_kid, take_slot, take_where}
 use Rattle.qo_model.proofs.EditLemmas.{StandsAt, stands-at}
+use Rattle.qo_model.proofs.FirstLemmas.{Found, found-at, none-found}
 use Rattle.qo_sound.proofs.CutLemmas.{near-cut}
 use Rattle.qo_sound.proofs.ChangeLemmas.{emptied-at, near-drop, other-lasts}
 use Rattle.qo_sound.proofs.FirmLemmas.{Firm}
 use Rattle.qo_sound.proofs.RecordLemmas.{all-imply}
 use Rattle.qo_sound.proofs.SlotLemmas.{IsNoClock, names_in, no_child}
-use Rattle.qo_sound.proofs.UnplugLemmas.{Found, found-at, found-from, held-taken, kid-held, on-record, Sits, slot-of}
+use Rattle.qo_sound.proofs.UnplugLemmas.{held-taken, kid-held, on-record, Sits, slot-of}
 use Rattle.qo_sound.proofs.WorkLemmas.{Nearly}
 use Rattle.qo_sound_devices.specs.SoundPlaces.{IsHome, IsKid, kid_entries, kid_entry, listed, PlacesBut, stands}
 use Rattle.qo_sound_devices.proofs.DropLemmas.{edited-slots, names-at, none-named, strong-dropped}
@@ -44,33 +45,9 @@ all-at P (suc i) (x ∷ slots) s e at is h = go (kid_entry x) h (all-at P i slot
     go None k rest = rest k
     go (Some y) k rest = rest k.1
 
--- the first slot of a name
-pub first-found : (name : List ℕ) (slots : List (List ℕ × Slot)) (k j i : ℕ) → place_from (is_named name) k slots ≡ Some j → j ≡ i + k
-    → slice_get slots i ≡ find (λ s. bytes_eq s.0 name) slots
-first-found name [] k j i e is = cc
-first-found name (s ∷ slots) k j i e is = go (is_named name s) refl i is (first-found name slots (suc k) j)
-  where
-    go : (t : Bool) → is_named name s ≡ t → (m : ℕ) → j ≡ m + k
-        → ((n : ℕ) → place_from (is_named name) (suc k) slots ≡ Some j → j ≡ n + suc k → slice_get slots n ≡ find (λ s. bytes_eq s.0 name) slots)
-        → slice_get (s ∷ slots) m ≡ find (λ s. bytes_eq s.0 name) (s ∷ slots)
-    go true p zero q rest = rw p refl
-    go true p (suc m) q rest = absurd (let same : k ≡ j = same_Some k j (rw p at e) in omega (arith, same, q))
-    go false p zero q rest =
-        let (n, (far, found)) = found-from (is_named name) (suc k) j slots (rw p at e) in
-        absurd (omega (arith, far, q))
-    go false p (suc m) q rest = rw p (rest m (rw p at e) (omega (arith, q)))
-
 pub unnamed : (name : List ℕ) (slots : List (List ℕ × Slot)) (k : ℕ) → place_from (is_named name) k slots ≡ None
     → option_and_then strong_in (option_map (λ (s : List ℕ × Slot). s.1) (find (λ s. bytes_eq s.0 name) slots)) ≡ None
-unnamed name [] k e = refl
-unnamed name (s ∷ slots) k e = go (is_named name s) refl (unnamed name slots (suc k))
-  where
-    go : (t : Bool) → is_named name s ≡ t
-        → (place_from (is_named name) (suc k) slots ≡ None
-        → option_and_then strong_in (option_map (λ (s : List ℕ × Slot). s.1) (find (λ s. bytes_eq s.0 name) slots)) ≡ None)
-        → option_and_then strong_in (option_map (λ (s : List ℕ × Slot). s.1) (find (λ s. bytes_eq s.0 name) (s ∷ slots))) ≡ None
-    go true p rest = absurd (let clash : Some k ≡ None = rw p at e in cc)
-    go false p rest = rw p (rest (rw p at e))
+unnamed name slots k e = ap (option_and_then strong_in) (none-found name slots k e)
 
 -- a link of a name that was let go is empty, where names differ
 pub strong-gone : (name : List ℕ) (i : ℕ) (slots : List (List ℕ × Slot)) → IsDistinct bytes_eq (names_in slots) → (s : List ℕ × Slot)

@@ -17,9 +17,9 @@ use Rattle.qo_model.specs.Paths.{is_of}
 use Rattle.qo_model.specs.Plug.{bus_type, joined, name_for, parent_for, Spot, Wanted}
 use Rattle.qo_model.specs.Release.{edited}
 use Rattle.qo_model.specs.Types.{is_a}
+use Rattle.qo_model.proofs.FirstLemmas.{slots_in, named_in}
 use Rattle.qo_model.proofs.StepLemmas.{found-edited}
 use Rattle.qo_sound.proofs.FirmLemmas.{Firm}
-use Rattle.qo_sound.proofs.ReadLemmas.{named_in, slots_in}
 use Rattle.qo_sound.proofs.TestLemmas.{decide}
 use Rattle.qo_sound_devices.specs.SoundPlaces.{child_entries, child_entry, HasOwner, id_of, kid_entries, kid_entry, listed, owns, owns_it, path_of, PlacesBut}
 use Rattle.qo_sound_devices.proofs.AddLemmas.{entries-added, entry-added, named-added}

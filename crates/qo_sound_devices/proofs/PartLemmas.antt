@@ -14,14 +14,15 @@ use Rattle.qo_model.specs.Paths.{child_of, is_of}
 use Rattle.qo_model.specs.Release.{after, drop_slot, finalise, let_go, with_dropped}
 use Rattle.qo_model.specs.Unplug.{is_child_slot, is_named, left_bus, left_parent, let_go_where, names_kid, take_where}
 use Rattle.qo_model.specs.SoundAliases.{is_open}
+use Rattle.qo_model.proofs.FirstLemmas.{Found, found-at, first-found}
 use Rattle.qo_model.proofs.ReleaseLemmas.{found-within}
 use Rattle.qo_sound.proofs.FirmLemmas.{Firm, parents_in}
 use Rattle.qo_sound.proofs.SlotLemmas.{one_child}
 use Rattle.qo_sound.proofs.TestLemmas.{decide}
-use Rattle.qo_sound.proofs.UnplugLemmas.{Found, found-at, held-where_open, held-where_other, named-apart, Sits}
+use Rattle.qo_sound.proofs.UnplugLemmas.{held-where_open, held-where_other, named-apart, Sits}
 use Rattle.qo_sound_devices.specs.SoundPlaces.{child_entries, child_entry, IsKid, kid_entries, kid_entry, listed, owns, owns_it, PlacesBut, stands}
 use Rattle.qo_sound_devices.proofs.DropLemmas.{edited-slots, names-at}
-use Rattle.qo_sound_devices.proofs.LeaveLemmas.{all-at, first-found, IsUnlisted, Left, Stay, stay-kept, stay-none, stay-then, strong-gone, Taken, taken-kid, unlisted-steps, unnamed}
+use Rattle.qo_sound_devices.proofs.LeaveLemmas.{all-at, IsUnlisted, Left, Stay, stay-kept, stay-none, stay-then, strong-gone, Taken, taken-kid, unlisted-steps, unnamed}
 use Rattle.qo_sound_devices.proofs.MovedLemmas.{within-listed}
 use Rattle.qo_sound_devices.proofs.PlacesLemmas.{after-kept, child-live, Kept, of-alike, of-live, owner-live, realized-live, stands-live}
 use Rattle.qo_sound_devices.proofs.StepsLemmas.{Steps, steps-after, steps-then, within-any}

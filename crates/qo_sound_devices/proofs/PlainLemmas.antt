@@ -17,8 +17,8 @@ use Rattle.qo_model.specs.declared.properties.Property.{Property}
 use Rattle.qo_model.specs.declared.properties.RowKind.{RowKind}
 use Rattle.qo_model.specs.declared.properties.RowKind.TheVariants as row
 use Rattle.qo_model.specs.Unplug.{is_named, set_named}
+use Rattle.qo_model.proofs.FirstLemmas.{named_in}
 use Rattle.qo_model.proofs.StepLemmas.{found_at, found-edited}
-use Rattle.qo_sound.proofs.ReadLemmas.{named_in}
 use Rattle.qo_sound.proofs.TestLemmas.{decide}
 
 abbrev pub PlainIn : List ℕ → List (List ℕ × Slot) → Type 0

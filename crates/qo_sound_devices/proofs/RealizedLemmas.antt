@@ -23,14 +23,13 @@ use Rattle.qo_model.specs.declared.properties.First.TheVariants as first
 use Rattle.qo_model.specs.declared.properties.Mark.TheVariants.{Never, Add}
 use Rattle.qo_model.specs.declared.properties.PropertyName.TheVariants as prop
 use Rattle.qo_model.specs.Unplug.{is_named, set_named}
+use Rattle.qo_model.proofs.FirstLemmas.{named_in, Found, found-at, first-changed, none-found, named-changed, named-other, other-name}
 use Rattle.qo_model.proofs.StepLemmas.{found-edited}
 use Rattle.qo_sound.proofs.FirmLemmas.{Firm}
 use Rattle.qo_sound.proofs.MadeLemmas.{grown-new}
-use Rattle.qo_sound.proofs.ReadLemmas.{named_in}
-use Rattle.qo_sound.proofs.UnplugLemmas.{Found, found-at}
 use Rattle.qo_sound_devices.proofs.DropLemmas.{edited-slots}
 use Rattle.qo_sound_devices.proofs.PlainLemmas.{kept-append, kept-given_at, kept-link, kept-set, PlainIn, stay-add, stay-rows}
-use Rattle.qo_sound_devices.proofs.UnrealizeLemmas.{first-changed, named-changed, named-other, none-found, other-name, reads}
+use Rattle.qo_sound_devices.proofs.UnrealizeLemmas.{reads}
 
 -- the rows of a device begin so
 abbrev first_rows : List Property

@@ -10,8 +10,8 @@ use Rattle.qo_values.specs.declared.limits.TheConstants.{BUS_DEPTH_MAX}
 use Rattle.qo_model.specs.Board.{Board, Record, Slot, plain, child, strong, weak, alias, record_of}
 use Rattle.qo_model.specs.Devices.{depth_of, is_realized, strong_at, strong_in}
 use Rattle.qo_model.specs.Paths.{attached, canonical, is_of}
+use Rattle.qo_model.proofs.FirstLemmas.{named_in}
 use Rattle.qo_sound.proofs.FirmLemmas.{Firm}
-use Rattle.qo_sound.proofs.ReadLemmas.{named_in}
 use Rattle.qo_sound.proofs.SlotLemmas.{names_in}
 use Rattle.qo_sound.proofs.ViewLemmas.{AtRest, rest-from_sound}
 use Rattle.qo_sound_devices.specs.DevicesSay.{DevicesSayLaw, IsOnBus}

@@ -1,5 +1,5 @@
 -- The clock of a device that is added gets its source, which changes nothing that places speak of.
-use Rattle.std.proofs.Common.{◌≡◌, refl, ap, sym, subst, ◌∙◌, ℕ, zero, suc, ◌+◌, Bool, true, false, ◌==◌, List, [], ◌∷◌, filter_map, slice_get, Option, Some, None, option_and_then, codes, arith}
+use Rattle.std.proofs.Common.{◌≡◌, refl, ap, sym, subst, ◌∙◌, ℕ, zero, suc, ◌+◌, Bool, true, false, ◌==◌, List, [], ◌∷◌, filter_map, slice_get, Option, Some, None, option_and_then, codes, arith, option_map}
 use Rattle.std.specs.List.{cons_option}
 use Rattle.std.specs.Option.{option_map_or}
 use Rattle.std.specs.Str.{bytes_eq}
@@ -21,11 +21,10 @@ use Rattle.qo_model.specs.Plug.{Spot, Wanted, addressed_at, clocked, drafted, fi
 use Rattle.qo_model.specs.Release.{edit}
 use Rattle.qo_model.specs.Types.{is_a}
 use Rattle.qo_model.specs.Unplug.{is_named, set_named}
+use Rattle.qo_model.proofs.FirstLemmas.{named_in, Found, found-at, named-other, other-name, first-found}
 use Rattle.qo_model.proofs.StepLemmas.{found-edited}
 use Rattle.qo_sound.proofs.PlugLemmas.{shut-above}
-use Rattle.qo_sound.proofs.ReadLemmas.{named_in}
 use Rattle.qo_sound.proofs.TestLemmas.{decide}
-use Rattle.qo_sound.proofs.UnplugLemmas.{Found, found-at, found-from}
 use Rattle.qo_sound.proofs.ViewLemmas.{AtRest}
 use Rattle.qo_sound_devices.specs.SoundPlaces.{child_entries, child_entry, kid_entry, listed, PlacesBut}
 use Rattle.qo_sound_devices.proofs.AlikeLemmas.{other-record}
@@ -34,26 +33,14 @@ use Rattle.qo_sound_devices.proofs.JoinedLemmas.{IsFurther, Joined}
 use Rattle.qo_sound_devices.proofs.MadeLemmas.{Goal, now_at}
 use Rattle.qo_sound_devices.proofs.PlacesLemmas.{child-live, of-live}
 use Rattle.qo_sound_devices.proofs.StoodLemmas.{child-fitted, joined-stood}
-use Rattle.qo_sound_devices.proofs.UnrealizeLemmas.{Dims, dims-none, entries-changed, named-other, other-name, reads, bodies}
+use Rattle.qo_sound_devices.proofs.UnrealizeLemmas.{Dims, dims-none, entries-changed, reads, bodies}
 use Rattle.qo_sound_devices.proofs.WhereLemmas.{entry-of}
 
 -- the slot at the first place of a name is the one of that name
 place-slot : (name : List ℕ) (slots : List (List ℕ × Slot)) (k j i : ℕ) → place_from (is_named name) k slots ≡ Some j → j ≡ i + k → (s : List ℕ × Slot)
     → slice_get slots i ≡ Some s → named_in name slots ≡ Some s.1
-place-slot name [] k j i e is s at = cc
-place-slot name (x ∷ slots) k j i e is s at = go (is_named name x) refl i is at (place-slot name slots (suc k) j)
-  where
-    go : (t : Bool) → is_named name x ≡ t → (m : ℕ) → j ≡ m + k → slice_get (x ∷ slots) m ≡ Some s
-        →
-        ((n : ℕ) → place_from (is_named name) (suc k) slots ≡ Some j → j ≡ n + suc k → (y : List ℕ × Slot) → slice_get slots n ≡ Some y
-        → named_in name slots ≡ Some y.1)
-        → named_in name (x ∷ slots) ≡ Some s.1
-    go true p zero q here rest = rw p (ap (λ (y : List ℕ × Slot). Some y.1) (same_Some x s here))
-    go true p (suc m) q here rest = absurd (let same : k ≡ j = same_Some k j (rw p at e) in omega (arith, same, q))
-    go false p zero q here rest =
-        let (n, (far, found)) = found-from (is_named name) (suc k) j slots (rw p at e) in
-        absurd (omega (arith, far, q))
-    go false p (suc m) q here rest = rw p (rest m (rw p at e) (omega (arith, q)) s here)
+place-slot name slots k j i e is s at =
+    ap (option_map (λ (x : List ℕ × Slot). x.1)) (sym (first-found name slots k j i e is) ∙ at)
 
 -- a slot that holds nothing is filled without a kid more
 kid-fitted : (b : Board) (m : ℕ) (s : List ℕ × Slot) → may_see (Some s.1) ≡ true → kid_entry (s.0, fitted b m s.1) ≡ kid_entry s

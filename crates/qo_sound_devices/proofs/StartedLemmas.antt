@@ -16,9 +16,9 @@ use Rattle.qo_model.specs.Plug.{acted_all, bus_births, counted, started, told_pl
 use Rattle.qo_model.specs.Release.{edit, edited}
 use Rattle.qo_model.specs.Reset.{is_out, phased, plugged, post}
 use Rattle.qo_model.specs.Types.{is_a}
+use Rattle.qo_model.proofs.FirstLemmas.{named_in}
 use Rattle.qo_model.proofs.StepLemmas.{found-edited, found-birth}
 use Rattle.qo_sound.proofs.FirmLemmas.{Firm}
-use Rattle.qo_sound.proofs.ReadLemmas.{named_in}
 use Rattle.qo_sound.proofs.TestLemmas.{decide}
 use Rattle.qo_sound_devices.specs.SoundPlaces.{child_entries, child_entry, id_of, kid_entries, listed, owns_it, path_of, PlacesBut}
 use Rattle.qo_sound_devices.proofs.AlikeLemmas.{Alike, alike-record, other-record}

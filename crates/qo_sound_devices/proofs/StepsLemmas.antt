@@ -14,9 +14,9 @@ use Rattle.qo_model.specs.Depth.{among}
 use Rattle.qo_model.specs.Devices.{bus_of, is_realized, is_true, number_in, place_on, plain_in, strong_in}
 use Rattle.qo_model.specs.Paths.{is_of}
 use Rattle.qo_model.specs.Release.{after, edit, edited, finalise, without_hold}
+use Rattle.qo_model.proofs.FirstLemmas.{named_in}
 use Rattle.qo_model.proofs.StepLemmas.{found-edited, is_some-map, map-edited}
 use Rattle.qo_sound.proofs.FirmLemmas.{Firm}
-use Rattle.qo_sound.proofs.ReadLemmas.{named_in}
 use Rattle.qo_sound.proofs.SlotLemmas.{names_in}
 use Rattle.qo_sound_devices.specs.SoundPlaces.{child_entries, child_entry, HasOwner, kid_entries, kid_entry, listed, owns_it, stands}
 use Rattle.qo_sound_devices.proofs.AlikeLemmas.{after-alike, Alike, alike-record, bodiless, other-record}

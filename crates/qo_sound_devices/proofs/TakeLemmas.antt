@@ -19,9 +19,9 @@ use Rattle.qo_model.specs.Paths.{child_of, is_child, is_of}
 use Rattle.qo_model.specs.Release.{after, drop_slot, edit, edited, emptied, finalise, let_go, with_dropped, without_hold}
 use Rattle.qo_model.specs.Unplug.{is_child_slot}
 use Rattle.qo_model.proofs.EditLemmas.{left_of, sum-without_hold}
+use Rattle.qo_model.proofs.FirstLemmas.{named_in}
 use Rattle.qo_model.proofs.StepLemmas.{drop-record, is_some-map}
 use Rattle.qo_sound.proofs.FirmLemmas.{Firm, firm-drop}
-use Rattle.qo_sound.proofs.ReadLemmas.{named_in}
 use Rattle.qo_sound.proofs.SlotLemmas.{names_in, one_child}
 use Rattle.qo_sound.proofs.UnplugLemmas.{Sits}
 use Rattle.qo_sound_devices.specs.SoundPlaces.{child_entries, child_entry, HasOwner, machines, bridges, IsHome, kid_entries, kid_entry, listed, owns, owns_it, PlacesBut, stands}

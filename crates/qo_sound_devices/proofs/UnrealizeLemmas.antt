@@ -1,11 +1,9 @@
 -- Unrealizing leaves all of places but who is realized; who is not any more is the device and what is below it.
-use Rattle.std.proofs.Common.{◌≡◌, refl, ap, sym, subst, ◌∙◌, ℕ, zero, suc, ◌+◌, Bool, true, false, ◌==◌, eqb, List, [], ◌∷◌, filter_map, slice_get, Option, Some, None, is_some, option_map, option_and_then, arith, codes}
+use Rattle.std.proofs.Common.{◌≡◌, refl, ap, sym, subst, ◌∙◌, ℕ, zero, suc, Bool, true, false, ◌==◌, eqb, List, [], ◌∷◌, filter_map, slice_get, Option, Some, None, is_some, option_map, option_and_then, arith, codes}
 use Rattle.std.specs.List.{cons_option}
 use Rattle.std.specs.Option.{option_map_or}
 use Rattle.std.specs.Str.{bytes_eq}
 use Rattle.std.proofs.lemmas.Bool.{eqb-true, eq-eqb}
-use Rattle.std.proofs.lemmas.Option.{same_Some}
-use Rattle.std.proofs.lemmas.Slice.Eq.{bytes_eq-Decides}
 use Rattle.std.proofs.Math.Bool.{or-true}
 use Rattle.qo_values.specs.declared.kinds.Act.{Act}
 use Rattle.qo_values.specs.declared.kinds.Act.TheVariants.{Unrealize}
@@ -19,9 +17,9 @@ use Rattle.qo_model.specs.Devices.{bus_of, buses_of, clock_of, is_realized, is_t
 use Rattle.qo_model.specs.Objects.{place_from}
 use Rattle.qo_model.specs.Release.{edit, edited}
 use Rattle.qo_model.specs.Unplug.{disconnected, each, is_named, set_named, unheld, unnoticed, unrealize_turn, unrealized_bus, unrealized_device, unseen, unseen_named}
+use Rattle.qo_model.proofs.FirstLemmas.{named_in, Found, found-at, first-changed, none-found, named-changed, named-other, other-name}
 use Rattle.qo_model.proofs.StepLemmas.{found-edited, is_some-map, map-edited}
-use Rattle.qo_sound.proofs.ReadLemmas.{named_in, plain-unseen, strong-unseen}
-use Rattle.qo_sound.proofs.UnplugLemmas.{Found, found-at, found-from}
+use Rattle.qo_sound.proofs.ReadLemmas.{plain-unseen, strong-unseen}
 use Rattle.qo_sound_devices.specs.SoundPlaces.{child_entries, child_entry, kid_entries, kid_entry}
 use Rattle.qo_sound_devices.proofs.AlikeLemmas.{Alike, alike-record, bodiless, other-record, alike-same}
 use Rattle.qo_sound_devices.proofs.DropLemmas.{edited-slots}
@@ -89,60 +87,6 @@ pub entries-changed : (f : List ℕ × Slot → Option (List ℕ × ℕ)) (g : S
 entries-changed f g same i [] = refl
 entries-changed f g same zero (s ∷ slots) = ap (λ (o : Option (List ℕ × ℕ)). cons_option o (filter_map f slots)) (same s)
 entries-changed f g same (suc i) (s ∷ slots) = ap (cons_option (f s)) (entries-changed f g same i slots)
-
-pub named-changed : {A : Type 0} (f : Slot → Option A) (g : Slot → Slot) → ((s : Slot) → f (g s) ≡ f s)
-    → (name : List ℕ) (i : ℕ) (slots : List (List ℕ × Slot))
-    → option_and_then f (named_in name (changed_at g i slots)) ≡ option_and_then f (named_in name slots)
-named-changed f g same name i [] = refl
-named-changed f g same name zero (s ∷ slots) = go (bytes_eq s.0 name) refl
-  where
-    go : (t : Bool) → bytes_eq s.0 name ≡ t → option_and_then f (named_in name ((s.0, g s.1) ∷ slots)) ≡ option_and_then f (named_in name (s ∷ slots))
-    go true p = rw p (same s.1)
-    go false p = rw p refl
-named-changed f g same name (suc i) (s ∷ slots) = go (bytes_eq s.0 name) refl (named-changed f g same name i slots)
-  where
-    go : (t : Bool) → bytes_eq s.0 name ≡ t → option_and_then f (named_in name (changed_at g i slots)) ≡ option_and_then f (named_in name slots)
-        → option_and_then f (named_in name (s ∷ changed_at g i slots)) ≡ option_and_then f (named_in name (s ∷ slots))
-    go true p rest = rw p refl
-    go false p rest = rw p rest
-
--- of another name
-pub named-other : (g : Slot → Slot) (name : List ℕ) (i : ℕ) (slots : List (List ℕ × Slot)) (s : List ℕ × Slot) → slice_get slots i ≡ Some s
-    → bytes_eq s.0 name ≡ false → named_in name (changed_at g i slots) ≡ named_in name slots
-named-other g name i [] s e apart = refl
-named-other g name zero (x ∷ slots) s e apart =
-    let other : bytes_eq x.0 name ≡ false = ap (λ (y : List ℕ × Slot). bytes_eq y.0 name) (same_Some x s e) ∙ apart in rw other refl
-named-other g name (suc i) (x ∷ slots) s e apart = go (bytes_eq x.0 name) refl (named-other g name i slots s e apart)
-  where
-    go : (t : Bool) → bytes_eq x.0 name ≡ t → named_in name (changed_at g i slots) ≡ named_in name slots
-        → named_in name (x ∷ changed_at g i slots) ≡ named_in name (x ∷ slots)
-    go true p rest = rw p refl
-    go false p rest = rw p rest
-
--- the first of a name
-pub first-changed : (g : Slot → Slot) (name : List ℕ) (slots : List (List ℕ × Slot)) (k j i : ℕ) → place_from (is_named name) k slots ≡ Some j
-    → j ≡ i + k → named_in name (changed_at g i slots) ≡ option_map g (named_in name slots)
-first-changed g name [] k j i e is = refl
-first-changed g name (s ∷ slots) k j i e is = go (is_named name s) refl i is (first-changed g name slots (suc k) j)
-  where
-    go : (t : Bool) → is_named name s ≡ t → (m : ℕ) → j ≡ m + k
-        → ((n : ℕ) → place_from (is_named name) (suc k) slots ≡ Some j → j ≡ n + suc k
-        → named_in name (changed_at g n slots) ≡ option_map g (named_in name slots))
-        → named_in name (changed_at g m (s ∷ slots)) ≡ option_map g (named_in name (s ∷ slots))
-    go true p zero q rest = rw p refl
-    go true p (suc m) q rest = absurd (let same : k ≡ j = same_Some k j (rw p at e) in omega (arith, same, q))
-    go false p zero q rest =
-        let (n, (far, found)) = found-from (is_named name) (suc k) j slots (rw p at e) in
-        absurd (omega (arith, far, q))
-    go false p (suc m) q rest = rw p (rest m (rw p at e) (omega (arith, q)))
-
-pub none-found : (name : List ℕ) (slots : List (List ℕ × Slot)) (k : ℕ) → place_from (is_named name) k slots ≡ None → named_in name slots ≡ None
-none-found name [] k e = refl
-none-found name (s ∷ slots) k e = go (is_named name s) refl (none-found name slots (suc k))
-  where
-    go : (t : Bool) → is_named name s ≡ t → (place_from (is_named name) (suc k) slots ≡ None → named_in name slots ≡ None) → named_in name (s ∷ slots) ≡ None
-    go true p rest = absurd (let clash : Some k ≡ None = rw p at e in cc)
-    go false p rest = rw p (rest (rw p at e))
 
 -- a change of one slot that leaves entries and strong links
 pub record IsMild (g : Slot → Slot) : Type 0 where
@@ -258,10 +202,6 @@ dims-unseen n name b = go (place_from (is_named name) 0 (slots_at b n)) refl
         (λ slots q. ap (λ (o : Option Val). option_map_or is_true o false) (same_plain (codes "realized") slots q)) in
         rw (unseen_named, e)
         (record { dimmed = mild-dimmed unseen mild-unseen n i b (same_plain (codes "slot")) (λ x q. sym (realized x) ∙ q); same = realized })
-
--- a plain value of another name than those of places
-pub other-name : (name own : List ℕ) → bytes_eq name own ≡ false → (s : List ℕ × Slot) → is_named name s ≡ true → bytes_eq s.0 own ≡ false
-other-name name own apart s e = subst (λ (x : List ℕ). bytes_eq x own ≡ false) (sym ((bytes_eq-Decides s.0 name).0 e)) apart
 
 pub dims-set : (n : ℕ) (name : List ℕ) (v : Val) → bytes_eq name (codes "slot") ≡ false → bytes_eq name (codes "realized") ≡ false → (b : Board)
     → Dims b (set_named n name v b)

@@ -1,11 +1,11 @@
 -- `qom-set` keeps places, taken or refused.
-use Rattle.std.proofs.Common.{inr, rules, ◌≡◌, refl, ap, sym, subst, ◌∙◌, ℕ, zero, suc, ◌<◌, Bool, true, false, not, ◌&&◌, ◌||◌, List, [], ◌∷◌, filter_map, find, position, length, slice_get, Option, Some, None, is_some, option_map, option_and_then, Result, Ok, Err, arith, codes}
+use Rattle.std.proofs.Common.{inr, rules, ◌≡◌, refl, ap, sym, subst, ◌∙◌, ℕ, zero, suc, ◌<◌, Bool, true, false, not, ◌&&◌, ◌||◌, List, [], ◌∷◌, filter_map, find, position, length, slice_get, Option, Some, None, is_some, option_map, option_and_then, Result, Ok, Err, codes}
 use Rattle.std.specs.List.{AllByRecursion}
 use Rattle.std.specs.Option.{option_map_or}
 use Rattle.std.specs.Str.{bytes_eq}
 use Rattle.std.proofs.lemmas.Bool.{not-true, and_parts}
 use Rattle.std.proofs.lemmas.List.Quantifiers.{position-Some}
-use Rattle.std.proofs.lemmas.Option.{same_Some}
+use Rattle.std.proofs.lemmas.Option.{same_Some, slice_get-get_or}
 use Rattle.std.proofs.lemmas.Slice.Eq.{bytes_eq-Decides}
 use Rattle.std.specs.Prelude.{get_or}
 use Rattle.qo_values.specs.declared.births.TheConstants.{MACHINE_BIRTH}
@@ -29,6 +29,7 @@ use Rattle.qo_model.specs.declared.properties.Property.{Property}
 use Rattle.qo_model.specs.declared.properties.RowKind.{RowKind}
 use Rattle.qo_model.specs.declared.properties.RowKind.TheVariants as row
 use Rattle.qo_model.proofs.EditLemmas.{StandsAt, stands-at}
+use Rattle.qo_model.proofs.FirstLemmas.{named-changed, named-other}
 use Rattle.qo_model.proofs.StepLemmas.{drop-live, found-edited}
 use Rattle.qo_sound.proofs.ChangeLemmas.{emptied-at, IsLink, holding, seeing, near-relinked, near-set}
 use Rattle.qo_sound.proofs.FirmLemmas.{edited-kinds, FitsKind, Firm, firm-changed, firm-drop, Linked}
@@ -41,7 +42,7 @@ use Rattle.qo_sound_devices.proofs.AlikeLemmas.{Alike}
 use Rattle.qo_sound_devices.proofs.CommandLemmas.{Goes, goes-after, goes-kept, goes-then, keeps-goes}
 use Rattle.qo_sound_devices.proofs.DropLemmas.{edited-slots, kept-drop, kept-edit, KeptAt}
 use Rattle.qo_sound_devices.proofs.PlacesLemmas.{Keeps, keeps-none, Kept, kept-alike, of-alike, owner-live, within-same}
-use Rattle.qo_sound_devices.proofs.UnrealizeLemmas.{Dimmed, dimmed-live, entries-changed, mild-dimmed, mild-val, named-changed, named-other, reads}
+use Rattle.qo_sound_devices.proofs.UnrealizeLemmas.{Dimmed, dimmed-live, entries-changed, mild-dimmed, mild-val, reads}
 
 -- what `qom-set` may write: no property of buses, and none that places speak of
 abbrev fits_places : TypeId → Property → Bool
@@ -119,23 +120,18 @@ row-fits b n name row e may = go (kind_of b n) refl e
         }
 
 -- the slot at a place that is found
-slice-of : (xs : List (List ℕ × Slot)) (i : ℕ) (d : List ℕ × Slot) → i < length xs → slice_get xs i ≡ Some (get_or xs i d)
-slice-of [] i d low = absurd (omega (arith, low))
-slice-of (x ∷ xs) zero d low = refl
-slice-of (x ∷ xs) (suc i) d low = slice-of xs i d (omega (arith, low))
+pub record SlotFound (name : List ℕ) (slots : List (List ℕ × Slot)) (i : ℕ) : Type 0 where
+  pub entry : List ℕ × Slot
+  pub at : slice_get slots i ≡ Some entry
+  pub passes : bytes_eq entry.0 name ≡ true
 
-record SlotFound (name : List ℕ) (slots : List (List ℕ × Slot)) (i : ℕ) : Type 0 where
-  entry : List ℕ × Slot
-  at : slice_get slots i ≡ Some entry
-  passes : bytes_eq entry.0 name ≡ true
-
-position-slot : (name : List ℕ) (slots : List (List ℕ × Slot)) (i : ℕ) → position (λ (s : List ℕ × Slot). bytes_eq s.0 name) slots ≡ Some i
+pub position-slot : (name : List ℕ) (slots : List (List ℕ × Slot)) (i : ℕ) → position (λ (s : List ℕ × Slot). bytes_eq s.0 name) slots ≡ Some i
     → SlotFound name slots i
 position-slot name slots i e =
     let d : List ℕ × Slot = ([], plain val.Nothing) in
     let h : (i < length slots) × (bytes_eq (get_or slots i d).0 name ≡ true) × ((k : ℕ) → k < i → bytes_eq (get_or slots k d).0 name ≡ false) =
     position-Some (λ (s : List ℕ × Slot). bytes_eq s.0 name) slots i d e in
-    record { entry = get_or slots i d; at = slice-of slots i d h.0; passes = h.1 }
+    record { entry = get_or slots i d; at = slice_get-get_or slots i d h.0; passes = h.1 }
 
 -- a plain value
 set-kept : (b : Board) (n i : ℕ) (v : Val) (name : List ℕ) → Fits b n name → SlotFound name (slots_at b n) i → Firm (set n i v b) → is_live b 1 ≡ true

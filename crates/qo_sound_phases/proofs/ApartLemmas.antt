@@ -16,10 +16,10 @@ use Rattle.qo_model.specs.Paths.{child_of, is_of}
 use Rattle.qo_model.specs.Release.{after, drop_slot, edit, edited, finalise, let_go, pin, put_in_order, unpin, with_dropped, without_first, without_hold, without_pin}
 use Rattle.qo_model.specs.Types.{is_a}
 use Rattle.qo_model.specs.Unplug.{apart_within, drained, first_of, is_bus_slot, is_child_slot, is_named, left_bus, left_parent, let_go_where, lost_bus, lost_buses, names_kid, take_slot, take_where, taken_by}
+use Rattle.qo_model.proofs.FirstLemmas.{Found, found-at}
 use Rattle.qo_model.proofs.StepLemmas.{found-edited, is_some-map, map-edited}
 use Rattle.qo_sound.proofs.SlotLemmas.{one_child}
 use Rattle.qo_sound.proofs.TestLemmas.{decide, clash, clash-back}
-use Rattle.qo_sound.proofs.UnplugLemmas.{Found, found-at}
 use Rattle.qo_sound_devices.specs.SoundPlaces.{child_entries, child_entry, kid_entries, kid_entry, listed, names_it, owns, owns_it, stands}
 use Rattle.qo_sound_devices.proofs.AlikeLemmas.{after-alike, other-record}
 use Rattle.qo_sound_devices.proofs.DetachLemmas.{under-more, listed-kid, owned-bus, first-among}

@@ -20,7 +20,7 @@ use Rattle.qo_model.proofs.ReleaseLeavesLemmas.{release_leaves}
 use Rattle.qo_model.proofs.ReleaseLemmas.{found-within}
 use Rattle.qo_model.proofs.StepLemmas.{is_some-map}
 use Rattle.qo_sound.proofs.DetachStepsLemmas.{step-detach}
-use Rattle.qo_sound.proofs.FirmLemmas.{parents_in}
+use Rattle.qo_sound.proofs.FirmLemmas.{parents_in, firm-beside}
 use Rattle.qo_sound.proofs.RecordLemmas.{all-both, all-imply}
 use Rattle.qo_sound.proofs.SlotLemmas.{one_child}
 use Rattle.qo_sound.proofs.TestLemmas.{decide, clash}
@@ -125,15 +125,7 @@ module _ (b : Board) (d : ℕ) (s : SoundDevices b) (e : stands b d ≡ true) wh
             (goes-pins s.places.0 None (λ x. false) b (put_in_order d b.pins) kb.firm
             (ap (λ (ps : List ℕ). among (put_in_order d ps) 1) rest.pinned ∙ put-one d) s.places.1).places;
         firm =
-            record {
-              rising = kb.firm.rising;
-              within = kb.firm.within;
-              begun = kb.firm.begun;
-              named = kb.firm.named;
-              linked = kb.firm.linked;
-              one_parent = kb.firm.one_parent;
-              none_round = kb.firm.none_round;
-            };
+            firm-beside b (pin b d) kb.firm;
       }
 
   pin-still : Still b (pin b d)

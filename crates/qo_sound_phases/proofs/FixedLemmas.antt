@@ -1,11 +1,11 @@
 -- Objects that steps leave where they are: each that is still there has the same children, bus and type.
-use Rattle.std.proofs.Common.{inr, ◌≡◌, refl, ap, sym, subst, ◌∙◌, ℕ, zero, suc, ◌<◌, Bool, true, false, ◌==◌, List, [], ◌∷◌, filter_map, find, length, position, slice_get, Option, Some, None, is_some, option_map, option_and_then, arith, codes}
+use Rattle.std.proofs.Common.{inr, ◌≡◌, refl, ap, sym, subst, ◌∙◌, ℕ, zero, suc, ◌<◌, Bool, true, false, ◌==◌, List, [], ◌∷◌, filter_map, find, length, position, slice_get, Option, Some, None, is_some, option_map, option_and_then, codes}
 use Rattle.std.specs.Prelude.{get_or}
 use Rattle.std.specs.Option.{option_map_or}
 use Rattle.std.specs.Str.{bytes_eq}
 use Rattle.std.proofs.lemmas.Bool.{eqb-true}
 use Rattle.std.proofs.lemmas.List.Quantifiers.{position-Some}
-use Rattle.std.proofs.lemmas.Option.{same_Some}
+use Rattle.std.proofs.lemmas.Option.{same_Some, slice_get-get_or}
 use Rattle.std.proofs.lemmas.Slice.Eq.{bytes_eq-Decides}
 use Rattle.qo_values.specs.Properties.{admits}
 use Rattle.qo_values.specs.declared.codes.Code.{Code}
@@ -26,16 +26,16 @@ use Rattle.qo_model.specs.declared.properties.Property.{Property}
 use Rattle.qo_model.specs.declared.properties.RowKind.{RowKind}
 use Rattle.qo_model.specs.declared.properties.RowKind.TheVariants as row
 use Rattle.qo_model.proofs.EditLemmas.{StandsAt, stands-at}
+use Rattle.qo_model.proofs.FirstLemmas.{named_in, named-other}
 use Rattle.qo_model.proofs.StepLemmas.{found-edited, is_some-map, map-edited}
 use Rattle.qo_sound.proofs.FirmLemmas.{Firm}
-use Rattle.qo_sound.proofs.ReadLemmas.{named_in}
 use Rattle.qo_sound.proofs.TestLemmas.{decide, clash, clash-back}
 use Rattle.qo_sound_devices.specs.SoundPlaces.{child_entries, child_entry}
 use Rattle.qo_sound_devices.proofs.AlikeLemmas.{after-alike, other-record}
 use Rattle.qo_sound_devices.proofs.DropLemmas.{children-kept, edited-slots, names-at, strong-dropped}
 use Rattle.qo_sound_devices.proofs.PlacesLemmas.{kind-alike}
 use Rattle.qo_sound_devices.proofs.StepsLemmas.{steps-after}
-use Rattle.qo_sound_devices.proofs.UnrealizeLemmas.{named-other, entries-changed}
+use Rattle.qo_sound_devices.proofs.UnrealizeLemmas.{entries-changed}
 use Rattle.qo_sound_devices.proofs.WriteLemmas.{child-entry-pointed}
 
 -- an object as it was
@@ -322,11 +322,6 @@ module _ (On : ℕ → Type 0) (b : Board) (firm : Firm b) (n i : ℕ) (other : 
   fixed-written (row.Child t) s e v = fixed-none On b
   fixed-written (row.Alias owner property) s e v = fixed-none On b
 
-slice-of : (xs : List (List ℕ × Slot)) (j : ℕ) (d : List ℕ × Slot) → j < length xs → slice_get xs j ≡ Some (get_or xs j d)
-slice-of [] j d low = absurd (omega (arith, low))
-slice-of (x ∷ xs) zero d low = refl
-slice-of (x ∷ xs) (suc j) d low = slice-of xs j d (omega (arith, low))
-
 pub fixed-write : (On : ℕ → Type 0) (b : Board) → Firm b → (n : ℕ) (name : List ℕ) (v : Val) → Fixed On b (behind_write b (write b n name v))
 fixed-write On b firm n name v = go (position (λ (s : List ℕ × Slot). bytes_eq s.0 name) (slots_at b n)) refl
   where
@@ -347,7 +342,7 @@ fixed-write On b firm n name v = go (position (λ (s : List ℕ × Slot). bytes_
                 let k : (i < length r.slots) × (bytes_eq (get_or r.slots i d).0 name ≡ true) ×
                 ((m : ℕ) → m < i → bytes_eq (get_or r.slots m d).0 name ≡ false) =
                 position-Some (λ (x : List ℕ × Slot). bytes_eq x.0 name) r.slots i d its in
-                let is : get_or r.slots i d ≡ s = same_Some (get_or r.slots i d) s (sym (slice-of r.slots i d k.0) ∙ at) in
+                let is : get_or r.slots i d ≡ s = same_Some (get_or r.slots i d) s (sym (slice_get-get_or r.slots i d k.0) ∙ at) in
                 let same : s.0 ≡ name = sym (ap (λ (x : List ℕ × Slot). x.0) is) ∙ (bytes_eq-Decides (get_or r.slots i d).0 name).0 k.1 in
                 subst (λ (x : List ℕ). bytes_eq x (codes "parent_bus") ≡ false) (sym same) (unlinked b n name row e q)
 

@@ -7,9 +7,8 @@ use Rattle.std.specs.Option.{option_map_or}
 use Rattle.std.specs.Str.{bytes_eq}
 use Rattle.std.proofs.lemmas.Bool.{eqb-true}
 use Rattle.std.proofs.lemmas.List.Quantifiers.{position-Some}
-use Rattle.std.proofs.lemmas.Option.{same_Some}
+use Rattle.std.proofs.lemmas.Option.{same_Some, slice_get-get_or}
 use Rattle.qo_values.specs.Properties.{admits}
-use Rattle.qo_values.specs.Registers.{fresh_registers}
 use Rattle.qo_values.specs.declared.births.TheConstants.{ANONYMOUS_BIRTH, MACHINE_BIRTH, MEMORY_BUS_BIRTH, OBJECTS_BIRTH, PERIPHERAL_BIRTH, ROOT_BIRTH, ROOT_BUS_BIRTH, SYSTEM_CLOCK_BIRTH}
 use Rattle.qo_values.specs.declared.codes.Code.{Code}
 use Rattle.qo_values.specs.declared.kinds.TypeId.{TypeId}
@@ -20,7 +19,7 @@ use Rattle.qo_model.specs.Board.{Board, Record, Slot, plain, child, strong, weak
 use Rattle.qo_model.specs.Changes.{changed_at, point, pointed, set, with_added, with_changed, with_val}
 use Rattle.qo_model.specs.Depth.{among}
 use Rattle.qo_model.specs.FinalNotesRuns.{Change, added, behind_write, changed, deleted, severed, wrote}
-use Rattle.qo_model.specs.Objects.{Given, added_as, added_by, barred, given_slots, is_object_named, object_add, object_del, place_from, refusal_of, sever, severed_from, with_object}
+use Rattle.qo_model.specs.Objects.{Given, added_as, added_by, barred, is_object_named, object_add, object_del, place_from, refusal_of, sever, severed_from, with_object}
 use Rattle.qo_model.specs.Opening.{opening_board}
 use Rattle.qo_model.specs.Paths.{attached, child_of, is_of}
 use Rattle.qo_model.specs.Properties.{link_target, link_written, linked, may_set, pointed_at, relinked, row_of_property, write, written, written_by}
@@ -30,7 +29,7 @@ use Rattle.qo_model.specs.declared.properties.Property.{Property}
 use Rattle.qo_model.specs.declared.properties.RowKind.{RowKind}
 use Rattle.qo_model.specs.declared.properties.RowKind.TheVariants as row
 use Rattle.qo_model.proofs.StepLemmas.{found-birth}
-use Rattle.qo_sound.proofs.AddLemmas.{creatable}
+use Rattle.qo_sound.proofs.AddLemmas.{creatable, made}
 use Rattle.qo_sound.proofs.FirmLemmas.{Firm}
 use Rattle.qo_sound.proofs.SlotLemmas.{names-changed, names-each, names_in}
 use Rattle.qo_sound.proofs.ViewLemmas.{rest-from_sound}
@@ -199,11 +198,6 @@ module _ (o : Board) where
           kept = kept-objects (with_added name s r) own;
         }
 
-slice-of : (xs : Slots) (j : ℕ) (d : List ℕ × Slot) → j < length xs → slice_get xs j ≡ Some (get_or xs j d)
-slice-of [] j d low = absurd (omega (arith, low))
-slice-of (x ∷ xs) zero d low = refl
-slice-of (x ∷ xs) (suc j) d low = slice-of xs j d (omega (arith, low))
-
 -- slots that are no strong links
 
 abbrev IsWeak : List ℕ × Slot → Type 0
@@ -328,8 +322,8 @@ module _ (base : Board) (aside : stands base OBJECTS_BIRTH ≡ false) where
       → is_a t (codes "user-creatable") ≡ true → refusal_of b t props ≡ None
       → AllOf (Full base) b → AllOf (Full base) (with_object b t id props)
   object-all b t id props apart begun creatable none h =
-      all-new (Full base) new (edit OBJECTS_BIRTH (with_added id (child (b.born + 1))) b) (with_object b t id props) refl
-      (full-new new refl (record { slots = given-has b t props none (fresh-has t (created-own t creatable)); registers = fresh-like t }))
+      all-new (Full base) (made b t props) (edit OBJECTS_BIRTH (with_added id (child (b.born + 1))) b) (with_object b t id props) refl
+      (full-new (made b t props) refl (record { slots = given-has b t props none (fresh-has t (created-own t creatable)); registers = fresh-like t }))
       (all-edit (Full base) OBJECTS_BIRTH (with_added id (child (b.born + 1))) (λ r. refl) b
       (λ r e own k. full-added base aside id (child (b.born + 1)) tt r own k) h)
     where
@@ -345,9 +339,6 @@ module _ (base : Board) (aside : stands base OBJECTS_BIRTH ≡ false) where
                       ∙ late-shelf (b.born + 1) (omega (arith, begun)) in cc);
                 };
           }
-
-      new : Record
-      new = record { birth = b.born + 1; kind = t; slots = given_slots b t props; registers = fresh_registers t; device_id = None; kept_path = None }
 
   added-all : (b : Board) (driver id : List ℕ) (props : List Given) → stands base (b.born + 1) ≡ false → 8 ≤ b.born → AllOf (Full base) b
       → AllOf (Full base) (object_add b driver id props).board
@@ -464,7 +455,7 @@ module _ (base : Board) (aside : stands base OBJECTS_BIRTH ≡ false) where
           ((m : ℕ) → m < i → bytes_eq (get_or (slots_at b n) m d).0 name ≡ false) =
           position-Some (λ (s : List ℕ × Slot). bytes_eq s.0 name) (slots_at b n) i d p in
           rw (write, p)
-          (by-row b h n i name (get_or (slots_at b n) i d) (slice-of (slots_at b n) i d k.0) k.1
+          (by-row b h n i name (get_or (slots_at b n) i d) (slice_get-get_or (slots_at b n) i d k.0) k.1
           (option_and_then (λ t. row_of_property t name) (kind_of b n)) refl v)
 
 -- each of them

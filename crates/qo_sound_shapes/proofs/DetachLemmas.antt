@@ -29,13 +29,12 @@ use Rattle.qo_model.specs.Unplug.{apart_within, detach, disconnected, drained, e
 use Rattle.qo_model.specs.declared.properties.Property.{Property}
 use Rattle.qo_model.specs.declared.properties.RowKind.{RowKind}
 use Rattle.qo_model.specs.declared.properties.RowKind.TheVariants as row
+use Rattle.qo_model.proofs.FirstLemmas.{slots_in, Found, found-at}
 use Rattle.qo_model.proofs.StepLemmas.{found-birth}
 use Rattle.qo_sound.proofs.FirmLemmas.{FitsKind, Linked}
 use Rattle.qo_sound.proofs.MakeStepsLemmas.{set-by}
-use Rattle.qo_sound.proofs.ReadLemmas.{slots_in}
 use Rattle.qo_sound.proofs.RecordLemmas.{all-both, all-map}
 use Rattle.qo_sound.proofs.SlotLemmas.{all-changed, all-dropped}
-use Rattle.qo_sound.proofs.UnplugLemmas.{Found, found-at}
 use Rattle.qo_sound_devices.proofs.ResetLemmas.{first-on}
 use Rattle.qo_sound_shapes.specs.SoundShape.{is_child_row, IsAsRow, IsFurther, IsKidLink, IsOfRow, may_miss}
 use Rattle.qo_sound_shapes.proofs.BoardLemmas.{all-after, all-becomes, all-edit, all-let_go, all-pin, all-unpin, AllOf}

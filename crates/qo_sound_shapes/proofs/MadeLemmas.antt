@@ -1,5 +1,5 @@
 -- A new object: what it begins as, and with values that were given, is shaped as its type says. So is the opening board.
-use Rattle.std.proofs.Common.{◌≡◌, inl, inr, refl, ap, sym, subst, ◌∙◌, rules, ℕ, ◌<◌, ◌≤◌, ◌||◌, Bool, true, false, eqb, List, [], ◌∷◌, map, find, filter_map, codes, Option, Some, None, option_map, arith}
+use Rattle.std.proofs.Common.{◌≡◌, inl, inr, refl, ap, sym, subst, ◌∙◌, rules, ℕ, ◌<◌, ◌≤◌, ◌||◌, Bool, true, false, eqb, List, [], ◌∷◌, map, find, codes, Option, Some, None, option_map, arith}
 use Rattle.std.specs.List.{AllByRecursion, cons_option}
 use Rattle.std.specs.Str.{bytes_eq}
 use Rattle.std.proofs.lemmas.Bool.{eqb-true}
@@ -31,6 +31,7 @@ use Rattle.qo_model.specs.declared.properties.RowKind.TheVariants as row
 use Rattle.qo_model.proofs.GraphLemmas.{births_at}
 use Rattle.qo_sound.proofs.DraftLemmas.{found-low}
 use Rattle.qo_sound.proofs.FoundLemmas.{all-found}
+use Rattle.qo_sound.proofs.FreshLemmas.{slots_for}
 use Rattle.qo_sound_shapes.specs.SoundShape.{further, HasSlots, is_like, IsAsRow, IsChildSlot, IsFurther, IsKidLink, IsOfRow, IsShaped, MayHold, next, SoundShape}
 use Rattle.qo_sound_shapes.proofs.GoodLemmas.{further-same, Good, is_first}
 use Rattle.qo_sound_shapes.proofs.RowLemmas.{has-added, has-each, IsRowOf, kid-rowless, own-rows, Slots}
@@ -82,10 +83,6 @@ is_own_row kind = false
 
 abbrev pub OwnRows : List Property → Type 0
 OwnRows ps = AllByRecursion (λ (p : Property). is_own_row p.kind ≡ true) ps
-
-abbrev slots_for : TypeId → List Property → Slots
-slots_for t props =
-    filter_map (λ (p : Property). option_map (λ (s : Slot). (property_name p.name, s)) (first_slot (λ _. None) t (property_name p.name) p.kind)) props
 
 pub of-row : (p : Property) (kind : RowKind) (s : Slot) → p.kind ≡ kind → IsAsRow kind s → IsOfRow p (property_name p.name, s)
 of-row p kind s e h = record { name = refl; fits = subst (λ (k : RowKind). IsAsRow k s) (sym e) h }

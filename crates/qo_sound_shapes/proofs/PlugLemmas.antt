@@ -42,12 +42,12 @@ use Rattle.qo_model.specs.declared.properties.First.TheVariants as first
 use Rattle.qo_model.specs.declared.properties.Property.{Property}
 use Rattle.qo_model.specs.declared.properties.RowKind.{RowKind}
 use Rattle.qo_model.specs.declared.properties.RowKind.TheVariants as row
+use Rattle.qo_model.proofs.FirstLemmas.{Found, found-at}
 use Rattle.qo_model.proofs.StepLemmas.{found-birth}
 use Rattle.qo_sound.proofs.MakeStepsLemmas.{all-any, KeepsActs, link-by, set-by, stand-by, step-acted_all, step-plugged}
 use Rattle.qo_sound.proofs.PlugLemmas.{shut-above}
 use Rattle.qo_sound.proofs.RecordLemmas.{all-imply}
 use Rattle.qo_sound.proofs.SlotLemmas.{names-changed, names_in}
-use Rattle.qo_sound.proofs.UnplugLemmas.{Found, found-at}
 use Rattle.qo_sound.proofs.ViewLemmas.{AtRest, rest-from_sound}
 use Rattle.qo_sound_devices.specs.SoundDevices.{SoundDevices}
 use Rattle.qo_sound_devices.specs.SoundPlaces.{child_entries, listed, names_it, stands}

@@ -41,11 +41,11 @@ use Rattle.qo_model.specs.Unplug.{is_named, set_named}
 use Rattle.qo_model.specs.declared.properties.Property.{Property}
 use Rattle.qo_model.specs.declared.properties.RowKind.{RowKind}
 use Rattle.qo_model.specs.declared.properties.RowKind.TheVariants as row
+use Rattle.qo_model.proofs.FirstLemmas.{Found, found-at}
 use Rattle.qo_model.proofs.StepLemmas.{found-edited, found_at, is_some-map}
 use Rattle.qo_sound.proofs.FirmLemmas.{edited-kind}
 use Rattle.qo_sound.proofs.RecordLemmas.{all-imply}
 use Rattle.qo_sound.proofs.SlotLemmas.{names-changed, names_in}
-use Rattle.qo_sound.proofs.UnplugLemmas.{Found, found-at}
 use Rattle.qo_sound_clocks.specs.RegistersKept.{registers_set, with_registers}
 use Rattle.qo_sound_clocks.proofs.StepsLemmas.{kept-written, calls-kept}
 use Rattle.qo_sound_phases.proofs.FixedLemmas.{child-val}
