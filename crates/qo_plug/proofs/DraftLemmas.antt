@@ -4,7 +4,6 @@ use Rattle.std.specs.Prelude.{◌⊎◌, Result, Ok, Err, OnOk, OnErr}
 use Rattle.std.specs.Option.{option_map_or}
 use Rattle.std.specs.declared.alloc.AllocError.{AllocError}
 use Rattle.std.proofs.lemmas.List.{map-append, take_all}
-use Rattle.qo_values.specs.Names.{IsName}
 use Rattle.qo_values.specs.declared.kinds.TypeId.{TypeId}
 use Rattle.qo_kinds.proofs.BodyLemmas.{fresh-bare, fresh-registers}
 use Rattle.qo_slots.specs.declared.keys.Key.{Key}
@@ -21,8 +20,6 @@ use Rattle.qo_model.specs.Types as types
 use Rattle.qo_model.specs.declared.properties.Property.{Property}
 use Rattle.qo_model.specs.declared.properties.RowKind.{RowKind}
 use Rattle.qo_model.specs.declared.properties.RowKind.TheVariants as row
-use Rattle.qo_model.specs.declared.properties.PropertyName.{PropertyName}
-use Rattle.qo_model.specs.declared.properties.PropertyName.TheVariants as prop
 use Rattle.qo_notes.proofs.Logs.{all_lem}
 use Rattle.qo_notes.specs.Log.{IsLogOf, noted_all}
 use Rattle.qo_life.specs.Life.{init_notes}
@@ -39,37 +36,9 @@ use Rattle.qo_heap.proofs.ShowsChanges.{shows-added, shows-made}
 use Rattle.qo_properties.specs.Adding.{IsChild, given_up, with_newest}
 use Rattle.qo_properties.specs.Fresh.{begun, first_slots, new_slots, slot_begun, with_slots}
 use Rattle.qo_properties.proofs.AddLemmas.{all-first, child-settled, newest-beside, newest-content, newest-live, shows-tried}
-use Rattle.qo_properties.proofs.FreshLemmas.{RowAt, is_name, named-of, new-shown, past, row-at, with-none}
+use Rattle.qo_properties.proofs.FreshLemmas.{RowAt, new-shown, past, row-at, with-none}
 use Rattle.qo_plug.specs.Drafts.{Fell, Grows, IsDraft, Makes, bare, created, held_draft, stopped, unjoined, is_own, own_slots, own_slots_of}
 use Rattle.qo_plug.proofs.GrowsLemmas.{fresh-quiet, grows-edit, grows-newest, grows-none, grows-then, live-low, row-before}
-
--- the names of properties are names
-is-named : (p : PropertyName) → is_name (property_name p) ≡ true
-is-named prop.Type = refl
-is-named prop.Realized = refl
-is-named prop.ParentBus = refl
-is-named prop.Slot = refl
-is-named prop.Peer = refl
-is-named prop.Watch = refl
-is-named prop.Clk = refl
-is-named prop.ClockPeriod = refl
-is-named prop.Chardev = refl
-is-named prop.Bus0 = refl
-is-named prop.Memdev = refl
-is-named prop.Addr = refl
-is-named prop.Period = refl
-is-named prop.Mul = refl
-is-named prop.Div = refl
-is-named prop.Source = refl
-is-named prop.Size = refl
-is-named prop.Text = refl
-is-named prop.Number = refl
-is-named prop.Flag = refl
-is-named prop.Next = refl
-is-named prop.Seen = refl
-
-pub property-named : (p : PropertyName) → IsName (property_name p)
-property-named p = named-of (property_name p) (is-named p)
 
 -- what is no child names none as a child
 pub no-child : (s : Slot) → ((key : Key) → s ≡ Child key → ⊥) → child_named (shown_slot s) ≡ None

@@ -19,21 +19,14 @@ ghost use Rattle.qo_properties.specs.Claims.{KeepsBook};
 ghost use Rattle.qo_properties.specs.Fresh.{new_slots, slot_begun};
 ghost use Rattle.qo_plug.specs.Drafts.{CutShort, Fell, Grows, IsDraft, Makes, held_draft, own_slots_of};
 
-use qo_heap::{Heap, Oid, Slot, Steps};
+use qo_heap::{Heap, Oid, Slot, SlotName, Steps};
 use qo_life::{create, drop_pin};
 use qo_model::{Property, PropertyName, RowKind};
-use qo_properties::{add_row, make_child, name_of};
+use qo_properties::{add_row, make_child};
 use qo_types::TypeTable;
-use qo_values::{Name, TypeId};
+use qo_values::TypeId;
 use std::alloc::{AllocError, Global};
 use std::sync::ledger::Ledger;
-
-/// The name of a property.
-fn own_name(name: PropertyName, alloc: Global) -> Result<Name, AllocError>
-    ensures { IfOk result (λ n. n ≡ property_name name) }
-{
-    name_of(name.as_str(), alloc)
-}
 
 /// Makes a further object of a device as its child, which alone holds it then. Where memory wants,
 /// the heap is as it was, or the object was made and ended.
@@ -52,8 +45,7 @@ fn make_kid<L: Ledger>(
     ensures grows { Grows heap.old heap.new }
 {
     heap.facts();
-    let name = own_name(name, alloc)?;
-    let kid = make_child(heap, device, name, kind, alloc, steps)?;
+    let kid = make_child(heap, device, SlotName::row(name), kind, alloc, steps)?;
     heap.unpin(kid, steps);
     Ok(())
 }
@@ -83,7 +75,6 @@ fn make_alias<L: Ledger>(
     name: PropertyName,
     owner: PropertyName,
     of: PropertyName,
-    alloc: Global,
     steps: &mut Steps<L>,
 ) -> Result<(), AllocError>
     requires live { IsLive heap.old.rows device }
@@ -95,9 +86,7 @@ fn make_alias<L: Ledger>(
     let Some(child) = child_named(heap, device, owner, steps) else {
         return Ok(());
     };
-    let name = own_name(name, alloc)?;
-    let of = own_name(of, alloc)?;
-    heap.add_alias(device, name, child, of, steps)?;
+    heap.add_alias(device, SlotName::row(name), child, SlotName::row(of), steps)?;
     Ok(())
 }
 
@@ -122,9 +111,7 @@ fn make_property<L: Ledger>(
         RowKind::Plain(_, _) => add_row(heap, device, kind, row, alloc, steps),
         RowKind::Link { .. } => add_row(heap, device, kind, row, alloc, steps),
         RowKind::Child(further) => make_kid(heap, device, row.name, further, alloc, steps),
-        RowKind::Alias { child, of } => {
-            make_alias(heap, device, row.name, child, of, alloc, steps)
-        }
+        RowKind::Alias { child, of } => { make_alias(heap, device, row.name, child, of, steps) }
     }
 }
 

@@ -38,7 +38,7 @@ use crate::spots::{Memory, Spot};
 use qo_buses::{bridge_of, clock_of, join_bus, kid_name, point_bus, set_named};
 use qo_clocks::connect;
 use qo_dimm::Dimm;
-use qo_heap::{Heap, Oid, Slot, Steps};
+use qo_heap::{Heap, Oid, Slot, SlotName, Steps};
 use qo_kinds::Body;
 use qo_paths::canonical;
 use qo_properties::Fill;
@@ -284,7 +284,7 @@ fn join_to<L: Ledger>(
     heap: &mut Heap,
     device: Oid,
     bus: Oid,
-    link: Name,
+    link: SlotName,
     alloc: Global,
     steps: &mut Steps<L>,
 ) -> Result<Text, AllocError>
@@ -331,10 +331,10 @@ fn join<L: Ledger>(
         bus,
         spot,
     } = seat;
-    let link = kid_name(spot.slot, alloc)?;
+    let link = kid_name(spot.slot);
     drop(spot);
     let at = heap.slot_count(container, steps);
-    heap.add_child(container, name, device, steps)?;
+    heap.add_child(container, SlotName::own(name), device, steps)?;
     match join_to(heap, device, bus, link, alloc, steps) {
         Ok(path) => Ok(path),
         Err(error) => {

@@ -18,7 +18,7 @@ unpin-requires-clause-pinned g c =
 
 pub returns-clause-ok : goal.returns-clause-ok
 returns-clause-ok g c =
-    subst (λ (name : List ℕ). Makes (with_kid c.args.device.birth name c.args.kind) c.args.heap.now c.unpin.new.self) c.in_ok-name.ensures
+    subst (λ (name : List ℕ). Makes (with_kid c.args.device.birth name c.args.kind) c.args.heap.now c.unpin.new.self) c.row.ensures
     (kid-shown c.facts.ensures c.requires.live c.in_ok-kid.ensures.made c.unpin.new.self c.unpin.ensures.now)
 
 pub returns-clause-own : goal.returns-clause-own
