@@ -4,7 +4,6 @@ use Rattle.std.specs.Prelude.{◌⊎◌, Result, Ok, Err, OnOk, OnErr}
 use Rattle.std.specs.Option.{option_map_or}
 use Rattle.std.specs.declared.alloc.AllocError.{AllocError}
 use Rattle.std.proofs.lemmas.List.{map-append, take_all}
-use Rattle.qo_values.specs.Names.{IsName}
 use Rattle.qo_values.specs.declared.kinds.TypeId.{TypeId}
 use Rattle.qo_kinds.proofs.BodyLemmas.{fresh-bare, fresh-registers}
 use Rattle.qo_slots.specs.declared.keys.Key.{Key}
@@ -21,8 +20,6 @@ use Rattle.qo_model.specs.Types as types
 use Rattle.qo_model.specs.declared.properties.Property.{Property}
 use Rattle.qo_model.specs.declared.properties.RowKind.{RowKind}
 use Rattle.qo_model.specs.declared.properties.RowKind.TheVariants as row
-use Rattle.qo_model.specs.declared.properties.PropertyName.{PropertyName}
-use Rattle.qo_model.specs.declared.properties.PropertyName.TheVariants as prop
 use Rattle.qo_notes.proofs.Logs.{all_lem}
 use Rattle.qo_notes.specs.Log.{IsLogOf, noted_all}
 use Rattle.qo_life.specs.Life.{init_notes}
