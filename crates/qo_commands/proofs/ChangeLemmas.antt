@@ -111,7 +111,7 @@ plugged-err b r add refusal d p is some now so = came-err b add.board r refusal.
 pub plug-ok : (b : Board) (p : Parts) (driver : List ℕ) (id bus : Option (List ℕ)) (props : List Given) (device : device.Added) (d : outcome.Done)
     → Plugs b (wanted driver id bus props) (Ok device) p → ((x : Board) → done_of x d ≡ returned x empty) → Came b (DeviceAdd driver id bus props) d p
 unfolding performed
-plug-ok b p driver id bus props device d (none, now) so = plugged-ok b (DeviceAdd driver id bus props) (plug b (wanted driver id bus props)) d p refl none now so
+plug-ok b p driver id bus props device d (none, now, kept) so = plugged-ok b (DeviceAdd driver id bus props) (plug b (wanted driver id bus props)) d p refl none now so
 
 pub plug-err : (b : Board) (p : Parts) (driver : List ℕ) (id bus : Option (List ℕ)) (props : List Given) (stage : ℕ) (code : Code) (d : outcome.Done)
     → Plugs b (wanted driver id bus props) (Err (Barred stage code)) p → ((x : Board) → done_of x d ≡ refused_with x code) → Came b (DeviceAdd driver id bus props) d p

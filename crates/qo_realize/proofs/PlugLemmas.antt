@@ -131,7 +131,8 @@ pub added-stands : (b : Board) (a : Wanted) (rings : List Ring) (anonymous next 
     → Stands b (parts_of rings anonymous running holds old v) → IsAdded b a d new w → next ≡ counts anonymous a.id → KeepsBook v w
     → Plugs b a (Ok d) (parts_of rings next running holds new w)
 added-stands b a rings anonymous next running holds old new v w d s came is keeps =
-    (came.refusal, came-stands b a rings anonymous next running holds old new v w d s came (taken-anonymous b a came.refusal ∙ ap (λ (n : ℕ). counts n a.id) s.anonymous ∙ sym is) keeps)
+    let count = taken-anonymous b a came.refusal ∙ ap (λ (n : ℕ). counts n a.id) s.anonymous ∙ sym is in
+    (came.refusal, came-stands b a rings anonymous next running holds old new v w d s came count keeps, came.kept)
 
 -- an attempt that was cut is that of these words
 cut_as-is : (b : Board) (a : Wanted) (t : TypeId) (i : ℕ) (joined : Bool) → option_map (λ (row : TypeRow). row.id) (row_named a.driver) ≡ Some t

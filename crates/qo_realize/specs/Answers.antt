@@ -4,6 +4,7 @@ use Rattle.qo_values.specs.declared.codes.Code.{Code}
 use Rattle.qo_model.specs.Board.{Board}
 use Rattle.qo_model.specs.Objects.{Changed, Given, attempted_as, object_add}
 use Rattle.qo_model.specs.Plug.{Wanted, plug}
+use Rattle.qo_plug.specs.Adding.{KeepsGiven}
 use Rattle.qo_plug.specs.Cuts.{cut_as}
 use Rattle.qo_plug.specs.declared.adding.Added.{Added}
 use Rattle.qo_plug.specs.declared.refusals.AddRefusal.{AddRefusal}
@@ -37,8 +38,8 @@ Changes change b (Ok done) p = (change.refusal ≡ None) × Stands change.board 
 Changes change b (Err (Refused code)) p = (change ≡ record { refusal = Some code; board = b }) × Stands b p
 Changes change b (Err Memory) p = Stands b p
 
--- `device_add`: the definition's refusal and board; for want of memory the board as it was, or that of an attempt that was cut
+-- `device_add`: the definition's refusal and board, where the body of the device that was added keeps its claims; for want of memory the board as it was, or that of an attempt that was cut
 abbrev pub Plugs : Board → Wanted → Result Added AddRefusal → Parts → Type 0
-Plugs b a (Ok device) p = ((plug b a).refusal ≡ None) × Stands (plug b a).board p
+Plugs b a (Ok device) p = ((plug b a).refusal ≡ None) × Stands (plug b a).board p × KeepsGiven b a device p.objects
 Plugs b a (Err (Barred stage code)) p = ((plug b a).refusal ≡ Some (stage, code)) × Stands (plug b a).board p
 Plugs b a (Err NoMemory) p = Stands b p ⊎ ((i : ℕ) × (joined : Bool) × Stands (cut_as b a i joined) p)
