@@ -32,14 +32,14 @@ use Rattle.qo_plug.specs.declared.admitting.Site.{Site}
 use Rattle.qo_plug.specs.declared.refusals.AddRefusal.{AddRefusal}
 use Rattle.qo_plug.specs.declared.refusals.AddRefusal.TheVariants.{Refused, Memory}
 use Rattle.qo_plug.specs.declared.refusals.Barred.{Barred}
-use Rattle.qo_plug.specs.declared.spots.Spot.{Spot as Chosen}
+use Rattle.qo_standing.specs.declared.spots.Spot.{Spot as Chosen}
 use Rattle.qo_plug.specs.Added.{IfRefused, IsAdmitted, barred_in}
 use Rattle.qo_plug.specs.Adding.{IsAdded, IsCut, IsOpen, IsPlugged, IsRefused, turned_down}
 use Rattle.qo_plug.specs.Chosen.{claims_given}
 use Rattle.qo_plug.specs.Drafts.{CutShort, held_draft}
 use Rattle.qo_plug.specs.Stages.{spot_barred}
-use Rattle.qo_plug.specs.Standing.{Stood, spot_in}
-use Rattle.qo_plug.specs.Taking.{kept_by}
+use Rattle.qo_standing.specs.Standing.{Stood, spot_in}
+use Rattle.qo_standing.specs.Taking.{kept_by}
 use Rattle.qo_plug.proofs.AdmitLemmas.{added-late}
 use Rattle.qo_plug.proofs.JudgeLemmas.{late-given, late-spot}
 use Rattle.qo_plug.proofs.PlugSteps.{counted-path, cut-whole, let-go, plugged-kinds, plugged-notices, plugged-pending, seat-holds, seat-notices, seated}

@@ -17,10 +17,10 @@ use Rattle.qo_model.specs.Plug.{at_stage, barred_late, claims_ring, code_in, fir
 use Rattle.qo_model.specs.Plug.{realize_barred, ring_barred, slot_for, spot_of}
 use Rattle.qo_plug.specs.declared.refusals.AddRefusal.{AddRefusal}
 use Rattle.qo_plug.specs.declared.refusals.AddRefusal.TheVariants.{Refused, Memory as NoMemory}
-use Rattle.qo_plug.specs.declared.spots.Memory.{Memory}
+use Rattle.qo_standing.specs.declared.spots.Memory.{Memory}
 use Rattle.qo_plug.specs.Added.{IfRefused}
 use Rattle.qo_plug.specs.Stages.{spot_barred}
-use Rattle.qo_plug.specs.Standing.{spot_in}
+use Rattle.qo_standing.specs.Standing.{spot_in}
 
 -- the least number that passes does pass
 least-passes : (test : ℕ → Bool) (first n k : ℕ) → least test first n ≡ Some k → test k ≡ true

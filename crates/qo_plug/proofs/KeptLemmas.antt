@@ -1,9 +1,8 @@
--- What bodies keep of claims, where bodies stay, and where one is given claims.
-use Rattle.std.proofs.Common.{◌≡◌, refl, ap, sym, subst, ◌∙◌, ℕ, Bool, true, false, not, eqb, codes, List, [], ◌∷◌, map, find, Option, Some, None, option_map, rules}
-use Rattle.std.specs.Prelude.{◌||◌, if◌then◌else◌}
+-- The claims that the body of a device keeps which was made, placed and started are those of its place.
+use Rattle.std.proofs.Common.{◌≡◌, refl, ap, sym, subst, ◌∙◌, ℕ, Bool, true, false, not, eqb, codes, List, [], ◌∷◌, map, find, Option, Some, None, option_map, IfSome, ◌+◌, ◌≤◌, arith, rules}
+use Rattle.std.specs.Prelude.{◌||◌, if◌then◌else◌, option_and_then}
 use Rattle.std.specs.List.{AllByRecursion}
 use Rattle.std.specs.Str.{bytes_eq}
-use Rattle.std.proofs.lemmas.Bool.{eqb-true}
 use Rattle.std.proofs.lemmas.Option.{same_Some}
 use Rattle.qo_values.specs.Kinds.{type_name}
 use Rattle.qo_values.specs.declared.codes.Code.TheVariants.{E21, E22}
@@ -11,6 +10,7 @@ use Rattle.qo_values.specs.declared.kinds.TypeId.{TypeId}
 use Rattle.qo_slots.specs.declared.keys.Key.{Key}
 use Rattle.qo_claims.specs.Lists.{slot_at}
 use Rattle.qo_claims.specs.declared.claims.Claimed.TheVariants as on
+use Rattle.qo_kinds.proofs.BodyLemmas.{fresh-bare}
 use Rattle.qo_kinds.specs.Bodies.{body_of, kept_of, with_kept}
 use Rattle.qo_kinds.specs.declared.bodies.Body.{Body}
 use Rattle.qo_kinds.specs.declared.bodies.Body.TheVariants.{Uart, Timer, Dimm, Bridge, Bus, Clock, Backend, Plain}
@@ -19,65 +19,18 @@ use Rattle.qo_model.specs.Board.{Board}
 use Rattle.qo_model.specs.Objects.{Given}
 use Rattle.qo_model.specs.Plug.{Spot, range_of, spot_of, type_barred}
 use Rattle.qo_model.specs.Types.{TypeRow, is_a, row_named, types}
-use Rattle.qo_table.specs.Rows.{object_at}
-use Rattle.qo_object.specs.Content.{Content, fresh}
+use Rattle.qo_table.specs.Rows.{IsLive, object_at}
+use Rattle.qo_object.specs.Content.{Content, HasNoClaim, fresh}
 use Rattle.qo_heap.specs.Acts.{Acts, stilled}
-use Rattle.qo_heap.specs.Objects.{Objects, content_of, with_edit}
-use Rattle.qo_heap.proofs.ShowsLive.{content-edited, content-other}
+use Rattle.qo_heap.specs.Objects.{IsHeap, Objects, content_of, with_edit}
 use Rattle.qo_plug.specs.Chosen.{IsChosen, backend_given, claims_given, ring_given}
 use Rattle.qo_plug.specs.Drafts.{bare}
-use Rattle.qo_plug.specs.Standing.{kept_in}
-use Rattle.qo_plug.specs.Taking.{SameKept, kept_by, kept_on}
-use Rattle.qo_plug.specs.declared.spots.Memory.{Memory}
-use Rattle.qo_plug.specs.declared.spots.Spot.{Spot as Chosen}
-
--- all bodies are as before
-abbrev pub SameBodies : Objects → Objects → Type 0
-SameBodies v w = (n : ℕ) → option_map (λ (c : Content). c.body) (content_of w n) ≡ option_map (λ (c : Content). c.body) (content_of v n)
-
--- who is there has the body that it had, and all are there that were
-pub there-bodies : (v w : Objects)
-    → ((n : ℕ) (c : Content) → content_of w n ≡ Some c → option_map (λ (d : Content). d.body) (content_of v n) ≡ Some c.body)
-    → ((n : ℕ) → option_map (λ (c : Content). c.kind) (content_of w n) ≡ option_map (λ (c : Content). c.kind) (content_of v n)) → SameBodies v w
-there-bodies v w bodies kinds n = go (content_of v n) (content_of w n) refl refl
-  where
-    go : (x y : Option Content) → content_of v n ≡ x → content_of w n ≡ y
-        → option_map (λ (c : Content). c.body) (content_of w n) ≡ option_map (λ (c : Content). c.body) (content_of v n)
-    go x (Some c) p q = ap (option_map (λ (d : Content). d.body)) q ∙ sym (bodies n c q)
-    go None None p q = ap (option_map (λ (d : Content). d.body)) (q ∙ sym p)
-    go (Some d) None p q =
-        absurd
-        (let clash : None ≡ Some d.kind = sym (ap (option_map (λ (c : Content). c.kind)) q) ∙ kinds n ∙ ap (option_map (λ (c : Content). c.kind)) p in cc)
-
-pub of-bodies : {A : Type 0} (g : Body → A) (x y : Option Content) → option_map (λ (c : Content). c.body) y ≡ option_map (λ (c : Content). c.body) x
-    → option_map (λ (c : Content). g c.body) y ≡ option_map (λ (c : Content). g c.body) x
-of-bodies g None None same = refl
-of-bodies g None (Some d) same = cc
-of-bodies g (Some c) None same = cc
-of-bodies g (Some c) (Some d) same = ap (λ (b : Body). Some (g b)) (same_Some d.body c.body same)
-
-pub kept-bodies : (v w : Objects) → SameBodies v w → SameKept v w
-kept-bodies v w same n = of-bodies kept_of (content_of v n) (content_of w n) (same n)
-
-given-one : (k : KeptSet) (x : Option Content) → option_map (λ (c : Content). kept_of c.body) (option_map (kept_in k) x) ≡ option_map (λ (c : Content). kept_of (with_kept k c.body)) x
-given-one k None = refl
-given-one k (Some c) = refl
-
-own : (v : Objects) (n : ℕ) (k : KeptSet) → kept_by (with_edit n (kept_in k) v) n ≡ option_map (λ (c : Content). kept_of (with_kept k c.body)) (content_of v n)
-own v n k = ap (option_map (λ (c : Content). kept_of c.body)) (content-edited v n (kept_in k)) ∙ given-one k (content_of v n)
-
--- one is given claims, where all were as before
-pub kept-given : (v w : Objects) (o : ℕ) (k : KeptSet) → SameBodies v w → SameKept (with_edit o (kept_in k) v) (with_edit o (kept_in k) w)
-kept-given v w o k same n = go (eqb n o) refl
-  where
-    other : (u : Objects) → eqb n o ≡ false → kept_by (with_edit o (kept_in k) u) n ≡ kept_by u n
-    other u p = ap (option_map (λ (c : Content). kept_of c.body)) (content-other u o n (kept_in k) p)
-
-    go : (t : Bool) → eqb n o ≡ t → kept_by (with_edit o (kept_in k) w) n ≡ kept_by (with_edit o (kept_in k) v) n
-    go true p =
-        subst (λ (m : ℕ). kept_by (with_edit o (kept_in k) w) m ≡ kept_by (with_edit o (kept_in k) v) m) (sym (eqb-true n o p))
-        (own w o k ∙ of-bodies (λ (b : Body). kept_of (with_kept k b)) (content_of v o) (content_of w o) (same o) ∙ sym (own v o k))
-    go false p = other w p ∙ kept-bodies v w same n ∙ sym (other v p)
+use Rattle.qo_plug.proofs.GrowsLemmas.{live-low}
+use Rattle.qo_standing.specs.Standing.{kept_in}
+use Rattle.qo_standing.specs.Taking.{SameKept, kept_by, kept_on}
+use Rattle.qo_standing.specs.declared.spots.Memory.{Memory}
+use Rattle.qo_standing.specs.declared.spots.Spot.{Spot as Chosen}
+use Rattle.qo_standing.proofs.KeptLemmas.{given-kept}
 
 -- acts leave to each body its claims
 kept-still : (n : ℕ) (rows : List (Key × Content))
@@ -170,9 +123,28 @@ driver-room driver t kind barred k = go (row_named driver) refl
 pub draft-keeps : (v w : Objects) (n : ℕ) (t : TypeId) (k : KeptSet) → option_map bare (content_of v n) ≡ Some (bare (fresh t))
     → kept_of (with_kept k (body_of t)) ≡ k → SameKept (with_edit n (kept_in k) v) w → kept_by w n ≡ Some k
 draft-keeps v w n t k made room same =
-    same n ∙ own v n k ∙ go (content_of v n) made ∙ ap Some room
+    same n ∙ given-kept v n k ∙ go (content_of v n) made ∙ ap Some room
   where
     go : (o : Option Content) → option_map bare o ≡ Some (bare (fresh t))
         → option_map (λ (c : Content). kept_of (with_kept k c.body)) o ≡ Some (kept_of (with_kept k (body_of t)))
     go None e = cc
     go (Some c) e = ap (λ (d : Content). Some (kept_of (with_kept k d.body))) (same_Some (bare c) (bare (fresh t)) e)
+
+-- a device as it was made is new, and keeps no path
+pub draft-new : (t : TypeId) (x : Option Content) → option_map bare x ≡ Some (bare (fresh t)) → IfSome x HasNoClaim
+draft-new t None e = tt
+draft-new t (Some c) e =
+    let same : bare c ≡ bare (fresh t) = same_Some (bare c) (bare (fresh t)) e in
+    (ap (λ (d : Content). kept_of d.body) same ∙ fresh-bare t, ap (λ (d : Content). d.device_id) same)
+
+pub draft-pathless : (t : TypeId) (x y : Option Content) → option_map bare x ≡ Some (bare (fresh t)) → option_map (λ (c : Content). c.kept_path) y ≡ option_map (λ (c : Content). c.kept_path) x
+    → option_and_then (λ (c : Content). c.kept_path) y ≡ None
+draft-pathless t x None e same = refl
+draft-pathless t None (Some d) e same = cc
+draft-pathless t (Some c) (Some d) e same =
+    let first : bare c ≡ bare (fresh t) = same_Some (bare c) (bare (fresh t)) e in
+    same_Some d.kept_path c.kept_path same ∙ ap (λ (x : Content). x.kept_path) first
+
+-- what was there before it is another object
+pub draft-apart : (v : Objects) → IsHeap v → (o other : Key) → o.birth ≡ v.born + 1 → IsLive v.rows other → eqb o.birth other.birth ≡ false
+draft-apart v good o other birth live = let low : other.birth ≤ v.born = live-low v good other live in grind (arith, birth, low)

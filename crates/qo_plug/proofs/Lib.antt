@@ -9,14 +9,8 @@ pub mod JudgeLemmas
 pub mod KeptLemmas
 pub mod PassLemmas
 pub mod PlugSteps
-pub mod RangeLemmas
 pub mod SourceLemmas
 pub mod StageLemmas
-pub mod StandBoards
-pub mod StandFills
-pub mod StandLemmas
-pub mod StandSteps
 pub mod StartBuses
 pub mod StartLemmas
-pub mod TakeLemmas
 pub mod TurnLemmas

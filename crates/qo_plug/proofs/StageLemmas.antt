@@ -14,11 +14,11 @@ use Rattle.qo_plug.specs.declared.placing.Placed.{Placed}
 use Rattle.qo_plug.specs.declared.placing.Way.{Way}
 use Rattle.qo_plug.specs.declared.placing.Way.TheVariants.{Stands, Full}
 use Rattle.qo_plug.specs.declared.refusals.Barred.{Barred}
-use Rattle.qo_plug.specs.declared.spots.Spot.{Spot as Chosen}
+use Rattle.qo_standing.specs.declared.spots.Spot.{Spot as Chosen}
 use Rattle.qo_plug.specs.Added.{IsAdmitted, barred_in}
 use Rattle.qo_plug.specs.Adding.{IsCut, IsOpen, IsRefused}
 use Rattle.qo_plug.specs.Stages.{IsBegun, IsHeld, IsSettled, StandsBy}
-use Rattle.qo_plug.specs.Standing.{IsSeat}
+use Rattle.qo_standing.specs.Standing.{IsSeat}
 use Rattle.qo_plug.proofs.AddLemmas.{cut-late, is-refused, whole-cut}
 use Rattle.qo_plug.proofs.AdmitLemmas.{added-late}
 use Rattle.qo_plug.proofs.JudgeLemmas.{late-notices, late-spot, notice_as}

@@ -32,9 +32,9 @@ use Rattle.qo_heap.specs.Board.{Shows}
 use Rattle.qo_heap.specs.Objects.{IsHeap, Objects}
 use Rattle.qo_heap.proofs.ShowsReads.{shows-kind}
 use Rattle.qo_plug.specs.Drafts.{created, held_draft}
-use Rattle.qo_plug.specs.Standing.{seated}
-use Rattle.qo_plug.proofs.StandBoards.{kinds-added, kinds-stood, tree-source}
-use Rattle.qo_plug.proofs.StartLemmas.{read-edit}
+use Rattle.qo_standing.specs.Standing.{seated}
+use Rattle.qo_standing.proofs.StandBoards.{kinds-added, kinds-stood, tree-source}
+use Rattle.qo_standing.proofs.TreeLemmas.{read-edit}
 
 -- the children in slots, by name
 

@@ -39,102 +39,9 @@ use Rattle.qo_heap.proofs.ShowsLive.{content-edited}
 use Rattle.qo_hotplug.specs.Asked.{Asked, told}
 use Rattle.qo_life.proofs.TreeLemmas.{read-content}
 use Rattle.qo_reset.specs.Phases.{Holds}
-use Rattle.qo_plug.specs.Taking.{SameKept, kept_by}
-
--- the tree: how many objects there are, and the type and the place of each
-
-pub record SameTree (b c : Board) : Type 0 where
-  pub size : length (births c) ≡ length (births b)
-  pub places : (n : ℕ) → place_of c n ≡ place_of b n
-  pub kinds : (n : ℕ) → kind_of c n ≡ kind_of b n
-
-pub tree-same : (b : Board) → SameTree b b
-tree-same b = record { size = refl; places = λ n. refl; kinds = λ n. refl }
-
-pub tree-then : (b c d : Board) → SameTree b c → SameTree c d → SameTree b d
-tree-then b c d s t = record { size = t.size ∙ s.size; places = λ n. t.places n ∙ s.places n; kinds = λ n. t.kinds n ∙ s.kinds n }
-
-abbrev Above : Type 0
-Above = ℕ → Option (List ℕ)
-
-abbrev turn_by : Option (ℕ × List ℕ) → Above → ℕ → Option (List ℕ)
-turn_by o f n = elim (n == ROOT_BIRTH) [ true ↦ Some [] | false ↦ elim o [ None ↦ None | Some p ↦ option_map (λ (above : List ℕ). above ++ 47 ∷ p.1) (f p.0) ] ]
-
-steps-depth : (b c : Board) → ((n : ℕ) → place_of c n ≡ place_of b n) → (k n : ℕ) → by_depth (steps_turn c) (λ _. None) k n ≡ by_depth (steps_turn b) (λ _. None) k n
-steps-depth b c same zero n = refl
-steps-depth b c same (suc k) n =
-    let rest : by_depth (steps_turn c) (λ _. None) k ≡ by_depth (steps_turn b) (λ _. None) k = λ j m. steps-depth b c same k m j in
-    ap (λ (f : Above). turn_by (place_of c n) f n) rest ∙ ap (λ (o : Option (ℕ × List ℕ)). turn_by o (by_depth (steps_turn b) (λ _. None) k) n) (same n)
-
-steps-same : (b c : Board) → SameTree b c → (n : ℕ) → steps_to c n ≡ steps_to b n
-unfolding steps_to
-steps-same b c s n =
-    ap (λ (k : ℕ). by_depth (steps_turn c) (λ _. None) (suc k) n) s.size ∙ steps-depth b c s.places (suc (length (births b))) n
-
-pub canonical-same : (b c : Board) → SameTree b c → (n : ℕ) → canonical c n ≡ canonical b n
-canonical-same b c s n = ap (λ (o : Option (List ℕ)). if n == ROOT_BIRTH then Some (codes "/") else o) (steps-same b c s n)
-
--- an edit of one object
-
-module _ (n : ℕ) (f : Record → Record) (born : (r : Record) → (f r).birth ≡ r.birth) where
-  edited-birth : (r : Record) → (edited n f r).birth ≡ r.birth
-  edited-birth r = go (r.birth == n)
-    where
-      go : (t : Bool) → (cond t (f r) r).birth ≡ r.birth
-      go true = born r
-      go false = refl
-
-  births-edit : (rs : List Record) → map (λ (r : Record). r.birth) (map (edited n f) rs) ≡ map (λ (r : Record). r.birth) rs
-  births-edit [] = refl
-  births-edit (r ∷ rs) = let here = edited-birth r in let rest = births-edit rs in λ j. here j ∷ rest j
-
-  -- what is read of the object of a birth
-  pub read-edit : {A : Type 0} (h : Option Record → A) → ((r : Record) → h (Some (f r)) ≡ h (Some r)) → (m : ℕ) (rs : List Record)
-      → h (find (λ (r : Record). r.birth == m) (map (edited n f) rs)) ≡ h (find (λ (r : Record). r.birth == m) rs)
-  read-edit h same m [] = refl
-  read-edit h same m (r ∷ rs) =
-      ap (λ (k : ℕ). h (cond (k == m) (Some (edited n f r)) (find (λ (x : Record). x.birth == m) (map (edited n f) rs)))) (edited-birth r)
-      ∙ go (r.birth == m) (read-edit h same m rs)
-    where
-      own : (t : Bool) → h (Some (cond t (f r) r)) ≡ h (Some r)
-      own true = same r
-      own false = refl
-
-      go : (t : Bool) → h (find (λ (x : Record). x.birth == m) (map (edited n f) rs)) ≡ h (find (λ (x : Record). x.birth == m) rs)
-          → h (cond t (Some (edited n f r)) (find (λ (x : Record). x.birth == m) (map (edited n f) rs))) ≡ h (cond t (Some r) (find (λ (x : Record). x.birth == m) rs))
-      go true rest = own (r.birth == n)
-      go false rest = rest
-
-abbrev place_at : List Record → ℕ → Option (ℕ × List ℕ)
-place_at rs k = option_and_then (place_in k) (find (λ (r : Record). is_some (place_in k r)) rs)
-
-place-cons : (k : ℕ) (r : Record) (rs : List Record) → place_at (r ∷ rs) k ≡ option_or (place_in k r) (place_at rs k)
-place-cons k r rs = go (place_in k r) refl
-  where
-    go : (o : Option (ℕ × List ℕ)) → place_in k r ≡ o → place_at (r ∷ rs) k ≡ option_or (place_in k r) (place_at rs k)
-    go None e = rw e refl
-    go (Some x) e = rw e e
-
-place-edit : (k n : ℕ) (f : Record → Record) → ((r : Record) → place_in k (f r) ≡ place_in k r) → (rs : List Record) → place_at (map (edited n f) rs) k ≡ place_at rs k
-place-edit k n f same [] = refl
-place-edit k n f same (r ∷ rs) =
-    place-cons k (edited n f r) (map (edited n f) rs)
-    ∙ (λ j. option_or (own (r.birth == n) j) (place-edit k n f same rs j))
-    ∙ sym (place-cons k r rs)
-  where
-    own : (t : Bool) → place_in k (cond t (f r) r) ≡ place_in k r
-    own true = same r
-    own false = refl
-
--- an edit that keeps births and child slots keeps the tree
-pub tree-edit : (b : Board) (n : ℕ) (f : Record → Record) → ((r : Record) → (f r).birth ≡ r.birth) → ((r : Record) → (f r).kind ≡ r.kind)
-    → ((k : ℕ) (r : Record) → place_in k (f r) ≡ place_in k r) → SameTree b (release.edit n f b)
-tree-edit b n f born kind same =
-    record {
-      size = ap (λ (l : List ℕ). length l) (births-edit n f born b.records);
-      places = λ k. place-edit k n f (same k) b.records;
-      kinds = λ m. read-edit n f born (λ (o : Option Record). option_map (λ (r : Record). r.kind) o) (λ r. ap Some (kind r)) m b.records;
-    }
+use Rattle.qo_standing.specs.Taking.{SameKept, kept_by}
+use Rattle.qo_standing.proofs.StandSteps.{pins-edited}
+use Rattle.qo_standing.proofs.TreeLemmas.{SameTree, canonical-same, read-edit, tree-edit, tree-same, tree-then}
 
 -- types, slots, places, holds and notices stay
 
@@ -329,15 +236,6 @@ pub acted-notices : (n : ℕ) (ns : List ℕ) (b : Board) → (plugged (acted_al
 acted-notices n ns b = let c : Board = acted_all Realize ns b in (plugged-still n c).notices ∙ (all-still Realize ns b).notices
 
 -- an edit of a path leaves claims and pins
-
-pub pins-edited : (n : ℕ) (f : Content → Content) → ((c : Content) → (f c).pins ≡ c.pins) → (rows : List (Key × Content)) → pins_in (edit n f rows) ≡ pins_in rows
-pins-edited n f same [] = refl
-pins-edited n f same (row ∷ rows) = go (eqb row.0.birth n) refl (pins-edited n f same rows)
-  where
-    go : (t : Bool) → eqb row.0.birth n ≡ t → pins_in (edit n f rows) ≡ pins_in rows → pins_in (edit n f (row ∷ rows)) ≡ pins_in (row ∷ rows)
-    go true is rest = rw is (λ j. replicate (same row.1 j) row.0.birth ++ rest j)
-    go false is rest = rw is (ap (λ (ms : List ℕ). replicate row.1.pins row.0.birth ++ ms) rest)
-
 pub path-book : (out : List Claimed) (v w : Objects) (n : ℕ) (path : List ℕ) → w ≡ record (with_edit n (with_path path) v) { events = promised v.events }
     → IsBook out v → IsBook out w
 path-book out v w n path now book =

@@ -16,9 +16,9 @@ use Rattle.qo_plug.specs.declared.refusals.AddRefusal.TheVariants.{Refused, Memo
 use Rattle.qo_plug.specs.declared.refusals.Barred.{Barred}
 use Rattle.qo_plug.specs.Added.{IsAdmitted}
 use Rattle.qo_plug.specs.Chosen.{IsChosen, claims_given}
-use Rattle.qo_plug.specs.declared.spots.Spot.{Spot as Chosen}
+use Rattle.qo_standing.specs.declared.spots.Spot.{Spot as Chosen}
 use Rattle.qo_plug.specs.Drafts.{CutShort}
-use Rattle.qo_plug.specs.Taking.{kept_by}
+use Rattle.qo_standing.specs.Taking.{kept_by}
 
 -- a sound board has the objects of a heap, and beside them so many devices without an id, these holds, these rings, and what is asked for
 pub record IsShown (b : Board) (anonymous : ℕ) (holds : List ℕ) (rings : List Ring) (h : Asked) (v : Objects) : Type 0 where

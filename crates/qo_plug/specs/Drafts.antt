@@ -37,17 +37,8 @@ held_draft b t = rows_made (b.born + 1) t (types.slots_of t) (created b t)
 abbrev pub bare : Content → Content
 bare c = record c { slots = [] }
 
--- the slots of an object that are its own: plain ones and links, and neither children nor aliases
-abbrev pub is_own : Slot → Bool
-is_own (Plain v) = true
-is_own (Link ty strong target) = true
-is_own s = false
-
-abbrev pub own_slots : List Named → List Named
-own_slots slots = filter (λ (s : Named). is_own s.1) slots
-
-abbrev pub own_slots_of : Objects → ℕ → List Named
-own_slots_of v n = own_slots (slots_of v n)
+-- the slots of an object that are its own
+pub use Rattle.qo_standing.specs.Own.{is_own, own_slots, own_slots_of}
 
 -- an object has begun and ended no segment after the heap's time, or is not there
 abbrev pub IsQuiet : Objects → ℕ → Type 0

@@ -5,5 +5,3 @@ pub mod Chosen
 pub mod Cuts
 pub mod Drafts
 pub mod Stages
-pub mod Standing
-pub mod Taking

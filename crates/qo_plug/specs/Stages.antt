@@ -25,13 +25,13 @@ use Rattle.qo_plug.specs.declared.placing.Placed.{Placed}
 use Rattle.qo_plug.specs.declared.placing.Way.{Way}
 use Rattle.qo_plug.specs.declared.placing.Way.TheVariants.{Stands, Full}
 use Rattle.qo_plug.specs.declared.refusals.Barred.{Barred}
-use Rattle.qo_plug.specs.declared.spots.Spot.{Spot}
+use Rattle.qo_standing.specs.declared.spots.Spot.{Spot}
 use Rattle.qo_plug.specs.Added.{IsAdmitted, barred_in}
 use Rattle.qo_plug.specs.Adding.{IsOpen}
 use Rattle.qo_plug.specs.Chosen.{IsChosen, claims_given}
 use Rattle.qo_plug.specs.Drafts.{IsQuiet, bare, held_draft, own_slots_of}
-use Rattle.qo_plug.specs.Standing.{Stood, spot_in}
-use Rattle.qo_plug.specs.Taking.{kept_by}
+use Rattle.qo_standing.specs.Standing.{Stood, spot_in}
+use Rattle.qo_standing.specs.Taking.{kept_by}
 
 -- what bars a device in its place on a bus: its slot, its depth and its memory come before its ring
 abbrev pub spot_barred : Board → TypeId → ℕ → List Given → Option (ℕ × Code)

@@ -20,7 +20,7 @@ use crate::admitting::{Site, admit};
 use crate::drafting::{give_up, make_device};
 use crate::judging::judge;
 use crate::refusals::{AddRefusal, Barred};
-use crate::spots::Spot;
+use qo_standing::Spot;
 use qo_heap::{Heap, Oid, Steps};
 use qo_hotplug::Hotplug;
 use qo_properties::{Fill, attempt_whole, check_given, plan_of};

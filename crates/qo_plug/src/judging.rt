@@ -19,7 +19,7 @@ ghost use Rattle.qo_plug.specs.Chosen.{IsChosen, backend_given, ring_given};
 ghost use Rattle.qo_plug.specs.Stages.{spot_barred};
 
 use crate::refusals::AddRefusal;
-use crate::spots::{Memory, Spot};
+use qo_standing::{Memory, Spot};
 use qo_backends::{is_backend_claimed, is_ring_claimed, range_for, size_of};
 use qo_buses::{depth, has_kid_slot, least_free};
 use qo_heap::{Heap, Oid, Steps};

@@ -2,7 +2,7 @@
 
 use json::Scratch;
 use qo_json::{Json, JsonError, NAMES_MAX};
-use qo_requests::{Request, read};
+use qo_requests::{Addition, Call, Change, Request, read};
 use serde_json::Value;
 use std::alloc::Global;
 use std::test::Fail;
@@ -85,7 +85,9 @@ fn wide_messages_are_read(rt: HostRuntime) -> Result<(), Fail> {
     )?;
     let parsed = read(alloc, message.as_bytes(), &mut scratch)?;
     let properties = match parsed.request {
-        Request::ObjectAdd { props, .. } => props.as_slice().len(),
+        Request::Call(Call::Change(Change::Add(Addition::ObjectAdd { props, .. }))) => {
+            props.as_slice().len()
+        }
         _ => 0,
     };
     assert_eq!(rt; properties, 100);

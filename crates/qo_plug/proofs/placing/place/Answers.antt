@@ -9,8 +9,8 @@ use Rattle.qo_kinds.specs.declared.kept.KeptSet.{KeptSet}
 use Rattle.qo_heap.specs.Objects.{with_edit}
 use Rattle.qo_plug.specs.Chosen.{claims_given}
 use Rattle.qo_plug.specs.Drafts.{held_draft}
-use Rattle.qo_plug.specs.Standing.{IsSeat, kept_in}
-use Rattle.qo_plug.specs.Taking.{SameKept}
+use Rattle.qo_standing.specs.Standing.{IsSeat, kept_in}
+use Rattle.qo_standing.specs.Taking.{SameKept}
 use Rattle.qo_plug.proofs.KeptLemmas.{chosen-claims, draft-keeps, driver-room}
 use Rattle.qo_plug.proofs.SourceLemmas.{source-same}
 use Rattle.qo_plug.proofs.StageLemmas.{bus-low, full-barred, given_up-cut, opened, seat-of, spot-refused}

@@ -1,7 +1,7 @@
 -- A device that was made keeps no path.
 use Rattle.qo_values.specs.declared.kinds.TypeId.TheVariants.{SlotBridge}
 use Rattle.qo_heap.specs.Objects.{content_of}
-use Rattle.qo_plug.proofs.StandLemmas.{draft-pathless}
+use Rattle.qo_plug.proofs.KeptLemmas.{draft-pathless}
 use Rattle.tests_devices.proofs.plug_stood.started.Goals as goal
 
 pub start-requires-clause-pathless : goal.start-requires-clause-pathless
