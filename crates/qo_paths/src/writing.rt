@@ -11,6 +11,9 @@ use qo_heap::{Heap, Oid, Steps};
 use std::alloc::{AllocError, Global};
 use std::sync::ledger::Ledger;
 
+/// Most paths have fewer bytes, so that their room is made at once.
+const PATH_BYTES: usize = 48;
+
 /// The names on the way up from an object to `/`, its own first; `None` exactly where parents do not
 /// lead there.
 fn names_up<'a, L: Ledger>(
@@ -42,7 +45,7 @@ fn names_up<'a, L: Ledger>(
 fn path_down(names: &[&str], alloc: Global) -> Result<String, AllocError>
     ensures { IfOk result (λ path. string_bytes path ≡ path_up (map (λ n. n.now) names.now)) }
 {
-    let mut path = String::new(alloc);
+    let mut path = String::with_capacity(alloc, PATH_BYTES)?;
     let mut left = names.len();
     while left > 0 {
         left -= 1;
