@@ -65,8 +65,8 @@ module _ (b : Board) (a : Wanted) where
         late_as : Spot → Plugged
         late_as spot = record { refusal = None; board = with_plugged b site.kind a spot }
 
-    pub is-added : (x : Added) (h : Asked) (w : Objects) → IsPlugged b site.kind a (spot_in site.bus.birth at) h w → x ≡ record { birth = b.born + 1; slot = at.slot }
-        → kept_by w x.birth ≡ Some (claims_given b site.kind site.bus.birth a.props) → IsAdded b a x h w
+    pub is-added : (x : Added) (h : Asked) (w : Objects) → IsPlugged b site.kind a (spot_in site.bus.birth at) h w
+        → x ≡ record { birth = b.born + 1; slot = at.slot } → kept_by w x.birth ≡ Some (claims_given b site.kind site.bus.birth a.props) → IsAdded b a x h w
     is-added x h w p is kept =
         record {
           refusal = ap (λ (q : Plugged). q.refusal) added-plugged;

@@ -1,5 +1,5 @@
 -- The claims that the body of a device keeps which was made, placed and started are those of its place.
-use Rattle.std.proofs.Common.{◌≡◌, refl, ap, sym, subst, ◌∙◌, ℕ, Bool, true, false, not, eqb, codes, List, [], ◌∷◌, map, find, Option, Some, None, option_map, IfSome, ◌+◌, ◌≤◌, arith, rules}
+use Rattle.std.proofs.Common.{◌≡◌, refl, ap, sym, subst, ◌∙◌, ℕ, Bool, true, false, not, eqb, codes, List, [], ◌∷◌, map, find, Option, Some, None, option_map, rules}
 use Rattle.std.specs.Prelude.{◌||◌, if◌then◌else◌, option_and_then}
 use Rattle.std.specs.List.{AllByRecursion}
 use Rattle.std.specs.Str.{bytes_eq}
@@ -10,7 +10,6 @@ use Rattle.qo_values.specs.declared.kinds.TypeId.{TypeId}
 use Rattle.qo_slots.specs.declared.keys.Key.{Key}
 use Rattle.qo_claims.specs.Lists.{slot_at}
 use Rattle.qo_claims.specs.declared.claims.Claimed.TheVariants as on
-use Rattle.qo_kinds.proofs.BodyLemmas.{fresh-bare}
 use Rattle.qo_kinds.specs.Bodies.{body_of, kept_of, with_kept}
 use Rattle.qo_kinds.specs.declared.bodies.Body.{Body}
 use Rattle.qo_kinds.specs.declared.bodies.Body.TheVariants.{Uart, Timer, Dimm, Bridge, Bus, Clock, Backend, Plain}
@@ -19,13 +18,12 @@ use Rattle.qo_model.specs.Board.{Board}
 use Rattle.qo_model.specs.Objects.{Given}
 use Rattle.qo_model.specs.Plug.{Spot, range_of, spot_of, type_barred}
 use Rattle.qo_model.specs.Types.{TypeRow, is_a, row_named, types}
-use Rattle.qo_table.specs.Rows.{IsLive, object_at}
-use Rattle.qo_object.specs.Content.{Content, HasNoClaim, fresh}
+use Rattle.qo_table.specs.Rows.{object_at}
+use Rattle.qo_object.specs.Content.{Content, fresh}
 use Rattle.qo_heap.specs.Acts.{Acts, stilled}
-use Rattle.qo_heap.specs.Objects.{IsHeap, Objects, content_of, with_edit}
+use Rattle.qo_heap.specs.Objects.{Objects, content_of, with_edit}
 use Rattle.qo_plug.specs.Chosen.{IsChosen, backend_given, claims_given, ring_given}
 use Rattle.qo_plug.specs.Drafts.{bare}
-use Rattle.qo_plug.proofs.GrowsLemmas.{live-low}
 use Rattle.qo_standing.specs.Standing.{kept_in}
 use Rattle.qo_standing.specs.Taking.{SameKept, kept_by, kept_on}
 use Rattle.qo_standing.specs.declared.spots.Memory.{Memory}
@@ -116,7 +114,8 @@ driver-room driver t kind barred k = go (row_named driver) refl
     go None p = absurd (let clash : None ≡ Some t = rw p at kind in cc)
     go (Some row) p =
         let same : row.id ≡ t = same_Some row.id t (rw p at kind) in
-        let roomy : is_roomy row ≡ true = found-all (λ (r : TypeRow). is_roomy r ≡ true) (λ (r : TypeRow). bytes_eq (type_name r.id) driver) types row all-roomy p in
+        let roomy : is_roomy row ≡ true =
+        found-all (λ (r : TypeRow). is_roomy r ≡ true) (λ (r : TypeRow). bytes_eq (type_name r.id) driver) types row all-roomy p in
         subst (λ (u : TypeId). kept_of (with_kept k (body_of u)) ≡ k) same (kept-room k (body_of row.id) (barred-by row (rw (type_barred, p) at barred) roomy))
 
 -- a device as it was made keeps the claims that it is given
@@ -130,21 +129,12 @@ draft-keeps v w n t k made room same =
     go None e = cc
     go (Some c) e = ap (λ (d : Content). Some (kept_of (with_kept k d.body))) (same_Some (bare c) (bare (fresh t)) e)
 
--- a device as it was made is new, and keeps no path
-pub draft-new : (t : TypeId) (x : Option Content) → option_map bare x ≡ Some (bare (fresh t)) → IfSome x HasNoClaim
-draft-new t None e = tt
-draft-new t (Some c) e =
-    let same : bare c ≡ bare (fresh t) = same_Some (bare c) (bare (fresh t)) e in
-    (ap (λ (d : Content). kept_of d.body) same ∙ fresh-bare t, ap (λ (d : Content). d.device_id) same)
-
-pub draft-pathless : (t : TypeId) (x y : Option Content) → option_map bare x ≡ Some (bare (fresh t)) → option_map (λ (c : Content). c.kept_path) y ≡ option_map (λ (c : Content). c.kept_path) x
+-- and no path
+pub draft-pathless : (t : TypeId) (x y : Option Content) → option_map bare x ≡ Some (bare (fresh t))
+    → option_map (λ (c : Content). c.kept_path) y ≡ option_map (λ (c : Content). c.kept_path) x
     → option_and_then (λ (c : Content). c.kept_path) y ≡ None
 draft-pathless t x None e same = refl
 draft-pathless t None (Some d) e same = cc
 draft-pathless t (Some c) (Some d) e same =
     let first : bare c ≡ bare (fresh t) = same_Some (bare c) (bare (fresh t)) e in
     same_Some d.kept_path c.kept_path same ∙ ap (λ (x : Content). x.kept_path) first
-
--- what was there before it is another object
-pub draft-apart : (v : Objects) → IsHeap v → (o other : Key) → o.birth ≡ v.born + 1 → IsLive v.rows other → eqb o.birth other.birth ≡ false
-draft-apart v good o other birth live = let low : other.birth ≤ v.born = live-low v good other live in grind (arith, birth, low)

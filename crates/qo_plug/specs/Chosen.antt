@@ -1,4 +1,4 @@
--- What a device that is given properties has in its place on a bus, and claims: its slot, the ring of a UART, and the memory backend and the range of a DIMM (docs/PROFILE.md, rings and DIMMs).
+-- What a device that is given properties claims in its place on a bus: its slot, a ring, a memory backend, a range (docs/PROFILE.md, rings and DIMMs).
 use Rattle.std.specs.Prelude.{◌≡◌, ℕ, List, codes, Option, Some, None, option_map}
 use Rattle.qo_claims.specs.Lists.{slot_at}
 use Rattle.qo_claims.specs.declared.claims.Claimed.TheVariants as on

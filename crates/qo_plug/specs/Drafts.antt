@@ -20,6 +20,7 @@ use Rattle.qo_heap.specs.Objects.{Objects, content_of, slots_of}
 use Rattle.qo_properties.specs.Claims.{KeepsBook}
 use Rattle.qo_properties.specs.Fresh.{new_slots}
 use Rattle.qo_properties.specs.Start.{KeepsNames}
+pub use Rattle.qo_standing.specs.Own.{is_own, own_slots, own_slots_of}
 
 -- a heap becomes another as each board that it shows does by a step
 abbrev pub Makes : (Board → Board) → Objects → Objects → Type 0
@@ -36,9 +37,6 @@ held_draft b t = rows_made (b.born + 1) t (types.slots_of t) (created b t)
 -- all of an object but its slots
 abbrev pub bare : Content → Content
 bare c = record c { slots = [] }
-
--- the slots of an object that are its own
-pub use Rattle.qo_standing.specs.Own.{is_own, own_slots, own_slots_of}
 
 -- an object has begun and ended no segment after the heap's time, or is not there
 abbrev pub IsQuiet : Objects → ℕ → Type 0

@@ -19,12 +19,12 @@ ghost use Rattle.qo_plug.specs.Chosen.{IsChosen, backend_given, ring_given};
 ghost use Rattle.qo_plug.specs.Stages.{spot_barred};
 
 use crate::refusals::AddRefusal;
-use qo_standing::{Memory, Spot};
 use qo_backends::{is_backend_claimed, is_ring_claimed, range_for, size_of};
 use qo_buses::{depth, has_kid_slot, least_free};
 use qo_heap::{Heap, Oid, Steps};
 use qo_properties::{given_val, link_target};
 use qo_rings::Rings;
+use qo_standing::{Memory, Spot};
 use qo_values::{BUS_DEPTH_MAX, BUS_SLOTS, Code, Id, PropList, TypeId, Val};
 use std::alloc::Global;
 use std::sync::ledger::Ledger;

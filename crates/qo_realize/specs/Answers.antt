@@ -38,7 +38,7 @@ Changes change b (Ok done) p = (change.refusal ≡ None) × Stands change.board 
 Changes change b (Err (Refused code)) p = (change ≡ record { refusal = Some code; board = b }) × Stands b p
 Changes change b (Err Memory) p = Stands b p
 
--- `device_add`: the definition's refusal and board, where the body of the device that was added keeps its claims; for want of memory the board as it was, or that of an attempt that was cut
+-- `device_add`: the definition's refusal and board, and the claims of the device in its body; for want of memory the board as it was, or that of a cut attempt
 abbrev pub Plugs : Board → Wanted → Result Added AddRefusal → Parts → Type 0
 Plugs b a (Ok device) p = ((plug b a).refusal ≡ None) × Stands (plug b a).board p × KeepsGiven b a device p.objects
 Plugs b a (Err (Barred stage code)) p = ((plug b a).refusal ≡ Some (stage, code)) × Stands (plug b a).board p

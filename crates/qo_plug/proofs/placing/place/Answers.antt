@@ -47,6 +47,7 @@ returns-in-Ok-stand-clause-settled g c = λ b a is notices.
     record { id_is = of.id_is ∙ sym ens.id; name_is = of.name_is ∙ sym ens.name; parent_is = of.parent_is ∙ ap (λ (k : Key). k.birth) (sym ens.container) } in
     let source : source_for b c.seat_at-seat.result.0.bus.birth ≡ source_for (held_draft b d.site.kind) c.seat_at-seat.result.0.bus.birth =
     rw ens.bus (source-same b d.site.kind is.sound d.site.bus.birth (bus-low b a d c.args.heap.now is c.requires)) in
+    let opening = opened b a d c.args.heap.now is c.in-Ok.spot c.in-Ok.is room in
     let chosen = chosen-claims b d.site.kind d.site.bus.birth a.props c.in-Ok.spot (rw c.in-Ok.is at is.spot) in
     let keeps = rw (ens.bus, ens.spot) at c.in-Ok-stand.ensures.kept in
     let kept =
@@ -57,7 +58,7 @@ returns-in-Ok-stand-clause-settled g c = λ b a is notices.
     record {
       sound = is.sound;
       birth = is.birth;
-      site = (d.site, c.requires.device_is, (c.in-Ok.spot, refl, opened b a d c.args.heap.now is c.in-Ok.spot c.in-Ok.is room, rw (ens.bus, ens.spot) at stood, kept));
+      site = (d.site, c.requires.device_is, (c.in-Ok.spot, refl, opening, rw (ens.bus, ens.spot) at stood, kept));
     }
 
 pub returns-in-Err-stand-clause-memory : goal.returns-in-Err-stand-clause-memory

@@ -56,4 +56,5 @@ returns-clause-pinned g c =
 pub returns-clause-kept : goal.returns-clause-kept
 returns-clause-kept g c = λ n.
     path-claims c.plugged.new.heap c.keep_path.new.self c.args.device.birth c.args.path c.keep_path.ensures.now n
-    ∙ acts-kept c.args.heap.now c.plugged.new.heap (acts-then c.args.heap.now c.realize.new.heap c.plugged.new.heap c.realize.ensures.acts c.plugged.ensures.acts) n
+    ∙ acts-kept c.realize.new.heap c.plugged.new.heap c.plugged.ensures.acts n
+    ∙ acts-kept c.args.heap.now c.realize.new.heap c.realize.ensures.acts n
