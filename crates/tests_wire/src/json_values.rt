@@ -7,9 +7,9 @@ use serde_json::Value;
 use std::alloc::Global;
 use std::test::Fail;
 
-/// An object with so many members, `"n0":0` and on.
-fn wide(alloc: Global, members: usize) -> Result<String, Fail> {
-    let mut text = String::from_str(alloc, "{")?;
+/// What stands in front of so many members, `"n0":0` and on, and these, to the closing brace.
+fn wide(alloc: Global, front: &str, members: usize) -> Result<String, Fail> {
+    let mut text = String::from_str(alloc, front)?;
     for at in 0..members {
         let mark = if at == 0 { "" } else { "," };
         text.push_str(format!(in alloc; "{mark}\"n{at}\":{at}")?.as_str())?;
@@ -26,17 +26,23 @@ fn width(value: &Json<'_>) -> usize {
     }
 }
 
+/// How many items a list has.
+fn length(value: Option<&Json<'_>>) -> usize {
+    match value.and_then(Json::as_array) {
+        Some(items) => items.len(),
+        None => 0,
+    }
+}
+
 #[test]
 fn values_are_read(rt: HostRuntime) -> Result<(), Fail> {
     let alloc = rt.alloc();
     let mut scratch = Scratch::new(alloc);
-    let text = b"{\"b\":1,\"a\\n\":[true,\"\\u0041\",-2],\"b\":3}";
-    let value = Json::read(alloc, text, &mut scratch)?;
+    let text = String::from_str(alloc, "{\"b\":1,\"a\\n\":[true,\"\\u0041\",-2],\"b\":3}")?;
+    let value = Json::read(alloc, text.as_bytes(), &mut scratch)?;
     assert_eq!(rt; width(&value), 2);
     assert_eq!(rt; value.get("b").and_then(Json::as_u64), Some(3));
-    let items = value.get("a\n").and_then(Json::as_array).unwrap_or(&[]);
-    assert_eq!(rt; items.len(), 3);
-    assert!(rt; items[1].as_str() == Some("A"));
+    assert_eq!(rt; length(value.get("a\n")), 3);
     Ok(())
 }
 
@@ -62,9 +68,9 @@ fn width_read(alloc: Global, text: &str, scratch: &mut Scratch) -> Result<usize,
 fn wide_objects_are_borrowed(rt: HostRuntime) -> Result<(), Fail> {
     let alloc = rt.alloc();
     let mut scratch = Scratch::new(alloc);
-    let most = wide(alloc, NAMES_MAX)?;
+    let most = wide(alloc, "{", NAMES_MAX)?;
     assert_eq!(rt; width_read(alloc, most.as_str(), &mut scratch)?, NAMES_MAX);
-    let text = wide(alloc, 100)?;
+    let text = wide(alloc, "{", 100)?;
     let refused = width_read(alloc, text.as_str(), &mut scratch);
     assert!(rt; matches!(refused, Err(JsonError::Wide)));
     let owned = Value::from_str(alloc, text.as_str())?;
@@ -78,13 +84,11 @@ fn wide_objects_are_borrowed(rt: HostRuntime) -> Result<(), Fail> {
 fn wide_messages_are_read(rt: HostRuntime) -> Result<(), Fail> {
     let alloc = rt.alloc();
     let mut scratch = Scratch::new(alloc);
-    let properties = wide(alloc, 100)?;
-    let message = format!(in alloc;
-        "{{\"execute\":\"object-add\",\"arguments\":{{\"qom-type\":\"t\",\"id\":\"i\",{}}}",
-        &properties.as_str()[1..]
-    )?;
+    let front = "{\"execute\":\"object-add\",\"arguments\":{\"qom-type\":\"t\",\"id\":\"i\",";
+    let mut message = wide(alloc, front, 100)?;
+    message.push_str("}")?;
     let parsed = read(alloc, message.as_bytes(), &mut scratch)?;
-    let properties = match parsed.request {
+    let properties = match &parsed.request {
         Request::Call(Call::Change(Change::Add(Addition::ObjectAdd { props, .. }))) => {
             props.as_slice().len()
         }

@@ -1,30 +1,17 @@
 //! What no clause says: messages written by hand, read where there is enough memory.
 use json::Scratch;
-use qo_requests::{Call, Change, Command, Parsed, ReadError, Request, read};
+use qo_requests::{Command, Parsed, ReadError, read};
 use qo_values::Code;
 use std::alloc::Global;
 use std::process::Abort;
 use std::test::Fail;
 
-/// A request, without what it is one of.
-fn short(alloc: Global, request: &Request) -> Result<String, Fail> {
-    let text = match request {
-        Request::QmpCapabilities { .. } => format!(in alloc; "{request:?}")?,
-        Request::Call(Call::Query(query)) => format!(in alloc; "{query:?}")?,
-        Request::Call(Call::Change(Change::Add(addition))) => format!(in alloc; "{addition:?}")?,
-        Request::Call(Call::Change(Change::Alter(alteration))) => {
-            format!(in alloc; "{alteration:?}")?
-        }
-    };
-    Ok(text)
-}
-
 /// What a message is read into, in short: the request, or the code, each with the id.
 fn told(alloc: Global, message: &str, scratch: &mut Scratch) -> Result<String, Fail> {
     let text = match read(alloc, message.as_bytes(), scratch) {
         Ok(Parsed { id, request }) => match id {
-            Some(id) => format!(in alloc; "{} {}", id.as_str(), short(alloc, &request)?.as_str())?,
-            None => short(alloc, &request)?,
+            Some(id) => format!(in alloc; "{} {request:?}", id.as_str())?,
+            None => format!(in alloc; "{request:?}")?,
         },
         Err(
             ReadError::Refused {
@@ -107,15 +94,15 @@ const READ: [(&str, &str); 16] = [
     ),
     (
         "{\"execute\":\"object-add\",\"arguments\":{\"p\":1,\"qom-type\":\"t\",\"o\":true,\"id\":\"i\",\"p\":-2}}",
-        "ObjectAdd { driver: Text { text: \"t\" }, id: Text { text: \"i\" }, props: PropList { pairs: [(Text { text: \"o\" }, Bool(true)), (Text { text: \"p\" }, Int(-2))] } }",
+        "Call(Change(Add(ObjectAdd { driver: Text { text: \"t\" }, id: Text { text: \"i\" }, props: PropList { pairs: [(Text { text: \"o\" }, Bool(true)), (Text { text: \"p\" }, Int(-2))] } })))",
     ),
     (
         "{\"execute\":\"chardev-add\",\"arguments\":{\"id\":\"r\",\"backend\":{\"type\":\"ringbuf\",\"data\":{\"size\":16}}}}",
-        "ChardevAdd { id: Text { text: \"r\" }, kind: Text { text: \"ringbuf\" }, size: Some(16) }",
+        "Call(Change(Alter(ChardevAdd { id: Text { text: \"r\" }, kind: Text { text: \"ringbuf\" }, size: Some(16) })))",
     ),
     (
         "{\"execute\":\"ringbuf-write\",\"id\":[null],\"arguments\":{\"device\":\"r\",\"data\":\"\",\"format\":\"base64\"}}",
-        "[null] RingbufWrite { device: Text { text: \"r\" }, payload: Text { text: \"\" }, format: Some(Base64) }",
+        "[null] Call(Change(Alter(RingbufWrite { device: Text { text: \"r\" }, payload: Text { text: \"\" }, format: Some(Base64) })))",
     ),
 ];
 
