@@ -8,6 +8,7 @@ pub mod GrowsLemmas
 pub mod JudgeLemmas
 pub mod KeptLemmas
 pub mod PassLemmas
+pub mod PlanLemmas
 pub mod PlugSteps
 pub mod SourceLemmas
 pub mod StageLemmas

@@ -4,4 +4,5 @@ pub mod Attempts
 pub mod Chosen
 pub mod Cuts
 pub mod Drafts
+pub mod Planned
 pub mod Stages

@@ -24,12 +24,14 @@ use Rattle.qo_plug.specs.declared.beginning.Begun.{Begun}
 use Rattle.qo_plug.specs.declared.placing.Placed.{Placed}
 use Rattle.qo_plug.specs.declared.placing.Way.{Way}
 use Rattle.qo_plug.specs.declared.placing.Way.TheVariants.{Stands, Full}
+use Rattle.qo_plug.specs.declared.planning.Planned.{Planned}
 use Rattle.qo_plug.specs.declared.refusals.Barred.{Barred}
 use Rattle.qo_standing.specs.declared.spots.Spot.{Spot}
 use Rattle.qo_plug.specs.Added.{IsAdmitted, barred_in}
 use Rattle.qo_plug.specs.Adding.{IsOpen}
 use Rattle.qo_plug.specs.Chosen.{IsChosen, claims_given}
 use Rattle.qo_plug.specs.Drafts.{IsQuiet, bare, held_draft, own_slots_of}
+use Rattle.qo_plug.specs.Planned.{HasGiven}
 use Rattle.qo_standing.specs.Standing.{Stood, spot_in}
 use Rattle.qo_standing.specs.Taking.{kept_by}
 
@@ -42,13 +44,13 @@ abbrev pub IfBarred : {T : Type 0} → Result T Barred → (Barred → Type 0) �
 IfBarred (Ok x) P = ⊤
 IfBarred (Err bar) P = P bar
 
--- what was judged of the spot of a device on its bus is so on each board with these rings that is shown
-pub record IsJudged (s : Site) (rings : List Ring) (found : Result Spot Barred) (props : List Given) (v : Objects) : Type 0 where
+-- what was judged of the spot of a planned device on its bus is so on each board with these rings that is shown
+pub record IsJudged (p : Planned) (rings : List Ring) (found : Result Spot Barred) (v : Objects) : Type 0 where
   pub within : IfOk found (λ c. c.slot < BUS_SLOTS)
-  pub dimm : IfOk found (λ c. is_some c.memory ≡ true → s.kind ≡ MemDimm)
+  pub dimm : IfOk found (λ c. is_some c.memory ≡ true → p.site.kind ≡ MemDimm)
   pub stages : IfBarred found (λ bar. (5 ≤ bar.stage) × (bar.stage ≤ 6))
-  pub refused : (b : Board) → Shows b v → b.rings ≡ rings → barred_in found ≡ spot_barred b s.kind s.bus.birth props
-  pub spot : (b : Board) → Shows b v → IfOk found (λ c. IsChosen b s.kind s.bus.birth props c)
+  pub refused : (b : Board) (props : List Given) → Shows b v → b.rings ≡ rings → HasGiven b props p → barred_in found ≡ spot_barred b p.site.kind p.site.bus.birth props
+  pub spot : (b : Board) (props : List Given) → Shows b v → HasGiven b props p → IfOk found (λ c. IsChosen b p.site.kind p.site.bus.birth props c)
 
 -- a heap has a device that was begun, as it was made and held once, with its container, its older bus, and what its plan names
 pub record IsHeld (d : Begun) (v : Objects) : Type 0 where

@@ -54,20 +54,21 @@ pub fn add<L: Ledger>(
     ensures asked { OnErr result (hotplug.new ≡ hotplug.old) }
     ensures book { KeepsBook heap.old heap.new }
 {
-    let site = match choose(
+    let planned = match choose(
         heap, hotplug, anonymous, driver, id, bus, props, alloc, steps,
     ) {
-        Ok(site) => site,
+        Ok(planned) => planned,
         Err(refusal) => return Err(refusal),
     };
-    let spot = match judge(heap, rings, site.kind, site.bus, props, alloc, steps) {
+    let spot = match judge(heap, rings, &planned, alloc, steps) {
         Ok(spot) => spot,
         Err(AddRefusal::Refused { stage, code }) => {
-            return Err(turn_down(heap, site.kind, stage, code, alloc, steps));
+            let kind = planned.site.kind;
+            return Err(turn_down(heap, kind, stage, code, alloc, steps));
         }
         Err(AddRefusal::Memory) => return Err(AddRefusal::Memory),
     };
-    let begun = match make(heap, resets, site, rings, Ok(spot), props, alloc, steps) {
+    let begun = match make(heap, resets, planned, rings, Ok(spot), alloc, steps) {
         Ok(begun) => begun,
         Err(_) => return Err(AddRefusal::Memory),
     };

@@ -11,18 +11,20 @@ ghost use Rattle.qo_table.specs.Rows.{IsLive};
 ghost use Rattle.qo_heap.specs.Board.{Shows};
 ghost use Rattle.qo_properties.specs.Claims.{KeepsBook};
 ghost use Rattle.qo_plug.specs.declared.refusals.AddRefusal.TheVariants.{Memory};
-ghost use Rattle.qo_plug.specs.Added.{IfRefused, IsAdmitted, wanted};
+ghost use Rattle.qo_plug.specs.Added.{IfRefused, wanted};
 ghost use Rattle.qo_plug.specs.Adding.{IsCut, IsRefused, IsShown, turned_down};
 ghost use Rattle.qo_plug.specs.Drafts.{CutShort};
+ghost use Rattle.qo_plug.specs.Planned.{IsFit, IsPlanned};
 ghost use Rattle.qo_plug.specs.Stages.{IsBegun, IsHeld, IsJudged};
 
 use crate::admitting::{Site, admit};
 use crate::drafting::{give_up, make_device};
 use crate::judging::judge;
+use crate::planning::Planned;
 use crate::refusals::{AddRefusal, Barred};
 use qo_heap::{Heap, Oid, Steps};
 use qo_hotplug::Hotplug;
-use qo_properties::{Fill, attempt_whole, check_given, plan_of};
+use qo_properties::{Fill, Refusal, attempt_whole, plan};
 use qo_reset::Resets;
 use qo_rings::Rings;
 use qo_standing::Spot;
@@ -64,31 +66,27 @@ pub(crate) fn turn_down<L: Ledger>(
     }
 }
 
-/// Makes an admitted device, for which this was judged of its spot. What its slots are to be filled
-/// with, and what is learnt of its bus, is learnt before. The error is want of memory: an attempt was
-/// cut.
+/// Makes a planned device, for which this was judged of its spot. What is learnt of its bus is learnt
+/// before. The error is want of memory: an attempt was cut.
 pub(crate) fn make<L: Ledger>(
     heap: &mut Heap,
     resets: &Resets,
-    site: Site,
+    planned: Planned,
     rings: &Rings,
     spot: Result<Spot, Barred>,
-    props: &PropList,
     alloc: Global,
     steps: &mut Steps<L>,
 ) -> Result<Begun, AllocError>
-    requires device { is_a site.kind (codes "device") ≡ true }
-    requires container { IsLive heap.old.rows site.place.container }
-    requires bus { IsLive heap.old.rows site.bus }
-    requires spot { IsJudged site rings.now spot props.now heap.old }
-    ensures begun { (b : Board) (a : Wanted) → Shows b heap.old → SoundTree b → b.holds ≡ resets.now.births → b.rings ≡ rings.now → IsAdmitted b a site → a.props ≡ props.now → refusal_of b site.kind a.props ≡ None → IfOk result (λ d. IsBegun b a d heap.new) }
+    requires fit { IsFit planned heap.old }
+    requires spot { IsJudged planned rings.now spot heap.old }
+    ensures begun { (b : Board) (a : Wanted) → Shows b heap.old → SoundTree b → b.holds ≡ resets.now.births → b.rings ≡ rings.now → IsPlanned b a planned → IfOk result (λ d. IsBegun b a d heap.new) }
     ensures held { IfOk result (λ d. IsHeld d heap.new) }
     ensures err { OnErr result ((b : Board) → Shows b heap.old → SoundTree b → CutShort b site.kind heap.new) }
     ensures book { KeepsBook heap.old heap.new }
 {
     heap.facts();
+    let Planned { site, plan } = planned;
     let out = resets.count(heap, site.bus, steps) == 0;
-    let plan = plan_of(heap, site.kind, props, alloc, steps)?;
     let device = make_device(heap, site.kind, alloc, steps)?;
     Ok(Begun {
         site,
@@ -99,10 +97,10 @@ pub(crate) fn make<L: Ledger>(
     })
 }
 
-/// Where a device that is asked for is to go, where neither what bars it before an attempt nor what is
+/// The plan of a device that is asked for, where neither what bars it before an attempt nor what is
 /// given for its properties refuses it. A refusal is the first in the order of the stages: those of
-/// `admit`, before which nothing of the device is made, and then those of `check_given` (stage 4),
-/// behind which its births and notes are left. Want of memory leaves all as it was, or an attempt that
+/// `admit`, before which nothing of the device is made, and then those of `plan` (stage 4), behind which
+/// its births and notes are left. Want of memory leaves all as it was, or an attempt that
 /// was cut.
 pub(crate) fn choose<L: Ledger>(
     heap: &mut Heap,
@@ -114,11 +112,10 @@ pub(crate) fn choose<L: Ledger>(
     props: &PropList,
     alloc: Global,
     steps: &mut Steps<L>,
-) -> Result<Site, AddRefusal>
-    ensures live { IfOk result (λ s. IsLive heap.new.rows s.place.container × IsLive heap.new.rows s.bus) }
-    ensures device { IfOk result (λ s. is_a s.kind (codes "device") ≡ true) }
+) -> Result<Planned, AddRefusal>
+    ensures fit { IfOk result (λ p. IsFit p heap.new) }
     ensures same { OnOk result (heap.new ≡ heap.old) }
-    ensures admitted { (b : Board) (holds : List ℕ) (rings : List Ring) → IsShown b anonymous holds rings hotplug.now heap.old → IfOk result (λ s. IsAdmitted b (wanted driver.now (option_map (λ t. t.now) id.entry) (option_map (λ t. t.now) bus.entry) props.now) s × (refusal_of b s.kind props.now ≡ None)) }
+    ensures planned { (b : Board) (holds : List ℕ) (rings : List Ring) → IsShown b anonymous holds rings hotplug.now heap.old → IfOk result (λ p. IsPlanned b (wanted driver.now (option_map (λ t. t.now) id.entry) (option_map (λ t. t.now) bus.entry) props.now) p) }
     ensures refused { (b : Board) (holds : List ℕ) (rings : List Ring) → IsShown b anonymous holds rings hotplug.now heap.old → IfRefused result (λ stage code. (1 ≤ stage) × (stage ≤ 4) × IsRefused b (wanted driver.now (option_map (λ t. t.now) id.entry) (option_map (λ t. t.now) bus.entry) props.now) stage code heap.new) }
     ensures memory { (b : Board) (holds : List ℕ) (rings : List Ring) → IsShown b anonymous holds rings hotplug.now heap.old → result ≡ Err Memory → IsCut b (wanted driver.now (option_map (λ t. t.now) id.entry) (option_map (λ t. t.now) bus.entry) props.now) heap.new }
     ensures book { KeepsBook heap.old heap.new }
@@ -136,26 +133,26 @@ pub(crate) fn choose<L: Ledger>(
         Ok(site) => site,
         Err(refusal) => return Err(refusal),
     };
-    match check_given(heap, site.kind, props, steps) {
-        Ok(()) => Ok(site),
-        Err(code) => Err(turn_down(heap, site.kind, 4, code, alloc, steps)),
+    match plan(heap, site.kind, props, alloc, steps) {
+        Ok(plan) => Ok(Planned { site, plan }),
+        Err(Refusal::Refused(code)) => Err(turn_down(heap, site.kind, 4, code, alloc, steps)),
+        Err(Refusal::Memory) => Err(AddRefusal::Memory),
     }
 }
 
-/// What is judged of the spot of an admitted device: where it stands, or why it can't. The error is want
+/// What is judged of the spot of a planned device: where it stands, or why it can't. The error is want
 /// of memory.
 fn judged<L: Ledger>(
     heap: &Heap,
     rings: &Rings,
-    site: &Site,
-    props: &PropList,
+    planned: &Planned,
     alloc: Global,
     steps: &mut Steps<L>,
 ) -> Result<Result<Spot, Barred>, AllocError>
-    requires { IsLive heap.now.rows site.now.bus }
-    ensures { IfOk result (λ spot. IsJudged site.now rings.now spot props.now heap.now) }
+    requires { IsFit planned.now heap.now }
+    ensures { IfOk result (λ spot. IsJudged planned.now rings.now spot heap.now) }
 {
-    match judge(heap, rings, site.kind, site.bus, props, alloc, steps) {
+    match judge(heap, rings, planned, alloc, steps) {
         Ok(spot) => Ok(Ok(spot)),
         Err(AddRefusal::Refused { stage, code }) => Ok(Err(Barred { stage, code })),
         Err(AddRefusal::Memory) => Err(AllocError),
@@ -165,8 +162,7 @@ fn judged<L: Ledger>(
 /// Begins a device of a type's name, with an id, the path of its bus and properties, where these are
 /// given: the stages 1 to 4. `anonymous` is how many devices without an id were added before. A
 /// refusal is the first in the order of the stages: those of `admit`, before which nothing of the
-/// device is made, and then those of `check_given` (stage 4), behind which its births and notes are
-/// left. Want of memory leaves all as it was, or an attempt that was cut.
+/// device is made, and then those of `plan` (stage 4), behind which its births and notes are left. Want of memory leaves all as it was, or an attempt that was cut.
 pub fn begin<L: Ledger>(
     heap: &mut Heap,
     resets: &Resets,
@@ -186,14 +182,14 @@ pub fn begin<L: Ledger>(
     ensures memory { (b : Board) → IsShown b anonymous resets.now.births rings.now hotplug.now heap.old → result ≡ Err Memory → IsCut b (wanted driver.now (option_map (λ t. t.now) id.entry) (option_map (λ t. t.now) bus.entry) props.now) heap.new }
     ensures book { KeepsBook heap.old heap.new }
 {
-    let site = match choose(
+    let planned = match choose(
         heap, hotplug, anonymous, driver, id, bus, props, alloc, steps,
     ) {
-        Ok(site) => site,
+        Ok(planned) => planned,
         Err(refusal) => return Err(refusal),
     };
-    let spot = judged(heap, rings, &site, props, alloc, steps)?;
-    match make(heap, resets, site, rings, spot, props, alloc, steps) {
+    let spot = judged(heap, rings, &planned, alloc, steps)?;
+    match make(heap, resets, planned, rings, spot, alloc, steps) {
         Ok(begun) => Ok(begun),
         Err(_) => Err(AddRefusal::Memory),
     }

@@ -16,38 +16,19 @@ ghost use Rattle.qo_heap.specs.Board.{Shows};
 ghost use Rattle.qo_backends.specs.Rings.{named_ring};
 ghost use Rattle.qo_plug.specs.Added.{IfRefused};
 ghost use Rattle.qo_plug.specs.Chosen.{IsChosen, backend_given, ring_given};
+ghost use Rattle.qo_plug.specs.Planned.{HasGiven, IsFit};
 ghost use Rattle.qo_plug.specs.Stages.{spot_barred};
 
+use crate::planning::{Planned, address_asked, backend_asked, ring_asked, slot_asked};
 use crate::refusals::AddRefusal;
 use qo_backends::{is_backend_claimed, is_ring_claimed, range_for, size_of};
 use qo_buses::{depth, has_kid_slot, least_free};
 use qo_heap::{Heap, Oid, Steps};
-use qo_properties::{given_val, link_target};
 use qo_rings::Rings;
 use qo_standing::{Memory, Spot};
-use qo_values::{BUS_DEPTH_MAX, BUS_SLOTS, Code, Id, PropList, TypeId, Val};
+use qo_values::{BUS_DEPTH_MAX, BUS_SLOTS, Code, Id, TypeId};
 use std::alloc::Global;
 use std::sync::ledger::Ledger;
-
-/// The number that is given for a property of a name, if one is.
-fn given_number(props: &PropList, name: &str) -> Option<u64>
-    ensures { result ≡ number_for props.now name.now }
-{
-    match given_val(props, name) {
-        Some(Val::Uint(number)) => Some(*number),
-        _ => None,
-    }
-}
-
-/// The text that is given for a property of a name, and the empty one where none is.
-fn given_text<'a>(props: &'a PropList, name: &str) -> &'a str
-    ensures { result.now ≡ text_for props.now name.now }
-{
-    match given_val(props, name) {
-        Some(Val::Text(text)) => text.as_str(),
-        _ => "",
-    }
-}
 
 /// A slot of a bus that is asked for. `E28` comes where a bus has no such slot, `E29` where it is
 /// taken.
@@ -111,39 +92,24 @@ fn check_depth<L: Ledger>(
     }
 }
 
-/// The memory backend that a DIMM is given; `None` where it is given none.
-fn given_backend<L: Ledger>(heap: &Heap, props: &PropList, steps: &mut Steps<L>) -> Option<Oid>
-    ensures backend { (b : Board) → Shows b heap.now → birth_of result ≡ target_for b MemoryBackend props.now (codes "memdev") }
-    ensures live { IfSome result (IsLive heap.now.rows) }
-{
-    match link_target(
-        heap,
-        TypeId::MemoryBackend,
-        given_text(props, "memdev"),
-        steps,
-    ) {
-        Ok(backend) => backend,
-        Err(_) => None,
-    }
-}
-
-/// The range of a DIMM on a memory backend, at the address that is given, if one is. `E40` comes where
-/// that range is taken or leaves the window, `E41` where none is given and there is no gap for it.
+/// The range of a DIMM on a memory backend, at the address that is asked for, if one is. `E40` comes
+/// where that range is taken or leaves the window, `E41` where none is asked for and there is no gap
+/// for it.
 fn memory_on<L: Ledger>(
     heap: &Heap,
     backend: Oid,
-    props: &PropList,
+    asked: Option<u64>,
     alloc: Global,
     steps: &mut Steps<L>,
 ) -> Result<Memory, AddRefusal>
     requires { IsLive heap.now.rows backend }
-    ensures range { (b : Board) → Shows b heap.now → IfOk result (λ m. Ok m.range ≡ plug.range_for b (number_for props.now (codes "addr")) (plug.size_of b backend.birth)) }
-    ensures refused { (b : Board) → Shows b heap.now → IfRefused result (λ stage code. (stage ≡ 5) × (Err code ≡ plug.range_for b (number_for props.now (codes "addr")) (plug.size_of b backend.birth))) }
+    ensures range { (b : Board) → Shows b heap.now → IfOk result (λ m. Ok m.range ≡ plug.range_for b asked (plug.size_of b backend.birth)) }
+    ensures refused { (b : Board) → Shows b heap.now → IfRefused result (λ stage code. (stage ≡ 5) × (Err code ≡ plug.range_for b asked (plug.size_of b backend.birth))) }
     ensures stage { IfRefused result (λ stage code. stage ≡ 5) }
     ensures backend { IfOk result (λ m. m.backend ≡ backend.birth) }
 {
     let size = size_of(heap, backend, steps);
-    match range_for(heap, given_number(props, "addr"), size, alloc, steps) {
+    match range_for(heap, asked, size, alloc, steps) {
         Ok(Ok(range)) => Ok(Memory {
             backend: backend.birth,
             range,
@@ -153,21 +119,23 @@ fn memory_on<L: Ledger>(
     }
 }
 
-/// The memory of a DIMM, by the properties given. `E38` comes where it is given no memory backend,
-/// `E39` where another DIMM stands on that, and `E40` or `E41` of its range.
+/// The memory of a DIMM, as it is planned. `E38` comes where it has no memory backend, `E39` where
+/// another DIMM stands on that, and `E40` or `E41` of its range.
 fn memory_for<L: Ledger>(
     heap: &Heap,
-    props: &PropList,
+    planned: &Planned,
     alloc: Global,
     steps: &mut Steps<L>,
 ) -> Result<Memory, AddRefusal>
-    ensures open { (b : Board) (bus : ℕ) → Shows b heap.now → OnOk result (kind_barred b MemDimm bus props.now ≡ None) }
-    ensures refused { (b : Board) (bus : ℕ) → Shows b heap.now → IfRefused result (λ stage code. (stage ≡ 5) × (kind_barred b MemDimm bus props.now ≡ Some code)) }
+    requires fit { IsFit planned.now heap.now }
+    requires dimm { planned.now.site.kind ≡ MemDimm }
+    ensures open { (b : Board) (bus : ℕ) (props : List Given) → Shows b heap.now → HasGiven b props planned.now → OnOk result (kind_barred b MemDimm bus props ≡ None) }
+    ensures refused { (b : Board) (bus : ℕ) (props : List Given) → Shows b heap.now → HasGiven b props planned.now → IfRefused result (λ stage code. (stage ≡ 5) × (kind_barred b MemDimm bus props ≡ Some code)) }
     ensures stage { IfRefused result (λ stage code. stage ≡ 5) }
-    ensures range { (b : Board) → Shows b heap.now → IfOk result (λ m. range_of b MemDimm props.now ≡ Some m.range) }
-    ensures backend { (b : Board) → Shows b heap.now → IfOk result (λ m. backend_given b MemDimm props.now ≡ Some m.backend) }
+    ensures range { (b : Board) (props : List Given) → Shows b heap.now → HasGiven b props planned.now → IfOk result (λ m. range_of b MemDimm props ≡ Some m.range) }
+    ensures backend { (b : Board) (props : List Given) → Shows b heap.now → HasGiven b props planned.now → IfOk result (λ m. backend_given b MemDimm props ≡ Some m.backend) }
 {
-    let Some(backend) = given_backend(heap, props, steps) else {
+    let Some(backend) = backend_asked(planned) else {
         return Err(AddRefusal::Refused {
             stage: 5,
             code: Code::E38,
@@ -179,33 +147,32 @@ fn memory_for<L: Ledger>(
             code: Code::E39,
         });
     }
-    memory_on(heap, backend, props, alloc, steps)
+    memory_on(heap, backend, address_asked(planned), alloc, steps)
 }
 
-/// The memory of a device of a type, if it has one, by the properties given; and what bars it from a
-/// bus that has a slot for it: `E42` comes where a bridge would be too deep, `E38`, `E39`, `E40` or `E41`
+/// The memory of a device, if it is to have one, as it is planned; and what bars it from a bus that
+/// has a slot for it: `E42` comes where a bridge would be too deep, `E38`, `E39`, `E40` or `E41`
 /// of the memory of a DIMM.
 fn check_kind<L: Ledger>(
     heap: &Heap,
-    kind: TypeId,
-    bus: Oid,
-    props: &PropList,
+    planned: &Planned,
     alloc: Global,
     steps: &mut Steps<L>,
 ) -> Result<Option<Memory>, AddRefusal>
-    ensures open { (b : Board) → Shows b heap.now → OnOk result (kind_barred b kind bus.birth props.now ≡ None) }
-    ensures refused { (b : Board) → Shows b heap.now → IfRefused result (λ stage code. (stage ≡ 5) × (kind_barred b kind bus.birth props.now ≡ Some code)) }
+    requires { IsFit planned.now heap.now }
+    ensures open { (b : Board) (props : List Given) → Shows b heap.now → HasGiven b props planned.now → OnOk result (kind_barred b planned.now.site.kind planned.now.site.bus.birth props ≡ None) }
+    ensures refused { (b : Board) (props : List Given) → Shows b heap.now → HasGiven b props planned.now → IfRefused result (λ stage code. (stage ≡ 5) × (kind_barred b planned.now.site.kind planned.now.site.bus.birth props ≡ Some code)) }
     ensures stage { IfRefused result (λ stage code. stage ≡ 5) }
-    ensures range { (b : Board) → Shows b heap.now → IfOk result (λ memory. option_map (λ m. m.range) memory ≡ range_of b kind props.now) }
-    ensures backend { (b : Board) → Shows b heap.now → IfOk result (λ memory. option_map (λ m. m.backend) memory ≡ backend_given b kind props.now) }
-    ensures dimm { IfOk result (λ memory. is_some memory ≡ true → kind ≡ MemDimm) }
+    ensures range { (b : Board) (props : List Given) → Shows b heap.now → HasGiven b props planned.now → IfOk result (λ memory. option_map (λ m. m.range) memory ≡ range_of b planned.now.site.kind props) }
+    ensures backend { (b : Board) (props : List Given) → Shows b heap.now → HasGiven b props planned.now → IfOk result (λ memory. option_map (λ m. m.backend) memory ≡ backend_given b planned.now.site.kind props) }
+    ensures dimm { IfOk result (λ memory. is_some memory ≡ true → planned.now.site.kind ≡ MemDimm) }
 {
-    match kind {
-        TypeId::MemDimm => match memory_for(heap, props, alloc, steps) {
+    match planned.site.kind {
+        TypeId::MemDimm => match memory_for(heap, planned, alloc, steps) {
             Ok(memory) => Ok(Some(memory)),
             Err(refusal) => Err(refusal),
         },
-        TypeId::SlotBridge => check_depth(heap, bus, steps),
+        TypeId::SlotBridge => check_depth(heap, planned.site.bus, steps),
         _ => Ok(None),
     }
 }
@@ -245,57 +212,54 @@ fn free_ring<L: Ledger>(
     }
 }
 
-/// The id of the ring of a device of a type, if it has one, by the properties given. `E36` and `E37`
-/// come of the ring of a UART.
+/// The id of the ring of a device, if it is to have one, as it is planned. `E36` and `E37` come of the
+/// ring of a UART.
 fn ring_for<L: Ledger>(
     heap: &Heap,
     rings: &Rings,
-    kind: TypeId,
-    props: &PropList,
+    planned: &Planned,
     alloc: Global,
     steps: &mut Steps<L>,
 ) -> Result<Option<Id>, AddRefusal>
-    ensures open { (b : Board) → Shows b heap.now → b.rings ≡ rings.now → OnOk result (realize_barred b kind props.now ≡ None) }
-    ensures refused { (b : Board) → Shows b heap.now → b.rings ≡ rings.now → IfRefused result (λ stage code. (stage ≡ 6) × (realize_barred b kind props.now ≡ Some code)) }
+    ensures open { (b : Board) (props : List Given) → Shows b heap.now → b.rings ≡ rings.now → HasGiven b props planned.now → OnOk result (realize_barred b planned.now.site.kind props ≡ None) }
+    ensures refused { (b : Board) (props : List Given) → Shows b heap.now → b.rings ≡ rings.now → HasGiven b props planned.now → IfRefused result (λ stage code. (stage ≡ 6) × (realize_barred b planned.now.site.kind props ≡ Some code)) }
     ensures stage { IfRefused result (λ stage code. stage ≡ 6) }
-    ensures ring { IfOk result (λ ring. ring ≡ ring_given kind props.now) }
+    ensures ring { (b : Board) (props : List Given) → HasGiven b props planned.now → IfOk result (λ ring. ring ≡ ring_given planned.now.site.kind props) }
 {
-    match kind {
-        TypeId::SlotUart => free_ring(heap, rings, given_text(props, "chardev"), alloc, steps),
+    match planned.site.kind {
+        TypeId::SlotUart => free_ring(heap, rings, ring_asked(planned), alloc, steps),
         _ => Ok(None),
     }
 }
 
-/// Where a device of a type is to stand on a bus, and what it claims besides, by the properties given.
+/// Where a device is to stand on its bus, and what it claims besides, as it is planned.
 /// Refused by the first that stands: with `E28`, `E29` or `E30` for its slot, `E42` for the depth of a
 /// bridge, `E38`, `E39`, `E40` or `E41` for the memory of a DIMM (stage 5), and then `E36` or `E37` for
 /// the ring of a UART (stage 6). The other error is want of memory.
 pub(crate) fn judge<L: Ledger>(
     heap: &Heap,
     rings: &Rings,
-    kind: TypeId,
-    bus: Oid,
-    props: &PropList,
+    planned: &Planned,
     alloc: Global,
     steps: &mut Steps<L>,
 ) -> Result<Spot, AddRefusal>
-    requires live { IsLive heap.now.rows bus }
-    ensures open { (b : Board) → Shows b heap.now → b.rings ≡ rings.now → OnOk result (spot_barred b kind bus.birth props.now ≡ None) }
-    ensures refused { (b : Board) → Shows b heap.now → b.rings ≡ rings.now → IfRefused result (λ stage code. spot_barred b kind bus.birth props.now ≡ Some (stage, code)) }
+    requires { IsFit planned.now heap.now }
+    ensures open { (b : Board) (props : List Given) → Shows b heap.now → b.rings ≡ rings.now → HasGiven b props planned.now → OnOk result (spot_barred b planned.now.site.kind planned.now.site.bus.birth props ≡ None) }
+    ensures refused { (b : Board) (props : List Given) → Shows b heap.now → b.rings ≡ rings.now → HasGiven b props planned.now → IfRefused result (λ stage code. spot_barred b planned.now.site.kind planned.now.site.bus.birth props ≡ Some (stage, code)) }
     ensures stages { IfRefused result (λ stage code. (5 ≤ stage) × (stage ≤ 6)) }
-    ensures spot { (b : Board) → Shows b heap.now → IfOk result (λ s. IsChosen b kind bus.birth props.now s) }
+    ensures spot { (b : Board) (props : List Given) → Shows b heap.now → HasGiven b props planned.now → IfOk result (λ s. IsChosen b planned.now.site.kind planned.now.site.bus.birth props s) }
     ensures within { IfOk result (λ s. s.slot < BUS_SLOTS) }
-    ensures dimm { IfOk result (λ s. is_some s.memory ≡ true → kind ≡ MemDimm) }
+    ensures dimm { IfOk result (λ s. is_some s.memory ≡ true → planned.now.site.kind ≡ MemDimm) }
 {
-    let slot = match slot_on(heap, bus, given_number(props, "slot"), steps) {
+    let slot = match slot_on(heap, planned.site.bus, slot_asked(planned), steps) {
         Ok(slot) => slot,
         Err(code) => return Err(AddRefusal::Refused { stage: 5, code }),
     };
-    let memory = match check_kind(heap, kind, bus, props, alloc, steps) {
+    let memory = match check_kind(heap, planned, alloc, steps) {
         Ok(memory) => memory,
         Err(refusal) => return Err(refusal),
     };
-    match ring_for(heap, rings, kind, props, alloc, steps) {
+    match ring_for(heap, rings, planned, alloc, steps) {
         Ok(ring) => Ok(Spot { slot, ring, memory }),
         Err(refusal) => Err(refusal),
     }

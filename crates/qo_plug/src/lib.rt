@@ -12,6 +12,7 @@ mod drafting;
 mod finishing;
 mod judging;
 mod placing;
+mod planning;
 mod refusals;
 mod starting;
 
@@ -22,5 +23,6 @@ pub use beginning::{Begun, abandon, begin};
 pub use drafting::{give_up, make_device};
 pub use finishing::finish;
 pub use placing::{Placed, Way, place};
+pub use planning::Planned;
 pub use refusals::{AddRefusal, Barred};
 pub use starting::start;

@@ -7,6 +7,8 @@ pub mod Filling
 pub mod Fresh
 pub mod Given
 pub mod Pinned
+pub mod Planned
+pub mod Planning
 pub mod Reads
 pub mod Start
 pub mod Writes

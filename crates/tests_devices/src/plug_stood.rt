@@ -5,7 +5,7 @@ use qo_buses::{anonymous_name, is_realized};
 use qo_heap::{Heap, Steps};
 use qo_hotplug::Hotplug;
 use qo_plug::{make_device, start};
-use qo_properties::{make_all, plan_of};
+use qo_properties::{make_all, plan};
 use qo_reset::Resets;
 use qo_standing::{Seat, Spot, stand};
 use qo_values::{ANONYMOUS_BIRTH, PropList, ROOT_BUS_BIRTH, TypeId};
@@ -26,7 +26,9 @@ fn started<L: Ledger>(alloc: Global, blank: Blank) -> Result<bool, AllocError>
     make_all(&mut heap, alloc, &mut steps)?;
     let device = make_device(&mut heap, TypeId::SlotBridge, alloc, &mut steps)?;
     let props = PropList::new(alloc);
-    let plan = plan_of(&heap, TypeId::SlotBridge, &props, alloc, &mut steps)?;
+    let Ok(plan) = plan(&heap, TypeId::SlotBridge, &props, alloc, &mut steps) else {
+        return Ok(false);
+    };
     let name = anonymous_name(0, alloc)?;
     let (Some(container), Some(bus)) = (
         heap.by_birth(ANONYMOUS_BIRTH),

@@ -6,4 +6,6 @@ pub mod filling;
 pub mod fresh;
 pub mod given;
 pub mod objects;
+pub mod planned;
+pub mod planning;
 pub mod start;

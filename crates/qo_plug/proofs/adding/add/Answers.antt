@@ -15,7 +15,7 @@ returns-in-Err-clause-memory g c = λ b is e. c.choose.ensures.memory b c.args.r
 pub returns-in-Err-Refused-clause-refused : goal.returns-in-Err-Refused-clause-refused
 returns-in-Err-Refused-clause-refused g c = λ b is.
     let a : Wanted = wanted c.args.driver.now (option_map (λ t. t.now) c.args.id) (option_map (λ t. t.now) c.args.bus) c.args.props.now in
-    let (admitted, given) = c.in-Ok.ensures.admitted b c.args.resets.now.births c.args.rings.now is in
+    let planned = c.in-Ok.ensures.planned b c.args.resets.now.births c.args.rings.now is in
     let shown = subst (Shows b) (sym c.in-Ok.ensures.same) is.shown in
     let stage = c.in-Err-Refused.stage in
     let code = c.in-Err-Refused.code in
@@ -23,14 +23,14 @@ returns-in-Err-Refused-clause-refused g c = λ b is.
     let stages : (5 ≤ stage) × (stage ≤ 6) =
     refused-told ℕ (λ at told. (5 ≤ at) × (at ≤ 6)) c.in-Err-Refused.field-0 stage code is_refused c.in-Err-Refused.ensures.stages in
     let early : (stage == 8) ≡ false = grind (arith, nat_tests, stages.1) in
-    spot-refused b a c.in-Ok.site admitted c.turn_down.new.heap (record { stage = stage; code = code }) (sym given)
-    (sym (refused-told ℕ (λ at told. spot_barred b c.in-Ok.site.kind c.in-Ok.site.bus.birth c.args.props.now ≡ Some (at, told)) c.in-Err-Refused.field-0
-    stage code is_refused (c.in-Err-Refused.ensures.refused b shown is.rings_are))) ℕ c.turn_down.result (c.turn_down.ensures.down b c.in-Ok.site.bus.birth shown early)
+    spot-refused b a c.in-Ok.planned.site planned.admitted c.turn_down.new.heap (record { stage = stage; code = code }) (sym planned.given)
+    (sym (refused-told ℕ (λ at told. spot_barred b c.in-Ok.planned.site.kind c.in-Ok.planned.site.bus.birth c.args.props.now ≡ Some (at, told)) c.in-Err-Refused.field-0
+    stage code is_refused (c.in-Err-Refused.ensures.refused b c.args.props.now shown is.rings_are planned.has))) ℕ c.turn_down.result (c.turn_down.ensures.down b c.in-Ok.planned.site.bus.birth shown early)
 
 pub returns-in-Err-Refused-clause-memory : goal.returns-in-Err-Refused-clause-memory
 returns-in-Err-Refused-clause-memory g c = λ b is e.
     let a : Wanted = wanted c.args.driver.now (option_map (λ t. t.now) c.args.id) (option_map (λ t. t.now) c.args.bus) c.args.props.now in
-    let (admitted, given) = c.in-Ok.ensures.admitted b c.args.resets.now.births c.args.rings.now is in
+    let planned = c.in-Ok.ensures.planned b c.args.resets.now.births c.args.rings.now is in
     let shown = subst (Shows b) (sym c.in-Ok.ensures.same) is.shown in
     let stage = c.in-Err-Refused.stage in
     let code = c.in-Err-Refused.code in
@@ -38,8 +38,8 @@ returns-in-Err-Refused-clause-memory g c = λ b is e.
     let stages : (5 ≤ stage) × (stage ≤ 6) =
     refused-told ℕ (λ at told. (5 ≤ at) × (at ≤ 6)) c.in-Err-Refused.field-0 stage code is_refused c.in-Err-Refused.ensures.stages in
     let early : (stage == 8) ≡ false = grind (arith, nat_tests, stages.1) in
-    spot-cut b a c.in-Ok.site admitted c.turn_down.new.heap (record { stage = stage; code = code }) c.turn_down.result
-    (c.turn_down.ensures.down b c.in-Ok.site.bus.birth shown early) (cc e)
+    spot-cut b a c.in-Ok.planned.site planned.admitted c.turn_down.new.heap (record { stage = stage; code = code }) c.turn_down.result
+    (c.turn_down.ensures.down b c.in-Ok.planned.site.bus.birth shown early) (cc e)
 
 pub returns-in-Err-Refused-clause-book : goal.returns-in-Err-Refused-clause-book
 returns-in-Err-Refused-clause-book g c = λ out h. c.turn_down.ensures.book out (c.choose.ensures.book out h)
@@ -47,8 +47,8 @@ returns-in-Err-Refused-clause-book g c = λ out h. c.turn_down.ensures.book out 
 pub returns-in-Err-make-clause-memory : goal.returns-in-Err-make-clause-memory
 returns-in-Err-make-clause-memory g c = λ b is e.
     let a : Wanted = wanted c.args.driver.now (option_map (λ t. t.now) c.args.id) (option_map (λ t. t.now) c.args.bus) c.args.props.now in
-    let (admitted, given) = c.in-Ok.ensures.admitted b c.args.resets.now.births c.args.rings.now is in
-    cut-late b a c.in-Ok.site admitted c.make.new.heap (c.in-Err-make.ensures.err b (subst (Shows b) (sym c.in-Ok.ensures.same) is.shown) is.sound)
+    let planned = c.in-Ok.ensures.planned b c.args.resets.now.births c.args.rings.now is in
+    cut-late b a c.in-Ok.planned.site planned.admitted c.make.new.heap (c.in-Err-make.ensures.err b (subst (Shows b) (sym c.in-Ok.ensures.same) is.shown) is.sound)
 
 pub returns-in-Err-make-clause-book : goal.returns-in-Err-make-clause-book
 returns-in-Err-make-clause-book g c = λ out h. c.make.ensures.book out (c.choose.ensures.book out h)
@@ -56,15 +56,15 @@ returns-in-Err-make-clause-book g c = λ out h. c.make.ensures.book out (c.choos
 pub returns-in-Err-place-clause-refused : goal.returns-in-Err-place-clause-refused
 returns-in-Err-place-clause-refused g c = λ b is.
     let a : Wanted = wanted c.args.driver.now (option_map (λ t. t.now) c.args.id) (option_map (λ t. t.now) c.args.bus) c.args.props.now in
-    let (admitted, given) = c.in-Ok.ensures.admitted b c.args.resets.now.births c.args.rings.now is in
-    let begun = c.in-Ok-make.ensures.begun b a (subst (Shows b) (sym c.in-Ok.ensures.same) is.shown) is.sound is.holds_are is.rings_are admitted refl given in
+    let planned = c.in-Ok.ensures.planned b c.args.resets.now.births c.args.rings.now is in
+    let begun = c.in-Ok-make.ensures.begun b a (subst (Shows b) (sym c.in-Ok.ensures.same) is.shown) is.sound is.holds_are is.rings_are planned in
     refused-within b a 5 6 ℕ ℕ c.in-Err-place.refusal c.place.new.heap (c.in-Err-place.ensures.refused b a begun)
 
 pub returns-in-Err-place-clause-memory : goal.returns-in-Err-place-clause-memory
 returns-in-Err-place-clause-memory g c = λ b is e.
     let a : Wanted = wanted c.args.driver.now (option_map (λ t. t.now) c.args.id) (option_map (λ t. t.now) c.args.bus) c.args.props.now in
-    let (admitted, given) = c.in-Ok.ensures.admitted b c.args.resets.now.births c.args.rings.now is in
-    let begun = c.in-Ok-make.ensures.begun b a (subst (Shows b) (sym c.in-Ok.ensures.same) is.shown) is.sound is.holds_are is.rings_are admitted refl given in
+    let planned = c.in-Ok.ensures.planned b c.args.resets.now.births c.args.rings.now is in
+    let begun = c.in-Ok-make.ensures.begun b a (subst (Shows b) (sym c.in-Ok.ensures.same) is.shown) is.sound is.holds_are is.rings_are planned in
     c.in-Err-place.ensures.memory b a begun (ap (λ r. Err r) (cc e))
 
 pub returns-in-Err-place-clause-book : goal.returns-in-Err-place-clause-book
@@ -73,8 +73,8 @@ returns-in-Err-place-clause-book g c = λ out h. c.place.ensures.book out (c.mak
 pub returns-in-Ok-finish-clause-ok : goal.returns-in-Ok-finish-clause-ok
 returns-in-Ok-finish-clause-ok g c = λ b is.
     let a : Wanted = wanted c.args.driver.now (option_map (λ t. t.now) c.args.id) (option_map (λ t. t.now) c.args.bus) c.args.props.now in
-    let (admitted, given) = c.in-Ok.ensures.admitted b c.args.resets.now.births c.args.rings.now is in
-    let begun = c.in-Ok-make.ensures.begun b a (subst (Shows b) (sym c.in-Ok.ensures.same) is.shown) is.sound is.holds_are is.rings_are admitted refl given in
+    let planned = c.in-Ok.ensures.planned b c.args.resets.now.births c.args.rings.now is in
+    let begun = c.in-Ok-make.ensures.begun b a (subst (Shows b) (sym c.in-Ok.ensures.same) is.shown) is.sound is.holds_are is.rings_are planned in
     c.in-Ok-finish.ensures.ok b a (c.in-Ok-place.ensures.settled b a begun is.notices)
     (record { holds_are = is.holds_are; pending = is.pending; notices = is.notices })
 
@@ -84,8 +84,8 @@ returns-in-Ok-finish-clause-book g c = λ out h. c.finish.ensures.book out (c.pl
 pub returns-in-Err-finish-clause-refused : goal.returns-in-Err-finish-clause-refused
 returns-in-Err-finish-clause-refused g c = λ b is.
     let a : Wanted = wanted c.args.driver.now (option_map (λ t. t.now) c.args.id) (option_map (λ t. t.now) c.args.bus) c.args.props.now in
-    let (admitted, given) = c.in-Ok.ensures.admitted b c.args.resets.now.births c.args.rings.now is in
-    let begun = c.in-Ok-make.ensures.begun b a (subst (Shows b) (sym c.in-Ok.ensures.same) is.shown) is.sound is.holds_are is.rings_are admitted refl given in
+    let planned = c.in-Ok.ensures.planned b c.args.resets.now.births c.args.rings.now is in
+    let begun = c.in-Ok-make.ensures.begun b a (subst (Shows b) (sym c.in-Ok.ensures.same) is.shown) is.sound is.holds_are is.rings_are planned in
     refused-last b a ℕ ℕ c.in-Err-finish.field-0 c.finish.new.heap c.in-Err-finish.ensures.code
     (c.in-Err-finish.ensures.refused b a (c.in-Ok-place.ensures.settled b a begun is.notices))
 

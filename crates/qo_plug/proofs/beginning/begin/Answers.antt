@@ -15,8 +15,8 @@ returns-in-Err-clause-memory g c = λ b is e. c.choose.ensures.memory b c.args.r
 pub returns-in-Ok-make-clause-begun : goal.returns-in-Ok-make-clause-begun
 returns-in-Ok-make-clause-begun g c = λ b is.
     let a : Wanted = wanted c.args.driver.now (option_map (λ t. t.now) c.args.id) (option_map (λ t. t.now) c.args.bus) c.args.props.now in
-    let (admitted, given) = c.in-Ok.ensures.admitted b c.args.resets.now.births c.args.rings.now is in
-    c.in-Ok-make.ensures.begun b a (subst (Shows b) (sym c.in-Ok.ensures.same) is.shown) is.sound is.holds_are is.rings_are admitted refl given
+    let planned = c.in-Ok.ensures.planned b c.args.resets.now.births c.args.rings.now is in
+    c.in-Ok-make.ensures.begun b a (subst (Shows b) (sym c.in-Ok.ensures.same) is.shown) is.sound is.holds_are is.rings_are planned
 
 pub returns-in-Ok-make-clause-book : goal.returns-in-Ok-make-clause-book
 returns-in-Ok-make-clause-book g c = λ out h. c.make.ensures.book out (c.choose.ensures.book out h)
@@ -24,8 +24,8 @@ returns-in-Ok-make-clause-book g c = λ out h. c.make.ensures.book out (c.choose
 pub returns-in-Err-make-clause-memory : goal.returns-in-Err-make-clause-memory
 returns-in-Err-make-clause-memory g c = λ b is e.
     let a : Wanted = wanted c.args.driver.now (option_map (λ t. t.now) c.args.id) (option_map (λ t. t.now) c.args.bus) c.args.props.now in
-    let (admitted, given) = c.in-Ok.ensures.admitted b c.args.resets.now.births c.args.rings.now is in
-    cut-late b a c.in-Ok.site admitted c.make.new.heap (c.in-Err-make.ensures.err b (subst (Shows b) (sym c.in-Ok.ensures.same) is.shown) is.sound)
+    let planned = c.in-Ok.ensures.planned b c.args.resets.now.births c.args.rings.now is in
+    cut-late b a c.in-Ok.planned.site planned.admitted c.make.new.heap (c.in-Err-make.ensures.err b (subst (Shows b) (sym c.in-Ok.ensures.same) is.shown) is.sound)
 
 pub returns-in-Err-make-clause-book : goal.returns-in-Err-make-clause-book
 returns-in-Err-make-clause-book g c = λ out h. c.make.ensures.book out (c.choose.ensures.book out h)

@@ -19,12 +19,12 @@ returns-clause-held g c =
     let made = c.in_ok-device.ensures.made in
     let grows = c.in_ok-device.ensures.grows in
     let born : c.in_ok-device.device.birth ≡ c.args.heap.now.born + 1 = made.birth in
-    let low : c.args.site.bus.birth ≤ c.args.heap.now.born = live-low c.args.heap.now c.facts.ensures c.args.site.bus c.requires.bus in
+    let low : c.args.planned.site.bus.birth ≤ c.args.heap.now.born = live-low c.args.heap.now c.facts.ensures c.args.planned.site.bus c.requires.fit.bus in
     record {
-      device_is = c.requires.device;
+      device_is = c.requires.fit.device;
       live = made.live;
-      container = grows.names c.args.site.place.container c.requires.container;
-      bus = grows.names c.args.site.bus c.requires.bus;
+      container = grows.names c.args.planned.site.place.container c.requires.fit.container;
+      bus = grows.names c.args.planned.site.bus c.requires.fit.bus;
       older = omega (arith, born, low);
       within = c.requires.spot.within;
       dimm = c.requires.spot.dimm;
@@ -32,24 +32,21 @@ returns-clause-held g c =
       pinned = c.in_ok-device.ensures.pinned;
       rest = made.rest;
       quiet = λ n le. grows.quiet n (unborn-quiet c.args.heap.now c.facts.ensures n (omega (arith, born, le)));
-      targets = plan-live c.args.heap.now c.make_device.new.heap grows.names c.in_ok-plan.plan.items c.in_ok-plan.ensures.live;
-      fits = subst (λ (slots : List Named). AllZip Fits c.in_ok-plan.plan.items slots) (sym made.own) c.in_ok-plan.ensures.fits;
+      targets = plan-live c.args.heap.now c.make_device.new.heap grows.names c.args.planned.plan.items c.requires.fit.targets;
+      fits = subst (λ (slots : List Named). AllZip Fits c.args.planned.plan.items slots) (sym made.own) c.requires.fit.fits;
     }
 
 pub returns-clause-begun : goal.returns-clause-begun
-returns-clause-begun g c = λ b a s sound holds rings admitted props given.
+returns-clause-begun g c = λ b a s sound holds rings planned.
     let made = c.in_ok-device.ensures.made in
-    let bus = c.args.site.bus.birth in
     record {
       shown = c.in_ok-device.ensures.shown b s;
       sound = sound;
-      admitted = admitted;
-      given = given;
+      admitted = planned.admitted;
+      given = planned.given;
       birth = made.birth ∙ sym (ap (λ (k : ℕ). k + 1) s.born);
-      barred = c.requires.spot.refused b s rings ∙ ap (spot_barred b c.args.site.kind bus) (sym props);
-      spot =
-          subst (λ (l : List Given). IfOk c.args.spot (λ at. IsChosen b c.args.site.kind bus l at)) (sym props) (c.requires.spot.spot b s);
-      out = cut-none c.count-out.result (count b c.args.site.bus.birth) (c.count-out.ensures b (s, holds));
-      plan = subst (λ (slots : List Named). AllZip (IsGiven b a.props) c.in_ok-plan.plan.items slots) (sym made.own)
-          (subst (λ (l : List Given). AllZip (IsGiven b l) c.in_ok-plan.plan.items (new_slots c.args.site.kind)) (sym props) (c.in_ok-plan.ensures.told b s));
+      barred = c.requires.spot.refused b a.props s rings planned.has;
+      spot = c.requires.spot.spot b a.props s planned.has;
+      out = cut-none c.count-out.result (count b c.args.planned.site.bus.birth) (c.count-out.ensures b (s, holds));
+      plan = subst (λ (slots : List Named). AllZip (IsGiven b a.props) c.args.planned.plan.items slots) (sym made.own) planned.has;
     }

@@ -8,21 +8,21 @@ use Rattle.qo_plug.proofs.JudgeLemmas.{refused-map}
 use Rattle.qo_plug.proofs.judging.check_kind.Goals as goal
 
 pub returns-in-Ok-clause-open : goal.returns-in-Ok-clause-open
-returns-in-Ok-clause-open g c = λ b s.
-    ap (λ (t : TypeId). kind_barred b t c.args.bus.birth c.args.props.now) c.in-MemDimm.is ∙ c.in-Ok.ensures.open b c.args.bus.birth s
+returns-in-Ok-clause-open g c = λ b props s has.
+    ap (λ (t : TypeId). kind_barred b t c.args.planned.now.site.bus.birth props) c.in-MemDimm.is ∙ c.in-Ok.ensures.open b c.args.planned.now.site.bus.birth props s has
 
 pub returns-in-Err-clause-refused : goal.returns-in-Err-clause-refused
-returns-in-Err-clause-refused g c = λ b s.
-    let kind = ap (λ (t : TypeId). kind_barred b t c.args.bus.birth c.args.props.now) c.in-MemDimm.is in
-    refused-map ℕ ℕ (λ stage code. (stage ≡ 5) × (kind_barred b MemDimm c.args.bus.birth c.args.props.now ≡ Some code))
-    (λ stage code. (stage ≡ 5) × (kind_barred b c.args.kind c.args.bus.birth c.args.props.now ≡ Some code)) c.in-Err.refusal (λ stage code h. (h.0, kind ∙ h.1)) (c.in-Err.ensures.refused b c.args.bus.birth s)
+returns-in-Err-clause-refused g c = λ b props s has.
+    let kind = ap (λ (t : TypeId). kind_barred b t c.args.planned.now.site.bus.birth props) c.in-MemDimm.is in
+    refused-map ℕ ℕ (λ stage code. (stage ≡ 5) × (kind_barred b MemDimm c.args.planned.now.site.bus.birth props ≡ Some code))
+    (λ stage code. (stage ≡ 5) × (kind_barred b c.args.planned.now.site.kind c.args.planned.now.site.bus.birth props ≡ Some code)) c.in-Err.refusal (λ stage code h. (h.0, kind ∙ h.1)) (c.in-Err.ensures.refused b c.args.planned.now.site.bus.birth props s has)
 
 pub returns-in-SlotBridge-clause-open : goal.returns-in-SlotBridge-clause-open
-returns-in-SlotBridge-clause-open g c = λ b s.
-    subst (λ (t : TypeId). OnOk c.check_depth.result (kind_barred b t c.args.bus.birth c.args.props.now ≡ None)) (sym c.in-SlotBridge.is)
-    (c.check_depth.ensures.open b c.args.props.now s)
+returns-in-SlotBridge-clause-open g c = λ b props s has.
+    subst (λ (t : TypeId). OnOk c.check_depth.result (kind_barred b t c.args.planned.now.site.bus.birth props ≡ None)) (sym c.in-SlotBridge.is)
+    (c.check_depth.ensures.open b props s)
 
 pub returns-in-SlotBridge-clause-refused : goal.returns-in-SlotBridge-clause-refused
-returns-in-SlotBridge-clause-refused g c = λ b s.
-    subst (λ (t : TypeId). IfRefused c.check_depth.result (λ stage code. (stage ≡ 5) × (kind_barred b t c.args.bus.birth c.args.props.now ≡ Some code)))
-    (sym c.in-SlotBridge.is) (c.check_depth.ensures.refused b c.args.props.now s)
+returns-in-SlotBridge-clause-refused g c = λ b props s has.
+    subst (λ (t : TypeId). IfRefused c.check_depth.result (λ stage code. (stage ≡ 5) × (kind_barred b t c.args.planned.now.site.bus.birth props ≡ Some code)))
+    (sym c.in-SlotBridge.is) (c.check_depth.ensures.refused b props s)

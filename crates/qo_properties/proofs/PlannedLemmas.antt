@@ -1,0 +1,48 @@
+-- What is planned for the slot of a property, by its place.
+use Rattle.std.proofs.Common.{◌≡◌, refl, ap, sym, subst, ◌∙◌, ℕ, zero, suc, ◌<◌, ◌≤◌, List, [], ◌∷◌, length, slice_get, Option, Some, None, option_map, Bor, arith}
+use Rattle.std.specs.Prelude.{IfSome}
+use Rattle.std.specs.List.{AllByRecursion, AllZip}
+use Rattle.std.specs.Slice.{IsItemAt}
+use Rattle.std.proofs.lemmas.Bool.Decides.{nat_tests}
+use Rattle.std.proofs.lemmas.Option.{same_Some, slice_get_past, slice_get_read}
+use Rattle.qo_values.specs.declared.kinds.TypeId.{TypeId}
+use Rattle.qo_model.specs.Board.{Board}
+use Rattle.qo_model.specs.Objects.{Given}
+use Rattle.qo_model.specs.Properties.{row_of_property}
+use Rattle.qo_object.specs.Slots.{Named}
+use Rattle.qo_properties.specs.declared.adding.filling.Fill.{Fill}
+use Rattle.qo_properties.specs.declared.adding.planning.PlacedRow.{PlacedRow}
+use Rattle.qo_properties.specs.Filling.{IsGiven}
+use Rattle.qo_properties.specs.Fresh.{new_slots, slot_begun}
+use Rattle.qo_properties.specs.Planned.{IsPlan, TellsGiven, slot_for}
+use Rattle.qo_properties.specs.Planning.{StandsAt}
+
+zip-at : {X Y : Type 0} (R : X → Y → Type 0) (xs : List X) (ys : List Y) (i : ℕ) (y : Y) → AllZip R xs ys → slice_get ys i ≡ Some y
+    → (x : X) × (slice_get xs i ≡ Some x) × R x y
+zip-at R xs [] i y all at = absurd (let clash : None ≡ Some y = at in cc)
+zip-at R [] (z ∷ ys) i y all at = absurd all
+zip-at R (x ∷ xs) (z ∷ ys) zero y all at = (x, refl, subst (R x) (same_Some z y at) all.0)
+zip-at R (x ∷ xs) (z ∷ ys) (suc i) y all at = zip-at R xs ys i y all.1 at
+
+pub all-at : {X : Type 0} (P : X → Type 0) (xs : List X) (i : ℕ) → AllByRecursion P xs → IfSome (slice_get xs i) P
+all-at P [] i all = tt
+all-at P (x ∷ xs) zero all = all.0
+all-at P (x ∷ xs) (suc i) all = all-at P xs i all.1
+
+pub got : {X : Type 0} (xs : List X) (i : ℕ) (r : Option (Bor X)) → IsItemAt xs i r → option_map (λ (x : Bor X). x.now) r ≡ slice_get xs i
+got xs i None at = let over : length xs ≤ i = grind (arith, nat_tests, at.0) in sym (slice_get_past xs i over)
+got xs i (Some x) at = let below : i < length xs = grind (arith, nat_tests, at.0) in sym (slice_get_read xs (length xs) i x.now refl below at.1)
+
+module _ (b : Board) (props : List Given) (t : TypeId) (name : List ℕ) (plan : List Fill) (has : IsPlan b t props plan) where
+  pub none-told : (o : Option Fill) → row_of_property t name ≡ None → TellsGiven b props o (slot_for t name)
+  none-told o none = rw none tt
+
+  pub place-told : (p : PlacedRow) → row_of_property t name ≡ Some p.row → StandsAt t p → (o : Option Fill) → o ≡ slice_get plan p.place
+      → TellsGiven b props o (slot_for t name)
+  place-told p row stands o is = rw row (go (slot_begun t p.row) refl)
+    where
+      go : (s : Option Named) → slot_begun t p.row ≡ s → TellsGiven b props o (slot_begun t p.row)
+      go None e = rw e tt
+      go (Some s) e =
+          let (f, here, given) = zip-at (IsGiven b props) plan (new_slots t) p.place s has (rw e at stands) in
+          rw (e, is, here) given

@@ -1,0 +1,11 @@
+-- The plan has it at the place of its slot.
+use Rattle.std.proofs.Common.{◌≡◌, ap, sym, ◌∙◌, Option, option_map, Some}
+use Rattle.qo_model.specs.declared.properties.Property.{Property}
+use Rattle.qo_properties.specs.declared.adding.planning.PlacedRow.{PlacedRow}
+use Rattle.qo_properties.proofs.PlannedLemmas.{got, place-told}
+use Rattle.qo_properties.proofs.adding.planned.planned_for.Goals as goal
+
+pub returns-clause-given : goal.returns-clause-given
+returns-clause-given c = λ b props has.
+    place-told b props c.args.kind c.args.name.now c.args.plan.now has c.in_ok-placed.placed (sym c.in_ok-placed.ensures.row) c.in_ok-placed.ensures.place
+    (option_map (λ f. f.now) c.get.result) (got c.args.plan.now c.in_ok-placed.placed.place c.get.result c.get.ensures.lookup)
