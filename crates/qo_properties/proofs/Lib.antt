@@ -10,6 +10,7 @@ pub mod GivenLemmas
 pub mod ListLemmas
 pub mod LookupLemmas
 pub mod PinLemmas
+pub mod PlanningLemmas
 pub mod ReadLemmas
 pub mod SeverLemmas
 pub mod StartLemmas

@@ -7,6 +7,7 @@ pub mod Filling
 pub mod Fresh
 pub mod Given
 pub mod Pinned
+pub mod Planning
 pub mod Reads
 pub mod Start
 pub mod Writes

@@ -93,7 +93,7 @@ fn fill_row<L: Ledger>(
 }
 
 /// Whether a new object has a slot for a property with this row.
-fn begins(kind: RowKind) -> bool
+pub(crate) fn begins(kind: RowKind) -> bool
     ensures { (t : TypeId) → result ≡ is_some (begun t kind) }
 {
     match kind {

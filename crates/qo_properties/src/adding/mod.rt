@@ -6,4 +6,5 @@ pub mod filling;
 pub mod fresh;
 pub mod given;
 pub mod objects;
+pub mod planning;
 pub mod start;
