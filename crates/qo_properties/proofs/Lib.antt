@@ -10,8 +10,8 @@ pub mod GivenLemmas
 pub mod ListLemmas
 pub mod LookupLemmas
 pub mod PinLemmas
-pub mod PlacedLemmas
 pub mod PlannedLemmas
+pub mod PlanningLemmas
 pub mod ReadLemmas
 pub mod SeverLemmas
 pub mod StartLemmas

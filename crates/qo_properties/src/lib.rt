@@ -13,7 +13,7 @@ pub use adding::barring::{Admitted, admit};
 pub use adding::filling::{Fill, plan_of, settle};
 pub use adding::fresh::{add_fresh_slots, add_row, name_of};
 pub use adding::given::{check_given, given_val, linked_to};
-pub use adding::objects::{add_filled, add_object, attempt, make_child};
+pub use adding::objects::{add_object, attempt, make_child};
 pub use adding::planned::planned_for;
 pub use adding::planning::plan;
 pub use adding::start::make_all;

@@ -1,10 +1,11 @@
 //! Making users' objects.
 
-ghost use Rattle.std.specs.Prelude.{◌≡◌, ℕ, ◌+◌, Some, option_map, IfOk, OnOk, OnErr, List};
+ghost use Rattle.std.specs.Prelude.{◌≡◌, ℕ, ◌+◌, Some, option_map, IfOk, IfSome, OnOk, OnErr, List};
+ghost use Rattle.std.specs.List.{AllByRecursion, AllZip};
 ghost use Rattle.qo_values.specs.declared.births.TheConstants.{OBJECTS_BIRTH};
 ghost use Rattle.qo_table.specs.Rows.{IsLive};
 ghost use Rattle.qo_model.specs.Board.{Board};
-ghost use Rattle.qo_model.specs.Objects.{with_object};
+ghost use Rattle.qo_model.specs.Objects.{Given, with_object};
 ghost use Rattle.qo_object.specs.Content.{held_count, with_slot, without_pin};
 ghost use Rattle.qo_object.specs.Slots.{Named};
 ghost use Rattle.qo_object.specs.declared.slots.Slot.TheVariants.{Child};
@@ -12,12 +13,13 @@ ghost use Rattle.qo_heap.specs.Board.{Shows, pins_in};
 ghost use Rattle.qo_heap.specs.Objects.{content_of, ended, pins_of, refs_of, with_edit};
 ghost use Rattle.qo_properties.specs.Adding.{Adds, IsChild, IsTried, given_up};
 ghost use Rattle.qo_properties.specs.Claims.{KeepsBook};
+ghost use Rattle.qo_properties.specs.Filling.{Fits, IsGiven, target_in};
 ghost use Rattle.qo_properties.specs.Fresh.{first_slots, new_slots, with_slots};
 
 use crate::adding::barring::{Admitted, admit};
-use crate::adding::filling::{plan_of, settle};
+use crate::adding::filling::{Fill, settle};
 use crate::adding::fresh::add_fresh_slots;
-use crate::adding::given::check_given;
+use crate::adding::planning::plan;
 use crate::refusals::Refusal;
 use qo_heap::{Heap, Oid, SlotName, Steps};
 use qo_life::create;
@@ -99,18 +101,20 @@ pub fn make_child<L: Ledger>(
     }
 }
 
-/// Makes an object of a type with the values given, as a child of `/objects`, which alone holds it
-/// then. Where memory wants, the heap is as it was, or the object was made and ended.
-pub fn add_filled<L: Ledger>(
+/// Makes an admitted object with its slots as they are planned, as a child of `/objects`, which alone
+/// holds it then. Where memory wants, the heap is as it was, or the object was made and ended.
+fn add_planned<L: Ledger>(
     heap: &mut Heap,
     admitted: Admitted,
-    props: &PropList,
+    plan: Vec<Fill>,
     alloc: Global,
     steps: &mut Steps<L>,
 ) -> Result<(), AllocError>
     requires live { IsLive heap.old.rows admitted.objects }
     requires objects { admitted.objects.birth ≡ OBJECTS_BIRTH }
-    ensures ok { OnOk result ((b : Board) → Shows b heap.old → Shows (with_object b admitted.kind admitted.name props.now) heap.new) }
+    requires targets { AllByRecursion (λ f. IfSome (target_in f) (IsLive heap.old.rows)) plan.items }
+    requires fits { AllZip Fits plan.items (new_slots admitted.kind) }
+    ensures ok { OnOk result ((b : Board) (props : List Given) → Shows b heap.old → AllZip (IsGiven b props) plan.items (new_slots admitted.kind) → Shows (with_object b admitted.kind admitted.name props) heap.new) }
     ensures err { OnErr result (IsTried admitted.kind heap.old heap.new) }
     ensures pins { pins_in heap.new.rows ≡ pins_in heap.old.rows }
     ensures book { KeepsBook heap.old heap.new }
@@ -121,7 +125,6 @@ pub fn add_filled<L: Ledger>(
         kind,
     } = admitted;
     heap.facts();
-    let plan = plan_of(heap, kind, props, alloc, steps)?;
     let name = SlotName::own(name);
     let made = make_child(heap, objects, name, kind, alloc, steps)?;
     settle(heap, made, plan, steps);
@@ -150,10 +153,13 @@ pub fn add_object<L: Ledger>(
     ensures book { KeepsBook heap.old heap.new }
 {
     let admitted = admit(heap, driver, id, alloc, steps)?;
-    if let Err(code) = check_given(heap, admitted.kind, props, steps) {
-        attempt(heap, admitted.kind, alloc, steps)?;
-        return Err(Refusal::Refused(code));
+    match plan(heap, admitted.kind, props, alloc, steps) {
+        Ok(plan) => add_planned(heap, admitted, plan, alloc, steps)?,
+        Err(Refusal::Refused(code)) => {
+            attempt(heap, admitted.kind, alloc, steps)?;
+            return Err(Refusal::Refused(code));
+        }
+        Err(Refusal::Memory) => return Err(Refusal::Memory),
     }
-    add_filled(heap, admitted, props, alloc, steps)?;
     Ok(())
 }

@@ -1,24 +1,31 @@
-//! Planning the slots of a new object.
+//! Planning the slots of a new object: what is given for its properties is looked at once, in the
+//! order given, before the object is made, so that filling it takes no memory and refuses nothing.
 
-ghost use Rattle.std.specs.Prelude.{◌≡◌, IfOk, IfSome, option_map};
+ghost use Rattle.std.specs.Prelude.{◌≡◌, Bool, true, Some, None, [], ◌∷◌, ◌++◌, find, map, is_some, option_map, IfOk, IfSome, OnOk, List};
 ghost use Rattle.std.specs.List.{AllByRecursion, AllZip};
+ghost use Rattle.std.specs.Str.{bytes_eq};
+ghost use Rattle.qo_values.specs.declared.kinds.TypeId.{TypeId};
 ghost use Rattle.qo_model.specs.Board.{Board};
-ghost use Rattle.qo_model.specs.Objects.{refusal_of};
+ghost use Rattle.qo_model.specs.Objects.{Given, misfit, refusal_by, refusal_of};
 ghost use Rattle.qo_model.specs.Properties.{row_of_property};
+ghost use Rattle.qo_object.specs.declared.slots.Slot.TheVariants.{Link};
 ghost use Rattle.qo_table.specs.Rows.{IsLive};
 ghost use Rattle.qo_heap.specs.Board.{Shows};
-ghost use Rattle.qo_properties.specs.Fresh.{new_slots};
-ghost use Rattle.qo_properties.specs.Filling.{Fits, IsGiven, target_in};
+ghost use Rattle.qo_properties.specs.declared.adding.filling.Fill.TheVariants.{Nothing, Value};
+ghost use Rattle.qo_properties.specs.Fresh.{begun, new_slots};
+ghost use Rattle.qo_properties.specs.Filling.{Fits, HasValue, IsGiven, fits, target_in};
+ghost use Rattle.qo_properties.specs.Given.{link_misfit, plain_misfit};
 ghost use Rattle.qo_properties.specs.Planning.{StandsAt, TellsRefusal};
 
-use crate::adding::filling::{Fill, begins, plan_of};
-use crate::adding::given::check_given;
+use crate::adding::filling::{Fill, begins};
+use crate::reading::values::copy_of;
 use crate::refusals::Refusal;
+use crate::writing::writes::link_target;
 use qo_heap::{Heap, Steps};
-use qo_model::Property;
+use qo_model::{Mark, Property, RowKind};
 use qo_types::TypeTable;
-use qo_values::{PropList, TypeId};
-use std::alloc::Global;
+use qo_values::{Code, Misfit, PropList, PropType, TypeId, Val};
+use std::alloc::{AllocError, Global};
 use std::sync::ledger::Ledger;
 
 /// The row of a property of a type, with the place of its slot among those of a new object; the
@@ -48,7 +55,129 @@ pub fn placed_row(kind: TypeId, name: &str) -> Option<PlacedRow>
     None
 }
 
-/// What each slot of a new object of a type is filled with, by the properties given.
+/// What a value fills the slot of a plain property of a type with. `E19` comes where it does not fit.
+fn plain_fill(ty: PropType, val: &Val, alloc: Global) -> Result<Fill, Refusal>
+    ensures refused { TellsRefusal result (plain_misfit ty val.now) }
+    ensures value { IfOk result (λ f. f ≡ Value val.now) }
+{
+    if let Err(Misfit) = ty.admit(val) {
+        return Err(Refusal::Refused(Code::E19));
+    }
+    Ok(Fill::Value(copy_of(val, alloc)?))
+}
+
+/// What a value fills a link to objects of a type with. `E19` comes where it is no text, and where
+/// it names no target of the type, the code of `link_target`.
+fn link_fill<L: Ledger>(
+    heap: &Heap,
+    ty: TypeId,
+    val: &Val,
+    steps: &mut Steps<L>,
+) -> Result<Fill, Refusal>
+    ensures refused { (b : Board) → Shows b heap.now → TellsRefusal result (link_misfit b ty val.now) }
+    ensures told { (b : Board) → Shows b heap.now → (strong : Bool) → IfOk result (λ f. HasValue b val.now f (Link ty strong None)) }
+    ensures fits { (strong : Bool) → IfOk result (λ f. fits f (Link ty strong None) ≡ true) }
+    ensures live { IfOk result (λ f. IfSome (target_in f) (IsLive heap.now.rows)) }
+{
+    let Val::Text(path) = val else {
+        return Err(Refusal::Refused(Code::E19));
+    };
+    match link_target(heap, ty, path.as_str(), steps) {
+        Ok(Some(target)) => Ok(Fill::Target(target)),
+        Ok(None) => Ok(Fill::Nothing),
+        Err(code) => Err(Refusal::Refused(code)),
+    }
+}
+
+/// What a value fills the slot of a property with this row with.
+fn kind_fill<L: Ledger>(
+    heap: &Heap,
+    kind: RowKind,
+    val: &Val,
+    alloc: Global,
+    steps: &mut Steps<L>,
+) -> Result<Fill, Refusal>
+    ensures refused { (b : Board) → Shows b heap.now → TellsRefusal result (misfit b kind val.now) }
+    ensures own { OnOk result ((t : TypeId) → is_some (begun t kind) ≡ true) }
+    ensures told { (b : Board) → Shows b heap.now → (t : TypeId) → IfOk result (λ f. IfSome (begun t kind) (HasValue b val.now f)) }
+    ensures fits { (t : TypeId) → IfOk result (λ f. IfSome (begun t kind) (λ s. fits f s ≡ true)) }
+    ensures live { IfOk result (λ f. IfSome (target_in f) (IsLive heap.now.rows)) }
+{
+    match kind {
+        RowKind::Plain(ty, _) => plain_fill(ty, val, alloc),
+        RowKind::Link { ty, .. } => link_fill(heap, ty, val, steps),
+        RowKind::Child(_) => Err(Refusal::Refused(Code::E19)),
+        RowKind::Alias { .. } => Err(Refusal::Refused(Code::E19)),
+    }
+}
+
+/// What a value fills the slot of the property that has this row with. `E18` comes where the adding
+/// command does not write it.
+fn row_fill<L: Ledger>(
+    heap: &Heap,
+    row: Property,
+    val: &Val,
+    alloc: Global,
+    steps: &mut Steps<L>,
+) -> Result<Fill, Refusal>
+    ensures refused { (b : Board) → Shows b heap.now → TellsRefusal result (refusal_by b (Some row) val.now) }
+    ensures own { OnOk result ((t : TypeId) → is_some (begun t row.kind) ≡ true) }
+    ensures told { (b : Board) → Shows b heap.now → (t : TypeId) → IfOk result (λ f. IfSome (begun t row.kind) (HasValue b val.now f)) }
+    ensures fits { (t : TypeId) → IfOk result (λ f. IfSome (begun t row.kind) (λ s. fits f s ≡ true)) }
+    ensures live { IfOk result (λ f. IfSome (target_in f) (IsLive heap.now.rows)) }
+{
+    match row.mark {
+        Mark::Add => kind_fill(heap, row.kind, val, alloc, steps),
+        Mark::Both => kind_fill(heap, row.kind, val, alloc, steps),
+        Mark::Never => Err(Refusal::Refused(Code::E18)),
+        Mark::Set => Err(Refusal::Refused(Code::E18)),
+    }
+}
+
+/// Puts what a value given to the property of a name fills its slot with into the plan of a new
+/// object of a type, for which none was given before.
+fn plan_one<L: Ledger>(
+    fills: &mut Vec<Fill>,
+    heap: &Heap,
+    kind: TypeId,
+    name: &str,
+    val: &Val,
+    alloc: Global,
+    steps: &mut Steps<L>,
+) -> Result<(), Refusal>
+    requires { AllZip Fits fills.old.items (new_slots kind) }
+    ensures refused { (b : Board) → Shows b heap.now → TellsRefusal result (refusal_by b (row_of_property kind name.now) val.now) }
+    ensures told { (b : Board) (given : List Given) → Shows b heap.now → find (λ p. bytes_eq p.0 name.now) given ≡ None → AllZip (IsGiven b given) fills.old.items (new_slots kind) → OnOk result (AllZip (IsGiven b (given ++ (name.now, val.now) ∷ [])) fills.new.items (new_slots kind)) }
+    ensures fits { OnOk result (AllZip Fits fills.new.items (new_slots kind)) }
+    ensures live { OnOk result (AllByRecursion (λ f. IfSome (target_in f) (IsLive heap.now.rows)) fills.old.items → AllByRecursion (λ f. IfSome (target_in f) (IsLive heap.now.rows)) fills.new.items) }
+{
+    let Some(placed) = placed_row(kind, name) else {
+        return Err(Refusal::Refused(Code::E17));
+    };
+    let fill = row_fill(heap, placed.row, val, alloc, steps)?;
+    fills[placed.place] = fill;
+    Ok(())
+}
+
+/// The plan of a new object of a type for which nothing is given.
+fn blank(kind: TypeId, alloc: Global) -> Result<Vec<Fill>, AllocError>
+    ensures { IfOk result (λ fills. fills.items ≡ map (λ _. Nothing) (new_slots kind)) }
+{
+    let rows = TypeTable::board().props(kind);
+    let mut fills = Vec::with_capacity(alloc, rows.len())?;
+    for row in rows {
+        if begins(row.kind) {
+            fills.push(Fill::Nothing)?;
+        }
+    }
+    Ok(fills)
+}
+
+/// What each slot of a new object of a type is filled with, by the properties given, which are looked
+/// at in the order given; the first that is refused refuses them. `E17` comes where the type has no
+/// such property, `E18` where the adding command does not write it, `E19` where the value does not
+/// fit; of a link, `E15` where nothing is at the path, `E16` where several are, and `E31` where the
+/// target is not of the link's type.
 pub fn plan<L: Ledger>(
     heap: &Heap,
     kind: TypeId,
@@ -61,11 +190,17 @@ pub fn plan<L: Ledger>(
     ensures fits { IfOk result (λ plan. AllZip Fits plan.items (new_slots kind)) }
     ensures live { IfOk result (λ plan. AllByRecursion (λ f. IfSome (target_in f) (IsLive heap.now.rows)) plan.items) }
 {
-    if let Err(code) = check_given(heap, kind, props, steps) {
-        return Err(Refusal::Refused(code));
+    let mut fills = blank(kind, alloc)?;
+    for pair in props.as_slice() {
+        plan_one(
+            &mut fills,
+            heap,
+            kind,
+            pair.0.as_str(),
+            &pair.1,
+            alloc,
+            steps,
+        )?;
     }
-    match plan_of(heap, kind, props, alloc, steps) {
-        Ok(plan) => Ok(plan),
-        Err(_) => Err(Refusal::Memory),
-    }
+    Ok(fills)
 }
