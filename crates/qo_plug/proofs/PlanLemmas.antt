@@ -9,17 +9,15 @@ use Rattle.qo_values.specs.declared.properties.Val.{Val}
 use Rattle.qo_values.specs.declared.properties.Val.TheVariants as val
 use Rattle.qo_model.specs.Board as board
 use Rattle.qo_model.specs.Devices.{number_in, text_in}
-use Rattle.qo_model.specs.Objects.{Given, given_to, slot_given, target_given}
+use Rattle.qo_model.specs.Objects.{Given, given_to, target_given}
 use Rattle.qo_model.specs.Plug.{number_for, target_for, text_for}
 use Rattle.qo_model.specs.Properties.{link_target}
 use Rattle.qo_model.specs.Types.{is_a, types}
 use Rattle.qo_object.specs.Shown.{birth_of, shown_slot}
-use Rattle.qo_object.specs.Slots.{Named}
-use Rattle.qo_object.specs.declared.slots.Slot.{Slot}
 use Rattle.qo_object.specs.declared.slots.Slot.TheVariants.{Link, Plain}
 use Rattle.qo_properties.specs.declared.adding.filling.Fill.{Fill}
 use Rattle.qo_properties.specs.declared.adding.filling.Fill.TheVariants as fill
-use Rattle.qo_properties.specs.Filling.{IsGiven, filled_with, target_in}
+use Rattle.qo_properties.specs.Filling.{filled_with, target_in}
 use Rattle.qo_properties.specs.Planned.{TellsGiven, slot_for}
 use Rattle.qo_properties.specs.Planning.{TellsRefusal}
 use Rattle.qo_properties.specs.declared.refusals.Refusal.{Refusal}

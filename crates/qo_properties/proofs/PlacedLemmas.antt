@@ -1,5 +1,5 @@
 -- The place of the slot of a property.
-use Rattle.std.proofs.Common.{◌≡◌, refl, ap, sym, ◌∙◌, ℕ, zero, suc, ◌+◌, ◌<◌, ◌≤◌, Bool, true, false, List, [], ◌∷◌, ◌++◌, length, take, drop, find, get_or, filter_map, slice_get, Option, Some, None, is_some, option_map, option_to_list, length-append, append-nil, arith}
+use Rattle.std.proofs.Common.{◌≡◌, refl, ap, sym, ◌∙◌, ℕ, zero, suc, ◌+◌, ◌<◌, ◌≤◌, true, false, List, [], ◌∷◌, ◌++◌, length, take, drop, find, get_or, filter_map, slice_get, Option, Some, None, is_some, option_to_list, length-append, append-nil, arith}
 use Rattle.std.specs.List.{cons_option}
 use Rattle.std.specs.Str.{bytes_eq}
 use Rattle.std.proofs.lemmas.List.{drop_more}
@@ -10,7 +10,6 @@ use Rattle.qo_model.specs.declared.properties.Property.{Property}
 use Rattle.qo_model.specs.RowNames.{property_name}
 use Rattle.qo_object.specs.Slots.{Named}
 use Rattle.qo_object.specs.declared.slots.Slot.{Slot}
-use Rattle.qo_properties.specs.declared.adding.planning.PlacedRow.{PlacedRow}
 use Rattle.qo_properties.specs.Fresh.{begun, first_slots, new_slots, slot_begun}
 use Rattle.qo_properties.specs.Planning.{StandsAt}
 use Rattle.qo_properties.proofs.FreshLemmas.{few-slots, next-slot}

@@ -1,5 +1,5 @@
 -- A DIMM has a slot for it.
-use Rattle.std.proofs.Common.{◌≡◌, ap, sym, subst, ◌∙◌, List, option_map}
+use Rattle.std.proofs.Common.{ap, sym, subst, ◌∙◌, List, option_map}
 use Rattle.std.specs.Prelude.{IfSome}
 use Rattle.std.specs.List.{AllByRecursion}
 use Rattle.qo_object.specs.Shown.{birth_of}

@@ -1,5 +1,5 @@
 -- Each device has a slot for it.
-use Rattle.std.proofs.Common.{◌≡◌, ap, sym, subst, ◌∙◌, List, option_map}
+use Rattle.std.proofs.Common.{sym, subst, ◌∙◌, List, option_map}
 use Rattle.qo_properties.specs.declared.adding.filling.Fill.{Fill}
 use Rattle.qo_properties.specs.Planned.{IsPlan}
 use Rattle.qo_plug.proofs.PlanLemmas.{slot-told}

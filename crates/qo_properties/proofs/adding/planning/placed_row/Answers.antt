@@ -1,9 +1,7 @@
 -- The rows are looked at one after another.
-use Rattle.std.proofs.Common.{◌≡◌, ap, sym, ◌∙◌, List, Some, slice_get, length, arith}
+use Rattle.std.proofs.Common.{ap, sym, ◌∙◌, List, slice_get, arith}
 use Rattle.std.specs.Str.{bytes_eq}
 use Rattle.std.proofs.lemmas.Option.{slice_get-get_or}
-use Rattle.qo_model.specs.RowNames.{property_name}
-use Rattle.qo_model.specs.Types.{slots_of}
 use Rattle.qo_model.specs.declared.properties.Property.{Property}
 use Rattle.qo_properties.proofs.PlacedLemmas.{few-first, next-none, next-own, passed, stands}
 use Rattle.qo_properties.proofs.adding.planning.placed_row.Goals.{then-begins, else-begins}
