@@ -1,6 +1,6 @@
 -- What a plan says of the place of a device.
-use Rattle.std.proofs.Common.{◌≡◌, refl, ap, sym, subst, ◌∙◌, ℕ, true, false, List, [], codes, find, Option, Some, None, option_map, Result, Ok, Err}
-use Rattle.std.specs.Prelude.{option_and_then, unwrap_or}
+use Rattle.std.proofs.Common.{◌≡◌, refl, ap, sym, subst, ◌∙◌, ℕ, true, false, List, [], codes, find, Option, Some, None, option_map, Result, Ok, Err, Bor}
+use Rattle.std.specs.Prelude.{IfSome, option_and_then, unwrap_or}
 use Rattle.std.specs.Str.{bytes_eq}
 use Rattle.qo_values.specs.declared.codes.Code.{Code}
 use Rattle.qo_values.specs.declared.kinds.TypeId.{TypeId}
@@ -9,18 +9,20 @@ use Rattle.qo_values.specs.declared.properties.Val.{Val}
 use Rattle.qo_values.specs.declared.properties.Val.TheVariants as val
 use Rattle.qo_model.specs.Board as board
 use Rattle.qo_model.specs.Devices.{number_in, text_in}
-use Rattle.qo_model.specs.Objects.{Given, given_to, slot_given, target_given}
+use Rattle.qo_model.specs.Objects.{Given, given_to, target_given}
 use Rattle.qo_model.specs.Plug.{number_for, target_for, text_for}
 use Rattle.qo_model.specs.Properties.{link_target}
 use Rattle.qo_model.specs.Types.{is_a, types}
 use Rattle.qo_object.specs.Shown.{birth_of, shown_slot}
-use Rattle.qo_object.specs.Slots.{Named}
-use Rattle.qo_object.specs.declared.slots.Slot.{Slot}
 use Rattle.qo_object.specs.declared.slots.Slot.TheVariants.{Link, Plain}
 use Rattle.qo_properties.specs.declared.adding.filling.Fill.{Fill}
 use Rattle.qo_properties.specs.declared.adding.filling.Fill.TheVariants as fill
-use Rattle.qo_properties.specs.Filling.{IsGiven, filled_with, target_in}
+use Rattle.qo_properties.specs.Filling.{filled_with, target_in}
 use Rattle.qo_properties.specs.Planned.{TellsGiven, slot_for}
+use Rattle.qo_properties.specs.Planning.{TellsRefusal}
+use Rattle.qo_properties.specs.declared.refusals.Refusal.{Refusal}
+use Rattle.qo_properties.specs.declared.refusals.Refusal.TheVariants.{Refused}
+use Rattle.qo_slots.specs.declared.keys.Key.{Key}
 use Rattle.qo_plug.specs.Planned.{number_filled, text_filled}
 
 -- the slots of devices that are asked for, as they begin
@@ -143,3 +145,13 @@ module _ (b : board.Board) (props : List Given) where
 
     pub memdev-told : t ≡ MemDimm → TellsGiven b props o (slot_for t (codes "memdev")) → birth_of (option_and_then target_in o) ≡ target_for b MemoryBackend props (codes "memdev")
     memdev-told dimm told = target-told MemoryBackend (codes "memdev") o (rw (dimm, memdev-begins) at told)
+
+-- a target that is asked for is one that the plan names
+pub target-lives : (P : Key → Type 0) (o : Option (Bor Fill)) → IfSome o (λ (f : Bor Fill). IfSome (target_in f.now) P)
+    → IfSome (option_and_then target_in (option_map (λ (f : Bor Fill). f.now) o)) P
+target-lives P None h = tt
+target-lives P (Some f) h = h
+
+-- what refuses a plan
+pub plan-refused : (T : Type 0) (o : Option Code) (r : Refusal) (code : Code) → r ≡ Refused code → TellsRefusal {T = T} (Err r) o → Some code ≡ o
+plan-refused T o r code is h = sym (subst (λ (x : Refusal). TellsRefusal {T = T} (Err x) o) is h)

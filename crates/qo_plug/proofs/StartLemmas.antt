@@ -1,21 +1,19 @@
 -- What acts leave of a board: types, slots, places, holds and notices; so a device that starts keeps its path and its buses.
-use Rattle.std.proofs.Common.{◌≡◌, refl, ap, sym, subst, ◌∙◌, ℕ, zero, suc, ◌+◌, ◌≤◌, ◌<◌, Bool, true, false, cond, ◌==◌, codes, eqb, List, [], ◌∷◌, ◌++◌, map, length, filter, find, take, replicate, slice_get, Option, Some, None, is_some, option_map, option_to_list, Result, Ok, Err, OnOk, IsOk, IsErr, arith}
+use Rattle.std.proofs.Common.{◌≡◌, refl, ap, sym, subst, ◌∙◌, ℕ, zero, suc, ◌+◌, ◌≤◌, ◌<◌, true, false, codes, List, [], ◌∷◌, ◌++◌, filter, take, slice_get, Option, Some, None, option_map, option_to_list, Result, Ok, Err, OnOk, IsOk, IsErr, arith}
 use Rattle.std.specs.Prelude.{filter_map, ◌↔◌, not, ◌&&◌, if◌then◌else◌}
-use Rattle.std.specs.Option.{option_and_then, option_map_or, option_or}
+use Rattle.std.specs.Option.{option_and_then, option_map_or}
 use Rattle.std.specs.Str.{bytes_eq}
-use Rattle.qo_values.specs.declared.births.TheConstants.{ROOT_BIRTH}
 use Rattle.qo_values.specs.declared.kinds.Act.{Act}
 use Rattle.qo_values.specs.declared.kinds.Act.TheVariants.{Realize, Enter, Hold, Exit}
 use Rattle.qo_values.specs.declared.kinds.TypeId.{TypeId}
 use Rattle.qo_slots.specs.declared.keys.Key.{Key}
 use Rattle.qo_kinds.specs.Bodies.{kept_of}
 use Rattle.qo_claims.specs.declared.claims.Claimed.{Claimed}
-use Rattle.qo_table.specs.Rows.{IsLive, edit}
-use Rattle.qo_model.specs.Board.{Board, Notice, Record, Slot, child, plain, strong, weak, alias, kind_of, slots_at}
+use Rattle.qo_table.specs.Rows.{IsLive}
+use Rattle.qo_model.specs.Board.{Board, Notice, Record, Slot, child, plain, strong, weak, alias, slots_at}
 use Rattle.qo_model.specs.Clocks.{acted, with_act_on}
-use Rattle.qo_model.specs.Depth.{by_depth}
 use Rattle.qo_model.specs.Devices.{bus_in, buses_of, clock_name}
-use Rattle.qo_model.specs.Paths.{births, canonical, place_in, place_of, steps_to, steps_turn}
+use Rattle.qo_model.specs.Paths.{canonical}
 use Rattle.qo_model.specs.Plug.{acted_all, bus_births, started, told_plug}
 use Rattle.qo_model.specs.Plug as plug
 use Rattle.qo_model.specs.Release.{edited}

@@ -1,9 +1,9 @@
 -- What the calls that add a device know of it: what is asked for, and that it was admitted.
-use Rattle.std.specs.Prelude.{◌≡◌, ℕ, Bool, true, false, if◌then◌else◌, List, Option, Some, None, Result, Ok, Err, option_map, ⊤}
+use Rattle.std.specs.Prelude.{◌≡◌, ℕ, List, Option, Some, None, Result, Ok, Err, option_map, ⊤}
 use Rattle.qo_values.specs.declared.codes.Code.{Code}
 use Rattle.qo_model.specs.Board.{Board}
 use Rattle.qo_model.specs.Objects.{Given}
-use Rattle.qo_model.specs.Plug.{Plugged, Wanted, barred_early, bus_for, name_for, parent_for, plug, type_barred}
+use Rattle.qo_model.specs.Plug.{Wanted, barred_early, bus_for, name_for, parent_for, type_barred}
 use Rattle.qo_model.specs.Types.{TypeRow, row_named}
 use Rattle.qo_plug.specs.declared.admitting.Place.{Place}
 use Rattle.qo_plug.specs.declared.admitting.Site.{Site}

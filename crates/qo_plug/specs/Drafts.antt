@@ -1,5 +1,5 @@
 -- A device as it is made over the heap, and what is left where memory ran out (include/hw/qdev-core.h, "Realization").
-use Rattle.std.specs.Prelude.{◌≡◌, ℕ, ◌+◌, ◌≤◌, Bool, true, false, List, [], ◌++◌, ◌⊎◌, filter, take, slice_get, Some, option_map, IfSome}
+use Rattle.std.specs.Prelude.{◌≡◌, ℕ, ◌+◌, ◌≤◌, Bool, [], ◌++◌, ◌⊎◌, take, slice_get, Some, option_map, IfSome}
 use Rattle.qo_values.specs.declared.kinds.TypeId.{TypeId}
 use Rattle.qo_model.specs.Board.{Board}
 use Rattle.qo_model.specs.Changes.{make}
@@ -11,12 +11,9 @@ use Rattle.qo_model.specs.declared.properties.RowKind.TheVariants.{Child}
 use Rattle.qo_kinds.specs.Bodies.{IsTimely}
 use Rattle.qo_slots.specs.declared.keys.Key.{Key}
 use Rattle.qo_table.specs.Rows.{IsLive}
-use Rattle.qo_object.specs.declared.slots.Slot.{Slot}
-use Rattle.qo_object.specs.declared.slots.Slot.TheVariants.{Plain, Link}
-use Rattle.qo_object.specs.Slots.{Named}
 use Rattle.qo_object.specs.Content.{Content, fresh}
 use Rattle.qo_heap.specs.Board.{Shows}
-use Rattle.qo_heap.specs.Objects.{Objects, content_of, slots_of}
+use Rattle.qo_heap.specs.Objects.{Objects, content_of}
 use Rattle.qo_properties.specs.Claims.{KeepsBook}
 use Rattle.qo_properties.specs.Fresh.{new_slots}
 use Rattle.qo_properties.specs.Start.{KeepsNames}

@@ -81,7 +81,7 @@ pub(crate) fn make<L: Ledger>(
     requires spot { IsJudged planned rings.now spot heap.old }
     ensures begun { (b : Board) (a : Wanted) → Shows b heap.old → SoundTree b → b.holds ≡ resets.now.births → b.rings ≡ rings.now → IsPlanned b a planned → IfOk result (λ d. IsBegun b a d heap.new) }
     ensures held { IfOk result (λ d. IsHeld d heap.new) }
-    ensures err { OnErr result ((b : Board) → Shows b heap.old → SoundTree b → CutShort b site.kind heap.new) }
+    ensures err { OnErr result ((b : Board) → Shows b heap.old → SoundTree b → CutShort b planned.site.kind heap.new) }
     ensures book { KeepsBook heap.old heap.new }
 {
     heap.facts();

@@ -1,5 +1,5 @@
 -- It is chosen where the device goes, its slot is judged, and it is made, placed and finished.
-use Rattle.std.proofs.Common.{◌≡◌, ◌≤◌, ◌==◌, refl, ap, sym, subst, ◌∙◌, ℕ, false, Some, option_map, Err, arith}
+use Rattle.std.proofs.Common.{◌≡◌, ◌≤◌, ◌==◌, ap, sym, subst, ◌∙◌, ℕ, false, Some, option_map, Err, arith}
 use Rattle.std.proofs.lemmas.Bool.Decides.{nat_tests}
 use Rattle.qo_model.specs.Plug.{Wanted}
 use Rattle.qo_heap.specs.Board.{Shows}

@@ -1,5 +1,5 @@
 -- It is chosen where the device goes, its slot is judged, and it is made.
-use Rattle.std.proofs.Common.{refl, ap, sym, subst, ◌∙◌, option_map, Err}
+use Rattle.std.proofs.Common.{ap, sym, subst, ◌∙◌, option_map, Err}
 use Rattle.qo_model.specs.Plug.{Wanted}
 use Rattle.qo_heap.specs.Board.{Shows}
 use Rattle.qo_plug.specs.Added.{wanted}

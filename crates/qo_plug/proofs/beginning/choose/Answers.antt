@@ -2,7 +2,9 @@
 use Rattle.std.proofs.Common.{refl, sym, ◌∙◌, ℕ, option_map}
 use Rattle.qo_model.specs.Plug.{Wanted}
 use Rattle.qo_plug.specs.Added.{IsAdmitted, wanted}
+use Rattle.qo_model.specs.Objects.{refusal_of}
 use Rattle.qo_plug.proofs.AddLemmas.{refused-early, turned-cut, turned-refused}
+use Rattle.qo_plug.proofs.PlanLemmas.{plan-refused}
 use Rattle.qo_plug.proofs.beginning.choose.Goals as goal
 
 pub returns-in-Err-clause-refused : goal.returns-in-Err-clause-refused
@@ -33,12 +35,16 @@ pub returns-in-Err-Refused-clause-refused : goal.returns-in-Err-Refused-clause-r
 returns-in-Err-Refused-clause-refused g c = λ b holds rings is.
     let a : Wanted = wanted c.args.driver.now (option_map (λ t. t.now) c.args.id) (option_map (λ t. t.now) c.args.bus) c.args.props.now in
     let admitted : IsAdmitted b a c.in-Ok.site = c.in-Ok.ensures.admitted b c.args.props.now is.shown (is.pending ∙ sym c.pending.ensures) is.anonymous_is in
-    turned-refused b a c.in-Ok.site admitted c.turn_down.new.heap c.in-Err-Refused.field-0 (sym (c.in-Err-Refused.ensures.refused b is.shown)) ℕ c.turn_down.result
+    let refused = plan-refused ℕ (refusal_of b c.in-Ok.site.kind c.args.props.now) c.in-Err-Refused.field-0 c.in-Err-Refused.code c.in-Err-Refused.field-0-is
+    (c.in-Err-Refused.ensures.refused b is.shown) in
+    turned-refused b a c.in-Ok.site admitted c.turn_down.new.heap c.in-Err-Refused.code refused ℕ c.turn_down.result
     (c.turn_down.ensures.down b c.in-Ok.site.bus.birth is.shown refl)
 
 pub returns-in-Err-Refused-clause-memory : goal.returns-in-Err-Refused-clause-memory
 returns-in-Err-Refused-clause-memory g c = λ b holds rings is e.
     let a : Wanted = wanted c.args.driver.now (option_map (λ t. t.now) c.args.id) (option_map (λ t. t.now) c.args.bus) c.args.props.now in
     let admitted : IsAdmitted b a c.in-Ok.site = c.in-Ok.ensures.admitted b c.args.props.now is.shown (is.pending ∙ sym c.pending.ensures) is.anonymous_is in
-    turned-cut b a c.in-Ok.site admitted c.turn_down.new.heap c.in-Err-Refused.field-0 (sym (c.in-Err-Refused.ensures.refused b is.shown)) c.turn_down.result
+    let refused = plan-refused ℕ (refusal_of b c.in-Ok.site.kind c.args.props.now) c.in-Err-Refused.field-0 c.in-Err-Refused.code c.in-Err-Refused.field-0-is
+    (c.in-Err-Refused.ensures.refused b is.shown) in
+    turned-cut b a c.in-Ok.site admitted c.turn_down.new.heap c.in-Err-Refused.code refused c.turn_down.result
     (c.turn_down.ensures.down b c.in-Ok.site.bus.birth is.shown refl) (cc e)

@@ -1,14 +1,9 @@
 -- The device is new, and what was learnt before it was made stays so.
 use Rattle.std.proofs.Common.{◌≡◌, ◌≤◌, ◌+◌, ap, sym, subst, ◌∙◌, ℕ, List, arith}
-use Rattle.std.specs.Prelude.{IfOk}
 use Rattle.std.specs.List.{AllZip}
-use Rattle.qo_model.specs.Objects.{Given}
 use Rattle.qo_model.specs.Reset.{count}
 use Rattle.qo_object.specs.Slots.{Named}
 use Rattle.qo_properties.specs.Filling.{Fits, IsGiven}
-use Rattle.qo_properties.specs.Fresh.{new_slots}
-use Rattle.qo_plug.specs.Chosen.{IsChosen}
-use Rattle.qo_plug.specs.Stages.{spot_barred}
 use Rattle.qo_plug.proofs.AddLemmas.{plan-live}
 use Rattle.qo_plug.proofs.GrowsLemmas.{live-low, unborn-quiet}
 use Rattle.qo_plug.proofs.PassLemmas.{cut-none}

@@ -1,7 +1,5 @@
 -- The plan has it at the place of its slot.
-use Rattle.std.proofs.Common.{◌≡◌, ap, sym, ◌∙◌, Option, option_map, Some}
-use Rattle.qo_model.specs.declared.properties.Property.{Property}
-use Rattle.qo_properties.specs.declared.adding.planning.PlacedRow.{PlacedRow}
+use Rattle.std.proofs.Common.{sym, option_map}
 use Rattle.qo_properties.proofs.PlannedLemmas.{got, place-told}
 use Rattle.qo_properties.proofs.adding.planned.planned_for.Goals as goal
 
