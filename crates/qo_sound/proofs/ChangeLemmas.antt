@@ -187,6 +187,10 @@ pub data IsLink (t : TypeId) : Slot → Type 0 where
   holding : (target : Option ℕ) → IsLink t (strong t target)
   seeing : (target : Option ℕ) → IsLink t (weak t target)
 
+pub link-childless : (t : TypeId) (s : Slot) → IsLink t s → child_of s ≡ None
+link-childless t s (holding target) = refl
+link-childless t s (seeing target) = refl
+
 -- a link that was let go points at an object of its type
 pointed-drop : (b : Board) (n i : ℕ) (t : TypeId) (s left : Slot) (m : ℕ) → slot_at b n i ≡ Some s → emptied s ≡ Some left → held left ≡ None
     → (FitsKind (kind_of b) t (Some m) → Linked (kind_of b) (pointed m left)) → FitsKind (kind_of b) t (Some m) → Nearly (held s) (drop_slot b n i)
