@@ -33,3 +33,4 @@ pub mod StaysLemmas
 pub mod StepLemmas
 pub mod TreeLemmas
 pub mod WeakLinkLemmas
+pub mod WrittenLemmas
