@@ -1,18 +1,18 @@
 -- The commands on objects keep the notes of a board in order.
-use Rattle.std.proofs.Common.{◌≡◌, refl, ℕ, zero, suc, Bool, true, false, List, Option, Some, None, length}
+use Rattle.std.proofs.Common.{◌≡◌, refl, ℕ, true, false, List, Option, Some, None, length}
 use Rattle.qo_values.specs.declared.births.TheConstants.{OBJECTS_BIRTH}
 use Rattle.qo_values.specs.declared.codes.Code.{Code}
 use Rattle.qo_values.specs.declared.kinds.TypeId.{TypeId}
 use Rattle.qo_values.specs.declared.properties.Val.{Val}
-use Rattle.qo_model.specs.Board.{Board, Slot, plain, child, strong, weak, alias, is_live, slot_at, slots_at, held}
+use Rattle.qo_model.specs.Board.{Board, Slot, slot_at, slots_at, held}
 use Rattle.qo_model.specs.Changes.{point, set, with_changed, with_val, pointed}
 use Rattle.qo_model.specs.FinalNotes.{NotesInOrder}
 use Rattle.qo_model.specs.FinalNotesRuns.{Change, added, deleted, wrote, severed, behind_write, changed}
-use Rattle.qo_model.specs.Objects.{Given, added_as, added_by, barred, is_object_named, object_add, object_del, place_from, refusal_of, sever, severed_from}
-use Rattle.qo_model.specs.Paths.{attached}
+use Rattle.qo_model.specs.Objects.{Given, added_as, added_by, barred, object_add, object_del, refusal_of, sever, severed_from}
 use Rattle.qo_model.specs.Properties.{pointed_at, relinked, write}
-use Rattle.qo_model.specs.Release.{drop_slot, let_go, pin, put_in_order, with_dropped}
+use Rattle.qo_model.specs.Release.{drop_slot, pin, put_in_order, with_dropped}
 use Rattle.qo_model.specs.Types.{TypeRow, row_named}
+use Rattle.qo_model.proofs.LetGoLemmas.{deletion-comes, sever-comes, severed-comes}
 use Rattle.qo_model.proofs.WrittenLemmas.{write-comes}
 use Rattle.qo_model.proofs.FinalNotesLemmas.{after-keeps, edit-keeps, let_go-keeps, pins-keep, unpin-keeps}
 use Rattle.qo_model.proofs.FinalNotesGrowthLemmas.{attempt-grows, grown-keeps, object-grows}
@@ -37,11 +37,7 @@ object_add-keeps b driver id props o = go (row_named driver) refl
 
 -- `object-del`
 pub object_del-keeps : (b : Board) (id : List ℕ) → NotesInOrder b → NotesInOrder (object_del b id).board
-object_del-keeps b id o = go (place_from (is_object_named id) 0 (slots_at b OBJECTS_BIRTH)) refl
-  where
-    go : (place : Option ℕ) → place_from (is_object_named id) 0 (slots_at b OBJECTS_BIRTH) ≡ place → NotesInOrder (object_del b id).board
-    go None p = rw (object_del, p) o
-    go (Some i) p = rw (object_del, p) (let_go-keeps b OBJECTS_BIRTH i o)
+object_del-keeps b id o = deletion-comes NotesInOrder b id o (λ i e. let_go-keeps b OBJECTS_BIRTH i o)
 
 -- `qom-set`
 drop-keeps : (b : Board) (n i : ℕ) → NotesInOrder b → NotesInOrder (drop_slot b n i)
@@ -73,30 +69,16 @@ write-keeps b n name v o = write-comes NotesInOrder b o n name v (λ i t p kind 
 
 -- `x-sever`
 severed_from-keeps : (places i n : ℕ) (b : Board) → NotesInOrder b → NotesInOrder (severed_from places i n b)
-severed_from-keeps zero i n b o = o
-severed_from-keeps (suc places) i n b o = go (slot_at b n i) refl (severed_from-keeps places (suc i) n)
-  where
-    go : (s : Option Slot) → slot_at b n i ≡ s → ((c : Board) → NotesInOrder c → NotesInOrder (severed_from places (suc i) n c))
-        → NotesInOrder (severed_from (suc places) i n b)
-    go None p rest = rw (severed_from, p) (rest b o)
-    go (Some (plain v)) p rest = rw (severed_from, p) (rest b o)
-    go (Some (child m)) p rest = rw (severed_from, p) (rest b o)
-    go (Some (strong t target)) p rest = rw (severed_from, p) (rest (let_go b n i) (let_go-keeps b n i o))
-    go (Some (weak t target)) p rest = rw (severed_from, p) (rest b o)
-    go (Some (alias m property)) p rest = rw (severed_from, p) (rest b o)
+severed_from-keeps places i n b o = severed-comes NotesInOrder n (λ c j t target e k. let_go-keeps c n j k) places i b o
 
 pin-keeps : (b : Board) (n : ℕ) → NotesInOrder b → NotesInOrder (pin b n)
 unfolding pin
 pin-keeps b n o = pins-keep b (put_in_order n b.pins) o
 
 pub sever-keeps : (b : Board) (n : ℕ) → NotesInOrder b → NotesInOrder (sever b n).board
-sever-keeps b n o = go (is_live b n) refl (attached b n) refl
-  where
-    go : (there : Bool) → is_live b n ≡ there → (at_home : Bool) → attached b n ≡ at_home → NotesInOrder (sever b n).board
-    go false p at_home q = rw (sever, p) o
-    go true p true q = rw (sever, p, q) o
-    go true p false q = rw (sever, p, q)
-        (unpin-keeps (severed_from (length (slots_at b n)) 0 n (pin b n)) n (severed_from-keeps (length (slots_at b n)) 0 n (pin b n) (pin-keeps b n o)))
+sever-keeps b n o =
+    sever-comes NotesInOrder b n o (λ there away.
+    unpin-keeps (severed_from (length (slots_at b n)) 0 n (pin b n)) n (severed_from-keeps (length (slots_at b n)) 0 n (pin b n) (pin-keeps b n o)))
 
 -- each change
 pub changed-keeps : (b : Board) (change : Change) → NotesInOrder b → NotesInOrder (changed b change)

@@ -16,6 +16,7 @@ pub mod FinalNotesRunsLemmas
 pub mod FirstLemmas
 pub mod GraphLemmas
 mod HotplugRows
+pub mod LetGoLemmas
 pub mod OpeningLemmas
 pub mod PassedLemmas
 pub mod PeriodLemmas
