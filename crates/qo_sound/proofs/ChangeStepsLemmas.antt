@@ -9,7 +9,7 @@ use Rattle.qo_model.specs.Objects.{is_object_named, object_del, place_from, seve
 use Rattle.qo_model.specs.Paths.{attached}
 use Rattle.qo_model.specs.Properties.{pointed_at, relinked, write}
 use Rattle.qo_model.specs.Release.{drop_slot, let_go, pin, with_dropped}
-use Rattle.qo_sound.proofs.WrittenLemmas.{write-comes}
+use Rattle.qo_model.proofs.WrittenLemmas.{write-comes}
 use Rattle.qo_sound.proofs.MakeStepsLemmas.{KeepsEdits}
 use Rattle.qo_sound.proofs.DetachStepsLemmas.{KeepsEnds, KeepsPins, step-let_go, step-pin, step-unpin}
 
@@ -46,7 +46,7 @@ module _ (P : Board → Type 0) (edits : KeepsEdits P) (pins : KeepsPins P) (end
   pub step-write : (b : Board) (n : ℕ) (name : List ℕ) (v : Val) → P b → P (behind_write b (write b n name v))
   step-write b n name v h = write-comes P b h n name v (λ i t p kind e may. record {
     value = λ old at type first is fits. step-val b n i v h;
-    link = λ u s left link leaves at to holds is target fits. step-relinked b n i target h;
+    link = λ u s left link leaves at to holds is path target told. step-relinked b n i target h;
   })
 
   -- `x-sever`

@@ -41,4 +41,3 @@ pub mod UnplugLemmas
 pub mod ViewLemmas
 pub mod WorkLemmas
 pub mod WriteLemmas
-pub mod WrittenLemmas

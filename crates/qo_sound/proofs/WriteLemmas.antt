@@ -13,8 +13,10 @@ use Rattle.qo_model.proofs.ReleaseLeavesLemmas.{let_go-leaves}
 use Rattle.qo_model.proofs.PinLemmas.{release-pins}
 use Rattle.qo_sound.proofs.FirmLemmas.{FitsKind}
 use Rattle.qo_sound.proofs.ViewLemmas.{AtRest}
-use Rattle.qo_sound.proofs.ChangeLemmas.{IsLink, near-deleted, near-relinked, near-set}
-use Rattle.qo_sound.proofs.WrittenLemmas.{write-comes}
+use Rattle.qo_model.proofs.WrittenLemmas.{IsLink}
+use Rattle.qo_sound.proofs.TargetLemmas.{target-fit}
+use Rattle.qo_sound.proofs.ChangeLemmas.{near-deleted, near-relinked, near-set}
+use Rattle.qo_model.proofs.WrittenLemmas.{write-comes}
 
 -- `object-del`
 pub object_del-rest : (b : Board) (id : List ℕ) → AtRest b → AtRest (object_del b id).board
@@ -45,5 +47,5 @@ pub write-rest : (b : Board) (n : ℕ) (name : List ℕ) (v : Val) → AtRest b 
 write-rest b n name v h = write-comes AtRest b h n name v (λ i t p kind e may. record {
   value = λ old at type first is fits.
       record { used = near-set b n i v old (ap (option_map (λ (x : List ℕ × Slot). x.1)) at) h.used; pinned = set-pins b n i v ∙ h.pinned };
-  link = λ u s left link leaves at to holds is target fits. relinked-rest b n i u s link (ap (option_map (λ (x : List ℕ × Slot). x.1)) at) target fits h;
+  link = λ u s left link leaves at to holds is path target told. relinked-rest b n i u s link (ap (option_map (λ (x : List ℕ × Slot). x.1)) at) target (target-fit b u path target told) h;
 })

@@ -30,7 +30,7 @@ use Rattle.qo_model.proofs.StepLemmas.{drop-record, finish-gone, finish-record, 
 use Rattle.qo_sound.proofs.FoundLemmas.{found-append}
 use Rattle.qo_sound.proofs.ReadLemmas.{dropped-at, edit-slots}
 use Rattle.qo_sound.proofs.SlotLemmas.{each_slot, kept-slot}
-use Rattle.qo_sound.proofs.WrittenLemmas.{write-comes}
+use Rattle.qo_model.proofs.WrittenLemmas.{write-comes}
 use Rattle.qo_sound.proofs.TestLemmas.{decide, clash, clash-back}
 use Rattle.qo_sound_clocks.proofs.CommandLemmas.{may-set, set-other}
 use Rattle.qo_sound_clocks.proofs.LessLemmas.{or-less, OtherName, sees, sees_it, Slots}
@@ -431,7 +431,7 @@ write-sight b n name v = write-comes (Sight b) b (sight-none b) n name v (λ i t
     let other : OtherName name = set-other t name (may-set t name p e may) in
     record {
       value = λ old at type first is fits. set-sight b n i v;
-      link = λ u s left link leaves at to holds is target fits. relinked-sight b n i name s left at leaves other.source target;
+      link = λ u s left link leaves at to holds is path target told. relinked-sight b n i name s left at leaves other.source target;
     })
 
 -- `object-del`

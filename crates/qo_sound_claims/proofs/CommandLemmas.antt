@@ -25,7 +25,7 @@ use Rattle.qo_sound.proofs.FoundLemmas.{found-append}
 use Rattle.qo_sound.proofs.ReadLemmas.{dropped-at}
 use Rattle.qo_sound.proofs.RecordLemmas.{all-map}
 use Rattle.qo_sound.proofs.SlotLemmas.{kept-slot}
-use Rattle.qo_sound.proofs.WrittenLemmas.{write-comes}
+use Rattle.qo_model.proofs.WrittenLemmas.{write-comes}
 use Rattle.qo_sound_devices.specs.SoundDevices.{SoundDevices}
 use Rattle.qo_sound_devices.proofs.PlugLemmas.{stands-device}
 use Rattle.qo_sound_devices.proofs.SayLemmas.{devices_say_lem}
@@ -117,7 +117,7 @@ write-fewer b n name v = write-comes (Fewer false b) b (fewer-none false b) n na
     let other : Unclaimed name = set-other t name (may-set t name p e may) in
     record {
       value = λ old at type first is fits. set-fewer b n i v (name, plain old) at other;
-      link = λ u s left link leaves at to holds is target fits. relinked-fewer b n i name s left at leaves other target;
+      link = λ u s left link leaves at to holds is path target told. relinked-fewer b n i name s left at leaves other target;
     })
 
 -- an object that goes

@@ -27,7 +27,7 @@ use Rattle.qo_sound.proofs.FoundLemmas.{found-append}
 use Rattle.qo_sound.proofs.KeptLemmas.{sound_kept_lem}
 use Rattle.qo_sound.proofs.ReadLemmas.{dropped-at}
 use Rattle.qo_sound.proofs.SlotLemmas.{kept-slot}
-use Rattle.qo_sound.proofs.WrittenLemmas.{write-comes}
+use Rattle.qo_model.proofs.WrittenLemmas.{write-comes}
 use Rattle.qo_sound_clocks.proofs.FewerLemmas.{edit-less, Fewer, fewer-after, fewer-drop, fewer-edit, fewer-let_go, fewer-none, fewer-pin, fewer-unpin}
 use Rattle.qo_sound_clocks.proofs.LessLemmas.{Less, less-blank, less-added, less-none, less-pointed, less-set, OtherName, Slots}
 use Rattle.qo_sound_clocks.proofs.QuietLemmas.{Quiet, quiet-all_given, quiet-blank}
@@ -120,7 +120,7 @@ write-fewer b n name v = write-comes (Fewer b) b (fewer-none b) n name v (λ i t
     let other : OtherName name = set-other t name (may-set t name p e may) in
     record {
       value = λ old at type first is fits. set-fewer b n i v (name, plain old) at other;
-      link = λ u s left link leaves at to holds is target fits. relinked-fewer b n i name s left at leaves other target;
+      link = λ u s left link leaves at to holds is path target told. relinked-fewer b n i name s left at leaves other target;
     })
 
 -- an object that goes, and one that lets go of its links

@@ -24,12 +24,14 @@ use Rattle.qo_model.specs.declared.properties.Property.{Property}
 use Rattle.qo_model.proofs.EditLemmas.{StandsAt, stands-at}
 use Rattle.qo_model.proofs.FirstLemmas.{named-changed, named-other}
 use Rattle.qo_model.proofs.StepLemmas.{drop-live, found-edited}
-use Rattle.qo_sound.proofs.ChangeLemmas.{emptied-at, IsLink, holding, seeing, near-relinked, near-set}
+use Rattle.qo_sound.proofs.ChangeLemmas.{emptied-at, near-relinked, near-set}
+use Rattle.qo_model.proofs.WrittenLemmas.{IsLink, holding, seeing}
+use Rattle.qo_sound.proofs.TargetLemmas.{target-fit}
 use Rattle.qo_sound.proofs.FirmLemmas.{edited-kinds, FitsKind, Firm, firm-changed, firm-drop, Linked}
 use Rattle.qo_sound.proofs.ReadLemmas.{plain-pointed}
 use Rattle.qo_sound.proofs.SlotLemmas.{child-pointed}
 use Rattle.qo_sound.proofs.ViewLemmas.{AtRest}
-use Rattle.qo_sound.proofs.WrittenLemmas.{SlotFound, write-comes}
+use Rattle.qo_model.proofs.WrittenLemmas.{SlotFound, write-comes}
 use Rattle.qo_sound_devices.specs.SoundPlaces.{child_entry, PlacesBut}
 use Rattle.qo_sound_devices.proofs.AlikeLemmas.{Alike}
 use Rattle.qo_sound_devices.proofs.CommandLemmas.{Goes, goes-after, goes-kept, goes-then, keeps-goes}
@@ -328,5 +330,5 @@ write-places depth b n name v rest h = write-comes (Keeps depth b) b (keeps-none
           (set-kept b n i v name fits_row (found (plain old) at) (near-set b n i v old (there (plain old) at) rest.used).firm
           (owner-live b 1 MACHINE_BIRTH h.machine))
           (set-pins n i v b (ap (λ (ps : List ℕ). among ps 1) rest.pinned)) h);
-      link = λ u s left link leaves at to holds is target fits. relinked-places depth b n i name u s fits_row (found s at) link (there s at) target fits rest h;
+      link = λ u s left link leaves at to holds is path target told. relinked-places depth b n i name u s fits_row (found s at) link (there s at) target (target-fit b u path target told) rest h;
     })

@@ -20,8 +20,8 @@ use Rattle.qo_model.specs.declared.properties.Property.{Property}
 use Rattle.qo_model.proofs.EditLemmas.{StandsAt, stands-at}
 use Rattle.qo_model.proofs.FirstLemmas.{named_in, named-other}
 use Rattle.qo_model.proofs.StepLemmas.{found-edited, is_some-map, map-edited}
-use Rattle.qo_sound.proofs.ChangeLemmas.{link-childless}
-use Rattle.qo_sound.proofs.WrittenLemmas.{write-comes}
+use Rattle.qo_model.proofs.WrittenLemmas.{link-childless}
+use Rattle.qo_model.proofs.WrittenLemmas.{write-comes}
 use Rattle.qo_sound.proofs.FirmLemmas.{Firm}
 use Rattle.qo_sound.proofs.TestLemmas.{decide, clash, clash-back}
 use Rattle.qo_sound_devices.specs.SoundPlaces.{child_entries, child_entry}
@@ -296,6 +296,6 @@ fixed-write On b firm n name v = write-comes (Fixed On b) b (fixed-none On b) n 
     } in
     record {
       value = λ old at type first is fits. fixed-set On b firm n i (other (plain old) at) v;
-      link = λ u s left link leaves at to holds is target fits.
+      link = λ u s left link leaves at to holds is path target told.
           fixed-relinked On b firm n i (other s at) s (ap (option_map (λ (x : List ℕ × Slot). x.1)) at) (link-childless u s link) target;
     })

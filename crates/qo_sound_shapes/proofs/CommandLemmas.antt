@@ -26,8 +26,8 @@ use Rattle.qo_model.specs.declared.properties.Property.{Property}
 use Rattle.qo_model.specs.declared.properties.RowKind.{RowKind}
 use Rattle.qo_model.specs.declared.properties.RowKind.TheVariants as row
 use Rattle.qo_model.proofs.StepLemmas.{found-birth}
-use Rattle.qo_sound.proofs.ChangeLemmas.{link-childless}
-use Rattle.qo_sound.proofs.WrittenLemmas.{write-comes}
+use Rattle.qo_model.proofs.WrittenLemmas.{link-childless}
+use Rattle.qo_model.proofs.WrittenLemmas.{write-comes}
 use Rattle.qo_sound.proofs.AddLemmas.{creatable, made}
 use Rattle.qo_sound.proofs.FirmLemmas.{Firm}
 use Rattle.qo_sound.proofs.SlotLemmas.{names-changed, names-each, names_in}
@@ -396,7 +396,7 @@ module _ (base : Board) (aside : stands base OBJECTS_BIRTH ≡ false) where
             (λ r q.
             subst (λ (o : Option Property). elim o as (λ _. Type 0) [ None ↦ ⊤ | Some x ↦ RowTakes x.kind v ]) (sym (row_in r q))
             (subst (λ (k : RowKind). RowTakes k v) (sym is) fits));
-        link = λ u s left link leaves at to holds is target fits.
+        link = λ u s left link leaves at to holds is path target told.
             relinked-all b h n i (λ r q. link-apart r.kind to holds name p (row_in r q) is) s (ap (option_map (λ (x : List ℕ × Slot). x.1)) at)
             (link-childless u s link) target;
       })

@@ -20,9 +20,16 @@ use Rattle.qo_model.specs.declared.properties.First.{First}
 use Rattle.qo_model.specs.declared.properties.Property.{Property}
 use Rattle.qo_model.specs.declared.properties.RowKind.{RowKind}
 use Rattle.qo_model.specs.declared.properties.RowKind.TheVariants as row
-use Rattle.qo_sound.proofs.ChangeLemmas.{IsLink, holding, seeing}
-use Rattle.qo_sound.proofs.FirmLemmas.{FitsKind}
-use Rattle.qo_sound.proofs.TargetLemmas.{FitsResult, target-fits}
+use Rattle.qo_model.specs.Paths.{child_of}
+
+-- the slots that are links to objects of a type
+pub data IsLink (t : TypeId) : Slot → Type 0 where
+  holding : (target : Option ℕ) → IsLink t (strong t target)
+  seeing : (target : Option ℕ) → IsLink t (weak t target)
+
+pub link-childless : (t : TypeId) (s : Slot) → IsLink t s → child_of s ≡ None
+link-childless t s (holding target) = refl
+link-childless t s (seeing target) = refl
 
 -- the slot at a place that is found
 pub record SlotFound (name : List ℕ) (slots : List (List ℕ × Slot)) (i : ℕ) : Type 0 where
@@ -43,16 +50,16 @@ pub record Writes (P : Board → Type 0) (b : Board) (n i : ℕ) (name : List �
   pub value : (old : Val) → slice_get (slots_at b n) i ≡ Some (name, plain old) → (type : PropType) (first : First) → kind ≡ row.Plain type first
       → admits type v ≡ true → P (set n i v b)
   pub link : (t : TypeId) (s left : Slot) → IsLink t s → emptied s ≡ Some left → slice_get (slots_at b n) i ≡ Some (name, s) → (u : TypeId) (holds : Bool)
-      → kind ≡ row.Link u holds → (target : Option ℕ) → FitsKind (kind_of b) t target → P (relinked b n i target)
+      → kind ≡ row.Link u holds → (path : List ℕ) (target : Option ℕ) → link_target b t path ≡ Ok target → P (relinked b n i target)
 
 module _ (P : Board → Type 0) (b : Board) (none : P b) (n : ℕ) (name : List ℕ) (v : Val) where
-  to-link : (i : ℕ) (t : TypeId) → ((target : Option ℕ) → FitsKind (kind_of b) t target → P (relinked b n i target)) → (w : Val)
+  to-link : (i : ℕ) (t : TypeId) → ((path : List ℕ) (target : Option ℕ) → link_target b t path ≡ Ok target → P (relinked b n i target)) → (w : Val)
       → P (behind_write b (link_written b n i t w))
-  to-link i t keeps (val.Text path) = go (link_target b t path) (target-fits b t path)
+  to-link i t keeps (val.Text path) = go (link_target b t path) refl
     where
-      go : (target : Result (Option ℕ) Code) → FitsResult b t target → P (behind_write b (linked b n i target))
-      go (Ok target) fits = keeps target fits
-      go (Err code) fits = none
+      go : (target : Result (Option ℕ) Code) → link_target b t path ≡ target → P (behind_write b (linked b n i target))
+      go (Ok target) told = keeps path target told
+      go (Err code) told = none
   to-link i t keeps (val.Bool w) = none
   to-link i t keeps (val.Int w) = none
   to-link i t keeps (val.Uint w) = none
