@@ -1,5 +1,5 @@
-//! The outside of the machine: where bytes come from, where they go, and the hub that gives inputs and
-//! takes messages. A fault comes only where a count rose.
+//! The outside of the machine, with the causes of its faults: where bytes come from, where they go, and
+//! the hub that gives inputs and takes messages. A fault comes only where a count rose.
 #![tactic(auto)]
 
 mod byte_sink;

@@ -11,13 +11,13 @@ use Rattle.qo_claims.specs.declared.claims.Claimed.TheVariants as on
 use Rattle.qo_claims.specs.declared.slots.BusSlot.{BusSlot}
 use Rattle.qo_claims.specs.Laws.{LawGivenBack}
 use Rattle.qo_claims.specs.Lists.{slot_eq, range_eq, with_range, without_range}
-use Rattle.qo_claims.proofs.Laid.{or-false}
+use Rattle.std.proofs.lemmas.Bool.{or_parts}
 
 -- one that was not there, added behind all, is what is taken out
 remove_key-last : {A : Type 0} (test : A → Bool) (x : A) (xs : List A) → test x ≡ true → list_any test xs ≡ false → remove_key test (xs ++ x ∷ []) ≡ xs
 remove_key-last test x [] same new = rw same refl
 remove_key-last test x (y ∷ ys) same new =
-    let apart = or-false (test y) (list_any test ys) new in
+    let apart = or_parts (test y) (list_any test ys) new in
     rw (apart.0) (ap (λ zs. y ∷ zs) (remove_key-last test x ys same apart.1))
 
 pub eqb-same : (n : ℕ) → eqb n n ≡ true
@@ -37,7 +37,7 @@ range_eq-other r x some apart = grind (arith, nat_tests)
 without_range-with : (r : Range) (ranges : List Range) → eqb r.size 0 ≡ false → overlaps_any r ranges ≡ false → without_range r (with_range r ranges) ≡ ranges
 without_range-with r [] some free = rw (range_eq-same r) refl
 without_range-with r (x ∷ xs) some free =
-    let apart = or-false (overlap r x) (overlaps_any r xs) free in
+    let apart = or_parts (overlap r x) (overlaps_any r xs) free in
     by (nat_lt r.at x.at) (range_eq-other r x some apart.0) (without_range-with r xs some apart.1)
   where
     by : (b : Bool) → range_eq r x ≡ false → without_range r (with_range r xs) ≡ xs → without_range r (if b then r ∷ x ∷ xs else x ∷ with_range r xs) ≡ x ∷ xs

@@ -1,7 +1,7 @@
 -- Ranges that lie apart: one more, one less.
-use Rattle.std.proofs.Common.{◌≡◌, ℕ, suc, ◌+◌, ◌<◌, ◌≤◌, Bool, true, false, cond, not, List, [], ◌∷◌, length, take, drop, insert, remove, position, Some, None, nat_lt, if◌then◌else◌, unwrap_or, refl, ap, sym, ◌∙◌, take_all, append-nil, ◌||◌, ◌⊎◌, inl, inr, true≢false, arith, ⊎_elim}
+use Rattle.std.proofs.Common.{◌≡◌, ℕ, suc, ◌+◌, ◌<◌, ◌≤◌, Bool, true, false, cond, not, List, [], ◌∷◌, length, take, drop, insert, remove, position, Some, None, nat_lt, if◌then◌else◌, unwrap_or, refl, ap, sym, ◌∙◌, take_all, append-nil, ◌⊎◌, inl, inr, true≢false, arith, ⊎_elim}
 use Rattle.std.proofs.Math.ListN.{drop_of_length-le}
-use Rattle.std.proofs.lemmas.Bool.{cases_lt}
+use Rattle.std.proofs.lemmas.Bool.{cases_lt, or_parts}
 use Rattle.std.proofs.lemmas.Bool.Decides.{nat_tests}
 use Rattle.std.proofs.lemmas.List.Sums.{prefix_len-le-length}
 use Rattle.std.specs.List.{position_or_len}
@@ -25,10 +25,6 @@ apart-without test from (r ∷ rs) apart = by (test r) (apart-without test (r.at
     by true rest = apart-earlier (r.at + r.size) from rs (omega (arith, apart.0)) apart.1
     by false rest = (apart.0, rest)
 
-pub or-false : (a b : Bool) → (a || b) ≡ false → (a ≡ false) × (b ≡ false)
-or-false false b none = (refl, none)
-or-false true b none = cc
-
 -- of two ranges that do not overlap one ends before the other begins
 pub ends-before : (a b : Range) → overlap a b ≡ false → (b.at + b.size ≤ a.at) ⊎ (a.at + a.size ≤ b.at)
 ends-before a b apart = ⊎_elim
@@ -43,7 +39,7 @@ ends-before a b apart = ⊎_elim
 pub apart-with : (r : Range) (from : ℕ) (ranges : List Range) → 1 ≤ r.size → from ≤ r.at → r.at + r.size ≤ window_end → overlaps_any r ranges ≡ false → LieApartFrom from ranges → LieApartFrom from (with_range r ranges)
 apart-with r from [] some above below free apart = (above, below)
 apart-with r from (x ∷ xs) some above below free apart =
-    let free' = or-false (overlap r x) (overlaps_any r xs) free in
+    let free' = or_parts (overlap r x) (overlaps_any r xs) free in
     let sides = ends-before r x free'.0 in
     ⊎_elim
     (λ before. rw (first before) (above, (⊎_elim (λ past. omega (arith, apart-end (x.at + x.size) xs apart.1)) (λ ends. ends) sides, apart.1)))

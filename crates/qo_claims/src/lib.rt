@@ -17,3 +17,4 @@ pub use claims::{Claim, Claims, Kept, Space, keep};
 pub use errors::ClaimError;
 pub use placing::place;
 pub use qo_values::Range;
+pub use ranges::{end, overlap};

@@ -30,14 +30,14 @@ impl Model for Ranges {
 }
 
 /// The first number behind a range, which may be past the last address.
-fn end(range: Range) -> u128
+pub fn end(range: Range) -> u128
     ensures { result ≡ range.at + range.size }
 {
     u128::from(range.at) + u128::from(range.size)
 }
 
 /// Whether two ranges overlap.
-fn overlap(first: Range, second: Range) -> bool
+pub fn overlap(first: Range, second: Range) -> bool
     ensures { result ≡ overlap first second }
 {
     u128::from(first.at) < end(second) && u128::from(second.at) < end(first)

@@ -1,26 +1,24 @@
 -- Calls of devices leave who goes by whom, and a change spreads place by place.
-use Rattle.std.proofs.Common.{◌≡◌, refl, ap, ap₂, sym, subst, ◌∙◌, ℕ, zero, suc, ◌+◌, ◌≤◌, Bool, true, false, eqb, List, [], ◌∷◌, ◌++◌, map, take, length, filter, find, cond, slice_get, append-nil, Option, Some, None, option_map, option_and_then, IfSome, arith}
-use Rattle.std.specs.List.{cons_option, flat_map, position_or_len}
+use Rattle.std.proofs.Common.{◌≡◌, refl, ap, ap₂, sym, ◌∙◌, ℕ, zero, suc, ◌+◌, ◌≤◌, Bool, true, false, eqb, List, [], ◌∷◌, ◌++◌, map, take, length, filter, find, cond, slice_get, append-nil, Option, Some, None, option_map, option_and_then, IfSome, arith}
+use Rattle.std.specs.List.{cons_option, flat_map}
 use Rattle.std.specs.Option.{option_map_or}
 use Rattle.std.proofs.Math.Path.{fun_ext}
 use Rattle.std.proofs.lemmas.List.Concat.{flat_map-append}
-use Rattle.std.proofs.lemmas.List.Folds.{find_at}
 use Rattle.qo_values.specs.declared.kinds.Act.{Act}
 use Rattle.qo_values.specs.declared.kinds.Act.TheVariants.{Pre, Update}
 use Rattle.qo_kinds.specs.Bodies.{MayAct}
 use Rattle.qo_kinds.specs.declared.kept.KeptSet.{KeptSet}
 use Rattle.qo_slots.specs.declared.keys.Key.{Key}
-use Rattle.qo_table.specs.Rows.{IsLive, births, object_at, row_at}
+use Rattle.qo_table.specs.Rows.{IsLive, births, object_at}
 use Rattle.qo_model.specs.declared.notes.Deed.TheVariants.{Did}
 use Rattle.qo_model.specs.Depth.{by_depth}
 use Rattle.qo_object.specs.Content.{Content, is_parent}
 use Rattle.qo_object.specs.Shown.{birth_of}
 use Rattle.qo_heap.specs.Acts.{Acts, stilled}
-use Rattle.qo_heap.specs.Objects.{IsHeap, Objects, content_of, parent_of}
+use Rattle.qo_heap.specs.Objects.{Objects, content_of, parent_of}
 use Rattle.qo_heap.specs.Timely.{AllTimely, Timely}
 use Rattle.qo_heap.proofs.ActsLemmas.{acts-act, acts-live, acts-none, acts-then}
 use Rattle.qo_heap.proofs.ActsReads.{acts-slots}
-use Rattle.qo_heap.proofs.PlacesLemmas.{row-at-place}
 use Rattle.qo_heap.proofs.TimelyLemmas.{acts-timely}
 use Rattle.qo_clocks.specs.Below.{fed_in, goes_by}
 use Rattle.qo_clocks.specs.Periods.{scaled_on}
@@ -28,21 +26,7 @@ use Rattle.qo_clocks.specs.Reads.{source_on}
 use Rattle.qo_clocks.specs.Spread.{Change, acted_on, all_called_on, called_on, change_at, changes_on, spread_on, spread_to}
 use Rattle.qo_clocks.proofs.BelowLemmas.{at_place, fed-more, take-all}
 
--- the parent of a clock is there, and a timer may act
-
-found-live : (v : Objects) → IsHeap v → (p : Key × Content → Bool) (o : Option (Key × Content)) → find p v.rows ≡ o → (key : Key)
-    → option_map (λ (row : Key × Content). row.0) o ≡ Some key → IsLive v.rows key
-found-live v good p None e key q = cc
-found-live v good p (Some row) e key q =
-    let same : row.0 ≡ key = cc q in
-    let at : row_at v.rows row.0.birth ≡ Some row =
-    row-at-place 0 v.born v.rows (position_or_len p v.rows) row good.rising (sym (find_at p v.rows) ∙ e) in
-    let here : IsLive v.rows row.0 = rw at refl in
-    subst (λ (k : Key). IsLive v.rows k) same here
-
-pub parent-live : (v : Objects) → IsHeap v → (n : ℕ) (key : Key) → parent_of v n ≡ Some key → IsLive v.rows key
-parent-live v good n key e =
-    found-live v good (λ (row : Key × Content). is_parent n row.1) (find (λ (row : Key × Content). is_parent n row.1) v.rows) refl key e
+-- a timer may act
 
 may-act-in : (act : Act) (time n : ℕ) (rows : List (Key × Content)) → AllTimely time rows → IfSome (object_at rows n) (λ c. MayAct act time c.body)
 may-act-in act time n [] all = tt

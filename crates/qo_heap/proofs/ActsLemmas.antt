@@ -1,5 +1,5 @@
 -- What acts leave as it was: who is there, and the book.
-use Rattle.std.proofs.Common.{◌≡◌, refl, ap, ap₂, sym, ◌∙◌, ℕ, ◌+◌, Bool, true, false, cond, eqb, List, [], ◌∷◌, map, sum_by, count_by, Some, option_map, arith}
+use Rattle.std.proofs.Common.{◌≡◌, refl, ap, ap₂, sym, ◌∙◌, ℕ, ◌+◌, Bool, true, false, cond, eqb, List, [], ◌∷◌, map, sum_by, option_map, arith}
 use Rattle.std.proofs.lemmas.List.Sums.{sum_by-cons}
 use Rattle.qo_values.specs.Bodies.{body_act}
 use Rattle.qo_values.specs.Registers.{Registers, uart, timer, dimm, bridge, bare}
@@ -12,10 +12,10 @@ use Rattle.qo_kinds.specs.declared.bodies.Body.TheVariants.{Uart, Timer, Dimm, B
 use Rattle.qo_kinds.specs.declared.kept.KeptSet.{KeptSet}
 use Rattle.qo_slots.specs.declared.keys.Key.{Key}
 use Rattle.qo_object.specs.Content.{Content, acted_at}
-use Rattle.qo_table.specs.Rows.{IsLive, edit, edited}
+use Rattle.qo_table.specs.Rows.{IsLive, edit}
 use Rattle.qo_model.specs.declared.notes.Note.{Note}
 use Rattle.qo_heap.specs.Acts.{Acts, stilled}
-use Rattle.qo_heap.specs.Book.{IsBook, claim_eq, kept_times, one, owned}
+use Rattle.qo_heap.specs.Book.{IsBook, kept_times, one, owned}
 use Rattle.qo_heap.specs.Objects.{Objects, with_edit, with_note}
 
 -- an act leaves the claims of a body

@@ -1,9 +1,8 @@
 -- What acts leave of each object: its slots, its type, its pins and its path.
-use Rattle.std.proofs.Common.{◌≡◌, refl, ap, ap₂, sym, ◌∙◌, ℕ, ◌+◌, Bool, true, false, cond, eqb, List, [], ◌∷◌, ◌++◌, map, length, replicate, count_by, is_some, Option, option_map, arith}
+use Rattle.std.proofs.Common.{◌≡◌, refl, ap, sym, ◌∙◌, ℕ, Bool, true, false, cond, eqb, List, [], ◌∷◌, ◌++◌, map, length, replicate, count_by, is_some, arith}
 use Rattle.std.specs.Option.{option_map_or}
 use Rattle.std.proofs.lemmas.List.{length-map}
 use Rattle.std.proofs.lemmas.List.Sums.{sum_by-cons}
-use Rattle.qo_values.specs.declared.kinds.TypeId.{TypeId}
 use Rattle.qo_kinds.specs.declared.bodies.Body.TheVariants.{Plain}
 use Rattle.qo_kinds.specs.declared.kept.KeptSet.{KeptSet}
 use Rattle.qo_slots.specs.declared.keys.Key.{Key}

@@ -1,10 +1,8 @@
 -- A book that is right stays right: where an object is made, changed and ends, and where claims are taken and given back.
-use Rattle.std.proofs.Common.{◌≡◌, refl, ap, sym, subst, ◌∙◌, ℕ, zero, suc, ◌+◌, ◌<◌, ◌≤◌, Bool, true, false, cond, eqb, List, [], ◌∷◌, ◌++◌, map, filter, sum_by, count_by, nat_lt, Option, Some, None, option_map, arith}
-use Rattle.std.specs.Option.{option_map_or}
+use Rattle.std.proofs.Common.{◌≡◌, refl, ap, ◌∙◌, ℕ, ◌+◌, ◌<◌, ◌≤◌, Bool, true, false, cond, eqb, List, [], ◌∷◌, ◌++◌, map, sum_by, count_by, nat_lt, Option, Some, None, option_map, arith}
 use Rattle.std.specs.Set.{remove_key}
 use Rattle.std.specs.Str.{bytes_eq}
-use Rattle.std.proofs.lemmas.Bool.{eqb-true}
-use Rattle.std.proofs.lemmas.Bool.Decides.{nat_tests}
+use Rattle.std.proofs.lemmas.Bool.{and_parts, eqb-true}
 use Rattle.std.proofs.lemmas.List.Sums.{sum_by-append, sum_by-cons}
 use Rattle.std.proofs.lemmas.Slice.Eq.{bytes_eq-Decides}
 use Rattle.qo_values.specs.declared.ranges.Range.{Range}
@@ -21,7 +19,6 @@ use Rattle.qo_kinds.specs.declared.kept.KeptSet.{KeptSet}
 use Rattle.qo_slots.specs.declared.keys.Key.{Key}
 use Rattle.qo_object.specs.Content.{Content, fresh}
 use Rattle.qo_values.specs.declared.kinds.TypeId.{TypeId}
-use Rattle.qo_values.proofs.Rising.{both_true}
 use Rattle.qo_table.specs.Rows.{Rises, births, edit, edited, object_at, without}
 use Rattle.qo_heap.specs.Book.{IsBook, claim_eq, counted, kept_times, one, owned}
 use Rattle.qo_heap.specs.Objects.{IsHeap, Objects, content_of, ended, forgets, with_edit, without_kept, without_one}
@@ -46,14 +43,14 @@ bytes-same a b e = (bytes_eq-Decides a b).0 e
 
 slot-same : (a b : BusSlot) → slot_eq a b ≡ true → a ≡ b
 slot-same a b e =
-    let split = both_true (eqb a.bus b.bus) (eqb a.slot b.slot) e in
+    let split = and_parts (eqb a.bus b.bus) (eqb a.slot b.slot) e in
     let bus : a.bus ≡ b.bus = eqb-true a.bus b.bus split.0 in
     let slot : a.slot ≡ b.slot = eqb-true a.slot b.slot split.1 in
     rw (bus, slot) refl
 
 range-same : (a b : Range) → range_eq a b ≡ true → a ≡ b
 range-same a b e =
-    let split = both_true (eqb a.at b.at) (eqb a.size b.size) e in
+    let split = and_parts (eqb a.at b.at) (eqb a.size b.size) e in
     let at : a.at ≡ b.at = eqb-true a.at b.at split.0 in
     let size : a.size ≡ b.size = eqb-true a.size b.size split.1 in
     rw (at, size) refl

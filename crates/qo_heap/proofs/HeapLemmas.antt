@@ -9,10 +9,11 @@ use Rattle.qo_object.specs.declared.slots.Slot.{Slot}
 use Rattle.qo_object.specs.declared.slots.Slot.TheVariants.{Plain, Child, Link, Alias}
 use Rattle.std.specs.Str.{bytes_eq}
 use Rattle.qo_object.specs.Slots.{has_name, target_of, changed_at, let_go_at, pointed, with_val}
-use Rattle.qo_object.specs.Content.{Content, with_path, with_slot, dropped_at, pointed_at, set_at, cut_at}
+use Rattle.qo_object.specs.Content.{Content, is_parent, with_path, with_slot, dropped_at, pointed_at, set_at, cut_at}
 use Rattle.qo_table.specs.Rows.{IsLive, births, edited, edit, is_at, object_at}
+use Rattle.qo_table.proofs.FoundLemmas.{found-live}
 use Rattle.qo_table.proofs.RowsLemmas.{edit-as}
-use Rattle.qo_heap.specs.Objects.{HasPlaces, IsHeap, Objects, content_of, has_path, targets, with_edit}
+use Rattle.qo_heap.specs.Objects.{HasPlaces, IsHeap, Objects, content_of, has_path, parent_of, targets, with_edit}
 use Rattle.qo_events.specs.Waiting.{Waiting, promised}
 use Rattle.qo_heap.proofs.BookLemmas.{sum-changed, sum-edit}
 
@@ -263,3 +264,7 @@ found-named {X = X} f o slots name b there is =
     go : (x : Option X) → is_some (option_map f x) ≡ is_some x
     go None = refl
     go (Some x) = refl
+
+-- the parent of an object is there
+pub parent-live : (v : Objects) → IsHeap v → (n : ℕ) (key : Key) → parent_of v n ≡ Some key → IsLive v.rows key
+parent-live v good n key e = found-live (λ (row : Key × Content). is_parent n row.1) 0 v.born v.rows key good.rising e

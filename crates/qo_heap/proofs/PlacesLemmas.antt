@@ -11,6 +11,10 @@ use Rattle.qo_table.specs.Rows.{IsLive, Rises, births, edit, row_at, object_at}
 use Rattle.qo_heap.specs.Places.{changed_at, first_changed, sum_first}
 
 module _ {X : Type 0} where
+  -- a loop over places that has come to the last is behind all
+  pub all-walked : (place size : ℕ) (xs : List X) → place ≤ size → size ≤ place → size ≡ length xs → place ≡ length xs
+  all-walked place size xs low high same = omega arith
+
   pub changed_at-past : (f : X → X) (i : ℕ) (xs : List X) → slice_get xs i ≡ None → changed_at f i xs ≡ xs
   changed_at-past f i [] none = refl
   changed_at-past f zero (x ∷ xs) none = cc

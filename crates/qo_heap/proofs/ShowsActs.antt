@@ -7,9 +7,9 @@ use Rattle.qo_kinds.specs.Bodies.{acted as body_acted, registers_of}
 use Rattle.qo_kinds.specs.declared.bodies.Body.{Body}
 use Rattle.qo_kinds.specs.declared.bodies.Body.TheVariants.{Uart, Timer, Dimm, Bridge, Bus, Clock, Backend, Plain}
 use Rattle.qo_model.specs.declared.notes.Deed.TheVariants.{Did}
-use Rattle.qo_model.specs.Board.{Board, Record}
+use Rattle.qo_model.specs.Board.{Board}
 use Rattle.qo_model.specs.Clocks.{acted, with_act_on}
-use Rattle.qo_object.specs.Content.{Content, acted_at}
+use Rattle.qo_object.specs.Content.{acted_at}
 use Rattle.qo_object.specs.Shown.{shown}
 use Rattle.qo_heap.specs.Board.{Shows}
 use Rattle.qo_heap.specs.Objects.{Objects, with_edit, with_note}

@@ -6,6 +6,7 @@ use Rattle.std.specs.Option.{option_map_or}
 use Rattle.std.specs.Str.{bytes_eq}
 use Rattle.std.proofs.lemmas.Bool.{eqb-true}
 use Rattle.std.proofs.lemmas.Cmp.{nat_list_eq_equiv}
+use Rattle.std.proofs.lemmas.List.{length-map}
 use Rattle.std.proofs.lemmas.List.Sums.{sum_by-cons, sum_by-append}
 use Rattle.std.proofs.lemmas.List.Folds.{sum_by-replicate}
 use Rattle.qo_slots.specs.declared.keys.Key.{Key}
@@ -68,6 +69,10 @@ births-shown (row ∷ rows) = ap (λ (l : List ℕ). row.0.birth ∷ l) (births-
 
 pub shows-births : (b : board.Board) (v : Objects) → Shows b v → paths.births b ≡ births v.rows
 shows-births b v s = ap (map (λ (r : board.Record). r.birth)) s.records ∙ births-shown v.rows
+
+-- as many births as objects
+pub shows-size : (b : board.Board) (v : Objects) → Shows b v → length (paths.births b) ≡ length v.rows
+shows-size b v s = ap (λ (l : List ℕ). length l) (shows-births b v s) ∙ length-map v.rows (λ row. row.0.birth)
 
 -- slots
 
@@ -141,10 +146,10 @@ holding-shown n (row ∷ rows) =
     omega (arith, holding-shown n rows, refs-shown row.0.birth n row.1, sum_by-cons (references.refs_in n) (record_of row) (records_of rows), sum_by-cons (λ (r : Key × Content). holding n r.1) row rows)
 
 -- how often a number stands in a list
-abbrev times : ℕ → List ℕ → ℕ
+abbrev pub times : ℕ → List ℕ → ℕ
 times n xs = count_by (λ m. eqb m n) xs
 
-times-replicate : (n k m : ℕ) (xs : List ℕ) → times n (replicate k m ++ xs) ≡ k * cond {A = ℕ} (eqb m n) 1 0 + times n xs
+pub times-replicate : (n k m : ℕ) (xs : List ℕ) → times n (replicate k m ++ xs) ≡ k * cond {A = ℕ} (eqb m n) 1 0 + times n xs
 times-replicate n k m xs =
     sum_by-append (λ (x : ℕ). cond {A = ℕ} (eqb x n) 1 0) (replicate k m) xs ∙ ap (λ (a : ℕ). a + times n xs) (sum_by-replicate (λ (x : ℕ). cond {A = ℕ} (eqb x n) 1 0) k m)
 
@@ -158,7 +163,7 @@ times-high n above last (row ∷ rows) le rises =
     times-replicate n row.1.pins row.0.birth (pins_in rows) ∙ rw (none, rest) (omega arith)
 
 -- pins of the board are those of the objects
-times-pins : (n above last : ℕ) (rows : List (Key × Content)) → Rises above (births rows) last → times n (pins_in rows) ≡ option_map_or (λ (c : Content). c.pins) (object_at rows n) 0
+pub times-pins : (n above last : ℕ) (rows : List (Key × Content)) → Rises above (births rows) last → times n (pins_in rows) ≡ option_map_or (λ (c : Content). c.pins) (object_at rows n) 0
 times-pins n above last [] rises = refl
 times-pins n above last (row ∷ rows) rises = times-replicate n row.1.pins row.0.birth (pins_in rows) ∙ go (eqb row.0.birth n) refl (times-pins n row.0.birth last rows rises.1)
   where

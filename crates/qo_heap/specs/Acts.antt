@@ -1,6 +1,5 @@
 -- Bodies act and are noted, and nothing else changes.
-use Rattle.std.specs.Prelude.{◌≡◌, ℕ, List, map}
-use Rattle.qo_claims.specs.Held.{Held}
+use Rattle.std.specs.Prelude.{◌≡◌, map}
 use Rattle.qo_kinds.specs.Bodies.{kept_of}
 use Rattle.qo_kinds.specs.declared.bodies.Body.TheVariants.{Plain}
 use Rattle.qo_kinds.specs.declared.kept.KeptSet.{KeptSet}

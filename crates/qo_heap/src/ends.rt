@@ -76,7 +76,7 @@ fn free_one(claims: &mut Claims, kept: Option<Kept>)
 }
 
 /// Ends the claims of a body.
-fn free_kept(claims: &mut Claims, kept: KeptSet)
+pub fn free_kept(claims: &mut Claims, kept: KeptSet)
     ensures { claims.new ≡ without_kept kept claims.old }
 {
     let KeptSet {

@@ -13,6 +13,7 @@ mod reads;
 mod slots;
 mod tree;
 
+pub use ends::free_kept;
 pub use errors::{MakeError, SlotError};
 pub use heap::Heap;
 pub use qo_object::{Oid, Slot, SlotName, SlotView};

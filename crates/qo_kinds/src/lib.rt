@@ -1,4 +1,4 @@
-//! The bodies of objects: what each kind keeps, and the claims that it holds.
+//! What an object of each kind has for its body: its registers, and the claims that it keeps.
 #![tactic(auto)]
 
 mod bodies;

@@ -1,5 +1,6 @@
 pub mod BirthLemmas
 pub mod BoardLemmas
 pub mod GoesLemmas
+pub mod HeldLemmas
 pub mod MadeLemmas
 pub mod TreeLemmas

@@ -1,7 +1,6 @@
--- What is so of an object that was just made, and of one that a search gives.
-use Rattle.std.proofs.Common.{◌≡◌, refl, ap, sym, subst, ℕ, suc, Bool, true, false, eqb, List, [], ◌∷◌, ◌++◌, length, find, slice_get, Option, Some, None, option_map}
+-- What is so of an object that was just made.
+use Rattle.std.proofs.Common.{◌≡◌, refl, ap, ℕ, Bool, true, false, eqb, List, [], ◌∷◌, ◌++◌, length, slice_get, Option, Some}
 use Rattle.std.specs.Option.{option_map_or}
-use Rattle.std.proofs.lemmas.Option.{same_Some}
 use Rattle.qo_slots.specs.declared.keys.Key.{Key}
 use Rattle.qo_values.specs.declared.kinds.TypeId.{TypeId}
 use Rattle.qo_object.specs.Content.{Content, fresh}
@@ -38,22 +37,3 @@ pins-edit n f same v m = go v.rows
         by true p false q rest = rw (p, q) rest
         by false p true q rest = rw (p, q) refl
         by false p false q rest = rw (p, q) rest
-
--- what a search by name gives is there
-
-found-place : (test : Key → Bool) (rows : List (Key × Content)) (row : Key × Content) → find (λ (r : Key × Content). test r.0) rows ≡ Some row → (i : ℕ) × (slice_get rows i ≡ Some row)
-found-place test [] row f = cc
-found-place test (r ∷ rows) row f = by (test r.0) refl (found-place test rows row)
-  where
-    by : (b : Bool) → test r.0 ≡ b → (find (λ (x : Key × Content). test x.0) rows ≡ Some row → (i : ℕ) × (slice_get rows i ≡ Some row)) → (i : ℕ) × (slice_get (r ∷ rows) i ≡ Some row)
-    by true p rest = (0, rw p at f)
-    by false p rest = let (i, at) = rest (rw p at f) in (suc i, at)
-
-pub found-live : (test : Key → Bool) (w : Objects) (key : Key) → IsHeap w → Some key ≡ option_map (λ (row : Key × Content). row.0) (find (λ (row : Key × Content). test row.0) w.rows) → IsLive w.rows key
-found-live test w key good e = go (find (λ (row : Key × Content). test row.0) w.rows) refl e
-  where
-    go : (o : Option (Key × Content)) → find (λ (row : Key × Content). test row.0) w.rows ≡ o → Some key ≡ option_map (λ (row : Key × Content). row.0) o → IsLive w.rows key
-    go None p q = cc
-    go (Some row) p q =
-        let (i, at) = found-place test w.rows row p in
-        subst (IsLive w.rows) (sym (same_Some key row.0 q)) (live-at-place 0 w.born w.rows i row good.rising at)

@@ -45,6 +45,10 @@ tree v = tree_with (map record_of v.rows) v.born (pins_in v.rows) v.events.list 
 pub tree-shows : (v : Objects) → Shows (tree v) (with_log empty_log v)
 tree-shows v = record { records = refl; born = refl; pins = refl; notes = none_lem; events = refl; now = refl }
 
+-- other notes, the same heap
+pub shows-notes : (b c : Board) (log : Log) (v : Objects) → Shows b (with_log log v) → Shows c v → Shows (record b { notes = c.notes }) v
+shows-notes b c log v s t = record { records = s.records; born = s.born; pins = s.pins; notes = t.notes; events = s.events; now = s.now }
+
 -- another log, the same heap
 pub heap-with_log : (v : Objects) (log : Log) → IsHeap v → IsHeap (with_log log v)
 heap-with_log v log good = record { rising = good.rising; few = good.few; linked = good.linked }

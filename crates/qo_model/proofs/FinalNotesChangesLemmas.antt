@@ -1,24 +1,19 @@
 -- The commands on objects keep the notes of a board in order.
-use Rattle.std.proofs.Common.{◌≡◌, refl, ℕ, zero, suc, Bool, true, false, List, Option, Some, None, option_and_then, Result, Ok, Err, length, position}
-use Rattle.std.specs.Str.{bytes_eq}
-use Rattle.qo_values.specs.Properties.{admits}
+use Rattle.std.proofs.Common.{◌≡◌, refl, ℕ, true, false, List, Option, Some, None, length}
 use Rattle.qo_values.specs.declared.births.TheConstants.{OBJECTS_BIRTH}
 use Rattle.qo_values.specs.declared.codes.Code.{Code}
 use Rattle.qo_values.specs.declared.kinds.TypeId.{TypeId}
 use Rattle.qo_values.specs.declared.properties.Val.{Val}
-use Rattle.qo_values.specs.declared.properties.Val.TheVariants as val
-use Rattle.qo_model.specs.Board.{Board, Slot, plain, child, strong, weak, alias, is_live, kind_of, slot_at, slots_at, held}
+use Rattle.qo_model.specs.Board.{Board, Slot, slot_at, slots_at, held}
 use Rattle.qo_model.specs.Changes.{point, set, with_changed, with_val, pointed}
 use Rattle.qo_model.specs.FinalNotes.{NotesInOrder}
 use Rattle.qo_model.specs.FinalNotesRuns.{Change, added, deleted, wrote, severed, behind_write, changed}
-use Rattle.qo_model.specs.Objects.{Given, added_as, added_by, barred, is_object_named, object_add, object_del, place_from, refusal_of, sever, severed_from}
-use Rattle.qo_model.specs.Paths.{attached}
-use Rattle.qo_model.specs.Properties.{link_target, link_written, linked, may_set, pointed_at, relinked, row_of_property, write, written, written_by}
-use Rattle.qo_model.specs.Release.{drop_slot, let_go, pin, put_in_order, with_dropped}
+use Rattle.qo_model.specs.Objects.{Given, added_as, added_by, barred, object_add, object_del, refusal_of, sever, severed_from}
+use Rattle.qo_model.specs.Properties.{pointed_at, relinked, write}
+use Rattle.qo_model.specs.Release.{drop_slot, pin, put_in_order, with_dropped}
 use Rattle.qo_model.specs.Types.{TypeRow, row_named}
-use Rattle.qo_model.specs.declared.properties.Property.{Property}
-use Rattle.qo_model.specs.declared.properties.RowKind.{RowKind}
-use Rattle.qo_model.specs.declared.properties.RowKind.TheVariants as row
+use Rattle.qo_model.proofs.LetGoLemmas.{deletion-comes, sever-comes, severed-comes}
+use Rattle.qo_model.proofs.WrittenLemmas.{write-comes}
 use Rattle.qo_model.proofs.FinalNotesLemmas.{after-keeps, edit-keeps, let_go-keeps, pins-keep, unpin-keeps}
 use Rattle.qo_model.proofs.FinalNotesGrowthLemmas.{attempt-grows, grown-keeps, object-grows}
 
@@ -42,11 +37,7 @@ object_add-keeps b driver id props o = go (row_named driver) refl
 
 -- `object-del`
 pub object_del-keeps : (b : Board) (id : List ℕ) → NotesInOrder b → NotesInOrder (object_del b id).board
-object_del-keeps b id o = go (place_from (is_object_named id) 0 (slots_at b OBJECTS_BIRTH)) refl
-  where
-    go : (place : Option ℕ) → place_from (is_object_named id) 0 (slots_at b OBJECTS_BIRTH) ≡ place → NotesInOrder (object_del b id).board
-    go None p = rw (object_del, p) o
-    go (Some i) p = rw (object_del, p) (let_go-keeps b OBJECTS_BIRTH i o)
+object_del-keeps b id o = deletion-comes NotesInOrder b id o (λ i e. let_go-keeps b OBJECTS_BIRTH i o)
 
 -- `qom-set`
 drop-keeps : (b : Board) (n i : ℕ) → NotesInOrder b → NotesInOrder (drop_slot b n i)
@@ -70,78 +61,24 @@ relinked-keeps b n i target o = go (slot_at b n i) refl
     go (Some s) p =
         rw (relinked, p) (after-keeps (pointed_at target n i (drop_slot b n i)) (held s) (pointed-keeps (drop_slot b n i) n i target (drop-keeps b n i o)))
 
-linked-keeps : (b : Board) (n i : ℕ) (target : Result (Option ℕ) Code) → NotesInOrder b → NotesInOrder (behind_write b (linked b n i target))
-linked-keeps b n i (Ok target) o = relinked-keeps b n i target o
-linked-keeps b n i (Err code) o = o
-
-link_written-keeps : (b : Board) (n i : ℕ) (t : TypeId) (v : Val) → NotesInOrder b → NotesInOrder (behind_write b (link_written b n i t v))
-link_written-keeps b n i t (val.Text path) o = linked-keeps b n i (link_target b t path) o
-link_written-keeps b n i t (val.Bool v) o = o
-link_written-keeps b n i t (val.Int v) o = o
-link_written-keeps b n i t (val.Uint v) o = o
-link_written-keeps b n i t val.Nothing o = o
-
-written-keeps : (b : Board) (n i : ℕ) (kind : RowKind) (s : Option Slot) (v : Val) → NotesInOrder b → NotesInOrder (behind_write b (written b n i kind s v))
-written-keeps b n i (row.Plain type first) (Some (plain old)) v o = go (admits type v) refl
-  where
-    go : (t : Bool) → admits type v ≡ t → NotesInOrder (behind_write b (written b n i (row.Plain type first) (Some (plain old)) v))
-    go true p = rw (written, p) (set-keeps b n i v o)
-    go false p = rw (written, p) o
-written-keeps b n i (row.Link t holds) (Some (strong to target)) v o = link_written-keeps b n i to v o
-written-keeps b n i (row.Link t holds) (Some (weak to target)) v o = link_written-keeps b n i to v o
-written-keeps b n i (row.Plain type first) None v o = o
-written-keeps b n i (row.Plain type first) (Some (child m)) v o = o
-written-keeps b n i (row.Plain type first) (Some (strong to target)) v o = o
-written-keeps b n i (row.Plain type first) (Some (weak to target)) v o = o
-written-keeps b n i (row.Plain type first) (Some (alias m property)) v o = o
-written-keeps b n i (row.Link t holds) None v o = o
-written-keeps b n i (row.Link t holds) (Some (plain old)) v o = o
-written-keeps b n i (row.Link t holds) (Some (child m)) v o = o
-written-keeps b n i (row.Link t holds) (Some (alias m property)) v o = o
-written-keeps b n i (row.Child t) s v o = o
-written-keeps b n i (row.Alias owner property) s v o = o
-
-written_by-keeps : (b : Board) (n i : ℕ) (row : Option Property) (v : Val) → NotesInOrder b → NotesInOrder (behind_write b (written_by b n i row v))
-written_by-keeps b n i None v o = o
-written_by-keeps b n i (Some row) v o = go (may_set row.mark) refl
-  where
-    go : (t : Bool) → may_set row.mark ≡ t → NotesInOrder (behind_write b (written_by b n i (Some row) v))
-    go true p = rw (written_by, p) (written-keeps b n i row.kind (slot_at b n i) v o)
-    go false p = rw (written_by, p) o
-
 pub write-keeps : (b : Board) (n : ℕ) (name : List ℕ) (v : Val) → NotesInOrder b → NotesInOrder (behind_write b (write b n name v))
-write-keeps b n name v o = go (position (λ (s : List ℕ × Slot). bytes_eq s.0 name) (slots_at b n)) refl
-  where
-    go : (place : Option ℕ) → position (λ (s : List ℕ × Slot). bytes_eq s.0 name) (slots_at b n) ≡ place → NotesInOrder (behind_write b (write b n name v))
-    go None p = rw (write, p) o
-    go (Some i) p = rw (write, p) (written_by-keeps b n i (option_and_then (λ t. row_of_property t name) (kind_of b n)) v o)
+write-keeps b n name v o = write-comes NotesInOrder b o n name v (λ i t p kind e may. record {
+  value = λ old at type first is fits. set-keeps b n i v o;
+  link = λ u s left link leaves at to holds is path target told. relinked-keeps b n i target o;
+})
 
 -- `x-sever`
 severed_from-keeps : (places i n : ℕ) (b : Board) → NotesInOrder b → NotesInOrder (severed_from places i n b)
-severed_from-keeps zero i n b o = o
-severed_from-keeps (suc places) i n b o = go (slot_at b n i) refl (severed_from-keeps places (suc i) n)
-  where
-    go : (s : Option Slot) → slot_at b n i ≡ s → ((c : Board) → NotesInOrder c → NotesInOrder (severed_from places (suc i) n c))
-        → NotesInOrder (severed_from (suc places) i n b)
-    go None p rest = rw (severed_from, p) (rest b o)
-    go (Some (plain v)) p rest = rw (severed_from, p) (rest b o)
-    go (Some (child m)) p rest = rw (severed_from, p) (rest b o)
-    go (Some (strong t target)) p rest = rw (severed_from, p) (rest (let_go b n i) (let_go-keeps b n i o))
-    go (Some (weak t target)) p rest = rw (severed_from, p) (rest b o)
-    go (Some (alias m property)) p rest = rw (severed_from, p) (rest b o)
+severed_from-keeps places i n b o = severed-comes NotesInOrder n (λ c j t target e k. let_go-keeps c n j k) places i b o
 
 pin-keeps : (b : Board) (n : ℕ) → NotesInOrder b → NotesInOrder (pin b n)
 unfolding pin
 pin-keeps b n o = pins-keep b (put_in_order n b.pins) o
 
 pub sever-keeps : (b : Board) (n : ℕ) → NotesInOrder b → NotesInOrder (sever b n).board
-sever-keeps b n o = go (is_live b n) refl (attached b n) refl
-  where
-    go : (there : Bool) → is_live b n ≡ there → (at_home : Bool) → attached b n ≡ at_home → NotesInOrder (sever b n).board
-    go false p at_home q = rw (sever, p) o
-    go true p true q = rw (sever, p, q) o
-    go true p false q = rw (sever, p, q)
-        (unpin-keeps (severed_from (length (slots_at b n)) 0 n (pin b n)) n (severed_from-keeps (length (slots_at b n)) 0 n (pin b n) (pin-keeps b n o)))
+sever-keeps b n o =
+    sever-comes NotesInOrder b n o (λ there away.
+    unpin-keeps (severed_from (length (slots_at b n)) 0 n (pin b n)) n (severed_from-keeps (length (slots_at b n)) 0 n (pin b n) (pin-keeps b n o)))
 
 -- each change
 pub changed-keeps : (b : Board) (change : Change) → NotesInOrder b → NotesInOrder (changed b change)

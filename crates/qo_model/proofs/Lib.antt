@@ -16,6 +16,7 @@ pub mod FinalNotesRunsLemmas
 pub mod FirstLemmas
 pub mod GraphLemmas
 mod HotplugRows
+pub mod LetGoLemmas
 pub mod OpeningLemmas
 pub mod PassedLemmas
 pub mod PeriodLemmas
@@ -33,3 +34,4 @@ pub mod StaysLemmas
 pub mod StepLemmas
 pub mod TreeLemmas
 pub mod WeakLinkLemmas
+pub mod WrittenLemmas

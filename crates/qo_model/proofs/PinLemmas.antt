@@ -1,12 +1,13 @@
 -- Pins: put in order and taken again, and left by what is released.
-use Rattle.std.proofs.Common.{nat_eq, ◌≡◌, refl, ap, sym, subst, ◌∙◌, ℕ, zero, suc, ◌≤◌, leb, Bool, true, false, ◌==◌, eqb, List, [], ◌∷◌, Option, Some, None, arith}
+use Rattle.std.proofs.Common.{nat_eq, ◌≡◌, refl, ap, sym, subst, ◌∙◌, ℕ, ◌≤◌, leb, Bool, true, false, ◌==◌, eqb, List, [], ◌∷◌, Option, Some, None, arith}
 use Rattle.std.specs.Bool.{⊤}
 use Rattle.std.specs.List.{AllByRecursion, list_any}
 use Rattle.std.proofs.lemmas.Bool.{eqb-true, eq-eqb}
-use Rattle.qo_model.specs.Board.{Board, Slot, plain, child, strong, weak, alias, slot_at}
+use Rattle.qo_model.specs.Board.{Board}
 use Rattle.qo_model.specs.Objects.{severed_from}
 use Rattle.qo_model.specs.References.{refs}
-use Rattle.qo_model.specs.Release.{after, finalise, let_go, put_in_order, unpin, without_first, without_pin}
+use Rattle.qo_model.specs.Release.{after, finalise, put_in_order, unpin, without_first, without_pin}
+use Rattle.qo_model.proofs.LetGoLemmas.{severed-comes}
 use Rattle.qo_model.proofs.ReleaseLeavesLemmas.{let_go-leaves, release_leaves}
 
 -- numbers that never fall
@@ -83,14 +84,4 @@ unfolding unpin
 unpin-pins b n e = rw (unpin, e) (release-pins (without_pin b n) (Some n))
 
 pub severed-pins : (places i n : ℕ) (b : Board) → (severed_from places i n b).pins ≡ b.pins
-severed-pins zero i n b = refl
-severed-pins (suc places) i n b = go (slot_at b n i) refl (severed-pins places (suc i) n)
-  where
-    go : (s : Option Slot) → slot_at b n i ≡ s → ((c : Board) → (severed_from places (suc i) n c).pins ≡ c.pins)
-        → (severed_from (suc places) i n b).pins ≡ b.pins
-    go None p rest = rw (severed_from, p) (rest b)
-    go (Some (plain v)) p rest = rw (severed_from, p) (rest b)
-    go (Some (child m)) p rest = rw (severed_from, p) (rest b)
-    go (Some (strong t target)) p rest = rw (severed_from, p) (rest (let_go b n i) ∙ (let_go-leaves b n i).pins)
-    go (Some (weak t target)) p rest = rw (severed_from, p) (rest b)
-    go (Some (alias m property)) p rest = rw (severed_from, p) (rest b)
+severed-pins places i n b = severed-comes (λ c. c.pins ≡ b.pins) n (λ c j t target e k. (let_go-leaves c n j).pins ∙ k) places i b refl

@@ -1,25 +1,20 @@
 -- The commands on objects leave all but objects, births, pins, notes and events.
-use Rattle.std.proofs.Common.{◌≡◌, refl, ◌∙◌, ℕ, zero, suc, Bool, true, false, ◌==◌, List, [], ◌∷◌, length, position, Option, Some, None, option_and_then, Result, Ok, Err}
-use Rattle.std.specs.Str.{bytes_eq}
-use Rattle.qo_values.specs.Properties.{admits}
+use Rattle.std.proofs.Common.{◌≡◌, refl, ◌∙◌, ℕ, Bool, true, false, ◌==◌, List, [], ◌∷◌, length, Option, Some, None}
 use Rattle.qo_values.specs.declared.births.TheConstants.{OBJECTS_BIRTH}
 use Rattle.qo_values.specs.declared.codes.Code.{Code}
 use Rattle.qo_values.specs.declared.kinds.TypeId.{TypeId}
 use Rattle.qo_values.specs.declared.properties.Val.{Val}
-use Rattle.qo_values.specs.declared.properties.Val.TheVariants as val
-use Rattle.qo_model.specs.Board.{Board, Slot, plain, child, strong, weak, alias, is_live, kind_of, slot_at, slots_at, held}
+use Rattle.qo_model.specs.Board.{Board, Slot, slot_at, slots_at, held}
 use Rattle.qo_model.specs.Changes.{point, set}
 use Rattle.qo_model.specs.FinalNotesRuns.{Change, added, deleted, wrote, severed, behind, behind_write, changed}
-use Rattle.qo_model.specs.Objects.{Given, added_as, added_by, attempted_as, barred, barred_by, is_object_named, object_add, object_del, place_from, refusal_of, sever, severed_from, with_attempt}
-use Rattle.qo_model.specs.Paths.{attached}
-use Rattle.qo_model.specs.Properties.{link_target, link_written, linked, may_set, pointed_at, relinked, row_of_property, write, written, written_by}
+use Rattle.qo_model.specs.Objects.{Given, added_as, added_by, attempted_as, barred, barred_by, object_add, object_del, refusal_of, sever, severed_from, with_attempt}
+use Rattle.qo_model.specs.Properties.{pointed_at, relinked, write}
 use Rattle.qo_model.specs.References.{refs}
 use Rattle.qo_model.specs.Release.{after, drop_slot, finalise, let_go, pin, unpin}
 use Rattle.qo_model.specs.ReleaseKeeps.{Leaves}
 use Rattle.qo_model.specs.Types.{TypeRow, row_named}
-use Rattle.qo_model.specs.declared.properties.Property.{Property}
-use Rattle.qo_model.specs.declared.properties.RowKind.{RowKind}
-use Rattle.qo_model.specs.declared.properties.RowKind.TheVariants as row
+use Rattle.qo_model.proofs.LetGoLemmas.{deletion-comes, sever-comes, severed-comes}
+use Rattle.qo_model.proofs.WrittenLemmas.{write-comes}
 use Rattle.qo_model.proofs.ReleaseLeavesLemmas.{let_go-leaves, release_leaves, unpin-leaves}
 use Rattle.qo_model.specs.Stays.{Stays, StaysLaw}
 
@@ -79,11 +74,8 @@ object_add-stays b driver id props = go (row_named driver) refl
 
 -- `object-del`
 object_del-stays : (b : Board) (id : List ℕ) → Stays b (object_del b id).board
-object_del-stays b id = go (place_from (is_object_named id) 0 (slots_at b OBJECTS_BIRTH)) refl
-  where
-    go : (place : Option ℕ) → place_from (is_object_named id) 0 (slots_at b OBJECTS_BIRTH) ≡ place → Stays b (object_del b id).board
-    go None p = rw (object_del, p) (stays-none b)
-    go (Some i) p = rw (object_del, p) (left-stays b (let_go b OBJECTS_BIRTH i) (let_go-leaves b OBJECTS_BIRTH i))
+object_del-stays b id =
+    deletion-comes (Stays b) b id (stays-none b) (λ i e. left-stays b (let_go b OBJECTS_BIRTH i) (let_go-leaves b OBJECTS_BIRTH i))
 
 -- `qom-set`
 pub set-stays : (b : Board) (n i : ℕ) (v : Val) → Stays b (set n i v b)
@@ -95,9 +87,8 @@ unfolding point drop_slot
 pointed-stays b n i None = record { anonymous = refl; now = refl; running = refl; holds = refl; pending = refl; notices = refl; rings = refl }
 pointed-stays b n i (Some m) = record { anonymous = refl; now = refl; running = refl; holds = refl; pending = refl; notices = refl; rings = refl }
 
-linked-stays : (b : Board) (n i : ℕ) (target : Result (Option ℕ) Code) → Stays b (behind_write b (linked b n i target))
-linked-stays b n i (Err code) = stays-none b
-linked-stays b n i (Ok target) = go (slot_at b n i) refl
+relinked-stays : (b : Board) (n i : ℕ) (target : Option ℕ) → Stays b (relinked b n i target)
+relinked-stays b n i target = go (slot_at b n i) refl
   where
     go : (s : Option Slot) → slot_at b n i ≡ s → Stays b (relinked b n i target)
     go None p = rw (relinked, p) (stays-none b)
@@ -105,61 +96,16 @@ linked-stays b n i (Ok target) = go (slot_at b n i) refl
         let c : Board = pointed_at target n i (drop_slot b n i) in
         rw (relinked, p) (stays-then b c (after finalise c (held s)) (pointed-stays b n i target) (after-stays c (held s)))
 
-link_written-stays : (b : Board) (n i : ℕ) (t : TypeId) (v : Val) → Stays b (behind_write b (link_written b n i t v))
-link_written-stays b n i t (val.Text path) = linked-stays b n i (link_target b t path)
-link_written-stays b n i t (val.Bool v) = stays-none b
-link_written-stays b n i t (val.Int v) = stays-none b
-link_written-stays b n i t (val.Uint v) = stays-none b
-link_written-stays b n i t val.Nothing = stays-none b
-
-written-stays : (b : Board) (n i : ℕ) (kind : RowKind) (s : Option Slot) (v : Val) → Stays b (behind_write b (written b n i kind s v))
-written-stays b n i (row.Plain type first) (Some (plain old)) v = go (admits type v) refl
-  where
-    go : (t : Bool) → admits type v ≡ t → Stays b (behind_write b (written b n i (row.Plain type first) (Some (plain old)) v))
-    go true p = rw (written, p) (set-stays b n i v)
-    go false p = rw (written, p) (stays-none b)
-written-stays b n i (row.Link t holds) (Some (strong to target)) v = link_written-stays b n i to v
-written-stays b n i (row.Link t holds) (Some (weak to target)) v = link_written-stays b n i to v
-written-stays b n i (row.Plain type first) None v = stays-none b
-written-stays b n i (row.Plain type first) (Some (child m)) v = stays-none b
-written-stays b n i (row.Plain type first) (Some (strong to target)) v = stays-none b
-written-stays b n i (row.Plain type first) (Some (weak to target)) v = stays-none b
-written-stays b n i (row.Plain type first) (Some (alias m property)) v = stays-none b
-written-stays b n i (row.Link t holds) None v = stays-none b
-written-stays b n i (row.Link t holds) (Some (plain old)) v = stays-none b
-written-stays b n i (row.Link t holds) (Some (child m)) v = stays-none b
-written-stays b n i (row.Link t holds) (Some (alias m property)) v = stays-none b
-written-stays b n i (row.Child t) s v = stays-none b
-written-stays b n i (row.Alias owner property) s v = stays-none b
-
-written_by-stays : (b : Board) (n i : ℕ) (row : Option Property) (v : Val) → Stays b (behind_write b (written_by b n i row v))
-written_by-stays b n i None v = stays-none b
-written_by-stays b n i (Some row) v = go (may_set row.mark) refl
-  where
-    go : (t : Bool) → may_set row.mark ≡ t → Stays b (behind_write b (written_by b n i (Some row) v))
-    go true p = rw (written_by, p) (written-stays b n i row.kind (slot_at b n i) v)
-    go false p = rw (written_by, p) (stays-none b)
-
 write-stays : (b : Board) (n : ℕ) (name : List ℕ) (v : Val) → Stays b (behind_write b (write b n name v))
-write-stays b n name v = go (position (λ (s : List ℕ × Slot). bytes_eq s.0 name) (slots_at b n)) refl
-  where
-    go : (place : Option ℕ) → position (λ (s : List ℕ × Slot). bytes_eq s.0 name) (slots_at b n) ≡ place → Stays b (behind_write b (write b n name v))
-    go None p = rw (write, p) (stays-none b)
-    go (Some i) p = rw (write, p) (written_by-stays b n i (option_and_then (λ t. row_of_property t name) (kind_of b n)) v)
+write-stays b n name v = write-comes (Stays b) b (stays-none b) n name v (λ i t p kind e may. record {
+  value = λ old at type first is fits. set-stays b n i v;
+  link = λ u s left link leaves at to holds is path target told. relinked-stays b n i target;
+})
 
 -- `x-sever`
 severed-stays : (places i n : ℕ) (b : Board) → Stays b (severed_from places i n b)
-severed-stays zero i n b = stays-none b
-severed-stays (suc places) i n b = go (slot_at b n i) refl (severed-stays places (suc i) n)
-  where
-    go : (s : Option Slot) → slot_at b n i ≡ s → ((c : Board) → Stays c (severed_from places (suc i) n c)) → Stays b (severed_from (suc places) i n b)
-    go None p rest = rw (severed_from, p) (rest b)
-    go (Some (plain v)) p rest = rw (severed_from, p) (rest b)
-    go (Some (child m)) p rest = rw (severed_from, p) (rest b)
-    go (Some (strong t target)) p rest = rw (severed_from, p)
-        (stays-then b (let_go b n i) (severed_from places (suc i) n (let_go b n i)) (left-stays b (let_go b n i) (let_go-leaves b n i)) (rest (let_go b n i)))
-    go (Some (weak t target)) p rest = rw (severed_from, p) (rest b)
-    go (Some (alias m property)) p rest = rw (severed_from, p) (rest b)
+severed-stays places i n b =
+    severed-comes (Stays b) n (λ c j t target e k. stays-then b c (let_go c n j) k (left-stays c (let_go c n j) (let_go-leaves c n j))) places i b (stays-none b)
 
 pin-stays : (b : Board) (n : ℕ) → Stays b (pin b n)
 unfolding pin
@@ -171,16 +117,11 @@ unpin-stays b n =
     record { anonymous = h.anonymous; now = h.now; running = h.running; holds = h.holds; pending = h.pending; notices = h.notices; rings = h.rings }
 
 sever-stays : (b : Board) (n : ℕ) → Stays b (sever b n).board
-sever-stays b n = go (is_live b n) refl (attached b n) refl
+sever-stays b n = sever-comes (Stays b) b n (stays-none b) (λ there away.
+    all (pin b n) (severed_from (length (slots_at b n)) 0 n (pin b n)) (pin-stays b n) (severed-stays (length (slots_at b n)) 0 n (pin b n)))
   where
     all : (c d : Board) → Stays b c → Stays c d → Stays b (unpin d n)
     all c d h k = stays-then b d (unpin d n) (stays-then b c d h k) (unpin-stays d n)
-
-    go : (there : Bool) → is_live b n ≡ there → (at_home : Bool) → attached b n ≡ at_home → Stays b (sever b n).board
-    go false p at_home q = rw (sever, p) (stays-none b)
-    go true p true q = rw (sever, p, q) (stays-none b)
-    go true p false q = rw (sever, p, q)
-        (all (pin b n) (severed_from (length (slots_at b n)) 0 n (pin b n)) (pin-stays b n) (severed-stays (length (slots_at b n)) 0 n (pin b n)))
 
 pub changed-stays : (b : Board) (change : Change) → Stays b (changed b change)
 changed-stays b (added driver id props) = object_add-stays b driver id props

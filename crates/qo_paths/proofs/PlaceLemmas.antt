@@ -1,11 +1,11 @@
 -- The way up: places of objects, what is attached, and the steps of a canonical path.
-use Rattle.std.proofs.Common.{◌≡◌, refl, ap, sym, subst, ◌∙◌, ℕ, suc, ◌+◌, ◌<◌, ◌≤◌, Bool, true, false, List, [], ◌∷◌, ◌++◌, length, eqb, Option, Some, None, find, option_map, append_assoc, arith}
+use Rattle.std.proofs.Common.{◌≡◌, refl, ap, sym, ◌∙◌, ℕ, suc, ◌+◌, ◌<◌, ◌≤◌, Bool, true, false, List, [], ◌∷◌, ◌++◌, length, eqb, Option, Some, None, find, option_map, append_assoc, arith}
 use Rattle.std.specs.Option.{option_and_then, option_map_or}
 use Rattle.std.specs.List.{position_or_len}
 use Rattle.std.proofs.lemmas.List.Folds.{find_at}
 use Rattle.std.proofs.lemmas.Bool.{eqb-true, eq-eqb}
 use Rattle.qo_slots.specs.declared.keys.Key.{Key}
-use Rattle.qo_table.specs.Rows.{IsLive, births, row_at}
+use Rattle.qo_table.specs.Rows.{row_at}
 use Rattle.qo_object.specs.Slots.{Named, names_child}
 use Rattle.qo_object.specs.Content.{Content, is_parent}
 use Rattle.qo_model.specs.Board.{Board}
@@ -15,27 +15,13 @@ use Rattle.qo_model.specs.Paths.{attached, attached_turn, steps_to, steps_turn, 
 use Rattle.qo_heap.specs.Objects.{IsHeap, Objects, content_of, slots_of, parent_of}
 use Rattle.qo_heap.specs.Board.{Shows}
 use Rattle.qo_heap.proofs.PlacesLemmas.{row-at-place}
-use Rattle.qo_heap.proofs.ShowsReads.{place_under, shows-births, shows-place}
+use Rattle.qo_heap.proofs.ShowsReads.{place_under, shows-place, shows-size}
 use Rattle.qo_paths.specs.Parts.{path_up}
 use Rattle.qo_paths.proofs.DepthSteps.{left_at, depth-all, depth-turn, depth-none}
 
 -- the row that a search finds is that of its birth
 found-row : (v : Objects) → IsHeap v → (p : Key × Content → Bool) (row : Key × Content) → find p v.rows ≡ Some row → row_at v.rows row.0.birth ≡ Some row
 found-row v good p row found = row-at-place 0 v.born v.rows (position_or_len p v.rows) row good.rising (sym (find_at p v.rows) ∙ found)
-
--- what a search finds is there
-pub found-live : (v : Objects) → IsHeap v → (p : Key × Content → Bool) (key : Key) → option_map (λ (row : Key × Content). row.0) (find p v.rows) ≡ Some key → IsLive v.rows key
-found-live v good p key is = go (find p v.rows) refl is
-  where
-    go : (o : Option (Key × Content)) → find p v.rows ≡ o → option_map (λ (row : Key × Content). row.0) o ≡ Some key → IsLive v.rows key
-    go None e q = cc
-    go (Some row) e q =
-        let same : row.0 ≡ key = cc q in
-        let here : IsLive v.rows row.0 = rw (found-row v good p row e) refl in
-        subst (λ (k : Key). IsLive v.rows k) same here
-
-pub parent-live : (v : Objects) → IsHeap v → (n : ℕ) (key : Key) → parent_of v n ≡ Some key → IsLive v.rows key
-parent-live v good n key is = found-live v good (λ (row : Key × Content). is_parent n row.1) key is
 
 -- an object without a parent has no place
 pub place-none : (b : Board) (v : Objects) → Shows b v → (n : ℕ) → parent_of v n ≡ None → place_of b n ≡ None
@@ -56,14 +42,6 @@ place-is b v s good n key is o there = shows-place b v s n ∙ go (find (λ (row
         let here : content_of v row.0.birth ≡ Some row.1 = rw (found-row v good (λ (r : Key × Content). is_parent n r.1) row e) refl in
         let slots : slots_of v key.birth ≡ row.1.slots = ap (λ (k : Key). slots_of v k.birth) (sym same) ∙ ap (λ (c : Option Content). option_map_or (λ (d : Content). d.slots) c []) here in
         rw (there, slots) (ap (λ (k : Key). option_map (λ (t : Named). (k.birth, t.0)) (find (λ (t : Named). names_child n t.1) row.1.slots)) same)
-
--- as many births as objects
-length-births : (rows : List (Key × Content)) → length (births rows) ≡ length rows
-length-births [] = refl
-length-births (row ∷ rows) = ap suc (length-births rows)
-
-size-shown : (b : Board) (v : Objects) → Shows b v → length (paths.births b) ≡ length v.rows
-size-shown b v s = ap length (shows-births b v s) ∙ length-births v.rows
 
 -- a turn is one of as many as there are objects, and one more
 pub within : (turn live size : ℕ) → turn < live + 1 → live ≡ size → turn < size + 1
@@ -87,7 +65,7 @@ attached_from b size i n = left_at (attached_turn b) (λ _. false) size i n
 pub attached-all : (b : Board) (v : Objects) → Shows b v → (n : ℕ) → attached_from b (length v.rows) 0 n ≡ attached b n
 unfolding attached
 attached-all b v s n =
-    depth-all (attached_turn b) (λ _. false) (length v.rows) n ∙ ap (λ (k : ℕ). by_depth (attached_turn b) (λ _. false) (suc k) n) (sym (size-shown b v s))
+    depth-all (attached_turn b) (λ _. false) (length v.rows) n ∙ ap (λ (k : ℕ). by_depth (attached_turn b) (λ _. false) (suc k) n) (sym (shows-size b v s))
 
 pub attached-root : (b : Board) (size i n : ℕ) → i < size + 1 → eqb n 1 ≡ true → attached_from b size i n ≡ true
 attached-root b size i n below is = depth-turn (attached_turn b) (λ _. false) size i n below ∙ rw (is, attached_turn) refl
@@ -125,7 +103,7 @@ steps_with b size i n names = option_map (λ (above : List ℕ). above ++ path_u
 pub steps-all : (b : Board) (v : Objects) → Shows b v → (n : ℕ) → steps_with b (length v.rows) 0 n [] ≡ steps_to b n
 unfolding steps_to
 steps-all b v s n =
-    go (steps_from b (length v.rows) 0 n) ∙ depth-all (steps_turn b) (λ _. None) (length v.rows) n ∙ ap (λ (k : ℕ). by_depth (steps_turn b) (λ _. None) (suc k) n) (sym (size-shown b v s))
+    go (steps_from b (length v.rows) 0 n) ∙ depth-all (steps_turn b) (λ _. None) (length v.rows) n ∙ ap (λ (k : ℕ). by_depth (steps_turn b) (λ _. None) (suc k) n) (sym (shows-size b v s))
   where
     append-nil : (xs : List ℕ) → xs ++ [] ≡ xs
     append-nil [] = refl

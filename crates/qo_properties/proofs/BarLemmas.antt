@@ -1,22 +1,21 @@
 -- The row of a type that a name gives, and what it refuses.
-use Rattle.std.proofs.Common.{◌≡◌, refl, ap, sym, subst, ◌∙◌, ap₂, ◌<◌, ◌≤◌, leb, nat_lt, cond, Bool, true, false, ◌||◌, List, [], ◌∷◌, length, ℕ, codes, find}
+use Rattle.std.proofs.Common.{◌≡◌, refl, ap, sym, subst, ◌∙◌, ap₂, ◌<◌, ◌≤◌, leb, cond, Bool, true, false, ◌||◌, List, [], ◌∷◌, length, ℕ, codes, find}
 use Rattle.std.proofs.Common.{Option, Some, None, is_some, option_map, arith}
-use Rattle.std.specs.List.{AllByRecursion, list_all, list_any}
-use Rattle.qo_values.specs.Ids.{is_id, is_id_byte, is_letter}
-use Rattle.qo_values.specs.Names.{IsName, is_name_byte}
-use Rattle.std.proofs.lemmas.Bool.{ltb-true}
+use Rattle.std.specs.List.{AllByRecursion, list_any}
+use Rattle.qo_values.specs.Ids.{is_id}
 use Rattle.std.proofs.lemmas.Bool.Decides.{nat_tests}
 use Rattle.std.proofs.lemmas.Cmp.{nat_list_eq_equiv}
 use Rattle.std.specs.Option.{option_map_or}
 use Rattle.std.specs.Str.{bytes_eq}
 use Rattle.std.proofs.lemmas.Option.{same_Some}
 use Rattle.std.proofs.lemmas.List.{length-map}
+pub use Rattle.qo_values.proofs.IdLemmas.{id-named}
 use Rattle.qo_values.specs.Kinds.{type_name}
 use Rattle.qo_values.specs.declared.births.TheConstants.{OBJECTS_BIRTH}
 use Rattle.qo_values.specs.declared.codes.Code.TheVariants.{E15, E20, E21, E22, E23, E24, E43}
 use Rattle.qo_values.specs.declared.codes.Code.{Code}
 use Rattle.qo_values.specs.declared.kinds.TypeId.{TypeId}
-use Rattle.qo_values.specs.declared.limits.TheConstants.{ID_MAX, LIVE_OBJECTS_MAX}
+use Rattle.qo_values.specs.declared.limits.TheConstants.{LIVE_OBJECTS_MAX}
 use Rattle.qo_model.specs.Types.{TypeRow, is_a, row_named, row_of, types}
 use Rattle.qo_types.specs.Rows.{is_abstract}
 use Rattle.qo_model.specs.Board.{Board, is_live}
@@ -114,32 +113,6 @@ module _ (b : Board) (v : Objects) (s : Shows b v) (key : Key) (live : IsLive v.
   place-vacant none few =
       let so : leb LIVE_OBJECTS_MAX (length b.records) ≡ false = grind (arith, nat_tests, many-shown b v s, few) in
       rw (place_refusal, lives, none, so) refl
-
--- an id is a name
-
-id-byte : (b : ℕ) → is_id_byte b ≡ true → is_name_byte b ≡ true
-id-byte b e = grind (arith, nat_tests, e)
-
-id-first : (b : ℕ) → is_letter b ≡ true → is_name_byte b ≡ true
-id-first b e = id-byte b (rw e refl)
-
-ids-all : (bs : List ℕ) → list_all is_id_byte bs ≡ true → list_all is_name_byte bs ≡ true
-ids-all [] e = refl
-ids-all (b ∷ bs) e = go (is_id_byte b) refl (ids-all bs)
-  where
-    go : (t : Bool) → is_id_byte b ≡ t → (list_all is_id_byte bs ≡ true → list_all is_name_byte bs ≡ true) → list_all is_name_byte (b ∷ bs) ≡ true
-    go true p rest = rw (id-byte b p) (rest (rw p at e))
-    go false p rest = absurd (let clash : false ≡ true = rw p at e in cc)
-
-pub id-named : (id : List ℕ) → is_id id ≡ true → IsName id
-id-named [] e = cc
-id-named (b ∷ bs) e = go (is_letter b) refl (list_all is_id_byte bs) refl (nat_lt (length bs) ID_MAX) refl
-  where
-    go : (t : Bool) → is_letter b ≡ t → (u : Bool) → list_all is_id_byte bs ≡ u → (w : Bool) → nat_lt (length bs) ID_MAX ≡ w → IsName (b ∷ bs)
-    go true p true q true r = record { some = omega arith; short = (let few : length bs < ID_MAX = ltb-true (length bs) ID_MAX r in omega arith); printable = rw (id-first b p) (ids-all bs q) }
-    go true p true q false r = absurd (let clash : false ≡ true = rw (p, q, r) at e in cc)
-    go true p false q w r = absurd (let clash : false ≡ true = rw (p, q) at e in cc)
-    go false p u q w r = absurd (let clash : false ≡ true = rw p at e in cc)
 
 -- the refusals in order
 

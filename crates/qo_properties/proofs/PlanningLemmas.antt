@@ -64,9 +64,11 @@ new-apart Tag = refl
 
 -- the place of a row's slot, by the slots of the rows before it
 
-pub placed-at : {X Y : Type 0} (f : X → Option Y) (xs : List X) (i : ℕ) (x : X) → slice_get xs i ≡ Some x → IfSome (f x) (λ y. slice_get (filter_map f xs) (length (filter_map f (take i xs))) ≡ Some y)
+pub placed-at : {X Y : Type 0} (f : X → Option Y) (xs : List X) (i : ℕ) (x : X) → slice_get xs i ≡ Some x
+    → IfSome (f x) (λ y. slice_get (filter_map f xs) (length (filter_map f (take i xs))) ≡ Some y)
 placed-at f [] i x at = cc
-placed-at {X = X} {Y = Y} f (z ∷ xs) zero x at = subst (λ (w : X). IfSome (f w) (λ (y : Y). slice_get (filter_map f (z ∷ xs)) 0 ≡ Some y)) (same_Some z x at) (by (f z))
+placed-at {X = X} {Y = Y} f (z ∷ xs) zero x at = subst (λ (w : X). IfSome (f w) (λ (y : Y). slice_get (filter_map f (z ∷ xs)) 0
+    ≡ Some y)) (same_Some z x at) (by (f z))
   where
     by : (o : Option Y) → IfSome o (λ (y : Y). slice_get (cons_option o (filter_map f xs)) 0 ≡ Some y)
     by None = tt
@@ -145,11 +147,13 @@ module _ (b : Board) (given : List Given) (p : Given) (none : find (λ (q : Give
 
   given-here : (f : Fill) (s : Named) → s.0 ≡ p.0 → HasValue b p.1 f s.1 → IsGiven b (given ++ p ∷ []) f s
   given-here f s same is =
-      let unfound : find (λ (q : Given). bytes_eq q.0 s.0) given ≡ None = subst (λ (name : List ℕ). find (λ (q : Given). bytes_eq q.0 name) given ≡ None) (sym same) none in
+      let unfound : find (λ (q : Given). bytes_eq q.0 s.0) given ≡ None = subst (λ (name : List ℕ). find (λ (q : Given). bytes_eq q.0 name) given
+      ≡ None) (sym same) none in
       let here : bytes_eq p.0 s.0 ≡ true = ap (bytes_eq p.0) same ∙ nat_list_eq_equiv.refl p.0 in
       is ∙ ap (found_as s) (sym (find-last (λ (q : Given). bytes_eq q.0 s.0) given p unfound here))
 
-  zip-others : (fs : List Fill) (slots : List Named) → list_all (λ (s : Named). not (bytes_eq s.0 p.0)) slots ≡ true → AllZip (IsGiven b given) fs slots → AllZip (IsGiven b (given ++ p ∷ [])) fs slots
+  zip-others : (fs : List Fill) (slots : List Named) → list_all (λ (s : Named). not (bytes_eq s.0 p.0)) slots ≡ true → AllZip (IsGiven b given) fs slots
+      → AllZip (IsGiven b (given ++ p ∷ [])) fs slots
   zip-others [] [] others all = tt
   zip-others [] (s ∷ slots) others all = absurd all
   zip-others (f ∷ fs) [] others all = absurd all
@@ -157,7 +161,8 @@ module _ (b : Board) (given : List Given) (p : Given) (none : find (λ (q : Give
       let both = both_true (not (bytes_eq s.0 p.0)) (list_all (λ (t : Named). not (bytes_eq t.0 p.0)) slots) others in
       (given-other f s both.0 all.0, zip-others fs slots both.1 all.1)
 
-  pub told-set : (fs : List Fill) (slots : List Named) (i : ℕ) (f : Fill) (s : Named) → are_apart slots ≡ true → slice_get slots i ≡ Some s → s.0 ≡ p.0 → HasValue b p.1 f s.1 → AllZip (IsGiven b given) fs slots → AllZip (IsGiven b (given ++ p ∷ [])) (set fs i f) slots
+  pub told-set : (fs : List Fill) (slots : List Named) (i : ℕ) (f : Fill) (s : Named) → are_apart slots ≡ true → slice_get slots i ≡ Some s → s.0 ≡ p.0
+      → HasValue b p.1 f s.1 → AllZip (IsGiven b given) fs slots → AllZip (IsGiven b (given ++ p ∷ [])) (set fs i f) slots
   told-set [] [] i f s apart at same is all = tt
   told-set [] (t ∷ slots) i f s apart at same is all = absurd all
   told-set (g ∷ fs) [] i f s apart at same is all = absurd all
@@ -190,10 +195,13 @@ above-none (q ∷ given) k above =
     let both = both_true (is_lt (slice_cmp nat_cmp q.0 k)) (is_above (names_of given) k) above in
     rw (less-apart q.0 k both.0) (above-none given k both.1)
 
-pub none-before : (given : List Given) (i : ℕ) (p : Given) → NamesRise (names_of given) → i < length given → p ≡ get_or given i p → find (λ (q : Given). bytes_eq q.0 p.0) (take i given) ≡ None
+pub none-before : (given : List Given) (i : ℕ) (p : Given) → NamesRise (names_of given) → i < length given → p ≡ get_or given i p
+    → find (λ (q : Given). bytes_eq q.0 p.0) (take i given) ≡ None
 none-before given i p rise below at =
-    let split : given ≡ take i given ++ p ∷ drop (i + 1) given = sym (take-append-drop i given) ∙ ap (λ (l : List Given). take i given ++ l) (drop-at given i p below at) in
-    let names : names_of given ≡ names_of (take i given) ++ p.0 ∷ names_of (drop (i + 1) given) = ap names_of split ∙ map-append (λ (q : Given). q.0) (take i given) (p ∷ drop (i + 1) given) in
+    let split : given ≡ take i given ++ p ∷ drop (i + 1) given = sym (take-append-drop i given)
+    ∙ ap (λ (l : List Given). take i given ++ l) (drop-at given i p below at) in
+    let names : names_of given ≡ names_of (take i given) ++ p.0 ∷ names_of (drop (i + 1) given) = ap names_of split
+    ∙ map-append (λ (q : Given). q.0) (take i given) (p ∷ drop (i + 1) given) in
     above-none (take i given) p.0 (above_those_before (names_of (take i given)) (names_of (drop (i + 1) given)) p.0 (subst NamesRise names rise))
 
 -- a row more
@@ -228,7 +236,8 @@ module _ (t : TypeId) (rows : List Property) (i : ℕ) (d : Property) (below : i
   one-more : true ≡ is_some (begun t (get_or rows i d).kind) → (s : Named) × (more ≡ s ∷ [])
   one-more own = by (begun t (get_or rows i d).kind) own
     where
-      by : (o : Option Slot) → true ≡ is_some o → (s : Named) × (option_to_list {X = Named} (option_map (λ (x : Slot). (property_name (get_or rows i d).name, x)) o) ≡ s ∷ [])
+      by : (o : Option Slot) → true ≡ is_some o
+          → (s : Named) × (option_to_list {X = Named} (option_map (λ (x : Slot). (property_name (get_or rows i d).name, x)) o) ≡ s ∷ [])
       by None own = cc
       by (Some x) own = ((property_name (get_or rows i d).name, x), refl)
 
@@ -239,7 +248,8 @@ module _ (t : TypeId) (rows : List Property) (i : ℕ) (d : Property) (below : i
       by None own = refl
       by (Some x) own = cc
 
-  pub blank-own : true ≡ is_some (begun t (get_or rows i d).kind) → (fs : List Fill) → fs ≡ map (λ (s : Named). fill.Nothing) before → fs ++ fill.Nothing ∷ [] ≡ map (λ (s : Named). fill.Nothing) (filter_map (slot_begun t) (take (i + 1) rows))
+  pub blank-own : true ≡ is_some (begun t (get_or rows i d).kind) → (fs : List Fill) → fs ≡ map (λ (s : Named). fill.Nothing) before
+      → fs ++ fill.Nothing ∷ [] ≡ map (λ (s : Named). fill.Nothing) (filter_map (slot_begun t) (take (i + 1) rows))
   blank-own own fs is =
       let (s, one) = one-more own in
       ap (λ (l : List Fill). l ++ fill.Nothing ∷ []) is
@@ -247,8 +257,10 @@ module _ (t : TypeId) (rows : List Property) (i : ℕ) (d : Property) (below : i
       ∙ sym (map-append (λ (x : Named). fill.Nothing) before more)
       ∙ ap (map (λ (x : Named). fill.Nothing)) (sym next-here)
 
-  pub blank-other : false ≡ is_some (begun t (get_or rows i d).kind) → (fs : List Fill) → fs ≡ map (λ (s : Named). fill.Nothing) before → fs ≡ map (λ (s : Named). fill.Nothing) (filter_map (slot_begun t) (take (i + 1) rows))
-  blank-other own fs is = is ∙ ap (map (λ (x : Named). fill.Nothing)) (sym (next-here ∙ ap (λ (l : List Named). before ++ l) (none-more own) ∙ append-nil before))
+  pub blank-other : false ≡ is_some (begun t (get_or rows i d).kind) → (fs : List Fill) → fs ≡ map (λ (s : Named). fill.Nothing) before
+      → fs ≡ map (λ (s : Named). fill.Nothing) (filter_map (slot_begun t) (take (i + 1) rows))
+  blank-other own fs is = is ∙ ap (map (λ (x : Named). fill.Nothing)) (sym (next-here ∙ ap (λ (l : List Named). before ++ l) (none-more own)
+      ∙ append-nil before))
 
   pub count-own : true ≡ is_some (begun t (get_or rows i d).kind) → (n : ℕ) → n ≡ length before → n + 1 ≡ length (filter_map (slot_begun t) (take (i + 1) rows))
   count-own own n is =
@@ -315,11 +327,13 @@ module _ (t : TypeId) (fs : List Fill) (p : PlacedRow) (stands : StandsAt t p) (
       let x : Seat t p = seat t p stands own in
       zip-set Fits fs (new_slots t) p.place f (property_name p.row.name, x.slot) x.stands (rw x.begins at fit) all
 
-  pub put-told : (b : Board) (given : List Given) (q : Given) → find (λ (g : Given). bytes_eq g.0 q.0) given ≡ None → Some p.row ≡ row_of_property t q.0 → (f : Fill) → IfSome (begun t p.row.kind) (HasValue b q.1 f) → AllZip (IsGiven b given) fs (new_slots t)
+  pub put-told : (b : Board) (given : List Given) (q : Given) → find (λ (g : Given). bytes_eq g.0 q.0) given ≡ None → Some p.row ≡ row_of_property t q.0
+      → (f : Fill) → IfSome (begun t p.row.kind) (HasValue b q.1 f) → AllZip (IsGiven b given) fs (new_slots t)
       → AllZip (IsGiven b (given ++ q ∷ [])) (set fs p.place f) (new_slots t)
   put-told b given q none is f told all =
       let x : Seat t p = seat t p stands own in
-      told-set b given q none fs (new_slots t) p.place f (property_name p.row.name, x.slot) (new-apart t) x.stands (row-name t q.0 p.row is) (rw x.begins at told) all
+      told-set b given q none fs (new_slots t) p.place f (property_name p.row.name, x.slot) (new-apart t) x.stands (row-name t q.0 p.row is)
+      (rw x.begins at told) all
 
 -- what is told of a refusal
 

@@ -1,5 +1,5 @@
-//! The board: the objects of the machine, from the opening board on (docs/devel/qom.rst, "The QEMU
-//! Object Model"; the opening board is the profile's).
+//! The board, whose devices are realized and unrealized here: the objects of the machine, from the
+//! opening board on (docs/devel/qom.rst, "The QEMU Object Model"; the opening board is the profile's).
 #![tactic(auto)]
 
 mod board;

@@ -4,7 +4,6 @@ use Rattle.std.specs.List.{cons_option, flat_map, list_any}
 use Rattle.std.specs.Option.{option_map_or}
 use Rattle.std.specs.Str.{bytes_eq}
 use Rattle.std.proofs.Math.Path.{fun_ext}
-use Rattle.std.proofs.lemmas.List.{length-map}
 use Rattle.qo_values.specs.declared.kinds.TypeId.{TypeId}
 use Rattle.qo_values.specs.declared.kinds.Act.{Act}
 use Rattle.qo_values.specs.declared.kinds.Act.TheVariants.{Enter, Hold, Exit}
@@ -14,7 +13,6 @@ use Rattle.qo_model.specs.Board as board
 use Rattle.qo_model.specs.Clocks.{acted}
 use Rattle.qo_model.specs.Depth.{among, by_depth}
 use Rattle.qo_model.specs.Devices.{buses_of, bus_in, clock_name, kids_of, strong_in}
-use Rattle.qo_model.specs.Paths as paths
 use Rattle.qo_model.specs.Paths.{is_of}
 use Rattle.qo_model.specs.Release.{without_first}
 use Rattle.qo_model.specs.Reset.{below, count, held, is_deep, is_out, phased, plugged, post, pulse, released}
@@ -30,7 +28,7 @@ use Rattle.qo_heap.specs.Objects.{Objects, content_of, slots_of}
 use Rattle.qo_heap.proofs.ActsLemmas.{acts-then}
 use Rattle.qo_heap.proofs.ActsReads.{acts-length}
 use Rattle.qo_heap.proofs.ShowsActs.{shows-acted}
-use Rattle.qo_heap.proofs.ShowsReads.{shows-births, shows-kind, shows-slots}
+use Rattle.qo_heap.proofs.ShowsReads.{shows-kind, shows-size, shows-slots}
 use Rattle.qo_reset.specs.Phases.{acted_on, below_on, chosen, count_on, is_bus, is_crowded, kids_in, phase_on, picked, picks, post_by, turned_to, visited, walked}
 use Rattle.qo_reset.proofs.WalkLemmas.{acts-below, acts-chosen, walked-acts}
 
@@ -88,15 +86,12 @@ shows-below b v s = fun_ext (λ n. go n (is_of b (codes "bus") n) ∙ ap (λ (bu
         ∙ kids-shown (is_of b (codes "bus")) (slots_of v n)
     go n false = ap (filter_map (bus_in b)) (shows-slots b v s n) ∙ buses-shown b (slots_of v n)
 
-shows-length : (b : Board) (v : Objects) → Shows b v → length (paths.births b) ≡ length v.rows
-shows-length b v s = ap (λ (l : List ℕ). length l) (shows-births b v s) ∙ length-map v.rows (λ row. row.0.birth)
-
 pub shows-post : (b : Board) (v : Objects) → Shows b v → post b ≡ post_by (below_on v) (suc (length v.rows))
 unfolding post post_by
 shows-post b v s =
     fun_ext
     (λ n. ap₂ (λ (next : ℕ → List ℕ) (d : ℕ). by_depth (λ (f : ℕ → List ℕ) (o : ℕ). flat_map f (next o) ++ o ∷ []) (λ _. []) (suc d) n) (shows-below b v s)
-    (shows-length b v s))
+    (shows-size b v s))
 
 counts-shown : (b : Board) (v : Objects) → Shows b v → count b ≡ count_on v b.holds
 unfolding count_on

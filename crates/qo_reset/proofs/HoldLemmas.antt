@@ -1,7 +1,7 @@
 -- The list of holds: the place of one, a hold less, and one that is taken behind the others.
-use Rattle.std.proofs.Common.{◌≡◌, refl, ap, sym, subst, ◌∙◌, ℕ, suc, not, cond, Bool, true, false, if◌then◌else◌, List, [], ◌∷◌, ◌++◌, length, filter, map, nat_eq, nat_lt, ◌<◌, position, remove, slice_index_or, Option, Some, None, ◌+◌, ◌-◌, ◌≤◌, arith}
+use Rattle.std.proofs.Common.{◌≡◌, refl, ap, sym, ◌∙◌, ℕ, suc, not, cond, Bool, true, false, List, [], ◌∷◌, ◌++◌, length, filter, nat_eq, nat_lt, ◌<◌, position, remove, slice_index_or, Option, Some, None, ◌+◌, arith}
 use Rattle.std.specs.Prelude.{◌||◌}
-use Rattle.std.specs.List.{list_any, position_or_len}
+use Rattle.std.specs.List.{position_or_len}
 use Rattle.std.proofs.lemmas.Bool.{eq-eqb}
 use Rattle.std.proofs.lemmas.Bool.Decides.{nat_tests}
 use Rattle.std.proofs.lemmas.Option.{same_Some}

@@ -1,5 +1,5 @@
 -- Phases on a heap: acts leave who is below whom, and phases go piece by piece.
-use Rattle.std.proofs.Common.{◌≡◌, refl, ap, ap₂, sym, ◌∙◌, ℕ, zero, suc, ◌+◌, ◌-◌, ◌<◌, ◌≤◌, Bool, true, false, not, ◌&&◌, cond, eqb, List, [], ◌∷◌, ◌++◌, map, take, length, filter, filter_map, slice_get, append-nil, count_by, subst, ◌||◌, nat_eq, Option, Some, None, option_map, IfSome, codes, arith}
+use Rattle.std.proofs.Common.{◌≡◌, refl, ap, ap₂, sym, ◌∙◌, ℕ, zero, suc, ◌+◌, ◌-◌, ◌<◌, ◌≤◌, Bool, true, false, not, ◌&&◌, cond, eqb, List, [], ◌∷◌, ◌++◌, take, length, filter, filter_map, slice_get, append-nil, count_by, subst, ◌||◌, nat_eq, Option, Some, None, option_map, IfSome, codes, arith}
 use Rattle.std.specs.List.{cons_option, flat_map, list_any}
 use Rattle.std.specs.Option.{option_and_then, option_map_or}
 use Rattle.std.specs.Str.{bytes_eq}

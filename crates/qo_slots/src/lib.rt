@@ -1,4 +1,5 @@
-//! A table of values under keys that are never reused, and the counter of the looks into it.
+//! The slots of an arena, and not those of objects: values under keys that are never reused, and the
+//! counter of the looks into it.
 //!
 //! Whoever holds a key reaches its value in one step, and each such step is counted.
 #![tactic(auto)]

@@ -17,6 +17,7 @@ use Rattle.qo_model.specs.Release.{drop_slot, edit, edited, emptied, let_go, wit
 use Rattle.qo_model.proofs.EditLemmas.{StandsAt, stands-at}
 use Rattle.qo_model.proofs.StepLemmas.{drop-live, drop-record, live-among, found-birth, one_of}
 use Rattle.qo_model.specs.SoundAliases.{is_open, lasting, PassesTo}
+use Rattle.qo_model.proofs.WrittenLemmas.{IsLink, holding, seeing}
 use Rattle.qo_sound.proofs.SlotLemmas.{clocks-changed, clocks-stay, IsNoClock, no_child}
 use Rattle.qo_sound.proofs.RecordLemmas.{all-edited, sum-edited}
 use Rattle.qo_sound.proofs.SlotLemmas.{all-changed, all-dropped, child-pointed, sum-changed}
@@ -181,11 +182,6 @@ emptied-at b n i s left e leaves =
         let is : emptied y.1 ≡ Some left = ap (λ (z : List ℕ × Slot). emptied z.1) (same_Some y x q) ∙ k in
         rw (without_hold, is) refl
     at_place (suc j) (y ∷ slots) x q k = at_place j slots x q k
-
--- a slot that is a link to objects of a type
-pub data IsLink (t : TypeId) : Slot → Type 0 where
-  holding : (target : Option ℕ) → IsLink t (strong t target)
-  seeing : (target : Option ℕ) → IsLink t (weak t target)
 
 -- a link that was let go points at an object of its type
 pointed-drop : (b : Board) (n i : ℕ) (t : TypeId) (s left : Slot) (m : ℕ) → slot_at b n i ≡ Some s → emptied s ≡ Some left → held left ≡ None

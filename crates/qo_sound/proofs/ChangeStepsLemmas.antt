@@ -1,22 +1,15 @@
 -- What each small step of the commands on objects keeps, the commands keep.
-use Rattle.std.proofs.Common.{◌≡◌, refl, ℕ, zero, suc, Bool, true, false, List, length, position, Option, Some, None, option_and_then, Result, Ok, Err}
-use Rattle.std.specs.Str.{bytes_eq}
-use Rattle.qo_values.specs.Properties.{admits}
+use Rattle.std.proofs.Common.{◌≡◌, refl, ℕ, zero, suc, Bool, true, false, List, length, Option, Some, None}
 use Rattle.qo_values.specs.declared.births.TheConstants.{OBJECTS_BIRTH}
-use Rattle.qo_values.specs.declared.codes.Code.{Code}
-use Rattle.qo_values.specs.declared.kinds.TypeId.{TypeId}
 use Rattle.qo_values.specs.declared.properties.Val.{Val}
-use Rattle.qo_values.specs.declared.properties.Val.TheVariants as val
-use Rattle.qo_model.specs.Board.{Board, Slot, plain, child, strong, weak, alias, is_live, kind_of, slot_at, slots_at, held}
+use Rattle.qo_model.specs.Board.{Board, Slot, plain, child, strong, weak, alias, is_live, slot_at, slots_at, held}
 use Rattle.qo_model.specs.Changes.{point, pointed, set, with_changed, with_val}
 use Rattle.qo_model.specs.FinalNotesRuns.{behind_write}
 use Rattle.qo_model.specs.Objects.{is_object_named, object_del, place_from, sever, severed_from}
 use Rattle.qo_model.specs.Paths.{attached}
-use Rattle.qo_model.specs.Properties.{link_target, link_written, linked, may_set, pointed_at, relinked, row_of_property, write, written, written_by}
+use Rattle.qo_model.specs.Properties.{pointed_at, relinked, write}
 use Rattle.qo_model.specs.Release.{drop_slot, let_go, pin, with_dropped}
-use Rattle.qo_model.specs.declared.properties.Property.{Property}
-use Rattle.qo_model.specs.declared.properties.RowKind.{RowKind}
-use Rattle.qo_model.specs.declared.properties.RowKind.TheVariants as row
+use Rattle.qo_model.proofs.WrittenLemmas.{write-comes}
 use Rattle.qo_sound.proofs.MakeStepsLemmas.{KeepsEdits}
 use Rattle.qo_sound.proofs.DetachStepsLemmas.{KeepsEnds, KeepsPins, step-let_go, step-pin, step-unpin}
 
@@ -50,51 +43,11 @@ module _ (P : Board → Type 0) (edits : KeepsEdits P) (pins : KeepsPins P) (end
       go None p = rw (relinked, p) h
       go (Some s) p = rw (relinked, p) (ends (held s) (pointed_at target n i (drop_slot b n i)) (step-pointed (drop_slot b n i) n i target (step-drop b n i h)))
 
-  step-linked : (b : Board) (n i : ℕ) (target : Result (Option ℕ) Code) → P b → P (behind_write b (linked b n i target))
-  step-linked b n i (Ok target) h = step-relinked b n i target h
-  step-linked b n i (Err code) h = h
-
-  step-link_written : (b : Board) (n i : ℕ) (t : TypeId) (v : Val) → P b → P (behind_write b (link_written b n i t v))
-  step-link_written b n i t (val.Text path) h = step-linked b n i (link_target b t path) h
-  step-link_written b n i t (val.Bool v) h = h
-  step-link_written b n i t (val.Int v) h = h
-  step-link_written b n i t (val.Uint v) h = h
-  step-link_written b n i t val.Nothing h = h
-
-  step-written : (b : Board) (n i : ℕ) (kind : RowKind) (s : Option Slot) (v : Val) → P b → P (behind_write b (written b n i kind s v))
-  step-written b n i (row.Plain type first) (Some (plain old)) v h = go (admits type v) refl
-    where
-      go : (t : Bool) → admits type v ≡ t → P (behind_write b (written b n i (row.Plain type first) (Some (plain old)) v))
-      go true p = rw (written, p) (step-val b n i v h)
-      go false p = rw (written, p) h
-  step-written b n i (row.Link t holds) (Some (strong to target)) v h = step-link_written b n i to v h
-  step-written b n i (row.Link t holds) (Some (weak to target)) v h = step-link_written b n i to v h
-  step-written b n i (row.Plain type first) None v h = h
-  step-written b n i (row.Plain type first) (Some (child m)) v h = h
-  step-written b n i (row.Plain type first) (Some (strong to target)) v h = h
-  step-written b n i (row.Plain type first) (Some (weak to target)) v h = h
-  step-written b n i (row.Plain type first) (Some (alias m property)) v h = h
-  step-written b n i (row.Link t holds) None v h = h
-  step-written b n i (row.Link t holds) (Some (plain old)) v h = h
-  step-written b n i (row.Link t holds) (Some (child m)) v h = h
-  step-written b n i (row.Link t holds) (Some (alias m property)) v h = h
-  step-written b n i (row.Child t) s v h = h
-  step-written b n i (row.Alias owner property) s v h = h
-
-  step-written_by : (b : Board) (n i : ℕ) (row : Option Property) (v : Val) → P b → P (behind_write b (written_by b n i row v))
-  step-written_by b n i None v h = h
-  step-written_by b n i (Some row) v h = go (may_set row.mark) refl
-    where
-      go : (t : Bool) → may_set row.mark ≡ t → P (behind_write b (written_by b n i (Some row) v))
-      go true p = rw (written_by, p) (step-written b n i row.kind (slot_at b n i) v h)
-      go false p = rw (written_by, p) h
-
   pub step-write : (b : Board) (n : ℕ) (name : List ℕ) (v : Val) → P b → P (behind_write b (write b n name v))
-  step-write b n name v h = go (position (λ (s : List ℕ × Slot). bytes_eq s.0 name) (slots_at b n)) refl
-    where
-      go : (place : Option ℕ) → position (λ (s : List ℕ × Slot). bytes_eq s.0 name) (slots_at b n) ≡ place → P (behind_write b (write b n name v))
-      go None p = rw (write, p) h
-      go (Some i) p = rw (write, p) (step-written_by b n i (option_and_then (λ t. row_of_property t name) (kind_of b n)) v h)
+  step-write b n name v h = write-comes P b h n name v (λ i t p kind e may. record {
+    value = λ old at type first is fits. step-val b n i v h;
+    link = λ u s left link leaves at to holds is path target told. step-relinked b n i target h;
+  })
 
   -- `x-sever`
   step-severed : (places i n : ℕ) (b : Board) → P b → P (severed_from places i n b)

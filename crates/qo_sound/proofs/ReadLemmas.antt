@@ -1,16 +1,16 @@
 -- What is read of slots, by their names and of each alone, and what it stays through.
-use Rattle.std.proofs.Common.{◌≡◌, refl, ℕ, List, Option, Some, None, option_map, ap, sym, ◌∙◌, true, ◌==◌, slice_get}
-use Rattle.std.proofs.lemmas.Bool.{eq-eqb}
+use Rattle.std.proofs.Common.{◌≡◌, refl, ℕ, List, [], Bool, false, Option, Some, None, option_map, ap, sym, subst, ◌∙◌, true, ◌==◌, slice_get}
+use Rattle.std.proofs.lemmas.Bool.{eq-eqb, eqb-true}
 use Rattle.qo_values.specs.declared.properties.Val.{Val}
 use Rattle.qo_model.specs.Board.{Record, Slot, plain, child, strong, weak, alias, Board, record_of, slots_at}
 use Rattle.qo_model.specs.Changes.{pointed, with_val}
 use Rattle.qo_model.specs.Clocks.{weak_in}
 use Rattle.qo_model.specs.Devices.{plain_in, strong_in}
-use Rattle.qo_model.specs.Release.{forgotten_in, drop_slot, edited, with_dropped, without_hold}
+use Rattle.qo_model.specs.Release.{forgotten_in, drop_slot, edit, edited, with_dropped, without_hold}
 use Rattle.qo_model.specs.Unplug.{unseen}
 use Rattle.qo_model.specs.Plug.{fitted}
 use Rattle.qo_model.proofs.FirstLemmas.{slots_in}
-use Rattle.qo_model.proofs.StepLemmas.{drop-record, found-birth}
+use Rattle.qo_model.proofs.StepLemmas.{drop-record, found-birth, found-edited}
 
 -- an object's end empties weak links alone
 pub plain-forgotten : (n : ℕ) (s : Slot) → plain_in (forgotten_in n s) ≡ plain_in s
@@ -81,3 +81,19 @@ dropped-at c n i x at r e = go (record_of c n) refl
         let own_birth : (y.birth == n) ≡ true = eq-eqb y.birth n (found-birth n c.records y q) in
         let slots : without_hold i y.slots ≡ r.slots = rw (edited, own_birth) at is in
         ap (λ (o : Option Record). without_hold i (slots_in o)) q ∙ slots
+
+-- an edit of one object: what its slots have to do with those of before, where that is so of slots that stay
+pub edit-slots : (R : List (List ℕ × Slot) → List (List ℕ × Slot) → Type 0) → ((slots : List (List ℕ × Slot)) → R slots slots) → (n : ℕ)
+    (change : Record → Record) → ((r : Record) → (change r).birth ≡ r.birth) → (c : Board)
+    → ((r : Record) → record_of c n ≡ Some r → R r.slots (change r).slots) → (x : ℕ) → R (slots_at c x) (slots_at (edit n change c) x)
+edit-slots R stays n change same_birth c changes x = rw (found-edited n change same_birth x c.records) (go (record_of c x) refl)
+  where
+    at_record : (r : Record) → record_of c x ≡ Some r → (t : Bool) → (r.birth == n) ≡ t → R r.slots (edited n change r).slots
+    at_record r e true p =
+        let is : x ≡ n = sym (found-birth x c.records r e) ∙ eqb-true r.birth n p in
+        rw (edited, p) (changes r (subst (λ (k : ℕ). record_of c k ≡ Some r) is e))
+    at_record r e false p = rw (edited, p) (stays r.slots)
+
+    go : (o : Option Record) → record_of c x ≡ o → R (slots_in o) (slots_in (option_map (edited n change) o))
+    go None e = stays []
+    go (Some r) e = at_record r e (r.birth == n) refl

@@ -56,3 +56,6 @@ target-fits b t (c ∷ path) = go (resolve b (c ∷ path) (type_name t)) refl
     go (found m) p = rw (link_target, p) (resolved-of b (c ∷ path) (type_name t) m p)
     go several p = rw (link_target, p) tt
     go missing p = rw (link_target, p) (no_target (resolve b (c ∷ path) (codes "object")))
+
+pub target-fit : (b : Board) (t : TypeId) (path : List ℕ) (target : Option ℕ) → link_target b t path ≡ Ok target → FitsKind (kind_of b) t target
+target-fit b t path target told = subst (FitsResult b t) told (target-fits b t path)

@@ -273,7 +273,7 @@ module _ (b : Board) (a : Wanted) (d : SoundDevices b) (h : SoundSources b) (t :
   live-apart x y none there = decide (x == y) (λ p. clash (sym there ∙ sym (ap (is_live b) (eqb-true x y p)) ∙ none)) (λ p. p)
 
   bus-live : is_live b at ≡ true
-  bus-live = of-live b (codes "bus") at j.is_bus
+  bus-live = of-live b (codes "bus") at j.goal.is_bus
 
   parent-live : is_live b (parent_for a.id) ≡ true
   parent-live = go a.id
@@ -328,7 +328,7 @@ module _ (b : Board) (a : Wanted) (d : SoundDevices b) (h : SoundSources b) (t :
 
   -- the source for its bus is a clock
   source-kind : kind_of b (source_for b at) ≡ Some Clock
-  source-kind = go j.owner
+  source-kind = go j.goal.owner
     where
       go : HasOwner b at → kind_of b (source_for b at) ≡ Some Clock
       go (machines u) = ap (kind_of b) (source-machines b kb at u) ∙ h.system
@@ -346,7 +346,7 @@ module _ (b : Board) (a : Wanted) (d : SoundDevices b) (h : SoundSources b) (t :
   made-kind =
       sym (kind-fed (clock_of made (b.born + 1)) source)
       ∙ sym (shape.kind source)
-      ∙ kind-alike b c source (j.body source (source-live b kb at j.owner))
+      ∙ kind-alike b c source (j.body source (source-live b kb at j.goal.owner))
       ∙ source-kind
 
   -- behind it
@@ -458,7 +458,7 @@ module _ (b : Board) (a : Wanted) (d : SoundDevices b) (h : SoundSources b) (t :
       new-fed : (x bus m : ℕ) → bus_of c x ≡ Some bus → clock_of c x ≡ Some m → x ≡ b.born + 1 → source_of c m ≡ Some (source_for c bus)
       new-fed x bus m held its is =
           let bus_is : bus ≡ at = same_Some bus at (sym held ∙ ap (bus_of c) is ∙ j.on) in
-          fed-now.its m (ap (clock_of c) (sym is) ∙ its) ∙ ap Some (sym (ap (source_for c) bus_is ∙ source-old at j.owner))
+          fed-now.its m (ap (clock_of c) (sym is) ∙ its) ∙ ap Some (sym (ap (source_for c) bus_is ∙ source-old at j.goal.owner))
 
       old-kind : (x m : ℕ) → clock_of c x ≡ Some m → is_live b x ≡ true → is_realized b x ≡ true → kind_of c m ≡ Some Clock
       old-kind x m its there r =

@@ -272,7 +272,7 @@ module _ (b : Board) (a : Wanted) (w : SoundResets b) (h : SoundHolds b) (t : Ty
 
       below-it : among (post c n) o ≡ true → count c o ≤ 49
       below-it e =
-          let its : IsReached b at = bus j.is_bus j.owner in
+          let its : IsReached b at = bus j.goal.is_bus j.goal.owner in
           let same : count c at ≡ count b at = old-count at its in
           let few : count b at ≤ 49 = h at its in
           let less : count c o ≤ count c at =

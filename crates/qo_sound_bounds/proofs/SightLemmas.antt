@@ -1,43 +1,38 @@
 -- What stays seen: an object that is still there goes by what it went by, where that is still there too.
-use Rattle.std.proofs.Common.{◌≡◌, refl, ap, sym, subst, ◌∙◌, ℕ, zero, suc, ◌+◌, Bool, true, false, not, ◌||◌, ◌==◌, List, [], ◌∷◌, ◌++◌, length, map, position, remove, slice_get, Option, Some, None, is_some, option_map, option_and_then, codes, nat_eq, Result, Ok, Err}
+use Rattle.std.proofs.Common.{◌≡◌, refl, ap, sym, subst, ◌∙◌, ℕ, zero, suc, ◌+◌, Bool, true, false, not, ◌||◌, ◌==◌, List, [], ◌∷◌, ◌++◌, length, map, remove, slice_get, Option, Some, None, is_some, option_map, codes, nat_eq}
 use Rattle.std.specs.List.{list_any}
-use Rattle.std.specs.Option.{option_map_or, option_or}
+use Rattle.std.specs.Option.{option_or}
 use Rattle.std.specs.Str.{bytes_eq}
 use Rattle.std.proofs.Math.Bool.{and-false}
 use Rattle.std.proofs.lemmas.Bool.{and_parts, eqb-true, eq-eqb, or_right, not-true}
 use Rattle.std.proofs.lemmas.Option.{same_Some}
 use Rattle.std.proofs.lemmas.Slice.Eq.{bytes_eq-Decides}
-use Rattle.qo_values.specs.Properties.{admits}
 use Rattle.qo_values.specs.Registers.{fresh_registers}
 use Rattle.qo_values.specs.declared.births.TheConstants.{ANONYMOUS_BIRTH, OBJECTS_BIRTH, PERIPHERAL_BIRTH}
 use Rattle.qo_values.specs.declared.codes.Code.{Code}
 use Rattle.qo_values.specs.declared.kinds.TypeId.{TypeId}
 use Rattle.qo_values.specs.declared.properties.Val.{Val}
-use Rattle.qo_values.specs.declared.properties.Val.TheVariants as val
-use Rattle.qo_model.specs.Board.{Board, Record, Slot, plain, child, strong, weak, alias, is_live, kind_of, record_of, slots_at, slot_at, held}
+use Rattle.qo_model.specs.Board.{Board, Record, Slot, plain, child, strong, weak, alias, is_live, record_of, slots_at, slot_at, held}
 use Rattle.qo_model.specs.Changes.{changed_at, cut, point, pointed, set, with_added, with_changed, with_cut, with_val}
 use Rattle.qo_model.specs.Depth.{among}
 use Rattle.qo_model.specs.Devices.{bus_of, buses_of, kids_of}
 use Rattle.qo_model.specs.FinalNotesRuns.{Change, added, behind_write, changed, deleted, severed, wrote}
 use Rattle.qo_model.specs.Objects.{Given, added_as, added_by, barred, given_slots, is_object_named, object_add, object_del, place_from, refusal_of, sever, severed_from, with_object}
 use Rattle.qo_model.specs.Paths.{attached}
-use Rattle.qo_model.specs.Properties.{link_target, link_written, linked, may_set, pointed_at, relinked, row_of_property, write, written, written_by}
+use Rattle.qo_model.specs.Properties.{pointed_at, relinked, write}
 use Rattle.qo_model.specs.Release.{after, drop_slot, edit, edited, emptied, finalise, finish, forgotten, forgotten_in, let_go, pin, unpin, with_dropped, without_hold, without_pin}
 use Rattle.qo_model.specs.ReleaseKeeps.{KeepsRelease}
 use Rattle.qo_model.specs.Types.{TypeRow, row_named}
 use Rattle.qo_model.specs.Unplug.{apart_within, drained, first_of, is_bus_slot, is_child_slot, is_named, left_bus, left_parent, let_go_where, lost_bus, lost_buses, names_kid, take_slot, take_where, taken_by}
-use Rattle.qo_model.specs.declared.properties.Property.{Property}
-use Rattle.qo_model.specs.declared.properties.RowKind.{RowKind}
-use Rattle.qo_model.specs.declared.properties.RowKind.TheVariants as row
 use Rattle.qo_model.proofs.FirstLemmas.{slots_in, Found, found-at}
 use Rattle.qo_model.proofs.ReleaseKeepsLemmas.{after_keeps}
 use Rattle.qo_model.proofs.StepLemmas.{drop-record, finish-gone, finish-record, found_at, found-edited, is_some-map, found-birth, drop-live}
 use Rattle.qo_sound.proofs.FoundLemmas.{found-append}
-use Rattle.qo_sound.proofs.ReadLemmas.{dropped-at}
+use Rattle.qo_sound.proofs.ReadLemmas.{dropped-at, edit-slots}
 use Rattle.qo_sound.proofs.SlotLemmas.{each_slot, kept-slot}
+use Rattle.qo_model.proofs.WrittenLemmas.{write-comes}
 use Rattle.qo_sound.proofs.TestLemmas.{decide, clash, clash-back}
-use Rattle.qo_sound_devices.proofs.WriteLemmas.{SlotFound, position-slot}
-use Rattle.qo_sound_clocks.proofs.CommandLemmas.{MaySet, set-other}
+use Rattle.qo_sound_clocks.proofs.CommandLemmas.{may-set, set-other}
 use Rattle.qo_sound_clocks.proofs.LessLemmas.{or-less, OtherName, sees, sees_it, Slots}
 
 -- slots that see no less
@@ -145,18 +140,7 @@ sight-then b c d h k =
 pub edit-seen : (n : ℕ) (change : Record → Record) → ((r : Record) → (change r).birth ≡ r.birth) → (c : Board)
     → ((r : Record) → record_of c n ≡ Some r → SeesOn r.slots (change r).slots) → (k s : ℕ) → sees s (slots_at c k) ≡ true
     → sees s (slots_at (edit n change c) k) ≡ true
-edit-seen n change same_birth c on k s e =
-    subst (λ (o : Option Record). sees s (slots_in o) ≡ true) (sym (found-edited n change same_birth k c.records)) (go (record_of c k) refl e)
-  where
-    at_record : (r : Record) → record_of c k ≡ Some r → sees s r.slots ≡ true → (t : Bool) → (r.birth == n) ≡ t → sees s (edited n change r).slots ≡ true
-    at_record r q e true p =
-        let is : k ≡ n = sym (found-birth k c.records r q) ∙ eqb-true r.birth n p in
-        rw (edited, p) (on r (subst (λ (m : ℕ). record_of c m ≡ Some r) is q) s e)
-    at_record r q e false p = rw (edited, p) e
-
-    go : (o : Option Record) → record_of c k ≡ o → sees s (slots_in o) ≡ true → sees s (slots_in (option_map (edited n change) o)) ≡ true
-    go None q e = clash-back e
-    go (Some r) q e = at_record r q e (r.birth == n) refl
+edit-seen n change same_birth c on k s e = edit-slots SeesOn (λ xs m q. q) n change same_birth c on k s e
 
 pub edit-sight : (n : ℕ) (change : Record → Record) → ((r : Record) → (change r).birth ≡ r.birth) → (c : Board)
     → ((r : Record) → record_of c n ≡ Some r → SeesOn r.slots (change r).slots) → Sight c (edit n change c)
@@ -442,65 +426,13 @@ module _ (b : Board) (n i : ℕ) (own : List ℕ) (s left : Slot)
       let there : slot_at b n i ≡ Some s = ap (option_map (λ (x : List ℕ × Slot). x.1)) at in
       rw (relinked, there) (sight-after b (held s) (pointed_at target n i (drop_slot b n i)) (pointed-sight target))
 
-  linked-sight : (target : Result (Option ℕ) Code) → Sight b (behind_write b (linked b n i target))
-  linked-sight (Ok target) = relinked-sight target
-  linked-sight (Err code) = sight-none b
-
-  link_written-sight : (t : TypeId) (v : Val) → Sight b (behind_write b (link_written b n i t v))
-  link_written-sight t (val.Text path) = linked-sight (link_target b t path)
-  link_written-sight t (val.Bool v) = sight-none b
-  link_written-sight t (val.Int v) = sight-none b
-  link_written-sight t (val.Uint v) = sight-none b
-  link_written-sight t val.Nothing = sight-none b
-
-written-sight : (b : Board) (n i : ℕ) (own : List ℕ) (s : Slot) → slice_get (slots_at b n) i ≡ Some (own, s) → bytes_eq own (codes "source") ≡ false
-    → (kind : RowKind) (v : Val) → Sight b (behind_write b (written b n i kind (Some s) v))
-written-sight b n i own (plain old) at other (row.Plain type first) v = go (admits type v) refl
-  where
-    go : (t : Bool) → admits type v ≡ t → Sight b (behind_write b (written b n i (row.Plain type first) (Some (plain old)) v))
-    go true p = rw (written, p) (set-sight b n i v)
-    go false p = rw (written, p) (sight-none b)
-written-sight b n i own (strong to target) at other (row.Link t holds) v =
-    link_written-sight b n i own (strong to target) (strong to None) at refl other to v
-written-sight b n i own (weak to target) at other (row.Link t holds) v =
-    link_written-sight b n i own (weak to target) (weak to None) at refl other to v
-written-sight b n i own (child m) at other (row.Plain type first) v = sight-none b
-written-sight b n i own (strong to target) at other (row.Plain type first) v = sight-none b
-written-sight b n i own (weak to target) at other (row.Plain type first) v = sight-none b
-written-sight b n i own (alias m property) at other (row.Plain type first) v = sight-none b
-written-sight b n i own (plain old) at other (row.Link t holds) v = sight-none b
-written-sight b n i own (child m) at other (row.Link t holds) v = sight-none b
-written-sight b n i own (alias m property) at other (row.Link t holds) v = sight-none b
-written-sight b n i own s at other (row.Child t) v = sight-none b
-written-sight b n i own s at other (row.Alias owner property) v = sight-none b
-
-written_by-sight : (b : Board) (n i : ℕ) (name : List ℕ) (v : Val) → SlotFound name (slots_at b n) i → (t : Option TypeId) → kind_of b n ≡ t
-    → Sight b (behind_write b (written_by b n i (option_and_then (λ k. row_of_property k name) t) v))
-written_by-sight b n i name v f None q = sight-none b
-written_by-sight b n i name v f (Some t) q = go (row_of_property t name) refl
-  where
-    its : name ≡ f.entry.0
-    its = sym ((bytes_eq-Decides f.entry.0 name).0 f.passes)
-
-    by : (p : Property) → row_of_property t name ≡ Some p → (u : Bool) → may_set p.mark ≡ u → Sight b (behind_write b (written_by b n i (Some p) v))
-    by p e false m = rw (written_by, m) (sight-none b)
-    by p e true m =
-        let may : MaySet t name ≡ true = ap (λ (o : Option Property). option_map_or (λ (x : Property). may_set x.mark) o false) e ∙ m in
-        let there : slot_at b n i ≡ Some f.entry.1 = ap (option_map (λ (x : List ℕ × Slot). x.1)) f.at in
-        let other : OtherName name = set-other t name may in
-        rw (written_by, m, there)
-        (written-sight b n i f.entry.0 f.entry.1 f.at (subst (λ (x : List ℕ). bytes_eq x (codes "source") ≡ false) its other.source) p.kind v)
-
-    go : (o : Option Property) → row_of_property t name ≡ o → Sight b (behind_write b (written_by b n i o v))
-    go None e = sight-none b
-    go (Some p) e = by p e (may_set p.mark) refl
-
 write-sight : (b : Board) (n : ℕ) (name : List ℕ) (v : Val) → Sight b (behind_write b (write b n name v))
-write-sight b n name v = go (position (λ (s : List ℕ × Slot). bytes_eq s.0 name) (slots_at b n)) refl
-  where
-    go : (place : Option ℕ) → position (λ (s : List ℕ × Slot). bytes_eq s.0 name) (slots_at b n) ≡ place → Sight b (behind_write b (write b n name v))
-    go None p = rw (write, p) (sight-none b)
-    go (Some i) p = rw (write, p) (written_by-sight b n i name v (position-slot name (slots_at b n) i p) (kind_of b n) refl)
+write-sight b n name v = write-comes (Sight b) b (sight-none b) n name v (λ i t p kind e may.
+    let other : OtherName name = set-other t name (may-set t name p e may) in
+    record {
+      value = λ old at type first is fits. set-sight b n i v;
+      link = λ u s left link leaves at to holds is path target told. relinked-sight b n i name s left at leaves other.source target;
+    })
 
 -- `object-del`
 object-fine : (id : List ℕ) (x : List ℕ × Slot) → is_object_named id x ≡ true → harmless x ≡ true

@@ -1,29 +1,23 @@
 -- The commands on objects: what they add is not realized, what they write is not claimed, and what they let go no realized device holds.
-use Rattle.std.proofs.Common.{◌≡◌, inl, inr, refl, ap, sym, subst, ◌∙◌, rules, ℕ, zero, suc, ◌+◌, Bool, true, false, ◌==◌, List, [], ◌∷◌, map, length, position, slice_get, Option, Some, None, option_map, option_and_then, codes, Result, Ok, Err}
+use Rattle.std.proofs.Common.{◌≡◌, inl, inr, refl, ap, sym, ◌∙◌, rules, ℕ, zero, suc, ◌+◌, Bool, true, false, ◌==◌, List, [], ◌∷◌, map, length, slice_get, Option, Some, None, option_map, codes}
 use Rattle.std.specs.List.{AllByRecursion}
-use Rattle.std.specs.Option.{option_map_or, option_or}
+use Rattle.std.specs.Option.{option_or}
 use Rattle.std.specs.Str.{bytes_eq}
-use Rattle.std.proofs.lemmas.Slice.Eq.{bytes_eq-Decides}
-use Rattle.qo_values.specs.Properties.{admits}
 use Rattle.qo_values.specs.declared.births.TheConstants.{OBJECTS_BIRTH}
 use Rattle.qo_values.specs.declared.codes.Code.{Code}
 use Rattle.qo_values.specs.declared.kinds.TypeId.{TypeId}
 use Rattle.qo_values.specs.declared.kinds.TypeId.TheVariants.{Object, Container, Machine, Device, SlotDevice, SlotUart, SlotTimer, SlotBridge, MemDimm, Bus, SlotBus, MemBus, Clock, MemoryBackend, MemoryBackendRam, Tag}
 use Rattle.qo_values.specs.declared.properties.Val.{Val}
-use Rattle.qo_values.specs.declared.properties.Val.TheVariants as val
-use Rattle.qo_model.specs.Board.{Board, Record, Slot, plain, child, strong, weak, alias, is_live, kind_of, record_of, slot_at, slots_at, held}
+use Rattle.qo_model.specs.Board.{Board, Record, Slot, plain, child, strong, weak, alias, is_live, record_of, slot_at, slots_at, held}
 use Rattle.qo_model.specs.Changes.{point, pointed, set, with_added, with_changed, with_val}
 use Rattle.qo_model.specs.Devices.{is_realized}
 use Rattle.qo_model.specs.FinalNotesRuns.{Change, added, deleted, wrote, severed, behind_write, changed}
 use Rattle.qo_model.specs.Objects.{Given, added_as, added_by, barred, is_object_named, object_add, object_del, place_from, refusal_of, sever, severed_from, slot_given, with_object}
 use Rattle.qo_model.specs.Opening.{fresh_slots}
 use Rattle.qo_model.specs.Paths.{attached, is_of}
-use Rattle.qo_model.specs.Properties.{link_target, link_written, linked, may_set, pointed_at, relinked, row_of_property, write, written, written_by}
+use Rattle.qo_model.specs.Properties.{pointed_at, relinked, write}
 use Rattle.qo_model.specs.Release.{drop_slot, edited, emptied, let_go, pin}
 use Rattle.qo_model.specs.Types.{TypeRow, is_a, row_named, types}
-use Rattle.qo_model.specs.declared.properties.Property.{Property}
-use Rattle.qo_model.specs.declared.properties.RowKind.{RowKind}
-use Rattle.qo_model.specs.declared.properties.RowKind.TheVariants as row
 use Rattle.qo_model.proofs.FirstLemmas.{Found, found-at}
 use Rattle.qo_model.proofs.StepLemmas.{found-edited, found_at}
 use Rattle.qo_sound.proofs.AddLemmas.{creatable, made}
@@ -31,11 +25,11 @@ use Rattle.qo_sound.proofs.FoundLemmas.{found-append}
 use Rattle.qo_sound.proofs.ReadLemmas.{dropped-at}
 use Rattle.qo_sound.proofs.RecordLemmas.{all-map}
 use Rattle.qo_sound.proofs.SlotLemmas.{kept-slot}
+use Rattle.qo_model.proofs.WrittenLemmas.{write-comes}
 use Rattle.qo_sound_devices.specs.SoundDevices.{SoundDevices}
 use Rattle.qo_sound_devices.proofs.PlugLemmas.{stands-device}
 use Rattle.qo_sound_devices.proofs.SayLemmas.{devices_say_lem}
-use Rattle.qo_sound_devices.proofs.WriteLemmas.{SlotFound, position-slot}
-use Rattle.qo_sound_clocks.proofs.CommandLemmas.{MaySet, set-apart}
+use Rattle.qo_sound_clocks.proofs.CommandLemmas.{MaySet, may-set, set-apart}
 use Rattle.qo_sound_clocks.proofs.LessLemmas.{Slots}
 use Rattle.qo_sound_claims.proofs.FewerLemmas.{at-record, Fewer, fewer-after, fewer-drop, fewer-let_go, fewer-none, fewer-pin, fewer-slots, fewer-unpin, Harmless, LessRecord, NearAt, record-none, record-slots, spares-harmless, Spares}
 use Rattle.qo_sound_claims.proofs.ReadLemmas.{realized-at}
@@ -118,63 +112,13 @@ module _ (b : Board) (n i : ℕ) (own : List ℕ) (s left : Slot)
       let there : slot_at b n i ≡ Some s = ap (option_map (λ (x : List ℕ × Slot). x.1)) at in
       rw (relinked, there) (fewer-after false b (held s) (pointed_at target n i (drop_slot b n i)) (pointed-fewer target))
 
-  linked-fewer : (target : Result (Option ℕ) Code) → Fewer false b (behind_write b (linked b n i target))
-  linked-fewer (Ok target) = relinked-fewer target
-  linked-fewer (Err code) = fewer-none false b
-
-  link_written-fewer : (t : TypeId) (v : Val) → Fewer false b (behind_write b (link_written b n i t v))
-  link_written-fewer t (val.Text path) = linked-fewer (link_target b t path)
-  link_written-fewer t (val.Bool v) = fewer-none false b
-  link_written-fewer t (val.Int v) = fewer-none false b
-  link_written-fewer t (val.Uint v) = fewer-none false b
-  link_written-fewer t val.Nothing = fewer-none false b
-
-written-fewer : (b : Board) (n i : ℕ) (own : List ℕ) (s : Slot) → slice_get (slots_at b n) i ≡ Some (own, s) → Unclaimed own → (kind : RowKind) (v : Val)
-    → Fewer false b (behind_write b (written b n i kind (Some s) v))
-written-fewer b n i own (plain old) at other (row.Plain type first) v = go (admits type v) refl
-  where
-    go : (t : Bool) → admits type v ≡ t → Fewer false b (behind_write b (written b n i (row.Plain type first) (Some (plain old)) v))
-    go true p = rw (written, p) (set-fewer b n i v (own, plain old) at other)
-    go false p = rw (written, p) (fewer-none false b)
-written-fewer b n i own (strong to target) at other (row.Link t holds) v =
-    link_written-fewer b n i own (strong to target) (strong to None) at refl other to v
-written-fewer b n i own (weak to target) at other (row.Link t holds) v =
-    link_written-fewer b n i own (weak to target) (weak to None) at refl other to v
-written-fewer b n i own (child m) at other (row.Plain type first) v = fewer-none false b
-written-fewer b n i own (strong to target) at other (row.Plain type first) v = fewer-none false b
-written-fewer b n i own (weak to target) at other (row.Plain type first) v = fewer-none false b
-written-fewer b n i own (alias m property) at other (row.Plain type first) v = fewer-none false b
-written-fewer b n i own (plain old) at other (row.Link t holds) v = fewer-none false b
-written-fewer b n i own (child m) at other (row.Link t holds) v = fewer-none false b
-written-fewer b n i own (alias m property) at other (row.Link t holds) v = fewer-none false b
-written-fewer b n i own s at other (row.Child t) v = fewer-none false b
-written-fewer b n i own s at other (row.Alias owner property) v = fewer-none false b
-
-written_by-fewer : (b : Board) (n i : ℕ) (name : List ℕ) (v : Val) → SlotFound name (slots_at b n) i → (t : Option TypeId) → kind_of b n ≡ t
-    → Fewer false b (behind_write b (written_by b n i (option_and_then (λ k. row_of_property k name) t) v))
-written_by-fewer b n i name v f None q = fewer-none false b
-written_by-fewer b n i name v f (Some t) q = go (row_of_property t name) refl
-  where
-    its : name ≡ f.entry.0
-    its = sym ((bytes_eq-Decides f.entry.0 name).0 f.passes)
-
-    by : (p : Property) → row_of_property t name ≡ Some p → (u : Bool) → may_set p.mark ≡ u → Fewer false b (behind_write b (written_by b n i (Some p) v))
-    by p e false m = rw (written_by, m) (fewer-none false b)
-    by p e true m =
-        let may : MaySet t name ≡ true = ap (λ (o : Option Property). option_map_or (λ (x : Property). may_set x.mark) o false) e ∙ m in
-        let there : slot_at b n i ≡ Some f.entry.1 = ap (option_map (λ (x : List ℕ × Slot). x.1)) f.at in
-        rw (written_by, m, there) (written-fewer b n i f.entry.0 f.entry.1 f.at (subst Unclaimed its (set-other t name may)) p.kind v)
-
-    go : (o : Option Property) → row_of_property t name ≡ o → Fewer false b (behind_write b (written_by b n i o v))
-    go None e = fewer-none false b
-    go (Some p) e = by p e (may_set p.mark) refl
-
 write-fewer : (b : Board) (n : ℕ) (name : List ℕ) (v : Val) → Fewer false b (behind_write b (write b n name v))
-write-fewer b n name v = go (position (λ (s : List ℕ × Slot). bytes_eq s.0 name) (slots_at b n)) refl
-  where
-    go : (place : Option ℕ) → position (λ (s : List ℕ × Slot). bytes_eq s.0 name) (slots_at b n) ≡ place → Fewer false b (behind_write b (write b n name v))
-    go None p = rw (write, p) (fewer-none false b)
-    go (Some i) p = rw (write, p) (written_by-fewer b n i name v (position-slot name (slots_at b n) i p) (kind_of b n) refl)
+write-fewer b n name v = write-comes (Fewer false b) b (fewer-none false b) n name v (λ i t p kind e may.
+    let other : Unclaimed name = set-other t name (may-set t name p e may) in
+    record {
+      value = λ old at type first is fits. set-fewer b n i v (name, plain old) at other;
+      link = λ u s left link leaves at to holds is path target told. relinked-fewer b n i name s left at leaves other target;
+    })
 
 -- an object that goes
 

@@ -31,6 +31,7 @@ use Rattle.qo_model.specs.declared.properties.RowKind.TheVariants as row
 use Rattle.qo_model.proofs.FirstLemmas.{named_in, Found, found-at, first-changed, none-found, named-other, other-name}
 use Rattle.qo_model.proofs.StepLemmas.{found-edited, found_at, found-birth}
 use Rattle.qo_sound.proofs.FoundLemmas.{found-append}
+use Rattle.qo_sound.proofs.ReadLemmas.{edit-slots}
 use Rattle.qo_sound_devices.proofs.DropLemmas.{edited-slots}
 use Rattle.qo_sound_devices.proofs.HoldsLemmas.{SlotIs, slot-none, slot-more}
 use Rattle.qo_sound_devices.proofs.PlainLemmas.{stay-add, stay-rows}
@@ -95,20 +96,7 @@ own-edit P Q never n change same_birth c keeps h = go (record_of c n) refl
 
 any-edit : (P : Slots → Type 0) → (n m : ℕ) (change : Record → Record) → ((r : Record) → (change r).birth ≡ r.birth) → (c : Board)
     → ((r : Record) → record_of c m ≡ Some r → P r.slots → P (change r).slots) → P (slots_at c n) → P (slots_at (edit m change c) n)
-any-edit P n m change same_birth c keeps h = rw (found-edited m change same_birth n c.records) (go (record_of c n) refl)
-  where
-    was : (o : Option Record) → record_of c n ≡ o → P (option_map_or (λ (r : Record). r.slots) o [])
-    was o e = subst (λ (x : Option Record). P (option_map_or (λ (r : Record). r.slots) x [])) e h
-
-    at_record : (r : Record) → record_of c n ≡ Some r → (t : Bool) → (r.birth == m) ≡ t → P (edited m change r).slots
-    at_record r e true p =
-        let is : n ≡ m = sym (found-birth n c.records r e) ∙ grind (arith, p) in
-        rw (edited, p) (keeps r (subst (λ (k : ℕ). record_of c k ≡ Some r) is e) (was (Some r) e))
-    at_record r e false p = rw (edited, p) (was (Some r) e)
-
-    go : (o : Option Record) → record_of c n ≡ o → P (option_map_or (λ (r : Record). r.slots) (option_map (edited m change) o) [])
-    go None e = was None e
-    go (Some r) e = at_record r e (r.birth == m) refl
+any-edit P n m change same_birth c keeps h = edit-slots (λ xs ys. P xs → P ys) (λ xs k. k) m change same_birth c keeps n h
 
 -- an object without a slot of a name
 record Bare (n : ℕ) (name : List ℕ) (c : Board) : Type 0 where

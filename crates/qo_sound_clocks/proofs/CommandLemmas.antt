@@ -1,28 +1,24 @@
 -- The commands on objects change no clock: what they add is none, what they write is not a clock's, and what they let go may be one.
-use Rattle.std.proofs.Common.{◌≡◌, refl, ap, sym, subst, ◌∙◌, rules, ℕ, zero, suc, ◌+◌, Bool, true, false, ◌==◌, List, [], ◌∷◌, map, length, position, slice_get, Option, Some, None, option_map, option_and_then, codes, Result, Ok, Err}
+use Rattle.std.proofs.Common.{◌≡◌, refl, ap, sym, ◌∙◌, rules, ℕ, zero, suc, ◌+◌, Bool, true, false, ◌==◌, List, [], ◌∷◌, map, length, slice_get, Option, Some, None, option_map, codes}
 use Rattle.std.specs.List.{AllByRecursion}
 use Rattle.std.specs.Option.{option_map_or, option_or}
 use Rattle.std.specs.Str.{bytes_eq}
 use Rattle.std.proofs.lemmas.Slice.Eq.{bytes_eq-Decides}
-use Rattle.qo_values.specs.Properties.{admits}
 use Rattle.qo_values.specs.declared.births.TheConstants.{OBJECTS_BIRTH}
 use Rattle.qo_values.specs.declared.codes.Code.{Code}
 use Rattle.qo_values.specs.declared.kinds.TypeId.{TypeId}
 use Rattle.qo_values.specs.declared.kinds.TypeId.TheVariants.{Object, Container, Machine, Device, SlotDevice, SlotUart, SlotTimer, SlotBridge, MemDimm, Bus, SlotBus, MemBus, Clock, MemoryBackend, MemoryBackendRam, Tag}
 use Rattle.qo_values.specs.declared.properties.Val.{Val}
-use Rattle.qo_values.specs.declared.properties.Val.TheVariants as val
-use Rattle.qo_model.specs.Board.{Board, Record, Slot, plain, child, strong, weak, alias, is_live, kind_of, record_of, slot_at, slots_at, held}
+use Rattle.qo_model.specs.Board.{Board, Record, Slot, plain, child, strong, weak, alias, is_live, record_of, slot_at, slots_at, held}
 use Rattle.qo_model.specs.Changes.{point, pointed, set, with_added, with_changed, with_val}
 use Rattle.qo_model.specs.FinalNotesRuns.{Change, added, deleted, wrote, severed, behind_write, changed}
 use Rattle.qo_model.specs.Objects.{Given, added_as, added_by, barred, is_object_named, object_add, object_del, place_from, refusal_of, sever, severed_from, with_object}
 use Rattle.qo_model.specs.Opening.{fresh_slots}
 use Rattle.qo_model.specs.Paths.{attached}
-use Rattle.qo_model.specs.Properties.{link_target, link_written, linked, may_set, pointed_at, relinked, row_of_property, write, written, written_by}
+use Rattle.qo_model.specs.Properties.{may_set, pointed_at, relinked, row_of_property, write}
 use Rattle.qo_model.specs.Release.{drop_slot, edited, emptied, let_go, pin}
 use Rattle.qo_model.specs.Types.{TypeRow, is_a, row_named, types}
 use Rattle.qo_model.specs.declared.properties.Property.{Property}
-use Rattle.qo_model.specs.declared.properties.RowKind.{RowKind}
-use Rattle.qo_model.specs.declared.properties.RowKind.TheVariants as row
 use Rattle.qo_model.proofs.FirstLemmas.{slots_in}
 use Rattle.qo_model.proofs.StepLemmas.{found-edited, found_at}
 use Rattle.qo_sound.specs.Kept.{SoundTree}
@@ -31,7 +27,7 @@ use Rattle.qo_sound.proofs.FoundLemmas.{found-append}
 use Rattle.qo_sound.proofs.KeptLemmas.{sound_kept_lem}
 use Rattle.qo_sound.proofs.ReadLemmas.{dropped-at}
 use Rattle.qo_sound.proofs.SlotLemmas.{kept-slot}
-use Rattle.qo_sound_devices.proofs.WriteLemmas.{SlotFound, position-slot}
+use Rattle.qo_model.proofs.WrittenLemmas.{write-comes}
 use Rattle.qo_sound_clocks.proofs.FewerLemmas.{edit-less, Fewer, fewer-after, fewer-drop, fewer-edit, fewer-let_go, fewer-none, fewer-pin, fewer-unpin}
 use Rattle.qo_sound_clocks.proofs.LessLemmas.{Less, less-blank, less-added, less-none, less-pointed, less-set, OtherName, Slots}
 use Rattle.qo_sound_clocks.proofs.QuietLemmas.{Quiet, quiet-all_given, quiet-blank}
@@ -88,6 +84,10 @@ set-other t name e =
     n : NeverSet t
     n = never-set t
 
+-- the row of a property that may be set says so
+pub may-set : (t : TypeId) (name : List ℕ) (p : Property) → row_of_property t name ≡ Some p → may_set p.mark ≡ true → MaySet t name ≡ true
+may-set t name p e may = ap (λ (o : Option Property). option_map_or (λ (x : Property). may_set x.mark) o false) e ∙ may
+
 -- the slot that is written
 
 set-fewer : (b : Board) (n i : ℕ) (v : Val) (x : List ℕ × Slot) → slice_get (slots_at b n) i ≡ Some x → OtherName x.0 → Fewer b (set n i v b)
@@ -115,63 +115,13 @@ module _ (b : Board) (n i : ℕ) (own : List ℕ) (s left : Slot)
       let there : slot_at b n i ≡ Some s = ap (option_map (λ (x : List ℕ × Slot). x.1)) at in
       rw (relinked, there) (fewer-after b (held s) (pointed_at target n i (drop_slot b n i)) (pointed-fewer target))
 
-  linked-fewer : (target : Result (Option ℕ) Code) → Fewer b (behind_write b (linked b n i target))
-  linked-fewer (Ok target) = relinked-fewer target
-  linked-fewer (Err code) = fewer-none b
-
-  link_written-fewer : (t : TypeId) (v : Val) → Fewer b (behind_write b (link_written b n i t v))
-  link_written-fewer t (val.Text path) = linked-fewer (link_target b t path)
-  link_written-fewer t (val.Bool v) = fewer-none b
-  link_written-fewer t (val.Int v) = fewer-none b
-  link_written-fewer t (val.Uint v) = fewer-none b
-  link_written-fewer t val.Nothing = fewer-none b
-
-written-fewer : (b : Board) (n i : ℕ) (own : List ℕ) (s : Slot) → slice_get (slots_at b n) i ≡ Some (own, s) → OtherName own → (kind : RowKind) (v : Val)
-    → Fewer b (behind_write b (written b n i kind (Some s) v))
-written-fewer b n i own (plain old) at other (row.Plain type first) v = go (admits type v) refl
-  where
-    go : (t : Bool) → admits type v ≡ t → Fewer b (behind_write b (written b n i (row.Plain type first) (Some (plain old)) v))
-    go true p = rw (written, p) (set-fewer b n i v (own, plain old) at other)
-    go false p = rw (written, p) (fewer-none b)
-written-fewer b n i own (strong to target) at other (row.Link t holds) v =
-    link_written-fewer b n i own (strong to target) (strong to None) at refl other to v
-written-fewer b n i own (weak to target) at other (row.Link t holds) v =
-    link_written-fewer b n i own (weak to target) (weak to None) at refl other to v
-written-fewer b n i own (child m) at other (row.Plain type first) v = fewer-none b
-written-fewer b n i own (strong to target) at other (row.Plain type first) v = fewer-none b
-written-fewer b n i own (weak to target) at other (row.Plain type first) v = fewer-none b
-written-fewer b n i own (alias m property) at other (row.Plain type first) v = fewer-none b
-written-fewer b n i own (plain old) at other (row.Link t holds) v = fewer-none b
-written-fewer b n i own (child m) at other (row.Link t holds) v = fewer-none b
-written-fewer b n i own (alias m property) at other (row.Link t holds) v = fewer-none b
-written-fewer b n i own s at other (row.Child t) v = fewer-none b
-written-fewer b n i own s at other (row.Alias owner property) v = fewer-none b
-
-written_by-fewer : (b : Board) (n i : ℕ) (name : List ℕ) (v : Val) → SlotFound name (slots_at b n) i → (t : Option TypeId) → kind_of b n ≡ t
-    → Fewer b (behind_write b (written_by b n i (option_and_then (λ k. row_of_property k name) t) v))
-written_by-fewer b n i name v f None q = fewer-none b
-written_by-fewer b n i name v f (Some t) q = go (row_of_property t name) refl
-  where
-    its : name ≡ f.entry.0
-    its = sym ((bytes_eq-Decides f.entry.0 name).0 f.passes)
-
-    by : (p : Property) → row_of_property t name ≡ Some p → (u : Bool) → may_set p.mark ≡ u → Fewer b (behind_write b (written_by b n i (Some p) v))
-    by p e false m = rw (written_by, m) (fewer-none b)
-    by p e true m =
-        let may : MaySet t name ≡ true = ap (λ (o : Option Property). option_map_or (λ (x : Property). may_set x.mark) o false) e ∙ m in
-        let there : slot_at b n i ≡ Some f.entry.1 = ap (option_map (λ (x : List ℕ × Slot). x.1)) f.at in
-        rw (written_by, m, there) (written-fewer b n i f.entry.0 f.entry.1 f.at (subst OtherName its (set-other t name may)) p.kind v)
-
-    go : (o : Option Property) → row_of_property t name ≡ o → Fewer b (behind_write b (written_by b n i o v))
-    go None e = fewer-none b
-    go (Some p) e = by p e (may_set p.mark) refl
-
 write-fewer : (b : Board) (n : ℕ) (name : List ℕ) (v : Val) → Fewer b (behind_write b (write b n name v))
-write-fewer b n name v = go (position (λ (s : List ℕ × Slot). bytes_eq s.0 name) (slots_at b n)) refl
-  where
-    go : (place : Option ℕ) → position (λ (s : List ℕ × Slot). bytes_eq s.0 name) (slots_at b n) ≡ place → Fewer b (behind_write b (write b n name v))
-    go None p = rw (write, p) (fewer-none b)
-    go (Some i) p = rw (write, p) (written_by-fewer b n i name v (position-slot name (slots_at b n) i p) (kind_of b n) refl)
+write-fewer b n name v = write-comes (Fewer b) b (fewer-none b) n name v (λ i t p kind e may.
+    let other : OtherName name = set-other t name (may-set t name p e may) in
+    record {
+      value = λ old at type first is fits. set-fewer b n i v (name, plain old) at other;
+      link = λ u s left link leaves at to holds is path target told. relinked-fewer b n i name s left at leaves other target;
+    })
 
 -- an object that goes, and one that lets go of its links
 

@@ -16,13 +16,13 @@ use Rattle.qo_model.specs.Depth.{by_depth}
 use Rattle.qo_model.specs.Devices.{bus_of, buses_of, clock_of, kids_of}
 use Rattle.qo_model.specs.Objects.{place_from}
 use Rattle.qo_model.specs.Paths.{births}
-use Rattle.qo_model.specs.Release.{after, drop_slot, edit, edited, finalise, finish, forgotten, let_go, pin, unpin, with_dropped, without_pin}
+use Rattle.qo_model.specs.Release.{after, drop_slot, edit, finalise, finish, forgotten, let_go, pin, unpin, with_dropped, without_pin}
 use Rattle.qo_model.specs.ReleaseKeeps.{KeepsRelease}
 use Rattle.qo_model.specs.Unplug.{apart_within, detach, disconnected, drained, each, first_of, is_bus_slot, is_child_slot, is_named, left_bus, left_parent, let_go_where, lost_bus, lost_buses, unseen, unseen_named, names_kid, set_named, take_slot, take_where, taken_by, unrealize, unrealize_turn, unrealized_bus, unrealized_device}
 use Rattle.qo_model.proofs.FirstLemmas.{slots_in, Found, found-at}
 use Rattle.qo_model.proofs.ReleaseKeepsLemmas.{after_keeps}
-use Rattle.qo_model.proofs.StepLemmas.{finish-gone, finish-record, found-edited, found-birth}
-use Rattle.qo_sound.proofs.ReadLemmas.{dropped-at}
+use Rattle.qo_model.proofs.StepLemmas.{finish-gone, finish-record}
+use Rattle.qo_sound.proofs.ReadLemmas.{dropped-at, edit-slots}
 use Rattle.qo_sound.proofs.SlotLemmas.{kept-slot}
 use Rattle.qo_sound_clocks.proofs.LessLemmas.{blank-none, Less, less-blank, less-dropped, less-forgotten, less-none, less-set, less-set_period, less-taken, less-then, less-unseen, OtherName, Slots}
 
@@ -39,17 +39,7 @@ fewer-then b c d h k n = less-then (slots_at b n) (slots_at c n) (slots_at d n) 
 -- an edit of an object
 pub edit-less : (n : ℕ) (change : Record → Record) → ((r : Record) → (change r).birth ≡ r.birth) → (c : Board)
     → ((r : Record) → record_of c n ≡ Some r → Less r.slots (change r).slots) → Fewer c (edit n change c)
-edit-less n change same_birth c less x = rw (found-edited n change same_birth x c.records) (go (record_of c x) refl)
-  where
-    at_record : (r : Record) → record_of c x ≡ Some r → (t : Bool) → (r.birth == n) ≡ t → Less r.slots (edited n change r).slots
-    at_record r e true p =
-        let is : x ≡ n = sym (found-birth x c.records r e) ∙ eqb-true r.birth n p in
-        rw (edited, p) (less r (subst (λ (k : ℕ). record_of c k ≡ Some r) is e))
-    at_record r e false p = rw (edited, p) (less-none r.slots)
-
-    go : (o : Option Record) → record_of c x ≡ o → Less (slots_in o) (slots_in (option_map (edited n change) o))
-    go None e = less-none []
-    go (Some r) e = at_record r e (r.birth == n) refl
+edit-less n change same_birth c less = edit-slots Less less-none n change same_birth c less
 
 pub fewer-edit : (b : Board) (n : ℕ) (change : Record → Record) → ((r : Record) → (change r).birth ≡ r.birth) → (c : Board)
     → ((r : Record) → record_of c n ≡ Some r → Less r.slots (change r).slots) → Fewer b c → Fewer b (edit n change c)

@@ -19,9 +19,9 @@ use Rattle.qo_sound.proofs.AddLemmas.{unbarred}
 use Rattle.qo_sound.proofs.PlugLemmas.{or-none, shut-above, stage-none}
 use Rattle.qo_sound.proofs.ViewLemmas.{AtRest, sound-from_rest}
 use Rattle.qo_sound_devices.specs.SoundPlaces.{HasOwner, id_of, owns, PlacesBut}
+use Rattle.qo_sound_devices.proofs.JoinedLemmas.{Goal}
 use Rattle.qo_sound_devices.proofs.DraftedLemmas.{drafted-bridge, is_bridge}
 use Rattle.qo_sound_devices.proofs.GoalLemmas.{fits-bus, slot-low}
-use Rattle.qo_sound_devices.proofs.MadeLemmas.{Goal}
 use Rattle.qo_sound_devices.proofs.PlugLemmas.{Accepted, depth-is, id-new}
 use Rattle.qo_sound_devices.proofs.WhereLemmas.{attached-owner, machine-no_device}
 

@@ -60,6 +60,30 @@ IsFurther c x e =
     (is_of c (codes "device") e.1 ≡ false) ×
     (is_of c (codes "bus") e.1 ≡ true → (is_of c (codes "device") x ≡ true) × (bytes_eq e.0 clock_name ≡ false))
 
+-- where it is to go, as nothing refuses it
+pub record Goal (depth : ℕ → ℕ) (b : Board) (n bus slot : ℕ) (id : Option (List ℕ)) (t : TypeId) (c : Board) : Type 0 where
+  pub device : is_a t (codes "device") ≡ true
+  pub is_bus : is_of b (codes "bus") bus ≡ true
+  pub fits : is_of b (bus_type t) bus ≡ true
+  pub owner : HasOwner b bus
+  pub low : slot < BUS_SLOTS
+  pub shallow : (q : ℕ) → owns c n q ≡ true → suc (depth bus) ≤ 8
+  pub new_id : (x : ℕ) (i : List ℕ) → id ≡ Some i → id_of b x ≡ Some i → ⊥
+
+-- so it is of a board behind it, where its children are the same
+pub goal-same : (depth : ℕ → ℕ) (b : Board) (n bus slot : ℕ) (id : Option (List ℕ)) (t : TypeId) (c d : Board) → child_entries d n ≡ child_entries c n
+    → Goal depth b n bus slot id t c → Goal depth b n bus slot id t d
+goal-same depth b n bus slot id t c d same g =
+    record {
+      device = g.device;
+      is_bus = g.is_bus;
+      fits = g.fits;
+      owner = g.owner;
+      low = g.low;
+      shallow = λ q e. g.shallow q (sym (ap (list_any (owns_it q)) same) ∙ e);
+      new_id = g.new_id;
+    }
+
 -- a device n of type t is added on a bus: what places speak of
 pub record Joined (depth : ℕ → ℕ) (b : Board) (n bus slot : ℕ) (id : Option (List ℕ)) (t : TypeId) (now : Now) (c : Board) : Type 0 where
   -- what was there is as before
@@ -82,7 +106,6 @@ pub record Joined (depth : ℕ → ℕ) (b : Board) (n bus slot : ℕ) (id : Opt
   pub further : (x : ℕ) → is_live b x ≡ false → AllByRecursion (IsFurther c x) (child_entries c x)
   -- the device
   pub kind : kind_of c n ≡ Some t
-  pub device : is_a t (codes "device") ≡ true
   pub its_id : id_of c n ≡ now.its
   pub its_path : path_of c n ≡ now.path
   pub on : bus_of c n ≡ now.on
@@ -90,12 +113,7 @@ pub record Joined (depth : ℕ → ℕ) (b : Board) (n bus slot : ℕ) (id : Opt
   pub stands_realized : is_realized c n ≡ now.realized
   pub heirs : (q : ℕ) → listed q (child_entries c n) ≡ true → is_live b q ≡ false
   -- where it goes
-  pub is_bus : is_of b (codes "bus") bus ≡ true
-  pub fits : is_of b (bus_type t) bus ≡ true
-  pub owner : HasOwner b bus
-  pub low : slot < BUS_SLOTS
-  pub shallow : (q : ℕ) → owns c n q ≡ true → suc (depth bus) ≤ 8
-  pub new_id : (x : ℕ) (i : List ℕ) → id ≡ Some i → id_of b x ≡ Some i → ⊥
+  pub goal : Goal depth b n bus slot id t c
 
 -- the depths of buses behind it: its own buses are one below the bus that it is on
 abbrev pub deepened : (ℕ → ℕ) → ℕ → ℕ → Board → ℕ → ℕ
@@ -231,7 +249,7 @@ module _ (depth : ℕ → ℕ) (b : Board) (n bus slot : ℕ) (id : Option (List
 
   -- buses and how deep they are
   bus-live : is_live b bus ≡ true
-  bus-live = of-live b (codes "bus") bus j.is_bus
+  bus-live = of-live b (codes "bus") bus j.goal.is_bus
 
   owner-on : (q : ℕ) → HasOwner b q → HasOwner c q
   owner-on q (machines k) = machines k
@@ -279,7 +297,7 @@ module _ (depth : ℕ → ℕ) (b : Board) (n bus slot : ℕ) (id : Option (List
             (λ k.
             let is : deeper q ≡ depth q = deeper-old q (owner-there q k) in
             let le : depth q ≤ 8 = h.shallow.most q k in subst (λ (m : ℕ). m ≤ 8) (sym is) le)
-            (λ k. subst (λ (m : ℕ). m ≤ 8) (sym (deeper-new q k)) (j.shallow q k));
+            (λ k. subst (λ (m : ℕ). m ≤ 8) (sym (deeper-new q k)) (j.goal.shallow q k));
       }
     where
       below : (p q m : ℕ) → stands c p ≡ true → bus_of c p ≡ Some q → owns c p m ≡ true → deeper m ≡ suc (deeper q)
@@ -311,7 +329,7 @@ module _ (depth : ℕ → ℕ) (b : Board) (n bus slot : ℕ) (id : Option (List
       own : (o : Option (List ℕ)) → id_of c n ≡ o → path_of c n ≡ Some (path_behind b o) → AllByRecursion (IsPeripheral c) (named_entry o n)
       own None e p = tt
       own (Some i) e p = (
-        record { device = ap (λ (k : Option TypeId). option_map_or (λ (x : TypeId). is_a x (codes "device")) k false) j.kind ∙ j.device; id = e; path = p },
+        record { device = ap (λ (k : Option TypeId). option_map_or (λ (x : TypeId). is_a x (codes "device")) k false) j.kind ∙ j.goal.device; id = e; path = p },
         tt,
       )
 
@@ -335,7 +353,7 @@ module _ (depth : ℕ → ℕ) (b : Board) (n bus slot : ℕ) (id : Option (List
       own (Some i) e p k = tt
       own None e p k = (
         record {
-          device = ap (λ (x : Option TypeId). option_map_or (λ (y : TypeId). is_a y (codes "device")) x false) j.kind ∙ j.device;
+          device = ap (λ (x : Option TypeId). option_map_or (λ (y : TypeId). is_a y (codes "device")) x false) j.kind ∙ j.goal.device;
           id = e;
           path = p;
           numbered = (b.anonymous, (omega (arith, k), refl));
@@ -363,8 +381,8 @@ module _ (depth : ℕ → ℕ) (b : Board) (n bus slot : ℕ) (id : Option (List
         fits =
             ap (λ (o : Option TypeId). option_map_or (λ x. is_of c (bus_type x) bus) o false) j.kind
             ∙ of-alike b c bus (bus_type t) (j.body bus bus-live)
-            ∙ j.fits;
-        slot = (slot, (j.low, (j.at, refl)));
+            ∙ j.goal.fits;
+        slot = (slot, (j.goal.low, (j.at, refl)));
       }
 
   kids : (q : ℕ) → is_of c (codes "bus") q ≡ true → AllByRecursion (IsKid c q) (kid_entries c q)
@@ -413,7 +431,7 @@ module _ (depth : ℕ → ℕ) (b : Board) (n bus slot : ℕ) (id : Option (List
           record {
             bus = bus;
             on = j.on;
-            is_bus = of-alike b c bus (codes "bus") (j.body bus bus-live) ∙ j.is_bus;
+            is_bus = of-alike b c bus (codes "bus") (j.body bus bus-live) ∙ j.goal.is_bus;
             kid =
                 ap (listed n) j.kids_more
                 ∙ any-append n (kid_entries b bus) ((kid_name slot, n) ∷ [])
@@ -425,7 +443,7 @@ module _ (depth : ℕ → ℕ) (b : Board) (n bus slot : ℕ) (id : Option (List
   owner d q e on =
       by-stand d e
       (λ k. owner-on q (h.owner d q k (sym (j.bus_same d (there d k)) ∙ on)))
-      (λ is. subst (HasOwner c) (sym (same_Some q bus (sym on ∙ ap (bus_of c) is ∙ j.on))) (owner-on bus j.owner))
+      (λ is. subst (HasOwner c) (sym (same_Some q bus (sym on ∙ ap (bus_of c) is ∙ j.on))) (owner-on bus j.goal.owner))
 
   only : (d : ℕ) → is_realized c d ≡ true → stands c d ≡ true
   only d e =
@@ -445,14 +463,14 @@ module _ (depth : ℕ → ℕ) (b : Board) (n bus slot : ℕ) (id : Option (List
       (λ apart. absurd (let clash : None ≡ Some i = sym (j.nameless d k apart) ∙ e in cc)))
 
   new-device : is_of c (codes "device") n ≡ true
-  new-device = ap (λ (k : Option TypeId). option_map_or (λ (x : TypeId). is_a x (codes "device")) k false) j.kind ∙ j.device
+  new-device = ap (λ (k : Option TypeId). option_map_or (λ (x : TypeId). is_a x (codes "device")) k false) j.kind ∙ j.goal.device
 
   -- children
   at_home : (p : ℕ) → AllByRecursion (IsAtHome c p) (child_entries c p)
   at_home = children-grown b c firm j.body grows new h.children
     where
       no_bus : is_of c (codes "bus") n ≡ false
-      no_bus = ap (λ (k : Option TypeId). option_map_or (λ (x : TypeId). is_a x (codes "bus")) k false) j.kind ∙ device-no_bus t j.device
+      no_bus = ap (λ (k : Option TypeId). option_map_or (λ (x : TypeId). is_a x (codes "bus")) k false) j.kind ∙ device-no_bus t j.goal.device
 
       own : (p : ℕ) (name : List ℕ) → among (PERIPHERAL_BIRTH ∷ ANONYMOUS_BIRTH ∷ []) p ≡ true → IsAtHome c p (name, n)
       own p name is = record { bus = λ e. absurd (let clash : true ≡ false = sym e ∙ no_bus in cc); device = λ e. is }
@@ -539,6 +557,6 @@ module _ (depth : ℕ → ℕ) (b : Board) (n bus slot : ℕ) (id : Option (List
             (λ live was. of-alike b c d (codes "device") (j.body d live) ∙ h.ids d i was)
             (λ is own. ap (is_of c (codes "device")) is ∙ new-device);
         once = λ d x i e q. by-id d i e
-            (λ live was. by-id x i q (λ there_too was_too. h.once d x i was was_too) (λ is own. absurd (j.new_id d i own was)))
-            (λ is own. by-id x i q (λ there_too was_too. absurd (j.new_id x i own was_too)) (λ is_too own_too. is ∙ sym is_too));
+            (λ live was. by-id x i q (λ there_too was_too. h.once d x i was was_too) (λ is own. absurd (j.goal.new_id d i own was)))
+            (λ is own. by-id x i q (λ there_too was_too. absurd (j.goal.new_id x i own was_too)) (λ is_too own_too. is ∙ sym is_too));
       }

@@ -1,6 +1,6 @@
 -- A device that was made is joined to its container and to its bus.
-use Rattle.std.proofs.Common.{◌≡◌, refl, ap, ap₂, sym, subst, ◌∙◌, ℕ, suc, ◌<◌, ◌≤◌, Bool, true, false, ◌==◌, eqb, List, [], ◌∷◌, ◌++◌, filter_map, find, Option, Some, None, is_some, option_map, option_and_then, codes}
-use Rattle.std.specs.List.{AllByRecursion, list_any}
+use Rattle.std.proofs.Common.{◌≡◌, refl, ap, ap₂, sym, subst, ◌∙◌, ℕ, Bool, true, false, ◌==◌, eqb, List, [], ◌∷◌, ◌++◌, filter_map, find, Option, Some, None, is_some, option_map, option_and_then, codes}
+use Rattle.std.specs.List.{AllByRecursion}
 use Rattle.std.specs.Option.{option_map_or}
 use Rattle.std.specs.Str.{bytes_eq}
 use Rattle.std.proofs.lemmas.Bool.{eqb-true}
@@ -8,23 +8,20 @@ use Rattle.qo_values.specs.declared.births.TheConstants.{ANONYMOUS_BIRTH, MACHIN
 use Rattle.qo_values.specs.declared.kinds.TypeId.{TypeId}
 use Rattle.qo_values.specs.declared.kinds.TypeId.TheVariants.{Device}
 use Rattle.qo_values.specs.declared.properties.Val.{Val}
-use Rattle.qo_values.specs.declared.limits.TheConstants.{BUS_SLOTS}
 use Rattle.qo_model.specs.Board.{Board, Record, Slot, child, strong, record_of, kind_of, is_live, slots_at}
 use Rattle.qo_model.specs.Changes.{add, with_added}
 use Rattle.qo_model.specs.Depth.{among}
 use Rattle.qo_model.specs.Devices.{bus_of, is_realized, is_true, kid_name, number_in, place_on, plain_in, strong_in}
-use Rattle.qo_model.specs.Paths.{is_of}
-use Rattle.qo_model.specs.Plug.{bus_type, joined, name_for, parent_for, Spot, Wanted}
+use Rattle.qo_model.specs.Plug.{joined, name_for, parent_for, Spot, Wanted}
 use Rattle.qo_model.specs.Release.{edited}
-use Rattle.qo_model.specs.Types.{is_a}
 use Rattle.qo_model.proofs.FirstLemmas.{slots_in, named_in}
 use Rattle.qo_model.proofs.StepLemmas.{found-edited}
 use Rattle.qo_sound.proofs.FirmLemmas.{Firm}
 use Rattle.qo_sound.proofs.TestLemmas.{decide}
-use Rattle.qo_sound_devices.specs.SoundPlaces.{child_entries, child_entry, HasOwner, id_of, kid_entries, kid_entry, listed, owns, owns_it, path_of, PlacesBut}
+use Rattle.qo_sound_devices.specs.SoundPlaces.{child_entries, child_entry, id_of, kid_entries, kid_entry, listed, path_of, PlacesBut}
 use Rattle.qo_sound_devices.proofs.AddLemmas.{entries-added, entry-added, named-added}
 use Rattle.qo_sound_devices.proofs.AlikeLemmas.{Alike, alike-record, bodiless, other-record}
-use Rattle.qo_sound_devices.proofs.JoinedLemmas.{further-same, IsFurther, Joined, named_entry, Now, numbered_entry}
+use Rattle.qo_sound_devices.proofs.JoinedLemmas.{Goal, goal-same, further-same, IsFurther, Joined, named_entry, Now, numbered_entry}
 use Rattle.qo_sound_devices.proofs.PlacesLemmas.{child-live, id-alike, kind-alike, of-alike, of-live, SameBody}
 
 other-added : (s : List ℕ × Slot) (name : List ℕ) → bytes_eq s.0 name ≡ false → (slots : List (List ℕ × Slot))
@@ -94,16 +91,6 @@ pub record Made (b : Board) (n : ℕ) (t : TypeId) (c : Board) : Type 0 where
   pub further : (x : ℕ) → is_live b x ≡ false → AllByRecursion (IsFurther c x) (child_entries c x)
   pub heirs : (q : ℕ) → listed q (child_entries c n) ≡ true → is_live b q ≡ false
   pub anonymous : c.anonymous ≡ b.anonymous
-
--- where it is to go, as nothing refuses it
-pub record Goal (depth : ℕ → ℕ) (b : Board) (n bus slot : ℕ) (id : Option (List ℕ)) (t : TypeId) (c : Board) : Type 0 where
-  pub device : is_a t (codes "device") ≡ true
-  pub is_bus : is_of b (codes "bus") bus ≡ true
-  pub fits : is_of b (bus_type t) bus ≡ true
-  pub owner : HasOwner b bus
-  pub low : slot < BUS_SLOTS
-  pub shallow : (q : ℕ) → owns c n q ≡ true → suc (depth bus) ≤ 8
-  pub new_id : (x : ℕ) (i : List ℕ) → id ≡ Some i → id_of b x ≡ Some i → ⊥
 
 -- what stands on it, as it is read
 abbrev pub now_at : ℕ → Board → Now
@@ -274,19 +261,13 @@ module _ (depth : ℕ → ℕ) (b : Board) (n bus slot : ℕ) (id : Option (List
         further =
             λ x e. further-same c c2 (λ own y. of-alike c c2 y own (body2 y)) x (children-other x (apart-from x parent e (parent-live id))) (m.further x e);
         kind = kind-alike c c2 n (body2 n) ∙ m.kind;
-        device = g.device;
         its_id = refl;
         its_path = refl;
         on = refl;
         at = refl;
         stands_realized = refl;
         heirs = λ q e. m.heirs q (sym (ap (listed q) own-children) ∙ e);
-        is_bus = g.is_bus;
-        fits = g.fits;
-        owner = g.owner;
-        low = g.low;
-        shallow = λ q e. g.shallow q (sym (ap (list_any (owns_it q)) own-children) ∙ e);
-        new_id = g.new_id;
+        goal = goal-same depth b n bus slot id t c c2 own-children g;
       }
 
 -- as it is written of what was asked for

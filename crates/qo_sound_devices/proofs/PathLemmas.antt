@@ -19,8 +19,7 @@ use Rattle.qo_sound.proofs.TestLemmas.{decide}
 use Rattle.qo_sound.proofs.UnplugLemmas.{Sits}
 use Rattle.qo_sound.proofs.ViewLemmas.{AtRest, sound-from_rest}
 use Rattle.qo_sound_devices.specs.SoundPlaces.{child_entries, has_entry, IsRooted, PlacesBut}
-use Rattle.qo_sound_devices.proofs.JoinedLemmas.{Joined, named_entry, numbered_entry, Now, path_behind}
-use Rattle.qo_sound_devices.proofs.MadeLemmas.{Goal}
+use Rattle.qo_sound_devices.proofs.JoinedLemmas.{Goal, Joined, named_entry, numbered_entry, Now, path_behind}
 use Rattle.qo_sound_devices.proofs.PlacesLemmas.{child-live, owner-live, rooted-same}
 use Rattle.qo_sound_devices.proofs.StartedLemmas.{acting, dims-acting, joined-counted, joined-dims}
 use Rattle.qo_sound_devices.proofs.StoodLemmas.{joined-stood}

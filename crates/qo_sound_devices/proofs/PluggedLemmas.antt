@@ -11,8 +11,8 @@ use Rattle.qo_sound.proofs.ViewLemmas.{AtRest}
 use Rattle.qo_sound_devices.specs.SoundPlaces.{PlacesBut, SoundPlaces}
 use Rattle.qo_sound_devices.proofs.AcceptedLemmas.{goal-of, passes}
 use Rattle.qo_sound_devices.proofs.HoldsLemmas.{holds-bus}
-use Rattle.qo_sound_devices.proofs.JoinedLemmas.{deepened, done, Joined, places-joined}
-use Rattle.qo_sound_devices.proofs.MadeLemmas.{Goal, now_at}
+use Rattle.qo_sound_devices.proofs.JoinedLemmas.{Goal, deepened, done, Joined, places-joined}
+use Rattle.qo_sound_devices.proofs.MadeLemmas.{now_at}
 use Rattle.qo_sound_devices.proofs.PathLemmas.{holds-path}
 use Rattle.qo_sound_devices.proofs.PlacesLemmas.{of-alike, of-live}
 use Rattle.qo_sound_devices.proofs.PlugLemmas.{Accepted, behind-plug, plug_attempt-places}

@@ -29,8 +29,8 @@ use Rattle.qo_sound.proofs.ViewLemmas.{AtRest}
 use Rattle.qo_sound_devices.specs.SoundPlaces.{child_entries, child_entry, kid_entry, listed, PlacesBut}
 use Rattle.qo_sound_devices.proofs.AlikeLemmas.{other-record}
 use Rattle.qo_sound_devices.proofs.DraftedLemmas.{drafted-source, may_see}
-use Rattle.qo_sound_devices.proofs.JoinedLemmas.{IsFurther, Joined}
-use Rattle.qo_sound_devices.proofs.MadeLemmas.{Goal, now_at}
+use Rattle.qo_sound_devices.proofs.JoinedLemmas.{Goal, IsFurther, Joined}
+use Rattle.qo_sound_devices.proofs.MadeLemmas.{now_at}
 use Rattle.qo_sound_devices.proofs.PlacesLemmas.{child-live, of-live}
 use Rattle.qo_sound_devices.proofs.StoodLemmas.{child-fitted, joined-stood}
 use Rattle.qo_sound_devices.proofs.UnrealizeLemmas.{Dims, dims-none, entries-changed, reads, bodies}

@@ -1,6 +1,5 @@
 -- The steps by which a device that was made comes to stand in its place: what each leaves of what places speak of.
 use Rattle.std.proofs.Common.{◌≡◌, refl, ap, sym, subst, ◌∙◌, ℕ, suc, Bool, true, false, ◌==◌, List, [], ◌∷◌, filter, filter_map, Option, Some, None, option_map, option_and_then, codes}
-use Rattle.std.specs.List.{list_any}
 use Rattle.std.specs.Option.{option_map_or}
 use Rattle.std.proofs.lemmas.Bool.{eqb-true, eq-eqb}
 use Rattle.qo_values.specs.declared.births.TheConstants.{ANONYMOUS_BIRTH, MACHINE_BIRTH, PERIPHERAL_BIRTH}
@@ -20,9 +19,9 @@ use Rattle.qo_model.proofs.FirstLemmas.{named_in}
 use Rattle.qo_model.proofs.StepLemmas.{found-edited, found-birth}
 use Rattle.qo_sound.proofs.FirmLemmas.{Firm}
 use Rattle.qo_sound.proofs.TestLemmas.{decide}
-use Rattle.qo_sound_devices.specs.SoundPlaces.{child_entries, child_entry, id_of, kid_entries, listed, owns_it, path_of, PlacesBut}
+use Rattle.qo_sound_devices.specs.SoundPlaces.{child_entries, child_entry, id_of, kid_entries, listed, path_of, PlacesBut}
 use Rattle.qo_sound_devices.proofs.AlikeLemmas.{Alike, alike-record, other-record}
-use Rattle.qo_sound_devices.proofs.JoinedLemmas.{count_behind, device-no_bus, done, further-same, Joined, Now, path_behind}
+use Rattle.qo_sound_devices.proofs.JoinedLemmas.{goal-same, count_behind, device-no_bus, done, further-same, Joined, Now, path_behind}
 use Rattle.qo_sound_devices.proofs.PlacesLemmas.{child-live, id-alike, kind-alike, of-alike, of-live, path-alike}
 use Rattle.qo_sound_devices.proofs.UnrealizeLemmas.{Dims, dims-acted, dims-alike, dims-none, dims-then}
 
@@ -79,19 +78,13 @@ module _ (depth : ℕ → ℕ) (b : Board) (n bus slot : ℕ) (id : Option (List
         no_kids = λ x e p. k.dimmed.kids x ∙ j.no_kids x e (sym (of-alike c d x (codes "bus") (k.dimmed.body x)) ∙ p);
         further = λ x e. further-same c d (λ name y. of-alike c d y name (k.dimmed.body y)) x (k.dimmed.children x) (j.further x e);
         kind = kind-alike c d n (k.dimmed.body n) ∙ j.kind;
-        device = j.device;
         its_id = id-alike c d n (k.dimmed.body n) ∙ j.its_id;
         its_path = path-alike c d n (k.dimmed.body n) ∙ j.its_path;
         on = k.dimmed.bus n ∙ j.on;
         at = k.dimmed.place n ∙ j.at;
         stands_realized = k.same n ∙ j.stands_realized;
         heirs = λ q e. j.heirs q (sym (ap (listed q) (k.dimmed.children n)) ∙ e);
-        is_bus = j.is_bus;
-        fits = j.fits;
-        owner = j.owner;
-        low = j.low;
-        shallow = λ q e. j.shallow q (sym (ap (list_any (owns_it q)) (k.dimmed.children n)) ∙ e);
-        new_id = j.new_id;
+        goal = goal-same depth b n bus slot id t c d (k.dimmed.children n) j.goal;
       }
 
   pub joined-beside : (left : Option ℕ) (out : ℕ → Bool) → Firm b → PlacesBut depth left out b → (now next : Now) (c d : Board) → Beside n c d
@@ -104,7 +97,7 @@ module _ (depth : ℕ → ℕ) (b : Board) (n bus slot : ℕ) (id : Option (List
         place_same = λ x e. (k.others x (differs x e)).place ∙ j.place_same x e;
         kids_same = λ x e p. (k.others x (differs x e)).kids ∙ j.kids_same x e p;
         children = λ x e p. (k.others x (differs x e)).children ∙ j.children x e p;
-        kids_more = (k.others bus (differs bus (of-live b (codes "bus") bus j.is_bus))).kids ∙ j.kids_more;
+        kids_more = (k.others bus (differs bus (of-live b (codes "bus") bus j.goal.is_bus))).kids ∙ j.kids_more;
         third = (k.others PERIPHERAL_BIRTH (differs PERIPHERAL_BIRTH (child-live b firm MACHINE_BIRTH PERIPHERAL_BIRTH h.parts.0))).children ∙ j.third;
         fourth = (k.others ANONYMOUS_BIRTH (differs ANONYMOUS_BIRTH (child-live b firm MACHINE_BIRTH ANONYMOUS_BIRTH h.parts.1.0))).children ∙ j.fourth;
         anonymous = is.anonymous;
@@ -114,19 +107,13 @@ module _ (depth : ℕ → ℕ) (b : Board) (n bus slot : ℕ) (id : Option (List
         no_kids = no_kids;
         further = λ x e. further-same c d same_types x (same_children x) (j.further x e);
         kind = k.kind ∙ j.kind;
-        device = j.device;
         its_id = is.its_id;
         its_path = is.its_path;
         on = is.on;
         at = is.at;
         stands_realized = is.realized;
         heirs = λ q e. j.heirs q (sym (ap (listed q) k.children) ∙ e);
-        is_bus = j.is_bus;
-        fits = j.fits;
-        owner = j.owner;
-        low = j.low;
-        shallow = λ q e. j.shallow q (sym (ap (list_any (owns_it q)) k.children) ∙ e);
-        new_id = j.new_id;
+        goal = goal-same depth b n bus slot id t c d k.children j.goal;
       }
     where
       differs : (x : ℕ) → is_live b x ≡ true → (x == n) ≡ false
@@ -146,7 +133,7 @@ module _ (depth : ℕ → ℕ) (b : Board) (n bus slot : ℕ) (id : Option (List
       same_children = at_each (λ x. child_entries d x ≡ child_entries c x) (λ x a. a.children) k.children
 
       own : is_of d (codes "bus") n ≡ false
-      own = ap (λ (o : Option TypeId). option_map_or (λ (x : TypeId). is_a x (codes "bus")) o false) (k.kind ∙ j.kind) ∙ device-no_bus t j.device
+      own = ap (λ (o : Option TypeId). option_map_or (λ (x : TypeId). is_a x (codes "bus")) o false) (k.kind ∙ j.kind) ∙ device-no_bus t j.goal.device
 
       no_kids : (x : ℕ) → is_live b x ≡ false → is_of d (codes "bus") x ≡ true → kid_entries d x ≡ []
       no_kids x e p =
@@ -176,19 +163,13 @@ joined-counted depth b n bus slot id t now c None j =
       no_kids = j.no_kids;
       further = j.further;
       kind = j.kind;
-      device = j.device;
       its_id = j.its_id;
       its_path = j.its_path;
       on = j.on;
       at = j.at;
       stands_realized = j.stands_realized;
       heirs = j.heirs;
-      is_bus = j.is_bus;
-      fits = j.fits;
-      owner = j.owner;
-      low = j.low;
-      shallow = j.shallow;
-      new_id = j.new_id;
+      goal = goal-same depth b n bus slot id t c (counted None c) refl j.goal;
     }
 
 -- an edit of the device that leaves its slots

@@ -22,8 +22,8 @@ use Rattle.qo_sound_devices.specs.SoundPlaces.{child_entry, path_of, PlacesBut}
 use Rattle.qo_sound_devices.proofs.AddLemmas.{children-given}
 use Rattle.qo_sound_devices.proofs.AlikeLemmas.{alike-none, alike-record, other-record}
 use Rattle.qo_sound_devices.proofs.DraftedLemmas.{drafted-made}
-use Rattle.qo_sound_devices.proofs.JoinedLemmas.{done, Joined, Now, path_behind}
-use Rattle.qo_sound_devices.proofs.MadeLemmas.{Goal, joined-wanted, now_at}
+use Rattle.qo_sound_devices.proofs.JoinedLemmas.{Goal, done, Joined, Now, path_behind}
+use Rattle.qo_sound_devices.proofs.MadeLemmas.{joined-wanted, now_at}
 use Rattle.qo_sound_devices.proofs.RealizedLemmas.{valued-at, valued-realized}
 use Rattle.qo_sound_devices.proofs.StartedLemmas.{acting, Beside, IsNow, joined-beside, joined-body, joined-counted, joined-dims, started-joined}
 use Rattle.qo_sound_devices.proofs.UnrealizeLemmas.{Dims, dims-none, dims-set, entries-changed, mild-val}

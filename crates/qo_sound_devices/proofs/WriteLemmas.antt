@@ -1,42 +1,37 @@
 -- `qom-set` keeps places, taken or refused.
-use Rattle.std.proofs.Common.{inr, rules, ◌≡◌, refl, ap, sym, subst, ◌∙◌, ℕ, zero, suc, ◌<◌, Bool, true, false, not, ◌&&◌, ◌||◌, List, [], ◌∷◌, filter_map, find, position, length, slice_get, Option, Some, None, is_some, option_map, option_and_then, Result, Ok, Err, codes}
+use Rattle.std.proofs.Common.{inr, rules, ◌≡◌, refl, ap, sym, subst, ◌∙◌, ℕ, zero, suc, Bool, true, false, not, ◌&&◌, ◌||◌, List, [], ◌∷◌, filter_map, find, slice_get, Option, Some, None, is_some, option_map, option_and_then, codes}
 use Rattle.std.specs.List.{AllByRecursion}
 use Rattle.std.specs.Option.{option_map_or}
 use Rattle.std.specs.Str.{bytes_eq}
 use Rattle.std.proofs.lemmas.Bool.{not-true, and_parts}
-use Rattle.std.proofs.lemmas.List.Quantifiers.{position-Some}
-use Rattle.std.proofs.lemmas.Option.{same_Some, slice_get-get_or}
+use Rattle.std.proofs.lemmas.Option.{same_Some}
 use Rattle.std.proofs.lemmas.Slice.Eq.{bytes_eq-Decides}
-use Rattle.std.specs.Prelude.{get_or}
 use Rattle.qo_values.specs.declared.births.TheConstants.{MACHINE_BIRTH}
-use Rattle.qo_values.specs.Properties.{admits}
-use Rattle.qo_values.specs.declared.codes.Code.{Code}
 use Rattle.qo_values.specs.declared.kinds.TypeId.{TypeId}
 use Rattle.qo_values.specs.declared.kinds.TypeId.TheVariants.{Object, Container, Machine, Device, SlotDevice, SlotUart, SlotTimer, SlotBridge, MemDimm, Bus, SlotBus, MemBus, Clock, MemoryBackend, MemoryBackendRam, Tag}
 use Rattle.qo_values.specs.declared.properties.Val.{Val}
-use Rattle.qo_values.specs.declared.properties.Val.TheVariants as val
 use Rattle.qo_model.specs.Board.{Board, Record, Slot, plain, child, strong, weak, alias, record_of, kind_of, is_live, slots_at, slot_at, held}
 use Rattle.qo_model.specs.Changes.{changed_at, point, pointed, set, with_changed, with_val}
 use Rattle.qo_model.specs.Depth.{among}
 use Rattle.qo_model.specs.Devices.{is_realized, is_true, number_in, plain_in, strong_in}
 use Rattle.qo_model.specs.FinalNotesRuns.{behind_write}
 use Rattle.qo_model.specs.Paths.{child_of, is_of}
-use Rattle.qo_model.specs.Properties.{link_target, link_written, linked, may_set, pointed_at, relinked, row_of_property, write, written, written_by}
+use Rattle.qo_model.specs.Properties.{may_set, pointed_at, relinked, row_of_property, write}
 use Rattle.qo_model.specs.Release.{after, drop_slot, edit, edited, emptied, finalise, with_dropped, without_hold}
 use Rattle.qo_model.specs.RowNames.{property_name}
 use Rattle.qo_model.specs.Types.{is_a, slots_of, types}
 use Rattle.qo_model.specs.declared.properties.Property.{Property}
-use Rattle.qo_model.specs.declared.properties.RowKind.{RowKind}
-use Rattle.qo_model.specs.declared.properties.RowKind.TheVariants as row
 use Rattle.qo_model.proofs.EditLemmas.{StandsAt, stands-at}
 use Rattle.qo_model.proofs.FirstLemmas.{named-changed, named-other}
 use Rattle.qo_model.proofs.StepLemmas.{drop-live, found-edited}
-use Rattle.qo_sound.proofs.ChangeLemmas.{emptied-at, IsLink, holding, seeing, near-relinked, near-set}
+use Rattle.qo_sound.proofs.ChangeLemmas.{emptied-at, near-relinked, near-set}
+use Rattle.qo_model.proofs.WrittenLemmas.{IsLink, holding, seeing}
+use Rattle.qo_sound.proofs.TargetLemmas.{target-fit}
 use Rattle.qo_sound.proofs.FirmLemmas.{edited-kinds, FitsKind, Firm, firm-changed, firm-drop, Linked}
 use Rattle.qo_sound.proofs.ReadLemmas.{plain-pointed}
 use Rattle.qo_sound.proofs.SlotLemmas.{child-pointed}
-use Rattle.qo_sound.proofs.TargetLemmas.{FitsResult, target-fits}
 use Rattle.qo_sound.proofs.ViewLemmas.{AtRest}
+use Rattle.qo_model.proofs.WrittenLemmas.{SlotFound, write-comes}
 use Rattle.qo_sound_devices.specs.SoundPlaces.{child_entry, PlacesBut}
 use Rattle.qo_sound_devices.proofs.AlikeLemmas.{Alike}
 use Rattle.qo_sound_devices.proofs.CommandLemmas.{Goes, goes-after, goes-kept, goes-then, keeps-goes}
@@ -118,20 +113,6 @@ row-fits b n name row e may = go (kind_of b n) refl e
               subst (λ (x : List ℕ). bytes_eq x (codes "realized") ≡ false) its (not-true (bytes_eq (property_name row.name) (codes "realized")) names.0);
           unplaced = subst (λ (x : List ℕ). bytes_eq x (codes "slot") ≡ false) its (not-true (bytes_eq (property_name row.name) (codes "slot")) names.1);
         }
-
--- the slot at a place that is found
-pub record SlotFound (name : List ℕ) (slots : List (List ℕ × Slot)) (i : ℕ) : Type 0 where
-  pub entry : List ℕ × Slot
-  pub at : slice_get slots i ≡ Some entry
-  pub passes : bytes_eq entry.0 name ≡ true
-
-pub position-slot : (name : List ℕ) (slots : List (List ℕ × Slot)) (i : ℕ) → position (λ (s : List ℕ × Slot). bytes_eq s.0 name) slots ≡ Some i
-    → SlotFound name slots i
-position-slot name slots i e =
-    let d : List ℕ × Slot = ([], plain val.Nothing) in
-    let h : (i < length slots) × (bytes_eq (get_or slots i d).0 name ≡ true) × ((k : ℕ) → k < i → bytes_eq (get_or slots k d).0 name ≡ false) =
-    position-Some (λ (s : List ℕ × Slot). bytes_eq s.0 name) slots i d e in
-    record { entry = get_or slots i d; at = slice_get-get_or slots i d h.0; passes = h.1 }
 
 -- a plain value
 set-kept : (b : Board) (n i : ℕ) (v : Val) (name : List ℕ) → Fits b n name → SlotFound name (slots_at b n) i → Firm (set n i v b) → is_live b 1 ≡ true
@@ -336,65 +317,18 @@ relinked-places depth b n i name t s fits f link e target fits_target rest h = r
             (goes-kept depth None (λ x. false) c (point n i m c)
             (point-kept depth c first.places n i m name (named_behind left leaves) fits.unlinked no_bus firm) pinned first.places)
 
-linked-places : (depth : ℕ → ℕ) (b : Board) (n i : ℕ) (name : List ℕ) (t : TypeId) (s : Slot) → Fits b n name → SlotFound name (slots_at b n) i
-    → IsLink t s → slot_at b n i ≡ Some s → (target : Result (Option ℕ) Code) → FitsResult b t target → AtRest b → PlacesBut depth None (λ x. false) b
-    → Keeps depth b (behind_write b (linked b n i target))
-linked-places depth b n i name t s fits f link e (Ok target) k rest h = relinked-places depth b n i name t s fits f link e target k rest h
-linked-places depth b n i name t s fits f link e (Err code) k rest h = keeps-none depth b h
-
-link_written-places : (depth : ℕ → ℕ) (b : Board) (n i : ℕ) (name : List ℕ) (t : TypeId) (s : Slot) → Fits b n name → SlotFound name (slots_at b n) i
-    → IsLink t s → slot_at b n i ≡ Some s → (v : Val) → AtRest b → PlacesBut depth None (λ x. false) b
-    → Keeps depth b (behind_write b (link_written b n i t v))
-link_written-places depth b n i name t s fits f link e (val.Text path) rest h =
-    linked-places depth b n i name t s fits f link e (link_target b t path) (target-fits b t path) rest h
-link_written-places depth b n i name t s fits f link e (val.Bool v) rest h = keeps-none depth b h
-link_written-places depth b n i name t s fits f link e (val.Int v) rest h = keeps-none depth b h
-link_written-places depth b n i name t s fits f link e (val.Uint v) rest h = keeps-none depth b h
-link_written-places depth b n i name t s fits f link e val.Nothing rest h = keeps-none depth b h
-
-written-places : (depth : ℕ → ℕ) (b : Board) (n i : ℕ) (name : List ℕ) → Fits b n name → SlotFound name (slots_at b n) i
-    → (kind : RowKind) (s : Option Slot) → slot_at b n i ≡ s → (v : Val) → AtRest b → PlacesBut depth None (λ x. false) b
-    → Keeps depth b (behind_write b (written b n i kind s v))
-written-places depth b n i name fits f (row.Plain type first) (Some (plain old)) e v rest h = go (admits type v) refl
-  where
-    go : (t : Bool) → admits type v ≡ t → Keeps depth b (behind_write b (written b n i (row.Plain type first) (Some (plain old)) v))
-    go true p =
-        rw (written, p) (keeps-goes depth b (set n i v b) (goes-kept depth None (λ x. false) b (set n i v b)
-        (set-kept b n i v name fits f (near-set b n i v old e rest.used).firm (owner-live b 1 MACHINE_BIRTH h.machine))
-        (set-pins n i v b (ap (λ (ps : List ℕ). among ps 1) rest.pinned)) h))
-    go false p = rw (written, p) (keeps-none depth b h)
-written-places depth b n i name fits f (row.Link t holds) (Some (strong to target)) e v rest h =
-    link_written-places depth b n i name to (strong to target) fits f (holding target) e v rest h
-written-places depth b n i name fits f (row.Link t holds) (Some (weak to target)) e v rest h =
-    link_written-places depth b n i name to (weak to target) fits f (seeing target) e v rest h
-written-places depth b n i name fits f (row.Plain type first) None e v rest h = keeps-none depth b h
-written-places depth b n i name fits f (row.Plain type first) (Some (child m)) e v rest h = keeps-none depth b h
-written-places depth b n i name fits f (row.Plain type first) (Some (strong to target)) e v rest h = keeps-none depth b h
-written-places depth b n i name fits f (row.Plain type first) (Some (weak to target)) e v rest h = keeps-none depth b h
-written-places depth b n i name fits f (row.Plain type first) (Some (alias m property)) e v rest h = keeps-none depth b h
-written-places depth b n i name fits f (row.Link t holds) None e v rest h = keeps-none depth b h
-written-places depth b n i name fits f (row.Link t holds) (Some (plain old)) e v rest h = keeps-none depth b h
-written-places depth b n i name fits f (row.Link t holds) (Some (child m)) e v rest h = keeps-none depth b h
-written-places depth b n i name fits f (row.Link t holds) (Some (alias m property)) e v rest h = keeps-none depth b h
-written-places depth b n i name fits f (row.Child t) s e v rest h = keeps-none depth b h
-written-places depth b n i name fits f (row.Alias owner property) s e v rest h = keeps-none depth b h
-
-written_by-places : (depth : ℕ → ℕ) (b : Board) (n i : ℕ) (name : List ℕ) → SlotFound name (slots_at b n) i → (row : Option Property)
-    → option_and_then (λ t. row_of_property t name) (kind_of b n) ≡ row → (v : Val) → AtRest b → PlacesBut depth None (λ x. false) b
-    → Keeps depth b (behind_write b (written_by b n i row v))
-written_by-places depth b n i name f None e v rest h = keeps-none depth b h
-written_by-places depth b n i name f (Some row) e v rest h = go (may_set row.mark) refl
-  where
-    go : (t : Bool) → may_set row.mark ≡ t → Keeps depth b (behind_write b (written_by b n i (Some row) v))
-    go true p = rw (written_by, p) (written-places depth b n i name (row-fits b n name row e p) f row.kind (slot_at b n i) refl v rest h)
-    go false p = rw (written_by, p) (keeps-none depth b h)
-
 pub write-places : (depth : ℕ → ℕ) (b : Board) (n : ℕ) (name : List ℕ) (v : Val) → AtRest b → PlacesBut depth None (λ x. false) b
     → Keeps depth b (behind_write b (write b n name v))
-write-places depth b n name v rest h = go (position (λ (s : List ℕ × Slot). bytes_eq s.0 name) (slots_at b n)) refl
-  where
-    go : (place : Option ℕ) → position (λ (s : List ℕ × Slot). bytes_eq s.0 name) (slots_at b n) ≡ place → Keeps depth b (behind_write b (write b n name v))
-    go None p = rw (write, p) (keeps-none depth b h)
-    go (Some i) p =
-        rw (write, p)
-        (written_by-places depth b n i name (position-slot name (slots_at b n) i p) (option_and_then (λ t. row_of_property t name) (kind_of b n)) refl v rest h)
+write-places depth b n name v rest h = write-comes (Keeps depth b) b (keeps-none depth b h) n name v (λ i t p kind e may.
+    let fits_row : Fits b n name = row-fits b n name p (ap (option_and_then (λ k. row_of_property k name)) kind ∙ e) may in
+    let found : (s : Slot) → slice_get (slots_at b n) i ≡ Some (name, s) → SlotFound name (slots_at b n) i =
+    λ s at. record { entry = (name, s); at = at; passes = (bytes_eq-Decides name name).1 refl } in
+    let there : (s : Slot) → slice_get (slots_at b n) i ≡ Some (name, s) → slot_at b n i ≡ Some s = λ s at. ap (option_map (λ (x : List ℕ × Slot). x.1)) at in
+    record {
+      value = λ old at type first is fits.
+          keeps-goes depth b (set n i v b) (goes-kept depth None (λ x. false) b (set n i v b)
+          (set-kept b n i v name fits_row (found (plain old) at) (near-set b n i v old (there (plain old) at) rest.used).firm
+          (owner-live b 1 MACHINE_BIRTH h.machine))
+          (set-pins n i v b (ap (λ (ps : List ℕ). among ps 1) rest.pinned)) h);
+      link = λ u s left link leaves at to holds is path target told. relinked-places depth b n i name u s fits_row (found s at) link (there s at) target (target-fit b u path target told) rest h;
+    })

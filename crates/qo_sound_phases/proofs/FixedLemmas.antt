@@ -1,33 +1,27 @@
 -- Objects that steps leave where they are: each that is still there has the same children, bus and type.
-use Rattle.std.proofs.Common.{inr, ◌≡◌, refl, ap, sym, subst, ◌∙◌, ℕ, zero, suc, ◌<◌, Bool, true, false, ◌==◌, List, [], ◌∷◌, filter_map, find, length, position, slice_get, Option, Some, None, is_some, option_map, option_and_then, codes}
-use Rattle.std.specs.Prelude.{get_or}
+use Rattle.std.proofs.Common.{inr, ◌≡◌, refl, ap, sym, subst, ◌∙◌, ℕ, zero, suc, true, false, ◌==◌, List, [], ◌∷◌, filter_map, find, slice_get, Option, Some, None, is_some, option_map, option_and_then, codes}
 use Rattle.std.specs.Option.{option_map_or}
 use Rattle.std.specs.Str.{bytes_eq}
 use Rattle.std.proofs.lemmas.Bool.{eqb-true}
-use Rattle.std.proofs.lemmas.List.Quantifiers.{position-Some}
-use Rattle.std.proofs.lemmas.Option.{same_Some, slice_get-get_or}
+use Rattle.std.proofs.lemmas.Option.{same_Some}
 use Rattle.std.proofs.lemmas.Slice.Eq.{bytes_eq-Decides}
-use Rattle.qo_values.specs.Properties.{admits}
-use Rattle.qo_values.specs.declared.codes.Code.{Code}
 use Rattle.qo_values.specs.declared.kinds.TypeId.{TypeId}
 use Rattle.qo_values.specs.declared.kinds.TypeId.TheVariants.{Object, Container, Machine, Device, SlotDevice, SlotUart, SlotTimer, SlotBridge, MemDimm, Bus, SlotBus, MemBus, Clock, MemoryBackend, MemoryBackendRam, Tag}
 use Rattle.qo_values.specs.declared.properties.Val.{Val}
-use Rattle.qo_values.specs.declared.properties.Val.TheVariants as val
-use Rattle.std.specs.Prelude.{Result, Ok, Err}
 use Rattle.qo_model.specs.Board.{Board, Record, Slot, plain, child, strong, weak, alias, record_of, kind_of, is_live, slots_at, slot_at, held}
 use Rattle.qo_model.specs.Changes.{changed_at, point, pointed, set, with_changed, with_val}
 use Rattle.qo_model.specs.Devices.{bus_of, strong_in}
 use Rattle.qo_model.specs.FinalNotesRuns.{behind_write}
 use Rattle.qo_model.specs.Paths.{child_of}
-use Rattle.qo_model.specs.Properties.{link_target, link_written, linked, may_set, pointed_at, relinked, row_of_property, write, written, written_by}
+use Rattle.qo_model.specs.Properties.{may_set, pointed_at, relinked, row_of_property, write}
 use Rattle.qo_model.specs.Release.{after, drop_slot, edit, edited, finalise, let_go, with_dropped, without_hold}
 use Rattle.qo_model.specs.Types.{types}
 use Rattle.qo_model.specs.declared.properties.Property.{Property}
-use Rattle.qo_model.specs.declared.properties.RowKind.{RowKind}
-use Rattle.qo_model.specs.declared.properties.RowKind.TheVariants as row
 use Rattle.qo_model.proofs.EditLemmas.{StandsAt, stands-at}
 use Rattle.qo_model.proofs.FirstLemmas.{named_in, named-other}
 use Rattle.qo_model.proofs.StepLemmas.{found-edited, is_some-map, map-edited}
+use Rattle.qo_model.proofs.WrittenLemmas.{link-childless}
+use Rattle.qo_model.proofs.WrittenLemmas.{write-comes}
 use Rattle.qo_sound.proofs.FirmLemmas.{Firm}
 use Rattle.qo_sound.proofs.TestLemmas.{decide, clash, clash-back}
 use Rattle.qo_sound_devices.specs.SoundPlaces.{child_entries, child_entry}
@@ -291,65 +285,17 @@ module _ (On : ℕ → Type 0) (b : Board) (firm : Firm b) (n i : ℕ) (other : 
       points None = fixed-none On (drop_slot b n i)
       points (Some m) = fixed-changed On (pointed m) (child-entry-pointed m) n i (drop_slot b n i) (still-other s e none)
 
-  fixed-linked : (s : Slot) → slot_at b n i ≡ Some s → child_of s ≡ None → (target : Result (Option ℕ) Code) → Fixed On b (behind_write b (linked b n i target))
-  fixed-linked s e none (Ok target) = fixed-relinked s e none target
-  fixed-linked s e none (Err code) = fixed-none On b
-
-  fixed-link : (s : Slot) → slot_at b n i ≡ Some s → child_of s ≡ None → (t : TypeId) (v : Val) → Fixed On b (behind_write b (link_written b n i t v))
-  fixed-link s e none t (val.Text path) = fixed-linked s e none (link_target b t path)
-  fixed-link s e none t (val.Bool v) = fixed-none On b
-  fixed-link s e none t (val.Int v) = fixed-none On b
-  fixed-link s e none t (val.Uint v) = fixed-none On b
-  fixed-link s e none t val.Nothing = fixed-none On b
-
-  fixed-written : (kind : RowKind) (s : Option Slot) → slot_at b n i ≡ s → (v : Val) → Fixed On b (behind_write b (written b n i kind s v))
-  fixed-written (row.Plain type first) (Some (plain old)) e v = go (admits type v) refl
-    where
-      go : (t : Bool) → admits type v ≡ t → Fixed On b (behind_write b (written b n i (row.Plain type first) (Some (plain old)) v))
-      go true p = rw (written, p) (fixed-set v)
-      go false p = rw (written, p) (fixed-none On b)
-  fixed-written (row.Link t holds) (Some (strong to target)) e v = fixed-link (strong to target) e refl to v
-  fixed-written (row.Link t holds) (Some (weak to target)) e v = fixed-link (weak to target) e refl to v
-  fixed-written (row.Plain type first) None e v = fixed-none On b
-  fixed-written (row.Plain type first) (Some (child m)) e v = fixed-none On b
-  fixed-written (row.Plain type first) (Some (strong to target)) e v = fixed-none On b
-  fixed-written (row.Plain type first) (Some (weak to target)) e v = fixed-none On b
-  fixed-written (row.Plain type first) (Some (alias m property)) e v = fixed-none On b
-  fixed-written (row.Link t holds) None e v = fixed-none On b
-  fixed-written (row.Link t holds) (Some (plain old)) e v = fixed-none On b
-  fixed-written (row.Link t holds) (Some (child m)) e v = fixed-none On b
-  fixed-written (row.Link t holds) (Some (alias m property)) e v = fixed-none On b
-  fixed-written (row.Child t) s e v = fixed-none On b
-  fixed-written (row.Alias owner property) s e v = fixed-none On b
-
 pub fixed-write : (On : ℕ → Type 0) (b : Board) → Firm b → (n : ℕ) (name : List ℕ) (v : Val) → Fixed On b (behind_write b (write b n name v))
-fixed-write On b firm n name v = go (position (λ (s : List ℕ × Slot). bytes_eq s.0 name) (slots_at b n)) refl
-  where
-    by : (i : ℕ) → position (λ (s : List ℕ × Slot). bytes_eq s.0 name) (slots_at b n) ≡ Some i → (row : Option Property)
-        → option_and_then (λ t. row_of_property t name) (kind_of b n) ≡ row → Fixed On b (behind_write b (written_by b n i row v))
-    by i p None e = fixed-none On b
-    by i p (Some row) e = may (may_set row.mark) refl
-      where
-        other : may_set row.mark ≡ true → Other b n i
-        other q = record { named = λ r s found at. named r s found at }
-          where
-            named : (r : Record) (s : List ℕ × Slot) → record_of b n ≡ Some r → slice_get r.slots i ≡ Some s → bytes_eq s.0 (codes "parent_bus") ≡ false
-            named r s found at =
-                let was : slots_at b n ≡ r.slots = ap (λ (o : Option Record). option_map_or (λ (x : Record). x.slots) o []) found in
-                let d : List ℕ × Slot = ([], plain val.Nothing) in
-                let its : position (λ (x : List ℕ × Slot). bytes_eq x.0 name) r.slots ≡ Some i =
-                ap (position (λ (x : List ℕ × Slot). bytes_eq x.0 name)) (sym was) ∙ p in
-                let k : (i < length r.slots) × (bytes_eq (get_or r.slots i d).0 name ≡ true) ×
-                ((m : ℕ) → m < i → bytes_eq (get_or r.slots m d).0 name ≡ false) =
-                position-Some (λ (x : List ℕ × Slot). bytes_eq x.0 name) r.slots i d its in
-                let is : get_or r.slots i d ≡ s = same_Some (get_or r.slots i d) s (sym (slice_get-get_or r.slots i d k.0) ∙ at) in
-                let same : s.0 ≡ name = sym (ap (λ (x : List ℕ × Slot). x.0) is) ∙ (bytes_eq-Decides (get_or r.slots i d).0 name).0 k.1 in
-                subst (λ (x : List ℕ). bytes_eq x (codes "parent_bus") ≡ false) (sym same) (unlinked b n name row e q)
-
-        may : (t : Bool) → may_set row.mark ≡ t → Fixed On b (behind_write b (written_by b n i (Some row) v))
-        may true q = rw (written_by, q) (fixed-written On b firm n i (other q) row.kind (slot_at b n i) refl v)
-        may false q = rw (written_by, q) (fixed-none On b)
-
-    go : (place : Option ℕ) → position (λ (s : List ℕ × Slot). bytes_eq s.0 name) (slots_at b n) ≡ place → Fixed On b (behind_write b (write b n name v))
-    go None p = rw (write, p) (fixed-none On b)
-    go (Some i) p = rw (write, p) (by i p (option_and_then (λ t. row_of_property t name) (kind_of b n)) refl)
+fixed-write On b firm n name v = write-comes (Fixed On b) b (fixed-none On b) n name v (λ i t p kind e may.
+    let apart : bytes_eq name (codes "parent_bus") ≡ false = unlinked b n name p (ap (option_and_then (λ k. row_of_property k name)) kind ∙ e) may in
+    let other : (s : Slot) → slice_get (slots_at b n) i ≡ Some (name, s) → Other b n i = λ s at. record {
+      named = λ r x found its.
+          let was : slots_at b n ≡ r.slots = ap (λ (o : Option Record). option_map_or (λ (y : Record). y.slots) o []) found in
+          let same : (name, s) ≡ x = same_Some (name, s) x (sym at ∙ ap (λ (xs : List (List ℕ × Slot)). slice_get xs i) was ∙ its) in
+          subst (λ (y : List ℕ × Slot). bytes_eq y.0 (codes "parent_bus") ≡ false) same apart;
+    } in
+    record {
+      value = λ old at type first is fits. fixed-set On b firm n i (other (plain old) at) v;
+      link = λ u s left link leaves at to holds is path target told.
+          fixed-relinked On b firm n i (other s at) s (ap (option_map (λ (x : List ℕ × Slot). x.1)) at) (link-childless u s link) target;
+    })

@@ -1,20 +1,17 @@
 -- The commands on objects keep the shape.
-use Rattle.std.proofs.Common.{◌≡◌, refl, ap, sym, subst, ◌∙◌, rules, ℕ, zero, suc, ◌<◌, ◌≤◌, ◌+◌, Bool, true, false, eqb, List, [], ◌∷◌, length, filter_map, map, position, slice_get, codes, Option, Some, None, is_some, option_map, option_and_then, Result, Ok, Err, arith}
-use Rattle.std.specs.Prelude.{get_or}
+use Rattle.std.proofs.Common.{◌≡◌, refl, ap, sym, subst, ◌∙◌, rules, ℕ, zero, suc, ◌<◌, ◌≤◌, ◌+◌, Bool, true, false, eqb, List, [], ◌∷◌, length, filter_map, map, slice_get, codes, Option, Some, None, is_some, option_map, arith}
 use Rattle.std.specs.Bool.{⊤}
 use Rattle.std.specs.List.{AllByRecursion}
 use Rattle.std.specs.Option.{option_map_or}
 use Rattle.std.specs.Str.{bytes_eq}
 use Rattle.std.proofs.lemmas.Bool.{eqb-true}
-use Rattle.std.proofs.lemmas.List.Quantifiers.{position-Some}
-use Rattle.std.proofs.lemmas.Option.{same_Some, slice_get-get_or}
-use Rattle.qo_values.specs.Properties.{admits}
+use Rattle.std.proofs.lemmas.Option.{same_Some}
+use Rattle.std.proofs.lemmas.Slice.Eq.{bytes_eq-Decides}
 use Rattle.qo_values.specs.declared.births.TheConstants.{ANONYMOUS_BIRTH, MACHINE_BIRTH, MEMORY_BUS_BIRTH, OBJECTS_BIRTH, PERIPHERAL_BIRTH, ROOT_BIRTH, ROOT_BUS_BIRTH, SYSTEM_CLOCK_BIRTH}
 use Rattle.qo_values.specs.declared.codes.Code.{Code}
 use Rattle.qo_values.specs.declared.kinds.TypeId.{TypeId}
 use Rattle.qo_values.specs.declared.kinds.TypeId.TheVariants.{Container}
 use Rattle.qo_values.specs.declared.properties.Val.{Val}
-use Rattle.qo_values.specs.declared.properties.Val.TheVariants as val
 use Rattle.qo_model.specs.Board.{Board, Record, Slot, plain, child, strong, weak, alias, held, is_live, kind_of, record_of, slot_at, slots_at}
 use Rattle.qo_model.specs.Changes.{changed_at, point, pointed, set, with_added, with_changed, with_val}
 use Rattle.qo_model.specs.Depth.{among}
@@ -22,13 +19,15 @@ use Rattle.qo_model.specs.FinalNotesRuns.{Change, added, behind_write, changed, 
 use Rattle.qo_model.specs.Objects.{Given, added_as, added_by, barred, is_object_named, object_add, object_del, place_from, refusal_of, sever, severed_from, with_object}
 use Rattle.qo_model.specs.Opening.{opening_board}
 use Rattle.qo_model.specs.Paths.{attached, child_of, is_of}
-use Rattle.qo_model.specs.Properties.{link_target, link_written, linked, may_set, pointed_at, relinked, row_of_property, write, written, written_by}
+use Rattle.qo_model.specs.Properties.{pointed_at, relinked, row_of_property, write}
 use Rattle.qo_model.specs.Release.{drop_slot, edit, forgotten, forgotten_in, let_go, pin, with_dropped, without_hold}
 use Rattle.qo_model.specs.Types.{TypeRow, is_a, row_named, slots_of, types}
 use Rattle.qo_model.specs.declared.properties.Property.{Property}
 use Rattle.qo_model.specs.declared.properties.RowKind.{RowKind}
 use Rattle.qo_model.specs.declared.properties.RowKind.TheVariants as row
 use Rattle.qo_model.proofs.StepLemmas.{found-birth}
+use Rattle.qo_model.proofs.WrittenLemmas.{link-childless}
+use Rattle.qo_model.proofs.WrittenLemmas.{write-comes}
 use Rattle.qo_sound.proofs.AddLemmas.{creatable, made}
 use Rattle.qo_sound.proofs.FirmLemmas.{Firm}
 use Rattle.qo_sound.proofs.SlotLemmas.{names-changed, names-each, names_in}
@@ -380,19 +379,6 @@ module _ (base : Board) (aside : stands base OBJECTS_BIRTH ≡ false) where
             all-edit (Full base) n (with_changed (pointed m) i) (λ r. refl) (drop_slot b n i)
             (λ r q own k. full-pointed base m i r k) dropped
 
-    linked-all : IsApart → (s : Slot) → slot_at b n i ≡ Some s → child_of s ≡ None → (target : Result (Option ℕ) Code)
-        → AllOf (Full base) (behind_write b (linked b n i target))
-    linked-all apart s e none (Ok target) = relinked-all apart s e none target
-    linked-all apart s e none (Err code) = h
-
-    link-all : IsApart → (s : Slot) → slot_at b n i ≡ Some s → child_of s ≡ None → (t : TypeId) (v : Val)
-        → AllOf (Full base) (behind_write b (link_written b n i t v))
-    link-all apart s e none t (val.Text path) = linked-all apart s e none (link_target b t path)
-    link-all apart s e none t (val.Bool v) = h
-    link-all apart s e none t (val.Int v) = h
-    link-all apart s e none t (val.Uint v) = h
-    link-all apart s e none t val.Nothing = h
-
     module _ (name : List ℕ) (entry : List ℕ × Slot) (at : slice_get (slots_at b n) i ≡ Some entry) (named : bytes_eq entry.0 name ≡ true) where
       val-all : (v : Val) → ((r : Record) → record_of b n ≡ Some r → Takes r.kind name v) → AllOf (Full base) (set n i v b)
       unfolding set
@@ -400,63 +386,20 @@ module _ (base : Board) (aside : stands base OBJECTS_BIRTH ≡ false) where
           all-edit (Full base) n (with_changed (with_val v) i) (λ r. refl) b
           (λ r q own k. full-set base name v i r entry (slot-of b n i r entry q at) named (takes r q) k) h
 
-      written-all : (kind : RowKind) (s : Option Slot) → slot_at b n i ≡ s → (v : Val)
-          → (RowTakes kind v → (r : Record) → record_of b n ≡ Some r → Takes r.kind name v)
-          → ((t : TypeId) (holds : Bool) → kind ≡ row.Link t holds → IsApart) → AllOf (Full base) (behind_write b (written b n i kind s v))
-      written-all (row.Plain type first) (Some (plain old)) e v takes apart = go (admits type v) refl
-        where
-          go : (t : Bool) → admits type v ≡ t → AllOf (Full base) (behind_write b (written b n i (row.Plain type first) (Some (plain old)) v))
-          go true p = rw (written, p) (val-all v (takes p))
-          go false p = rw (written, p) h
-      written-all (row.Link t holds) (Some (strong to target)) e v takes apart = link-all (apart t holds refl) (strong to target) e refl to v
-      written-all (row.Link t holds) (Some (weak to target)) e v takes apart = link-all (apart t holds refl) (weak to target) e refl to v
-      written-all (row.Plain type first) None e v takes apart = h
-      written-all (row.Plain type first) (Some (child m)) e v takes apart = h
-      written-all (row.Plain type first) (Some (strong to target)) e v takes apart = h
-      written-all (row.Plain type first) (Some (weak to target)) e v takes apart = h
-      written-all (row.Plain type first) (Some (alias m property)) e v takes apart = h
-      written-all (row.Link t holds) None e v takes apart = h
-      written-all (row.Link t holds) (Some (plain old)) e v takes apart = h
-      written-all (row.Link t holds) (Some (child m)) e v takes apart = h
-      written-all (row.Link t holds) (Some (alias m property)) e v takes apart = h
-      written-all (row.Child t) s e v takes apart = h
-      written-all (row.Alias owner property) s e v takes apart = h
-
-      by-row : (o : Option Property) → option_and_then (λ t. row_of_property t name) (kind_of b n) ≡ o → (v : Val)
-          → AllOf (Full base) (behind_write b (written_by b n i o v))
-      by-row None e v = h
-      by-row (Some p) e v = go (may_set p.mark) refl
-        where
-          takes : RowTakes p.kind v → (r : Record) → record_of b n ≡ Some r → Takes r.kind name v
-          takes fits r q =
-              let kind : kind_of b n ≡ Some r.kind = ap (option_map (λ (y : Record). y.kind)) q in
-              let found : row_of_property r.kind name ≡ Some p = sym (ap (option_and_then (λ t. row_of_property t name)) kind) ∙ e in
-              subst (λ (o : Option Property). elim o as (λ _. Type 0) [ None ↦ ⊤ | Some x ↦ RowTakes x.kind v ]) (sym found) fits
-
-          apart : (t : TypeId) (holds : Bool) → p.kind ≡ row.Link t holds → IsApart
-          apart t holds is r q =
-              let kind : kind_of b n ≡ Some r.kind = ap (option_map (λ (y : Record). y.kind)) q in
-              let found : row_of_property r.kind name ≡ Some p = sym (ap (option_and_then (λ t. row_of_property t name)) kind) ∙ e in
-              link-apart r.kind t holds name p found is
-
-          go : (t : Bool) → may_set p.mark ≡ t → AllOf (Full base) (behind_write b (written_by b n i (Some p) v))
-          go true q = rw (written_by, q) (written-all p.kind (slot_at b n i) refl v takes apart)
-          go false q = rw (written_by, q) h
-
   write-all : (b : Board) (n : ℕ) (name : List ℕ) (v : Val) → AllOf (Full base) b → AllOf (Full base) (behind_write b (write b n name v))
-  write-all b n name v h = go (position (λ (s : List ℕ × Slot). bytes_eq s.0 name) (slots_at b n)) refl
-    where
-      go : (place : Option ℕ) → position (λ (s : List ℕ × Slot). bytes_eq s.0 name) (slots_at b n) ≡ place
-          → AllOf (Full base) (behind_write b (write b n name v))
-      go None p = rw (write, p) h
-      go (Some i) p =
-          let d : List ℕ × Slot = ([], plain val.Nothing) in
-          let k : (i < length (slots_at b n)) × (bytes_eq (get_or (slots_at b n) i d).0 name ≡ true) ×
-          ((m : ℕ) → m < i → bytes_eq (get_or (slots_at b n) m d).0 name ≡ false) =
-          position-Some (λ (s : List ℕ × Slot). bytes_eq s.0 name) (slots_at b n) i d p in
-          rw (write, p)
-          (by-row b h n i name (get_or (slots_at b n) i d) (slice_get-get_or (slots_at b n) i d k.0) k.1
-          (option_and_then (λ t. row_of_property t name) (kind_of b n)) refl v)
+  write-all b n name v h = write-comes (AllOf (Full base)) b h n name v (λ i t p kind e may.
+      let row_in : (r : Record) → record_of b n ≡ Some r → row_of_property r.kind name ≡ Some p =
+      λ r q. ap (λ k. row_of_property k name) (same_Some r.kind t (sym (ap (option_map (λ (y : Record). y.kind)) q) ∙ kind)) ∙ e in
+      record {
+        value = λ old at type first is fits.
+            val-all b h n i name (name, plain old) at ((bytes_eq-Decides name name).1 refl) v
+            (λ r q.
+            subst (λ (o : Option Property). elim o as (λ _. Type 0) [ None ↦ ⊤ | Some x ↦ RowTakes x.kind v ]) (sym (row_in r q))
+            (subst (λ (k : RowKind). RowTakes k v) (sym is) fits));
+        link = λ u s left link leaves at to holds is path target told.
+            relinked-all b h n i (λ r q. link-apart r.kind to holds name p (row_in r q) is) s (ap (option_map (λ (x : List ℕ × Slot). x.1)) at)
+            (link-childless u s link) target;
+      })
 
 -- each of them
 

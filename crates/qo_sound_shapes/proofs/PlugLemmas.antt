@@ -54,8 +54,8 @@ use Rattle.qo_sound_devices.specs.SoundPlaces.{child_entries, listed, names_it, 
 use Rattle.qo_sound_devices.proofs.AcceptedLemmas.{goal-of, passes}
 use Rattle.qo_sound_devices.proofs.DevicesLawLemmas.{devices_kept_lem}
 use Rattle.qo_sound_devices.proofs.DraftedLemmas.{drafted-made}
-use Rattle.qo_sound_devices.proofs.JoinedLemmas.{done, Joined, named_entry, numbered_entry}
-use Rattle.qo_sound_devices.proofs.MadeLemmas.{Goal, Made}
+use Rattle.qo_sound_devices.proofs.JoinedLemmas.{Goal, done, Joined, named_entry, numbered_entry}
+use Rattle.qo_sound_devices.proofs.MadeLemmas.{Made}
 use Rattle.qo_sound_devices.proofs.PlacesLemmas.{high-absent, kind-alike, of-live, or-cases, stands-live}
 use Rattle.qo_sound_devices.proofs.PlugLemmas.{Accepted, behind-plug, stands-device}
 use Rattle.qo_sound_devices.proofs.PluggedLemmas.{accepted-joined}

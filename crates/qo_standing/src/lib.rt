@@ -1,5 +1,5 @@
-//! A device that was made takes its place: what it claims, how it joins its container and its bus, and
-//! what it has there (include/hw/qdev-core.h: the bus of a device; include/hw/mem/memory-device.h).
+//! How a device that was made comes to stand, in a container and on a bus: what it claims, how it joins
+//! them, and what it has there (include/hw/qdev-core.h: the bus of a device; include/hw/mem/memory-device.h).
 #![tactic(auto)]
 
 mod claiming;

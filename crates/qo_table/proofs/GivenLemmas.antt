@@ -1,17 +1,16 @@
 -- A table that is given up gives what its rows have.
-use Rattle.std.proofs.Common.{◌≡◌, ◌≢◌, refl, ap, sym, ◌∙◌, ℕ, zero, suc, ◌+◌, ◌<◌, Bool, false, cond, eqb, List, [], ◌∷◌, length, sum_by, count_by, Option, Some, None, is_some, nat_lt, remove, slice_set, arith}
+use Rattle.std.proofs.Common.{◌≡◌, ◌≢◌, refl, ap, ◌∙◌, ℕ, zero, suc, ◌+◌, ◌<◌, Bool, cond, List, [], ◌∷◌, length, sum_by, count_by, Option, Some, None, is_some, nat_lt, remove, slice_set, arith}
 use Rattle.std.specs.List.{AllByRecursion}
 use Rattle.std.specs.Option.{option_map_or}
 use Rattle.std.proofs.lemmas.List.{get_or-set_same, get_or-set_other}
 use Rattle.std.proofs.lemmas.List.Sums.{sum_by-cons}
-use Rattle.std.proofs.lemmas.Bool.{eq-eqb}
 use Rattle.qo_slots.specs.declared.keys.Key.{Key}
 use Rattle.qo_slots.specs.Table.{Table, Updates, live_count, values_in, with_value}
 use Rattle.qo_slots.specs.Table as slots
 use Rattle.qo_slots.proofs.TableLemmas.{IsLive-updated_other, IsLive-within, found-IsLive, sum-updated, Updates-with_value}
 use Rattle.qo_table.specs.Rows.{IsLive, Rises}
 use Rattle.qo_table.specs.Ordered.{rows_in, births_of, front}
-use Rattle.qo_table.proofs.RowsLemmas.{Stored, all-above, front-within, rows-cons, same-births}
+use Rattle.qo_table.proofs.RowsLemmas.{other-index, Stored, all-above, front-within, rows-cons}
 
 module _ {T : Type 0} (p : T → Bool) where
   -- what a slot counts
@@ -38,10 +37,7 @@ module _ {T : Type 0} (p : T → Bool) where
   others t u key v found updates (k ∷ ks) stored above =
       let (vk, e) = found-IsLive t k stored.0 in
       let up : key.birth < k.birth = above.0 in
-      let differs : eqb k.birth key.birth ≡ false = grind arith in
-      let other : k.index ≢ key.index = λ (same : k.index ≡ key.index).
-      let births : k.birth ≡ key.birth = same-births k.birth key.birth vk v (sym e ∙ ap (λ n. slots.find t n) same ∙ found) in
-      cc (differs, eq-eqb k.birth key.birth births) in
+      let other : k.index ≢ key.index = other-index t key k v vk found e up in
       let rest = others t u key v found updates ks stored.1 above.1 in
       (rw (rows-cons t k ks vk e, rows-cons u k ks vk (updates.others k.index other ∙ e)) (ap (λ (l : List (Key × T)). (k, vk) ∷ l) rest.0), (IsLive-updated_other t u key.index None k updates other stored.0, rest.1))
 

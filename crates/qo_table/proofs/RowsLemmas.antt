@@ -267,6 +267,14 @@ module _ {T : Type 0} where
           let more : k.birth < key.birth = later (rw is at here) in
           omega arith
 
+  -- two that are there have different places, where their births differ
+  pub other-index : (t : Table T) (key k : Key) (v w : T) → slots.find t key.index ≡ Some (key.birth, v) → slots.find t k.index ≡ Some (k.birth, w)
+      → key.birth < k.birth → k.index ≢ key.index
+  other-index t key k v w found e up = λ (same : k.index ≡ key.index).
+      let differs : eqb k.birth key.birth ≡ false = grind arith in
+      let births : k.birth ≡ key.birth = same-births k.birth key.birth w v (sym e ∙ ap (λ n. slots.find t n) same ∙ found) in
+      cc (differs, eq-eqb k.birth key.birth births)
+
   -- the names behind one that is taken out keep what they had
   behind : (t u : Table T) (key : Key) (v : T) → slots.find t key.index ≡ Some (key.birth, v) → Updates t u key.index None → (order : List Key) → Stored t order → AllByRecursion (λ (k : Key). key.birth < k.birth) order → (rows_in u order ≡ without key.birth (rows_in t order)) × Stored u order
   behind t u key v found updates [] stored above = (refl, tt)
@@ -274,9 +282,7 @@ module _ {T : Type 0} where
       let (vk, e) = found-IsLive t k stored.0 in
       let up : key.birth < k.birth = above.0 in
       let differs : eqb k.birth key.birth ≡ false = grind arith in
-      let other : k.index ≢ key.index = λ (same : k.index ≡ key.index).
-      let births : k.birth ≡ key.birth = same-births k.birth key.birth vk v (sym e ∙ ap (λ n. slots.find t n) same ∙ found) in
-      cc (differs, eq-eqb k.birth key.birth births) in
+      let other : k.index ≢ key.index = other-index t key k v vk found e up in
       let rest = behind t u key v found updates ks stored.1 above.1 in
       (rw (rows-cons t k ks vk e, rows-cons u k ks vk (updates.others k.index other ∙ e), differs) (ap (λ (l : List (Key × T)). (k, vk) ∷ l) rest.0), (IsLive-updated_other t u key.index None k updates other stored.0, rest.1))
 

@@ -5,6 +5,7 @@ ghost use Rattle.std.specs.List.{list_all};
 ghost use Rattle.std.specs.Prelude.{◌≡◌};
 
 use crate::limits::ID_MAX;
+use crate::names::Name;
 use std::alloc::{AllocError, Global};
 use std::marker::Model;
 use thiserror::Error;
@@ -94,5 +95,21 @@ impl Id {
         ensures id { is_id self.now ≡ true }
     {
         self.text.as_str()
+    }
+
+    /// The name that the id is: each id is one. It takes no memory.
+    pub fn into_name(self) -> Name
+        ensures { result ≡ self }
+    {
+        let Id { text } = self;
+        Name::from_string(text)
+    }
+
+    /// The name that the id is: each id is one. The error is want of memory.
+    pub fn to_name(&self, alloc: Global) -> Result<Name, AllocError>
+        ensures { IfOk result (λ name. name ≡ self.now) }
+    {
+        let text = String::from_str(alloc, self.as_str())?;
+        Ok(Name::from_string(text))
     }
 }

@@ -14,7 +14,6 @@ ghost use Rattle.qo_table.specs.Rows.{IsLive};
 ghost use Rattle.qo_heap.specs.Board.{Shows};
 ghost use Rattle.qo_properties.specs.Changes.{place_refusal, refusal_in, type_refusal};
 
-use crate::adding::fresh::name_of;
 use crate::reading::lookup::object_of;
 use crate::refusals::Refusal;
 use qo_heap::{Heap, Oid, Steps};
@@ -57,21 +56,6 @@ fn vacant<L: Ledger>(heap: &Heap, id: &str, steps: &mut Steps<L>) -> Result<Oid,
     Ok(objects)
 }
 
-/// The name that an id is. `E23` comes exactly where it is none.
-fn id_name(id: &str, alloc: Global) -> Result<Name, Refusal>
-    ensures name { IfOk result (λ name. (name ≡ id.now) × (is_id id.now ≡ true)) }
-    ensures refused { (code : Code) → result ≡ Err (Refused code) → (code ≡ E23) × (is_id id.now ≡ false) }
-{
-    match Id::parse(alloc, id) {
-        Ok(_) => match name_of(id, alloc) {
-            Ok(name) => Ok(name),
-            Err(_) => Err(Refusal::Memory),
-        },
-        Err(IdError::Malformed) => Err(Refusal::Refused(Code::E23)),
-        Err(IdError::Memory) => Err(Refusal::Memory),
-    }
-}
-
 /// What an admitted object begins with.
 #[derive(Drop)]
 pub struct Admitted {
@@ -102,9 +86,10 @@ pub fn admit<L: Ledger>(
         Ok(kind) => kind,
         Err(code) => return Err(Refusal::Refused(code)),
     };
-    let name = match id_name(id, alloc) {
-        Ok(name) => name,
-        Err(refusal) => return Err(refusal),
+    let name = match Id::parse(alloc, id) {
+        Ok(id) => id.into_name(),
+        Err(IdError::Malformed) => return Err(Refusal::Refused(Code::E23)),
+        Err(IdError::Memory) => return Err(Refusal::Memory),
     };
     match vacant(heap, id, steps) {
         Ok(objects) => Ok(Admitted {

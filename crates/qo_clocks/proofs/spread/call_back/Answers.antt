@@ -3,7 +3,8 @@ use Rattle.qo_values.specs.declared.kinds.Act.TheVariants.{Pre, Update}
 use Rattle.qo_heap.specs.Acts.{Acts}
 use Rattle.qo_heap.specs.Timely.{Timely}
 use Rattle.qo_heap.proofs.ActsLemmas.{acts-live}
-use Rattle.qo_clocks.proofs.SpreadLemmas.{acted-acts, acted-timely, may-act, parent-live}
+use Rattle.qo_heap.proofs.HeapLemmas.{parent-live}
+use Rattle.qo_clocks.proofs.SpreadLemmas.{acted-acts, acted-timely, may-act}
 use Rattle.qo_clocks.proofs.spread.call_back.Goals as goal
 
 pub act-requires-clause-live : goal.act-requires-clause-live

@@ -8,5 +8,6 @@ look-object-requires g c =
 
 pub returns-in-Some-clause-count : goal.returns-in-Some-clause-count
 returns-in-Some-clause-count g c =
-    let there = read-at-place c.args.table.now.born c.args.table.now.rows c.args.place c.in-Some.key c.look-object.result.now c.facts.ensures (sym c.key_at.ensures ∙ c.in-Some.is) c.look-object.ensures.object in
+    let there = read-at-place c.args.table.now.born c.args.table.now.rows c.args.place c.in-Some.key c.look-object.result.now c.facts.ensures
+    (sym c.key_at.ensures ∙ c.in-Some.is) c.look-object.ensures.object in
     rw there c.holding.ensures

@@ -2,7 +2,7 @@ use Rattle.std.proofs.Common.{sym, ◌∙◌, ap, ap₂, ◌≡◌, ◌≤◌, �
 use Rattle.qo_object.specs.Content.{Content, holding}
 use Rattle.qo_slots.specs.declared.keys.Key.{Key}
 use Rattle.qo_heap.specs.Places.{sum_first}
-use Rattle.qo_heap.proofs.PlacesLemmas.{sum_first-none, sum_first-from, sum_first-all}
+use Rattle.qo_heap.proofs.PlacesLemmas.{all-walked, sum_first-none, sum_first-from, sum_first-all}
 use Rattle.qo_heap.proofs.reads.holding_in.Goals as goal
 
 pub loop-place-init : goal.loop-place-init
@@ -20,16 +20,18 @@ overflow_add-count g c =
 pub loop-place-preserved : goal.loop-place-preserved
 loop-place-preserved g c =
     let before : c.loop-place.count ≤ c.loop-place.place * 4294967296 = c.loop-place.invariant.1 in
-    let here : c.holding_at-count.result ≤ 4294967296 = c.holding_at-count.ensures.few in
-    (ap₂ (λ (a b : ℕ). a + b) c.loop-place.invariant.0 c.holding_at-count.ensures.count ∙ sum_first-from (λ (row : Key × Content). holding c.args.birth row.1) c.loop-place.place c.args.table.now.rows, omega arith)
+    let here : c.holding_at-count.result ≤ 4294967296 = c.holding_at-count.ensures.few in (
+      ap₂ (λ (a b : ℕ). a + b) c.loop-place.invariant.0 c.holding_at-count.ensures.count
+          ∙ sum_first-from (λ (row : Key × Content). holding c.args.birth row.1) c.loop-place.place c.args.table.now.rows,
+      omega arith,
+    )
 
 pub returns-clause-count : goal.returns-clause-count
 returns-clause-count g c =
-    let low : c.loop-place.place ≤ c.len-place-end.result = c.loop-place.auto.place-end in
-    let high : c.len-place-end.result ≤ c.loop-place.place = c.loop-place-test.false in
-    let size : c.len-place-end.result ≡ length c.args.table.now.rows = c.len-place-end.ensures in
-    let end : c.loop-place.place ≡ length c.args.table.now.rows = omega arith in
-    c.loop-place.invariant.0 ∙ ap (λ (n : ℕ). sum_first (λ (row : Key × Content). holding c.args.birth row.1) n c.args.table.now.rows) end ∙ sum_first-all (λ (row : Key × Content). holding c.args.birth row.1) c.args.table.now.rows
+    let end =
+    all-walked c.loop-place.place c.len-place-end.result c.args.table.now.rows c.loop-place.auto.place-end c.loop-place-test.false c.len-place-end.ensures in
+    c.loop-place.invariant.0 ∙ ap (λ (n : ℕ). sum_first (λ (row : Key × Content). holding c.args.birth row.1) n c.args.table.now.rows) end
+    ∙ sum_first-all (λ (row : Key × Content). holding c.args.birth row.1) c.args.table.now.rows
 
 pub returns-clause-bound : goal.returns-clause-bound
 returns-clause-bound g c =

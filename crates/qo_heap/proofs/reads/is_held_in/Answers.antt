@@ -1,23 +1,24 @@
-use Rattle.std.proofs.Common.{sym, ◌∙◌, ap, ◌≡◌, ◌≤◌, ℕ, length, drop, arith}
+use Rattle.std.proofs.Common.{sym, ◌∙◌, ap, ℕ, drop}
 use Rattle.std.specs.List.{list_any}
 use Rattle.qo_object.specs.Content.{Content, is_holder}
 use Rattle.qo_slots.specs.declared.keys.Key.{Key}
 use Rattle.qo_heap.proofs.HeldLemmas.{any-here, any-from, any-past}
+use Rattle.qo_heap.proofs.PlacesLemmas.{all-walked}
 use Rattle.qo_heap.proofs.reads.is_held_in.Goals as goal
 
 pub returns-then-is_holder_at : goal.returns-then-is_holder_at
 returns-then-is_holder_at g c =
-    sym (c.loop-place.invariant ∙ any-here (λ (row : Key × Content). is_holder c.args.birth row.1) c.loop-place.place c.args.table.now.rows (sym c.is_holder_at.ensures ∙ c.if-is_holder_at.true))
+    sym (c.loop-place.invariant ∙ any-here (λ (row : Key × Content). is_holder c.args.birth row.1) c.loop-place.place c.args.table.now.rows
+    (sym c.is_holder_at.ensures ∙ c.if-is_holder_at.true))
 
 pub loop-place-preserved : goal.loop-place-preserved
 loop-place-preserved g c =
-    c.loop-place.invariant ∙ any-from (λ (row : Key × Content). is_holder c.args.birth row.1) c.loop-place.place c.args.table.now.rows (sym c.is_holder_at.ensures ∙ c.if-is_holder_at.false)
+    c.loop-place.invariant ∙ any-from (λ (row : Key × Content). is_holder c.args.birth row.1) c.loop-place.place c.args.table.now.rows
+    (sym c.is_holder_at.ensures ∙ c.if-is_holder_at.false)
 
 pub returns : goal.returns
 returns g c =
-    let low : c.loop-place.place ≤ c.len-place-end.result = c.loop-place.auto.place-end in
-    let high : c.len-place-end.result ≤ c.loop-place.place = c.loop-place-test.false in
-    let size : c.len-place-end.result ≡ length c.args.table.now.rows = c.len-place-end.ensures in
-    let end : c.loop-place.place ≡ length c.args.table.now.rows = omega arith in
+    let end =
+    all-walked c.loop-place.place c.len-place-end.result c.args.table.now.rows c.loop-place.auto.place-end c.loop-place-test.false c.len-place-end.ensures in
     let p = λ (row : Key × Content). is_holder c.args.birth row.1 in
     sym (c.loop-place.invariant ∙ ap (λ (n : ℕ). list_any p (drop n c.args.table.now.rows)) end ∙ any-past p c.args.table.now.rows)

@@ -8,5 +8,6 @@ look-requires g c =
 
 pub returns-in-Some : goal.returns-in-Some
 returns-in-Some g c =
-    let there = read-at-place c.args.table.now.born c.args.table.now.rows c.args.place c.in-Some.key c.look.result.now c.facts.ensures (sym c.key_at.ensures ∙ c.in-Some.is) c.look.ensures.object in
+    let there = read-at-place c.args.table.now.born c.args.table.now.rows c.args.place c.in-Some.key c.look.result.now c.facts.ensures
+    (sym c.key_at.ensures ∙ c.in-Some.is) c.look.ensures.object in
     rw there c.is_holder.ensures

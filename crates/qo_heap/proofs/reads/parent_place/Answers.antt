@@ -6,11 +6,13 @@ use Rattle.qo_heap.proofs.reads.parent_place.Goals as goal
 
 pub returns-then-is_parent_at : goal.returns-then-is_parent_at
 returns-then-is_parent_at g c =
-    sym (c.loop-place.invariant ∙ find-here (λ (row : Key × Content). is_parent c.args.birth row.1) c.loop-place.place c.args.table.now.rows (sym c.is_parent_at.ensures ∙ c.if-is_parent_at.true))
+    sym (c.loop-place.invariant ∙ find-here (λ (row : Key × Content). is_parent c.args.birth row.1) c.loop-place.place c.args.table.now.rows
+    (sym c.is_parent_at.ensures ∙ c.if-is_parent_at.true))
 
 pub loop-place-preserved : goal.loop-place-preserved
 loop-place-preserved g c =
-    c.loop-place.invariant ∙ find-from (λ (row : Key × Content). is_parent c.args.birth row.1) c.loop-place.place c.args.table.now.rows (sym c.is_parent_at.ensures ∙ c.if-is_parent_at.false)
+    c.loop-place.invariant ∙ find-from (λ (row : Key × Content). is_parent c.args.birth row.1) c.loop-place.place c.args.table.now.rows
+    (sym c.is_parent_at.ensures ∙ c.if-is_parent_at.false)
 
 pub returns : goal.returns
 returns g c =

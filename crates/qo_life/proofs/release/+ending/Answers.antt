@@ -1,4 +1,4 @@
-use Rattle.std.proofs.Common.{refl, sym, ◌∙◌}
+use Rattle.std.proofs.Common.{refl}
 use Rattle.qo_life.specs.Life.{next_at}
 use Rattle.qo_life.proofs.TreeLemmas.{goes-none}
 use Rattle.qo_life.proofs.GoesLemmas.{goes-held, goes-free, held-some, unheld-none, goes-past, goes-turn, going-first, going-next, going-smaller, going-free, going-bare, going-last, going-stops, none-given, turn-falls, turn-live}

@@ -1,7 +1,8 @@
 -- The place is that under the parent.
 use Rattle.std.proofs.Common.{◌≡◌, Some, None, sym, rules}
 use Rattle.qo_heap.specs.Objects.{parent_of}
-use Rattle.qo_paths.proofs.PlaceLemmas.{parent-live, place-is, place-none}
+use Rattle.qo_heap.proofs.HeapLemmas.{parent-live}
+use Rattle.qo_paths.proofs.PlaceLemmas.{place-is, place-none}
 use Rattle.qo_paths.proofs.places.place_of.Goals as goal
 
 pub returns-in_err-parent : goal.returns-in_err-parent

@@ -1,5 +1,5 @@
 -- Each turn takes a step of the way.
-use Rattle.std.proofs.Common.{◌≡◌, ℕ, List, [], ◌∷◌, ◌++◌, map, ap, sym, ◌∙◌, length}
+use Rattle.std.proofs.Common.{◌≡◌, [], ◌∷◌, ◌++◌, map, ap, sym, ◌∙◌, length}
 use Rattle.std.proofs.lemmas.List.{map-append}
 use Rattle.qo_paths.proofs.PartLemmas.{text}
 use Rattle.qo_paths.proofs.PlaceLemmas.{is-one, not-one, steps-all, steps-root, steps-none, steps-up, within}

@@ -8,8 +8,10 @@ pub loop-row-preserved : goal.loop-row-preserved
 loop-row-preserved c = elim c.if-begins.branch [
   | then-begins+in_ok-push w ↦
       rw (w.fills-is, w.in_ok-push.ensures.items)
-      (blank-own c.args.kind c.props-rows.result.now c.loop-row.row-index _ c.loop-row-test.true (sym w.if-begins.true ∙ c.begins.ensures c.args.kind) c.loop-row.fills.items c.loop-row.invariant)
+      (blank-own c.args.kind c.props-rows.result.now c.loop-row.row-index _ c.loop-row-test.true (sym w.if-begins.true
+      ∙ c.begins.ensures c.args.kind) c.loop-row.fills.items c.loop-row.invariant)
   | else-begins w ↦
       rw w.fills-is
-      (blank-other c.args.kind c.props-rows.result.now c.loop-row.row-index _ c.loop-row-test.true (sym w.if-begins.false ∙ c.begins.ensures c.args.kind) c.loop-row.fills.items c.loop-row.invariant)
+      (blank-other c.args.kind c.props-rows.result.now c.loop-row.row-index _ c.loop-row-test.true (sym w.if-begins.false
+      ∙ c.begins.ensures c.args.kind) c.loop-row.fills.items c.loop-row.invariant)
 ]

@@ -25,7 +25,8 @@ returns-then-eq-clause-place c =
 
 pub overflow_add-place : goal.overflow_add-place
 overflow_add-place c =
-    let few : c.loop-row.place ≤ 9 = count-few c.args.kind c.props-row-items.result.now c.loop-row.row-index c.loop-row.place c.loop-row.invariant.place c.props-row-items.ensures in
+    let few : c.loop-row.place ≤ 9 = count-few c.args.kind c.props-row-items.result.now c.loop-row.row-index c.loop-row.place c.loop-row.invariant.place
+    c.props-row-items.ensures in
     omega arith
 
 pub loop-row-preserved : goal.loop-row-preserved
@@ -39,7 +40,8 @@ loop-row-preserved c =
             w.place-is ∙ count-own c.args.kind c.props-row-items.result.now c.loop-row.row-index _ c.loop-row-test.true (sym w.if-begins.true ∙ c.begins.ensures
             c.args.kind) c.loop-row.place c.loop-row.invariant.place
         | else-begins w ↦
-            w.place-is ∙ count-other c.args.kind c.props-row-items.result.now c.loop-row.row-index _ c.loop-row-test.true (sym w.if-begins.false ∙ c.begins.ensures
+            w.place-is ∙ count-other c.args.kind c.props-row-items.result.now c.loop-row.row-index _ c.loop-row-test.true (sym w.if-begins.false
+            ∙ c.begins.ensures
             c.args.kind) c.loop-row.place c.loop-row.invariant.place
       ];
     }

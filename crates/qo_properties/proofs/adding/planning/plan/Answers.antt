@@ -31,7 +31,8 @@ loop-pair-preserved g c =
     record {
       refused = λ b s.
           c.loop-pair.invariant.refused b s
-          ∙ ap (refusal_of b c.args.kind) (drop-at c.as_slice-pair-items.result.now c.loop-pair.pair-index c.pair-item.result c.loop-pair-test.true c.pair-item.is)
+          ∙ ap (refusal_of b c.args.kind) (drop-at c.as_slice-pair-items.result.now c.loop-pair.pair-index c.pair-item.result c.loop-pair-test.true
+          c.pair-item.is)
           ∙ passed-first b c.args.kind c.pair-item.result (drop (c.loop-pair.pair-index + 1) c.as_slice-pair-items.result.now)
           (told-done c.plan_one.result c.in_ok-plan_one.field-0 _ c.in_ok-plan_one.was (c.plan_one.ensures.refused b s)
           ∙ ap (λ (t : List ℕ). refusal_by b (row_of_property c.args.kind t) c.pair-item.result.1) c.as_str.ensures);
@@ -42,9 +43,11 @@ loop-pair-preserved g c =
           take_more all i c.pair-item.result c.loop-pair-test.true ∙ ap (λ (p : Given). take i all ++ p ∷ []) (sym c.pair-item.is) in
           let none : find (λ (q : Given). bytes_eq q.0 c.as_str.result.now) (take i all) ≡ None =
           subst (λ (t : List ℕ). find (λ (q : Given). bytes_eq q.0 t) (take i all) ≡ None) (sym c.as_str.ensures)
-          (none-before all i c.pair-item.result (subst (λ (l : List Given). NamesRise (names_of l)) (sym c.as_slice-pair-items.ensures.value) c.as_slice-pair-items.ensures.rise) c.loop-pair-test.true c.pair-item.is) in
+          (none-before all i c.pair-item.result (subst (λ (l : List Given). NamesRise (names_of l))
+          (sym c.as_slice-pair-items.ensures.value) c.as_slice-pair-items.ensures.rise) c.loop-pair-test.true c.pair-item.is) in
           subst (λ (l : List Given). AllZip (IsGiven b l) c.plan_one.new.fills.items (new_slots c.args.kind)) (sym next)
-          (subst (λ (t : List ℕ). AllZip (IsGiven b (take i all ++ (t, c.pair-item.result.1) ∷ [])) c.plan_one.new.fills.items (new_slots c.args.kind)) c.as_str.ensures
+          (subst (λ (t : List ℕ). AllZip (IsGiven b (take i all ++ (t, c.pair-item.result.1) ∷ [])) c.plan_one.new.fills.items
+          (new_slots c.args.kind)) c.as_str.ensures
           (c.in_ok-plan_one.ensures.told b (take i all) s none (c.loop-pair.invariant.told b s)));
       fits = c.in_ok-plan_one.ensures.fits;
       live = c.in_ok-plan_one.ensures.live c.loop-pair.invariant.live;

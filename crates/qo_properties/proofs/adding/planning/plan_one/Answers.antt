@@ -6,7 +6,8 @@ use Rattle.qo_properties.proofs.adding.planning.plan_one.Goals as goal
 
 pub index_mut-requires : goal.index_mut-requires
 index_mut-requires g c =
-    let within : c.in-Some.placed.place < length c.args.fills.now.items = put-within c.args.kind c.args.fills.now.items c.in-Some.placed c.in-Some.ensures.place (c.in_ok-fill.ensures.own c.args.kind) Fits c.requires in
+    let within : c.in-Some.placed.place < length c.args.fills.now.items = put-within c.args.kind c.args.fills.now.items c.in-Some.placed
+    c.in-Some.ensures.place (c.in_ok-fill.ensures.own c.args.kind) Fits c.requires in
     let many : c.args.fills.now.len ≡ length c.args.fills.now.items = c.args.fills.now.ok.0 in
     omega arith
 

@@ -1,4 +1,4 @@
-use Rattle.std.proofs.Common.{◌≡◌, ◌∙◌, ap, ℕ, List, not, nat_eq, filter, rules}
+use Rattle.std.proofs.Common.{◌≡◌, ◌∙◌, ap, not, nat_eq, filter, rules}
 use Rattle.std.proofs.lemmas.Fn.{filter_same}
 use Rattle.qo_slots.specs.declared.keys.Key.{Key}
 use Rattle.qo_model.specs.Unplug.{without_all}

@@ -5,7 +5,6 @@ use Rattle.qo_model.specs.Reset.{held, released}
 use Rattle.qo_heap.specs.Board.{Shows}
 use Rattle.qo_reset.specs.Phases.{births_of}
 use Rattle.qo_reset.proofs.BoardLemmas.{held-holds, pulse-is, released-holds}
-use Rattle.qo_heap.proofs.ActsLemmas.{acts-then}
 use Rattle.qo_reset.proofs.resets.Resets.pulse.Goals as goal
 
 pub returns-clause-shown : goal.returns-clause-shown
