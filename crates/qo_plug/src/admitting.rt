@@ -15,7 +15,6 @@ use crate::barring::{device_kind, open_bus, room, vacant};
 use crate::refusals::AddRefusal;
 use qo_buses::{anonymous_name, device_named};
 use qo_heap::{Heap, Oid, Steps};
-use qo_properties::name_of;
 use qo_values::{ANONYMOUS_BIRTH, Code, Id, IdError, Name, PERIPHERAL_BIRTH, TypeId};
 use std::alloc::Global;
 use std::sync::ledger::Ledger;
@@ -89,7 +88,7 @@ fn named_place<L: Ledger>(
         Ok(id) => id,
         Err(refusal) => return Err(refusal),
     };
-    let name = match name_of(text, alloc) {
+    let name = match id.to_name(alloc) {
         Ok(name) => name,
         Err(_) => return Err(AddRefusal::Memory),
     };
