@@ -4,6 +4,7 @@ ghost use Rattle.std.specs.Prelude.{◌≡◌, ◌+◌, ◌≤◌, ◌^◌, ◌%
 ghost use Rattle.qo_values.specs.Placing.{is_in_window, overlap, overlaps_any, place_of};
 ghost use Rattle.qo_values.specs.declared.limits.TheConstants.{DIMM_ALIGN};
 
+use qo_claims::{end, overlap};
 use qo_values::{DIMM_ALIGN, Range};
 
 /// The first address of the window.
@@ -11,20 +12,6 @@ const WINDOW_START: u64 = 0x1_0000_0000;
 
 /// The first address behind the window.
 const WINDOW_END: u64 = 0x11_0000_0000;
-
-/// The first number behind a range, which may be past the last address.
-fn end(range: Range) -> u128
-    ensures { result ≡ range.at + range.size }
-{
-    u128::from(range.at) + u128::from(range.size)
-}
-
-/// Whether two ranges overlap.
-fn overlap(first: Range, second: Range) -> bool
-    ensures { result ≡ overlap first second }
-{
-    u128::from(first.at) < end(second) && u128::from(second.at) < end(first)
-}
 
 /// Whether a range lies in the window.
 pub(crate) fn is_in_window(range: Range) -> bool

@@ -23,7 +23,7 @@ use Rattle.qo_model.specs.Objects.{place_from}
 use Rattle.qo_model.specs.Paths.{is_child}
 use Rattle.qo_model.specs.Release.{after, drop_slot, finalise, let_go}
 use Rattle.qo_model.specs.Unplug.{is_child_slot, is_named, left_bus, let_go_where, names_kid, take_slot, take_where}
-use Rattle.qo_notes.specs.Log.{Log, noted_all}
+use Rattle.qo_notes.specs.Log.{noted_all}
 use Rattle.qo_heap.specs.Objects.{IsHeap, Objects, content_of, slots_of, with_edit}
 use Rattle.qo_heap.specs.Board.{Shows}
 use Rattle.qo_heap.proofs.BookLemmas.{book-edit}
@@ -31,7 +31,7 @@ use Rattle.qo_heap.proofs.ShowsChanges.{shows-cut}
 use Rattle.qo_heap.proofs.ShowsLive.{content-edited, live-content, named-live}
 use Rattle.qo_heap.proofs.ShowsReads.{shows-slot_at, shows-slots}
 use Rattle.qo_life.specs.Life.{Goes, with_log}
-use Rattle.qo_life.proofs.TreeLemmas.{edit-bodies, goes-drop, goes-none, goes-same, goes-then, live-before_edit}
+use Rattle.qo_life.proofs.TreeLemmas.{edit-bodies, goes-drop, goes-none, goes-same, goes-then, live-before_edit, shows-notes}
 
 -- a slot cut
 pub goes-cut : (v : Objects) (n i : ℕ) → Goes (λ b. cut n i b) v (with_edit n (cut_at i) v)
@@ -191,10 +191,6 @@ kid-strong d name (Link ty false target) is = cc
 kid-strong d name (Alias key of) is = cc
 
 -- the whole
-
--- other notes, the same heap
-shows-notes : (b c : Board) (log : Log) (v : Objects) → Shows b (with_log log v) → Shows c v → Shows (record b { notes = c.notes }) v
-shows-notes b c log v s t = record { records = s.records; born = s.born; pins = s.pins; notes = t.notes; events = s.events; now = s.now }
 
 pub goes-left : (v u w : Objects) (c : Board) → Shows c v → (d m : ℕ) → ((b : Board) → Shows b v → Some m ≡ bus_of b d)
     → Goes (take_where (names_kid d) m) v u → Goes (let_go_where (is_named (codes "parent_bus")) d) u w → Goes (left_bus d) v w

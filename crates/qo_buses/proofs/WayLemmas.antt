@@ -8,14 +8,12 @@ use Rattle.qo_model.specs.Board.{Board}
 use Rattle.qo_model.specs.Depth.{among, by_depth}
 use Rattle.qo_model.specs.Devices.{bridge_of, bus_above, bus_of, depth_of, depth_turn, going_turn, is_going}
 use Rattle.qo_model.specs.Paths.{is_of}
-use Rattle.qo_model.specs.Paths as paths
 use Rattle.qo_model.specs.Types.{is_a}
-use Rattle.qo_table.specs.Rows.{births}
 use Rattle.qo_object.specs.Shown.{birth_of}
 use Rattle.qo_slots.specs.declared.keys.Key.{Key}
 use Rattle.qo_heap.specs.Objects.{Objects, content_of, parent_of}
 use Rattle.qo_heap.specs.Board.{Shows}
-use Rattle.qo_heap.proofs.ShowsReads.{shows-births, shows-kind, shows-parent}
+use Rattle.qo_heap.proofs.ShowsReads.{shows-kind, shows-parent, shows-size}
 use Rattle.qo_paths.proofs.DepthSteps.{left_at, depth-all, depth-turn, depth-none}
 use Rattle.std.specs.Prelude.{if◌then◌else◌, option_map}
 use Rattle.std.specs.List.{list_any}
@@ -24,18 +22,6 @@ use Rattle.std.specs.List.{list_any}
 pub of-is : (b : Board) (v : Objects) → Shows b v → (n : ℕ) (kind : TypeId) (wanted : List ℕ)
     → option_map (λ (c : Content). c.kind) (content_of v n) ≡ Some kind → is_of b wanted n ≡ is_a kind wanted
 of-is b v s n kind wanted is = ap (λ (o : Option TypeId). option_map_or (λ (k : TypeId). is_a k wanted) o false) (shows-kind b v s n ∙ is)
-
--- as many births as objects
-length-births : (rows : List (Key × Content)) → length (births rows) ≡ length rows
-length-births [] = refl
-length-births (row ∷ rows) = ap suc (length-births rows)
-
-size-shown : (b : Board) (v : Objects) → Shows b v → length (paths.births b) ≡ length v.rows
-size-shown b v s = ap length (shows-births b v s) ∙ length-births v.rows
-
--- a turn is one of as many as there are objects, and one more
-pub within : (turn live size : ℕ) → turn < live + 1 → live ≡ size → turn < size + 1
-within turn live size below same = omega arith
 
 -- the parent, where it is a device
 pub bridge-is : (b : Board) (v : Objects) → Shows b v → (n : ℕ) (o : Option Key) → parent_of v n ≡ o
@@ -57,7 +43,7 @@ depth-first b v s n =
     let all : depth_left b (length v.rows) 0 n ≡ by_depth (depth_turn b) (λ _. 0) (suc (length v.rows)) n =
     depth-all (depth_turn b) (λ _. 0) (length v.rows) n in
     let none : 0 + depth_left b (length v.rows) 0 n ≡ depth_left b (length v.rows) 0 n = omega arith in
-    none ∙ all ∙ ap (λ (k : ℕ). by_depth (depth_turn b) (λ _. 0) (suc k) n) (sym (size-shown b v s))
+    none ∙ all ∙ ap (λ (k : ℕ). by_depth (depth_turn b) (λ _. 0) (suc k) n) (sym (shows-size b v s))
 
 pub depth-top : (b : Board) (size i n whole : ℕ) → i < size + 1 → bus_above b n ≡ None → i + depth_left b size i n ≡ whole → i ≡ whole
 depth-top b size i n whole below none is =
@@ -82,7 +68,7 @@ going_left b size i n = left_at (going_turn b) (λ _. false) size i n
 pub going-first : (b : Board) (v : Objects) → Shows b v → (n : ℕ) → going_left b (length v.rows) 0 n ≡ is_going b n
 unfolding is_going
 going-first b v s n =
-    depth-all (going_turn b) (λ _. false) (length v.rows) n ∙ ap (λ (k : ℕ). by_depth (going_turn b) (λ _. false) (suc k) n) (sym (size-shown b v s))
+    depth-all (going_turn b) (λ _. false) (length v.rows) n ∙ ap (λ (k : ℕ). by_depth (going_turn b) (λ _. false) (suc k) n) (sym (shows-size b v s))
 
 pub going-none : (b : Board) (size i n : ℕ) → i < size + 1 → bridge_of b n ≡ None → going_left b size i n ≡ false
 going-none b size i n below none = depth-turn (going_turn b) (λ _. false) size i n below ∙ rw (none, going_turn) refl

@@ -3,9 +3,6 @@ use Rattle.std.proofs.Common.{◌≡◌, refl, ap, sym, subst, ◌∙◌, ℕ, z
 use Rattle.std.proofs.Common.{◌++◌, length, replicate, filter_map, Option, None, Some, arith}
 use Rattle.std.specs.List.{AllByRecursion}
 use Rattle.std.specs.Option.{option_map_or}
-use Rattle.std.proofs.lemmas.Bool.{eqb-true}
-use Rattle.std.proofs.lemmas.List.Sums.{sum_by-append}
-use Rattle.std.proofs.lemmas.List.Folds.{sum_by-replicate}
 use Rattle.qo_slots.specs.declared.keys.Key.{Key}
 use Rattle.qo_table.specs.Rows.{IsLive, Rises, births, object_at}
 use Rattle.qo_model.specs.Board.{Board, Slot, slots_at}
@@ -25,20 +22,15 @@ use Rattle.qo_heap.proofs.BookLemmas.{book-edit}
 use Rattle.qo_heap.proofs.HeapLemmas.{all-weaker, live-edit}
 use Rattle.qo_heap.proofs.ShowsEdits.{all-replicate, pins-above, shows-pin}
 use Rattle.qo_heap.proofs.ShowsLive.{live-content}
-use Rattle.qo_heap.proofs.ShowsReads.{shows-live, shows-live_key, shows-slots}
+use Rattle.qo_heap.proofs.ShowsReads.{shows-live, shows-live_key, shows-slots, times, times-pins, times-replicate}
 use Rattle.qo_life.specs.Life.{Goes, with_log}
-use Rattle.qo_life.proofs.TreeLemmas.{edit-bodies, goes-names, goes-none, goes-same, goes-then, heap-with_log, live-before_edit, tree, tree-shows}
+use Rattle.qo_life.proofs.TreeLemmas.{edit-bodies, goes-names, goes-none, goes-same, goes-then, heap-with_log, live-before_edit, tree, tree-shows, shows-notes}
 use Rattle.qo_unplug.specs.Apart.{HasRoom, bus_lost, buses_lost, drained_within, first_apart, first_lost, held_times, taken_within}
 use Rattle.qo_unplug.specs.Unrealizing.{on_one}
 use Rattle.qo_unplug.proofs.TimelyLemmas.{goes-timely}
-use Rattle.qo_unplug.proofs.TakesLemmas.{Takes, put-most, takes-first_apart, takes-first_lost, takes-none, takes-then, times, times-own}
+use Rattle.qo_unplug.proofs.TakesLemmas.{Takes, put-most, takes-first_apart, takes-first_lost, takes-none, takes-then, times-own}
 
 -- how often an object is held
-
-times-replicate : (n k m : ℕ) (xs : List ℕ) → times n (replicate k m ++ xs) ≡ k * cond {A = ℕ} (eqb m n) 1 0 + times n xs
-times-replicate n k m xs =
-    sum_by-append (λ (x : ℕ). cond {A = ℕ} (eqb x n) 1 0) (replicate k m) xs
-    ∙ ap (λ (a : ℕ). a + times n xs) (sum_by-replicate (λ (x : ℕ). cond {A = ℕ} (eqb x n) 1 0) k m)
 
 times-within : (n : ℕ) (rows : List (Key × Content)) → option_map_or (λ (c : Content). c.pins) (object_at rows n) 0 ≤ times n (pins_in rows)
 times-within n [] = omega arith
@@ -53,29 +45,6 @@ times-within n (row ∷ rows) = go (eqb row.0.birth n) refl (times-within n rows
 
 pub pins-within : (v : Objects) (n : ℕ) → pins_of v n ≤ held_times v n
 pins-within v n = times-within n v.rows
-
-times-high : (n above last : ℕ) (rows : List (Key × Content)) → n ≤ above → Rises above (births rows) last → times n (pins_in rows) ≡ 0
-times-high n above last [] le rises = refl
-times-high n above last (row ∷ rows) le rises =
-    let up : above < row.0.birth = rises.0 in
-    let other : eqb row.0.birth n ≡ false = grind arith in
-    let none : cond {A = ℕ} (eqb row.0.birth n) 1 0 ≡ 0 = rw other refl in
-    let rest = times-high n row.0.birth last rows (omega arith) rises.1 in
-    times-replicate n row.1.pins row.0.birth (pins_in rows) ∙ rw (none, rest) (omega arith)
-
-times-pins : (n above last : ℕ) (rows : List (Key × Content)) → Rises above (births rows) last
-    → times n (pins_in rows) ≡ option_map_or (λ (c : Content). c.pins) (object_at rows n) 0
-times-pins n above last [] rises = refl
-times-pins n above last (row ∷ rows) rises =
-    times-replicate n row.1.pins row.0.birth (pins_in rows) ∙ go (eqb row.0.birth n) refl (times-pins n row.0.birth last rows rises.1)
-  where
-    go : (b : Bool) → eqb row.0.birth n ≡ b → times n (pins_in rows) ≡ option_map_or (λ (c : Content). c.pins) (object_at rows n) 0
-        → row.1.pins * cond {A = ℕ} (eqb row.0.birth n) 1 0 + times n (pins_in rows)
-        ≡ option_map_or (λ (c : Content). c.pins) (object_at (row ∷ rows) n) 0
-    go true is rest =
-        let none = times-high n row.0.birth last rows (omega (arith, eqb-true row.0.birth n is)) rises.1 in
-        rw (is, none) (omega arith)
-    go false is rest = rw is (omega (arith, rest))
 
 -- on a heap these are its pins
 pub held-pins : (v : Objects) → IsHeap v → (n : ℕ) → held_times v n ≡ pins_of v n
@@ -203,10 +172,6 @@ many-slots v n count is b log s =
 
 less-left : (count i : ℕ) → i < count → count - i ≡ suc (count - (i + 1))
 less-left count i within = omega arith
-
--- other notes, the same heap
-shows-notes : (b c : Board) (log : Log) (v : Objects) → Shows b (with_log log v) → Shows c v → Shows (record b { notes = c.notes }) v
-shows-notes b c log v s t = record { records = s.records; born = s.born; pins = s.pins; notes = t.notes; events = s.events; now = s.now }
 
 -- the kids of a bus
 

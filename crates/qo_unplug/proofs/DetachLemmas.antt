@@ -1,7 +1,6 @@
 -- A device is unrealized and taken out, while it is held: the parts of the board behind it.
 use Rattle.std.proofs.Common.{◌≡◌, refl, ap, sym, subst, ◌∙◌, ℕ, suc, ◌+◌, ◌<◌, ◌≤◌, nat_eq, true, List, [], length, arith}
 use Rattle.std.specs.List.{list_any}
-use Rattle.std.proofs.lemmas.List.{length-map}
 use Rattle.qo_values.specs.declared.births.TheConstants.{ROOT_BIRTH}
 use Rattle.qo_values.specs.declared.limits.TheConstants.{LIVE_OBJECTS_MAX}
 use Rattle.qo_object.specs.Content.{with_pin}
@@ -17,7 +16,7 @@ use Rattle.qo_heap.specs.Board.{Shows, pins_in}
 use Rattle.qo_heap.specs.Objects.{IsHeap, Objects, pins_of, with_edit}
 use Rattle.qo_heap.specs.Timely.{Timely}
 use Rattle.qo_heap.proofs.HeapLemmas.{length-edit}
-use Rattle.qo_heap.proofs.ShowsReads.{shows-births}
+use Rattle.qo_heap.proofs.ShowsReads.{shows-size, times}
 use Rattle.qo_life.specs.Life.{Goes, KeepsNames}
 use Rattle.qo_life.proofs.TreeLemmas.{goes-names, goes-shows, goes-then, tree, tree-shows}
 use Rattle.qo_properties.specs.Claims.{KeepsBook}
@@ -33,7 +32,7 @@ use Rattle.qo_unplug.specs.Apart.{HasRoom, held_times, taken_within}
 use Rattle.qo_unplug.specs.Beside.{Beside}
 use Rattle.qo_unplug.specs.Unrealizing.{Ticks, Undoes, device_within, parts}
 use Rattle.qo_unplug.proofs.ApartLemmas.{held-pins, pin-live, pin-most, pin-own, pin-same, pins-up, pins-within, taken-same, taken-timely}
-use Rattle.qo_unplug.proofs.TakesLemmas.{put-most, takes-taken_within, times}
+use Rattle.qo_unplug.proofs.TakesLemmas.{put-most, takes-taken_within}
 use Rattle.qo_unplug.proofs.TimelyLemmas.{goes-timely}
 use Rattle.qo_unplug.proofs.TreeLemmas.{same-none, ticks-beside}
 
@@ -73,20 +72,17 @@ once-pinned v only n =
 
 -- the whole
 
-depth-of : (b : Board) (v : Objects) → Shows b v → length (paths.births b) ≡ length v.rows
-depth-of b v s = ap (λ (l : List ℕ). length l) (shows-births b v s) ∙ length-map v.rows (λ row. row.0.birth)
-
 unrealized-is : (b : Board) (v : Objects) → Shows b v → (d : ℕ) → device_within b (length v.rows + 1) d b ≡ unrealize b d
 unfolding device_within unrealize
 unrealized-is b v s d =
-    let same : length v.rows + 1 ≡ suc (length (paths.births b)) = omega (arith, depth-of b v s) in
+    let same : length v.rows + 1 ≡ suc (length (paths.births b)) = omega (arith, shows-size b v s) in
     ap (λ (k : ℕ). device_within b k d b) same
 
 taken-is : (b c : Board) (v : Objects) → Shows b v → (levels d : ℕ) → levels ≡ length v.rows
     → taken_within levels d c ≡ taken_by (apart_within (length (paths.births b))) d c
 unfolding taken_within
 taken-is b c v s levels d is =
-    let same : levels ≡ length (paths.births b) = is ∙ sym (depth-of b v s) in
+    let same : levels ≡ length (paths.births b) = is ∙ sym (shows-size b v s) in
     ap (λ (k : ℕ). taken_by (apart_within k) d c) same
 
 detach-is : (b : Board) (d : ℕ) → detach b d ≡ unpin (taken_by (apart_within (length (paths.births b))) d (unrealize (pin b d) d)) d

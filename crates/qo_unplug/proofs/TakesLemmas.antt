@@ -1,7 +1,7 @@
 -- What taking apart leaves on each board: pins, who is held from outside the tree, and what stands beside the tree.
 use Rattle.std.proofs.Common.{◌≡◌, refl, ap, sym, subst, ◌∙◌, ℕ, zero, suc, ◌+◌, ◌<◌, ◌≤◌, ◌==◌, eqb, nat_eq, leb, cond, codes, Bool, true, false}
-use Rattle.std.proofs.Common.{List, [], ◌∷◌, length, count_by, Option, None, Some, is_some, arith}
-use Rattle.std.specs.List.{AllByRecursion, list_any}
+use Rattle.std.proofs.Common.{List, [], ◌∷◌, length, Option, None, Some, is_some, arith}
+use Rattle.std.specs.List.{list_any}
 use Rattle.std.proofs.lemmas.Bool.{eqb-true, eq-eqb}
 use Rattle.std.proofs.lemmas.List.Sums.{sum_by-cons}
 use Rattle.qo_values.specs.declared.births.TheConstants.{ANONYMOUS_BIRTH, PERIPHERAL_BIRTH}
@@ -10,23 +10,20 @@ use Rattle.qo_model.specs.Changes.{cut, with_cut}
 use Rattle.qo_model.specs.Devices.{bus_of, buses_of, kids_of}
 use Rattle.qo_model.specs.Objects.{place_from}
 use Rattle.qo_model.specs.References.{refs}
-use Rattle.qo_model.specs.Release.{after, drop_slot, edited, finalise, finish, let_go, pin, put_in_order, unpin, without_first, without_pin}
-use Rattle.qo_model.specs.ReleaseKeeps.{KeepsRelease}
+use Rattle.qo_model.specs.Release.{after, drop_slot, edited, finalise, let_go, pin, put_in_order, unpin, without_first, without_pin}
 use Rattle.qo_model.specs.Unplug.{apart_within, drained, first_of, is_bus_slot, is_child_slot, is_named, left_bus, left_parent, let_go_where}
 use Rattle.qo_model.specs.Unplug.{lost_bus, lost_buses, names_kid, take_slot, take_where, taken_by}
 use Rattle.qo_model.proofs.PinLemmas.{IsUp, put-back, put-up, release-pins}
-use Rattle.qo_model.proofs.ReleaseKeepsLemmas.{after_keeps}
 use Rattle.qo_model.proofs.ReleaseLeavesLemmas.{release_leaves}
-use Rattle.qo_model.proofs.StepLemmas.{drop-live, finish-live, found-edited, is_some-map}
+use Rattle.qo_model.proofs.StepLemmas.{drop-live, found-edited, is_some-map}
+use Rattle.qo_heap.proofs.ShowsReads.{times}
+use Rattle.qo_life.proofs.HeldLemmas.{held-after}
 use Rattle.qo_unplug.specs.Apart.{bus_lost, buses_lost, drained_within, first_apart, first_lost, taken_within}
 use Rattle.qo_unplug.specs.Unrealizing.{on_one}
 use Rattle.qo_sound_clocks.specs.SoundTimes.{SoundTimes}
 use Rattle.qo_sound_clocks.proofs.TimesLemmas.{drop-times, times-edits, times-ends}
 
 -- how often a number stands in a list
-
-abbrev pub times : ℕ → List ℕ → ℕ
-times x ms = count_by (λ m. m == x) ms
 
 abbrev one_of : ℕ → ℕ → ℕ
 one_of x m = cond {A = ℕ} (m == x) 1 0
@@ -107,44 +104,7 @@ takes-then b c d p q =
       notices = q.notices ∙ p.notices;
     }
 
--- an object that is there, and held from outside the tree, stays so where others are released
-
-record IsHeld (x : ℕ) (b : Board) : Type 0 where
-  pub live : is_live b x ≡ true
-  pub pinned : 0 < times x b.pins
-
-module _ (x : ℕ) where
-  held-drop : (b : Board) (n i : ℕ) → IsHeld x b → IsHeld x (drop_slot b n i)
-  unfolding drop_slot
-  held-drop b n i h = record { live = drop-live b n i x ∙ h.live; pinned = h.pinned }
-
-  held-finish : (b : Board) (n : ℕ) → (x == n) ≡ false → IsHeld x b → IsHeld x (finish b n)
-  unfolding finish
-  held-finish b n apart h = record { live = finish-live b n x ∙ rw (apart, h.live) refl; pinned = h.pinned }
-
-  held-apart : (b : Board) (m : ℕ) → IsHeld x b → refs b m ≡ 0 → (x == m) ≡ false
-  held-apart b m h free = go (x == m) refl
-    where
-      go : (t : Bool) → (x == m) ≡ t → t ≡ false
-      go true p =
-          let some : 0 < times x b.pins = h.pinned in
-          let none : refs b x ≡ 0 = ap (refs b) (eqb-true x m p) ∙ free in
-          absurd (omega (arith, some, none))
-      go false p = refl
-
-  abbrev Others : List (ℕ × ℕ) → Board → Type 0
-  Others work b = IsHeld x b × AllByRecursion (λ (t : ℕ × ℕ). (x == t.0) ≡ false) work
-
-  others-keep : KeepsRelease Others
-  others-keep =
-      record {
-        ended = λ b n j work p e. (held-finish b n p.1.0 p.0, p.1.1);
-        freed = λ b n j work s m p e h free. (held-drop b n j p.0, (held-apart (drop_slot b n j) m (held-drop b n j p.0) free, (p.1.0, p.1.1)));
-        kept = λ b n j work s p e held_on. (held-drop b n j p.0, (p.1.0, p.1.1));
-      }
-
-  held-after : (b : Board) (o : Option ℕ) → IsHeld x b → IsHeld x (after finalise b o)
-  held-after b o h = (after_keeps Others others-keep b o [] (λ m e free. (h, (held-apart b m h free, tt))) (λ held_on. (h, tt))).0
+-- releases
 
 record IsBeside (b c : Board) : Type 0 where
   pub holds : c.holds ≡ b.holds
@@ -165,7 +125,7 @@ takes-after b o =
     record {
       pins = λ x. ap (times x) (release-pins b o);
       same = λ up. release-pins b o;
-      live = λ x live some. (held-after x b o (record { live = live; pinned = some })).live;
+      live = λ x live some. (held-after x b o (record { live = live; pinned = among-some x b.pins some })).live;
       moments = times-ends o b;
       holds = beside.holds;
       pending = beside.pending;

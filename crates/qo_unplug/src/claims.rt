@@ -4,39 +4,12 @@ ghost use Rattle.std.specs.Prelude.{◌≡◌, Some, option_map};
 ghost use Rattle.qo_kinds.specs.Bodies.{kept_of, none_kept, with_kept};
 ghost use Rattle.qo_object.specs.Content.{Content};
 ghost use Rattle.qo_table.specs.Rows.{IsLive};
-ghost use Rattle.qo_heap.specs.Objects.{content_of, with_edit, without_kept, without_one};
+ghost use Rattle.qo_heap.specs.Objects.{content_of, with_edit};
 ghost use Rattle.qo_unplug.specs.Unrealizing.{HeapUndoes};
 
-use qo_claims::{Claims, Kept};
-use qo_heap::{Heap, Oid, Steps};
+use qo_heap::{Heap, Oid, Steps, free_kept};
 use qo_kinds::KeptSet;
 use std::sync::ledger::Ledger;
-
-/// Ends a claim, if there is one.
-fn free_one(claims: &mut Claims, kept: Option<Kept>)
-    ensures { claims.new ≡ without_one kept claims.old }
-{
-    match kept {
-        Some(kept) => claims.free(kept),
-        None => {}
-    }
-}
-
-/// Ends the claims of a body.
-fn free_kept(claims: &mut Claims, kept: KeptSet)
-    ensures { claims.new ≡ without_kept kept claims.old }
-{
-    let KeptSet {
-        slot,
-        ring,
-        backend,
-        range,
-    } = kept;
-    free_one(claims, slot);
-    free_one(claims, ring);
-    free_one(claims, backend);
-    free_one(claims, range);
-}
 
 /// Takes the claims out of the body of an object.
 fn take_claims<L: Ledger>(heap: &mut Heap, o: Oid, steps: &mut Steps<L>) -> KeptSet

@@ -1,6 +1,6 @@
 -- The parent is read, where it is a device.
 use Rattle.std.proofs.Common.{◌≡◌, Bool, Some, None, ap, sym, ◌∙◌, cond, rules}
-use Rattle.qo_paths.proofs.PlaceLemmas.{parent-live}
+use Rattle.qo_heap.proofs.HeapLemmas.{parent-live}
 use Rattle.qo_buses.proofs.WayLemmas.{bridge-is}
 use Rattle.qo_buses.proofs.buses.bridge_of.Goals as goal
 

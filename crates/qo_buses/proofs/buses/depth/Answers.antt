@@ -1,6 +1,7 @@
 -- Each turn goes on to the bus above.
 use Rattle.std.proofs.Common.{length, sym}
-use Rattle.qo_buses.proofs.WayLemmas.{depth-first, depth-top, depth-up, within}
+use Rattle.qo_paths.proofs.PlaceLemmas.{within}
+use Rattle.qo_buses.proofs.WayLemmas.{depth-first, depth-top, depth-up}
 use Rattle.qo_model.specs.Devices.{depth_of}
 use Rattle.qo_buses.proofs.buses.depth.Goals as goal
 

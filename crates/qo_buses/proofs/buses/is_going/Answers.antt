@@ -1,7 +1,8 @@
 -- Each turn goes on to the bus above.
 use Rattle.std.proofs.Common.{◌≡◌, List, ℕ, false, true, ap, length, sym, ◌∙◌}
 use Rattle.qo_model.specs.Depth.{among}
-use Rattle.qo_buses.proofs.WayLemmas.{among-births, going-first, going-here, going-none, going-top, going-up, within}
+use Rattle.qo_paths.proofs.PlaceLemmas.{within}
+use Rattle.qo_buses.proofs.WayLemmas.{among-births, going-first, going-here, going-none, going-top, going-up}
 use Rattle.qo_buses.proofs.buses.is_going.Goals as goal
 
 pub loop-turn-init : goal.loop-turn-init
