@@ -86,7 +86,8 @@ module _ (b : board.Board) (props : List Given) where
   number-by None = refl
   number-by (Some p) = refl
 
-  number-told : (name : List ℕ) (o : Option Fill) → TellsGiven b props o (Some (name, Plain val.Nothing)) → option_and_then number_filled o ≡ number_for props name
+  number-told : (name : List ℕ) (o : Option Fill) → TellsGiven b props o (Some (name, Plain val.Nothing))
+      → option_and_then number_filled o ≡ number_for props name
   number-told name None told = absurd told
   number-told name (Some f) told =
       sym (number-shown f) ∙ ap number_shown told ∙ number-by (find (λ (p : Given). bytes_eq p.0 name) props)
@@ -96,11 +97,13 @@ module _ (b : board.Board) (props : List Given) where
   text-shown (fill.Value v) = refl
   text-shown (fill.Target key) = refl
 
-  text-by : (o : Option Given) → text_shown (shown_by (board.plain (val.Text [])) o) ≡ unwrap_or (option_and_then text_in (option_map (λ (p : Given). p.1) o)) []
+  text-by : (o : Option Given)
+      → text_shown (shown_by (board.plain (val.Text [])) o) ≡ unwrap_or (option_and_then text_in (option_map (λ (p : Given). p.1) o)) []
   text-by None = refl
   text-by (Some p) = refl
 
-  text-told : (name : List ℕ) (o : Option Fill) → TellsGiven b props o (Some (name, Plain (val.Text []))) → unwrap_or (option_and_then text_filled o) [] ≡ text_for props name
+  text-told : (name : List ℕ) (o : Option Fill) → TellsGiven b props o (Some (name, Plain (val.Text [])))
+      → unwrap_or (option_and_then text_filled o) [] ≡ text_for props name
   text-told name None told = absurd told
   text-told name (Some f) told = sym (text-shown f) ∙ ap text_shown told ∙ text-by (find (λ (p : Given). bytes_eq p.0 name) props)
 
@@ -124,26 +127,31 @@ module _ (b : board.Board) (props : List Given) where
     target-val (val.Int n) = refl
     target-val (val.Uint n) = refl
 
-    target-by : (o : Option Given) → target_shown (shown_by (board.strong t None) o) ≡ named_by (link_target b t (unwrap_or (option_and_then text_in (option_map (λ (p : Given). p.1) o)) []))
+    target-by : (o : Option Given) → target_shown (shown_by (board.strong t None) o)
+        ≡ named_by (link_target b t (unwrap_or (option_and_then text_in (option_map (λ (p : Given). p.1) o)) []))
     target-by None = refl
     target-by (Some p) = target-val p.1
 
-    target-told : (name : List ℕ) (o : Option Fill) → TellsGiven b props o (Some (name, Link t true None)) → birth_of (option_and_then target_in o) ≡ target_for b t props name
+    target-told : (name : List ℕ) (o : Option Fill) → TellsGiven b props o (Some (name, Link t true None))
+        → birth_of (option_and_then target_in o) ≡ target_for b t props name
     target-told name None told = absurd told
     target-told name (Some f) told = sym (target-shown f) ∙ ap target_shown told ∙ target-by (find (λ (p : Given). bytes_eq p.0 name) props)
 
   -- of the slots that are asked for
   module _ (t : TypeId) (o : Option Fill) where
-    pub slot-told : is_a t (codes "device") ≡ true → TellsGiven b props o (slot_for t (codes "slot")) → option_and_then number_filled o ≡ number_for props (codes "slot")
+    pub slot-told : is_a t (codes "device") ≡ true → TellsGiven b props o (slot_for t (codes "slot"))
+        → option_and_then number_filled o ≡ number_for props (codes "slot")
     slot-told device told = number-told (codes "slot") o (rw (slot-begins t device) at told)
 
     pub addr-told : t ≡ MemDimm → TellsGiven b props o (slot_for t (codes "addr")) → option_and_then number_filled o ≡ number_for props (codes "addr")
     addr-told dimm told = number-told (codes "addr") o (rw (dimm, addr-begins) at told)
 
-    pub chardev-told : t ≡ SlotUart → TellsGiven b props o (slot_for t (codes "chardev")) → unwrap_or (option_and_then text_filled o) [] ≡ text_for props (codes "chardev")
+    pub chardev-told : t ≡ SlotUart → TellsGiven b props o (slot_for t (codes "chardev"))
+        → unwrap_or (option_and_then text_filled o) [] ≡ text_for props (codes "chardev")
     chardev-told uart told = text-told (codes "chardev") o (rw (uart, chardev-begins) at told)
 
-    pub memdev-told : t ≡ MemDimm → TellsGiven b props o (slot_for t (codes "memdev")) → birth_of (option_and_then target_in o) ≡ target_for b MemoryBackend props (codes "memdev")
+    pub memdev-told : t ≡ MemDimm → TellsGiven b props o (slot_for t (codes "memdev"))
+        → birth_of (option_and_then target_in o) ≡ target_for b MemoryBackend props (codes "memdev")
     memdev-told dimm told = target-told MemoryBackend (codes "memdev") o (rw (dimm, memdev-begins) at told)
 
 -- a target that is asked for is one that the plan names

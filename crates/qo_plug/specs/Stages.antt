@@ -49,7 +49,8 @@ pub record IsJudged (p : Planned) (rings : List Ring) (found : Result Spot Barre
   pub within : IfOk found (λ c. c.slot < BUS_SLOTS)
   pub dimm : IfOk found (λ c. is_some c.memory ≡ true → p.site.kind ≡ MemDimm)
   pub stages : IfBarred found (λ bar. (5 ≤ bar.stage) × (bar.stage ≤ 6))
-  pub refused : (b : Board) (props : List Given) → Shows b v → b.rings ≡ rings → HasGiven b props p → barred_in found ≡ spot_barred b p.site.kind p.site.bus.birth props
+  pub refused : (b : Board) (props : List Given) → Shows b v → b.rings ≡ rings → HasGiven b props p
+      → barred_in found ≡ spot_barred b p.site.kind p.site.bus.birth props
   pub spot : (b : Board) (props : List Given) → Shows b v → HasGiven b props p → IfOk found (λ c. IsChosen b p.site.kind p.site.bus.birth props c)
 
 -- a heap has a device that was begun, as it was made and held once, with its container, its older bus, and what its plan names

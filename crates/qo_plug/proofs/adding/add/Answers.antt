@@ -24,8 +24,10 @@ returns-in-Err-Refused-clause-refused g c = λ b is.
     refused-told ℕ (λ at told. (5 ≤ at) × (at ≤ 6)) c.in-Err-Refused.field-0 stage code is_refused c.in-Err-Refused.ensures.stages in
     let early : (stage == 8) ≡ false = grind (arith, nat_tests, stages.1) in
     spot-refused b a c.in-Ok.planned.site planned.admitted c.turn_down.new.heap (record { stage = stage; code = code }) (sym planned.given)
-    (sym (refused-told ℕ (λ at told. spot_barred b c.in-Ok.planned.site.kind c.in-Ok.planned.site.bus.birth c.args.props.now ≡ Some (at, told)) c.in-Err-Refused.field-0
-    stage code is_refused (c.in-Err-Refused.ensures.refused b c.args.props.now shown is.rings_are planned.has))) ℕ c.turn_down.result (c.turn_down.ensures.down b c.in-Ok.planned.site.bus.birth shown early)
+    (sym (refused-told ℕ (λ at told. spot_barred b c.in-Ok.planned.site.kind c.in-Ok.planned.site.bus.birth c.args.props.now ≡ Some (at, told))
+    c.in-Err-Refused.field-0
+    stage code is_refused (c.in-Err-Refused.ensures.refused b c.args.props.now shown is.rings_are planned.has))) ℕ c.turn_down.result
+    (c.turn_down.ensures.down b c.in-Ok.planned.site.bus.birth shown early)
 
 pub returns-in-Err-Refused-clause-memory : goal.returns-in-Err-Refused-clause-memory
 returns-in-Err-Refused-clause-memory g c = λ b is e.
@@ -48,7 +50,8 @@ pub returns-in-Err-make-clause-memory : goal.returns-in-Err-make-clause-memory
 returns-in-Err-make-clause-memory g c = λ b is e.
     let a : Wanted = wanted c.args.driver.now (option_map (λ t. t.now) c.args.id) (option_map (λ t. t.now) c.args.bus) c.args.props.now in
     let planned = c.in-Ok.ensures.planned b c.args.resets.now.births c.args.rings.now is in
-    cut-late b a c.in-Ok.planned.site planned.admitted c.make.new.heap (c.in-Err-make.ensures.err b (subst (Shows b) (sym c.in-Ok.ensures.same) is.shown) is.sound)
+    cut-late b a c.in-Ok.planned.site planned.admitted c.make.new.heap
+    (c.in-Err-make.ensures.err b (subst (Shows b) (sym c.in-Ok.ensures.same) is.shown) is.sound)
 
 pub returns-in-Err-make-clause-book : goal.returns-in-Err-make-clause-book
 returns-in-Err-make-clause-book g c = λ out h. c.make.ensures.book out (c.choose.ensures.book out h)

@@ -9,13 +9,15 @@ use Rattle.qo_plug.proofs.judging.check_kind.Goals as goal
 
 pub returns-in-Ok-clause-open : goal.returns-in-Ok-clause-open
 returns-in-Ok-clause-open g c = λ b props s has.
-    ap (λ (t : TypeId). kind_barred b t c.args.planned.now.site.bus.birth props) c.in-MemDimm.is ∙ c.in-Ok.ensures.open b c.args.planned.now.site.bus.birth props s has
+    ap (λ (t : TypeId). kind_barred b t c.args.planned.now.site.bus.birth props) c.in-MemDimm.is
+    ∙ c.in-Ok.ensures.open b c.args.planned.now.site.bus.birth props s has
 
 pub returns-in-Err-clause-refused : goal.returns-in-Err-clause-refused
 returns-in-Err-clause-refused g c = λ b props s has.
     let kind = ap (λ (t : TypeId). kind_barred b t c.args.planned.now.site.bus.birth props) c.in-MemDimm.is in
     refused-map ℕ ℕ (λ stage code. (stage ≡ 5) × (kind_barred b MemDimm c.args.planned.now.site.bus.birth props ≡ Some code))
-    (λ stage code. (stage ≡ 5) × (kind_barred b c.args.planned.now.site.kind c.args.planned.now.site.bus.birth props ≡ Some code)) c.in-Err.refusal (λ stage code h. (h.0, kind ∙ h.1)) (c.in-Err.ensures.refused b c.args.planned.now.site.bus.birth props s has)
+    (λ stage code. (stage ≡ 5) × (kind_barred b c.args.planned.now.site.kind c.args.planned.now.site.bus.birth props ≡ Some code)) c.in-Err.refusal
+    (λ stage code h. (h.0, kind ∙ h.1)) (c.in-Err.ensures.refused b c.args.planned.now.site.bus.birth props s has)
 
 pub returns-in-SlotBridge-clause-open : goal.returns-in-SlotBridge-clause-open
 returns-in-SlotBridge-clause-open g c = λ b props s has.

@@ -8,4 +8,5 @@ use Rattle.qo_plug.proofs.planning.address_asked.Goals as goal
 pub returns : goal.returns
 returns c = λ b props has.
     let plan = subst (λ (plan : List Fill). IsPlan b c.args.planned.now.site.kind props plan) (sym c.as_slice.ensures.value) has in
-    c.number_in.ensures ∙ addr-told b props c.args.planned.now.site.kind (option_map (λ f. f.now) c.planned_for.result) c.requires (c.planned_for.ensures.given b props plan)
+    c.number_in.ensures
+    ∙ addr-told b props c.args.planned.now.site.kind (option_map (λ f. f.now) c.planned_for.result) c.requires (c.planned_for.ensures.given b props plan)

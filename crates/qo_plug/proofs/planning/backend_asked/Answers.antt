@@ -13,7 +13,8 @@ use Rattle.qo_plug.proofs.planning.backend_asked.Goals as goal
 pub returns-clause-backend : goal.returns-clause-backend
 returns-clause-backend c = λ b props has.
     let plan = subst (λ (plan : List Fill). IsPlan b c.args.planned.now.site.kind props plan) (sym c.as_slice.ensures.value) has in
-    ap birth_of c.target_in.ensures ∙ memdev-told b props c.args.planned.now.site.kind (option_map (λ f. f.now) c.planned_for.result) c.requires (c.planned_for.ensures.given b props plan)
+    ap birth_of c.target_in.ensures
+    ∙ memdev-told b props c.args.planned.now.site.kind (option_map (λ f. f.now) c.planned_for.result) c.requires (c.planned_for.ensures.given b props plan)
 
 pub returns-clause-live : goal.returns-clause-live
 returns-clause-live c = λ v live.
