@@ -100,8 +100,7 @@ pub(crate) fn make<L: Ledger>(
 /// The plan of a device that is asked for, where neither what bars it before an attempt nor what is
 /// given for its properties refuses it. A refusal is the first in the order of the stages: those of
 /// `admit`, before which nothing of the device is made, and then those of `plan` (stage 4), behind which
-/// its births and notes are left. Want of memory leaves all as it was, or an attempt that
-/// was cut.
+/// its births and notes are left. Want of memory leaves all as it was, or an attempt that was cut.
 pub(crate) fn choose<L: Ledger>(
     heap: &mut Heap,
     hotplug: &Hotplug,
@@ -162,7 +161,8 @@ fn judged<L: Ledger>(
 /// Begins a device of a type's name, with an id, the path of its bus and properties, where these are
 /// given: the stages 1 to 4. `anonymous` is how many devices without an id were added before. A
 /// refusal is the first in the order of the stages: those of `admit`, before which nothing of the
-/// device is made, and then those of `plan` (stage 4), behind which its births and notes are left. Want of memory leaves all as it was, or an attempt that was cut.
+/// device is made, and then those of `plan` (stage 4), behind which its births and notes are left.
+/// Want of memory leaves all as it was, or an attempt that was cut.
 pub fn begin<L: Ledger>(
     heap: &mut Heap,
     resets: &Resets,
