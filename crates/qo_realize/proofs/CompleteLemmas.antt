@@ -1,17 +1,11 @@
 -- What stands where the guest lets a device go.
-use Rattle.std.proofs.Common.{◌≡◌, ◌≤◌, refl, ap, ◌∙◌, ℕ, Bool, true, false, List, [], ◌∷◌, length, arith}
-use Rattle.std.specs.Option.{option_map_or}
-use Rattle.std.specs.Prelude.{replicate, ◌++◌, ◌+◌, ◌==◌, zero, suc}
-use Rattle.qo_slots.specs.declared.keys.Key.{Key}
-use Rattle.qo_table.specs.Rows.{object_at}
-use Rattle.qo_object.specs.Content.{Content}
+use Rattle.std.proofs.Common.{◌≡◌, ap, ◌∙◌, ℕ, Bool, true, List, []}
 use Rattle.qo_hotplug.specs.Asked.{Asked}
 use Rattle.qo_model.specs.Board.{Board, Ring}
 use Rattle.qo_model.specs.Depth.{among}
 use Rattle.qo_model.specs.Hotplug.{completed}
 use Rattle.qo_model.specs.Unplug.{detach}
-use Rattle.qo_heap.specs.Board.{pins_in}
-use Rattle.qo_heap.specs.Objects.{Objects, pins_of}
+use Rattle.qo_heap.specs.Objects.{Objects}
 use Rattle.qo_heap.specs.Timely.{Timely}
 use Rattle.qo_properties.specs.Claims.{KeepsBook}
 use Rattle.qo_properties.specs.Pinned.{OnlyRootPinned}
@@ -30,25 +24,6 @@ use Rattle.qo_realize.proofs.SoundLemmas.{completed-good, root-pinned}
 -- no timer of the heap is ahead of its time
 pub timely-heap : (p : Parts) → StandsForGood p → Timely p.objects
 timely-heap p (b, s, good) = times-timely b p.objects s.shows good.times
-
--- each object is pinned once at most
-length-more : (k m : ℕ) (xs : List ℕ) → length (replicate k m ++ xs) ≡ k + length xs
-length-more zero m xs = omega arith
-length-more (suc k) m xs = omega (arith, length-more k m xs)
-
-pins-within : (n : ℕ) (rows : List (Key × Content)) → option_map_or (λ (c : Content). c.pins) (object_at rows n) 0 ≤ length (pins_in rows)
-pins-within n [] = omega arith
-pins-within n (row ∷ rows) = go (row.0.birth == n) refl (pins-within n rows)
-  where
-    go : (b : Bool) → (row.0.birth == n) ≡ b → option_map_or (λ (c : Content). c.pins) (object_at rows n) 0 ≤ length (pins_in rows)
-        → option_map_or (λ (c : Content). c.pins) (object_at (row ∷ rows) n) 0 ≤ length (pins_in (row ∷ rows))
-    go true p rest = rw p (omega (arith, length-more row.1.pins row.0.birth (pins_in rows)))
-    go false p rest = rw p (omega (arith, rest, length-more row.1.pins row.0.birth (pins_in rows)))
-
-pub pinned-once : (v : Objects) → OnlyRootPinned v → (n : ℕ) → pins_of v n ≤ 1
-pinned-once v only n =
-    let one : length (pins_in v.rows) ≡ 1 = ap (λ (l : List ℕ). length l) only in
-    omega (arith, pins-within n v.rows, one)
 
 -- what is beside the heap is the board's
 pub is_beside : (b : Board) (rings : List Ring) (anonymous : ℕ) (running : Bool) (holds : HoldList) (asked : Asked) (v : Objects)

@@ -32,8 +32,8 @@ at_path-all : (P : Board → Type 0) (b : Board) (change : ℕ → Changed) (r :
 at_path-all P b change (Ok n) p q = q n
 at_path-all P b change (Err code) p q = p
 
-held_of-all : (P : Board → Type 0) (b : Board) (n : ℕ) → P b → P (held b n) → P (held_of b n).board
-held_of-all P b n p q = by (attached b n) (is_deep b n)
+pub held_of-all : (P : Board → Type 0) (b : Board) (n : ℕ) → P b → (attached b n ≡ true → is_deep b n ≡ false → P (held b n)) → P (held_of b n).board
+held_of-all P b n p q = by (attached b n) refl (is_deep b n) refl
   where
     come : Bool → Bool → Changed
     come home deep =
@@ -41,26 +41,26 @@ held_of-all P b n p q = by (attached b n) (is_deep b n)
         else if deep then record { refusal = Some E48; board = b }
         else record { refusal = None; board = held b n }
 
-    by : (home deep : Bool) → P (come home deep).board
-    by false deep = p
-    by true true = p
-    by true false = q
+    by : (home : Bool) → attached b n ≡ home → (deep : Bool) → is_deep b n ≡ deep → P (come home deep).board
+    by false e deep d = p
+    by true e true d = p
+    by true e false d = q e d
 
-released_of-all : (P : Board → Type 0) (b : Board) (n : ℕ) → P b → P (released b n) → P (released_of b n).board
-released_of-all P b n p q = by (among b.holds n)
+pub released_of-all : (P : Board → Type 0) (b : Board) (n : ℕ) → P b → (among b.holds n ≡ true → P (released b n)) → P (released_of b n).board
+released_of-all P b n p q = by (among b.holds n) refl
   where
     come : Bool → Changed
     come there = if there then record { refusal = None; board = released b n } else record { refusal = Some E49; board = b }
 
-    by : (there : Bool) → P (come there).board
-    by true = q
-    by false = p
+    by : (there : Bool) → among b.holds n ≡ there → P (come there).board
+    by true e = q e
+    by false e = p
 
 held_at-all : (P : Board → Type 0) (b : Board) (path : List ℕ) → P b → ((n : ℕ) → P (held b n)) → P (held_at b path).board
-held_at-all P b path p q = at_path-all P b (held_of b) (resettable_at b path) p (λ n. held_of-all P b n p (q n))
+held_at-all P b path p q = at_path-all P b (held_of b) (resettable_at b path) p (λ n. held_of-all P b n p (λ home deep. q n))
 
 released_at-all : (P : Board → Type 0) (b : Board) (path : List ℕ) → P b → ((n : ℕ) → P (released b n)) → P (released_at b path).board
-released_at-all P b path p q = at_path-all P b (released_of b) (resettable_at b path) p (λ n. released_of-all P b n p (q n))
+released_at-all P b path p q = at_path-all P b (released_of b) (resettable_at b path) p (λ n. released_of-all P b n p (λ there. q n))
 
 none-leaves : (b : Board) → ResetLeaves b b
 none-leaves b = record { anonymous = refl; now = refl; running = refl; pending = refl; notices = refl; rings = refl; events = refl }

@@ -5,7 +5,7 @@ use Rattle.std.proofs.lemmas.Bool.{le-leb}
 use Rattle.std.proofs.lemmas.Option.{same_Some}
 use Rattle.qo_hotplug.specs.Asked.{Asked}
 use Rattle.qo_model.specs.Board.{Board, Ring}
-use Rattle.qo_model.specs.Plug.{Plugged, Wanted, barred_early, cut_attempt, objects_in, plug, type_barred}
+use Rattle.qo_model.specs.Plug.{Wanted, barred_early, cut_attempt, objects_in, plug, type_barred}
 use Rattle.qo_model.specs.Stays.{Stays}
 use Rattle.qo_model.specs.Types.{TypeRow, row_named}
 use Rattle.qo_model.specs.Types as rows
@@ -31,6 +31,7 @@ use Rattle.qo_realize.specs.Answers.{Plugs}
 use Rattle.qo_realize.specs.Good.{Good}
 use Rattle.qo_realize.specs.Parts.{Parts, counts, parts_of}
 use Rattle.qo_realize.specs.Stands.{Stands, StandsForGood}
+use Rattle.qo_realize.proofs.StandsLemmas.{stands-by}
 use Rattle.qo_realize.proofs.SoundLemmas.{added-good, cut_as-good, root-pinned}
 
 abbrev pub the : (T : Type 0) → T → T
@@ -110,17 +111,7 @@ came-stands b a rings anonymous next running holds old new v w d s came count ke
 pub cut-stands : (b c : Board) (rings : List Ring) (anonymous : ℕ) (running : Bool) (holds : HoldList) (asked : Asked) (v w : Objects)
     → Stands b (parts_of rings anonymous running holds asked v) → Stays b c → Shows c w → KeepsBook v w
     → Stands c (parts_of rings anonymous running holds asked w)
-cut-stands b c rings anonymous running holds asked v w s l shows keeps =
-    record {
-      shows = shows;
-      anonymous = l.anonymous ∙ s.anonymous;
-      running = l.running ∙ s.running;
-      holds = l.holds ∙ s.holds;
-      pending = l.pending ∙ s.pending;
-      notices = l.notices ∙ s.notices;
-      rings = l.rings ∙ s.rings;
-      book = keeps [] s.book;
-    }
+cut-stands b c rings anonymous running holds asked v w s l shows keeps = stands-by b c (parts_of rings anonymous running holds asked v) w s l shows keeps
 
 same-stays : (b : Board) → Stays b b
 same-stays b = record { anonymous = refl; now = refl; running = refl; holds = refl; pending = refl; notices = refl; rings = refl }

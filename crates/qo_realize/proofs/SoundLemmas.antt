@@ -13,7 +13,7 @@ use Rattle.qo_model.specs.FinalNotesRuns.{Change, changed}
 use Rattle.qo_model.specs.Hotplug.{asked, completed, refused}
 use Rattle.qo_model.specs.Objects.{attempted_as, barred_by, with_attempt}
 use Rattle.qo_model.specs.Opening.{opening_board}
-use Rattle.qo_model.specs.Plug.{Plugged, Wanted, barred_early, cut_attempt, objects_in, plug, plug_attempt, type_barred}
+use Rattle.qo_model.specs.Plug.{Wanted, barred_early, cut_attempt, objects_in, plug, plug_attempt, type_barred}
 use Rattle.qo_model.specs.Reset.{held, pulse, released}
 use Rattle.qo_model.specs.SoundGraph.{graph_of}
 use Rattle.qo_model.specs.Types.{TypeRow, row_named}

@@ -8,7 +8,7 @@ use Rattle.qo_model.specs.Stays.{Stays}
 use Rattle.qo_heap.specs.Board.{Shows}
 use Rattle.qo_heap.specs.Objects.{Objects}
 use Rattle.qo_plug.specs.Added.{IfRefused}
-use Rattle.qo_plug.specs.Adding.{IsAdded, IsCut, IsRefused}
+use Rattle.qo_plug.specs.Adding.{IsAdded, IsCut, IsRefused, IsShown}
 use Rattle.qo_plug.specs.Stages.{IsBegun, IsBeside, IsSettled}
 use Rattle.qo_plug.specs.declared.adding.Added as device
 use Rattle.qo_plug.specs.declared.beginning.Begun.{Begun}
@@ -28,7 +28,7 @@ use Rattle.qo_realize.specs.Good.{Good}
 use Rattle.qo_realize.specs.Parts.{Parts, counts, parts_of}
 use Rattle.qo_realize.specs.Stages.{IsDrafted, IsPlugged, IsWithin, Since}
 use Rattle.qo_realize.specs.Stands.{Stands, StandsForGood}
-use Rattle.qo_realize.proofs.PlugLemmas.{added-stands, barred-stands, cut-stands, the}
+use Rattle.qo_realize.proofs.PlugLemmas.{added-stands, barred-stands, cut-stands, is_shown, the}
 use Rattle.qo_realize.proofs.SoundLemmas.{given_up-good}
 
 -- the book is kept on from step to step
@@ -107,6 +107,25 @@ module _ (b : Board) (a : Wanted) (rings : List Ring) (anonymous next : ℕ) (ru
       → IsDrafted b a (record { parts = at w; next = next; begun = d })
   drafted-is v w d s good is keeps begun =
       record { since = since-begun v w s good is keeps; begun = begun; passed = passed-making b a d.site begun.admitted begun.given }
+
+  -- where a stage was begun on a board that stood, whatever of it is shown
+  module _ (v w : Objects) (p : Parts) (whole : at v ≡ p) (stood : Stands b p) (good : Good b) (is : next ≡ counts anonymous a.id) (keeps : KeepsBook v w) where
+    seen : Stands b (at v)
+    seen = subst (Stands b) (sym whole) stood
+
+    abbrev Shown : Type 0
+    Shown = IsShown b anonymous holds.births rings old v
+
+    shown : Shown
+    shown = is_shown b rings anonymous running holds old v seen good
+
+    pub begun-drafted : (d : Begun) → (Shown → IsBegun b a d w) → IsDrafted b a (record { parts = at w; next = next; begun = d })
+    begun-drafted d begun = drafted-is v w d seen good is keeps (begun shown)
+
+    pub begun-barred : (e : AddRefusal)
+        → (Shown → IfRefused (the (Result device.Added AddRefusal) (Err e)) (λ stage code. (1 ≤ stage) × (stage ≤ 4) × IsRefused b a stage code w))
+        → (Shown → e ≡ Memory → IsCut b a w) → IsWithin 1 4 e × Plugs b a (Err e) (at w)
+    begun-barred e refused memory = begin-barred v (since-begun v v seen good is (λ out h. h)) w keeps e (refused shown) (memory shown)
 
   pub plugged-is : (v w : Objects) (p : Placed) → Since b a (at v) next → KeepsBook v w → IsSettled b a p w
       → IsPlugged b a (record { parts = at w; next = next; placed = p })

@@ -50,7 +50,7 @@ abbrev pub with_objects : Objects → Parts → Parts
 with_objects v p = record p { objects = v }
 
 -- another board stands with other objects, where all but objects, births, pins, notes and events is as before
-stands-by : (b c : Board) (p : Parts) (v : Objects) → Stands b p → Stays b c → Shows c v → KeepsBook p.objects v → Stands c (with_objects v p)
+pub stands-by : (b c : Board) (p : Parts) (v : Objects) → Stands b p → Stays b c → Shows c v → KeepsBook p.objects v → Stands c (with_objects v p)
 stands-by b c p v s stays shows keeps =
     record {
       shows = shows;
@@ -152,16 +152,9 @@ pub cleared-stands : (b : Board) (rings : List Ring) (anonymous : ℕ) (running 
     → Stands b (parts_of rings anonymous running holds asked v)
     → Stands (record b { events = [] }) (parts_of rings anonymous running holds asked (record v { events = told v.events }))
 cleared-stands b rings anonymous running holds asked v s =
-    record {
-      shows = record { records = s.shows.records; born = s.shows.born; pins = s.shows.pins; notes = s.shows.notes; events = refl; now = s.shows.now };
-      anonymous = s.anonymous;
-      running = s.running;
-      holds = s.holds;
-      pending = s.pending;
-      notices = s.notices;
-      rings = s.rings;
-      book = s.book;
-    }
+    stands-by b (record b { events = [] }) (parts_of rings anonymous running holds asked v) (record v { events = told v.events }) s
+    (record { anonymous = refl; now = refl; running = refl; holds = refl; pending = refl; notices = refl; rings = refl })
+    (record { records = s.shows.records; born = s.shows.born; pins = s.shows.pins; notes = s.shows.notes; events = refl; now = s.shows.now }) (λ out h. h)
 
 -- an object that is not there lists nothing
 pub listing-none : (b : Board) (v : Objects) → Shows b v → (n : ℕ) → content_of v n ≡ None → listing b n ≡ []

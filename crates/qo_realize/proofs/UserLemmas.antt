@@ -6,13 +6,12 @@ use Rattle.std.specs.Str.{bytes_eq}
 use Rattle.qo_values.specs.declared.births.TheConstants.{OBJECTS_BIRTH}
 use Rattle.qo_values.specs.declared.codes.Code.{Code}
 use Rattle.qo_values.specs.declared.codes.Code.TheVariants.{E32}
-use Rattle.qo_model.specs.Board.{Board, Record, Slot, record_of}
+use Rattle.qo_model.specs.Board.{Board, Record, Slot}
 use Rattle.qo_model.specs.Devices.{child_named}
 use Rattle.qo_model.specs.Objects.{Changed, object_del}
 use Rattle.qo_heap.specs.Board.{Shows}
 use Rattle.qo_heap.specs.Objects.{Objects, content_of}
 use Rattle.qo_heap.proofs.ShowsReads.{shows-record}
-use Rattle.qo_object.specs.Content.{Content}
 use Rattle.qo_object.specs.Shown.{shown}
 use Rattle.qo_realize.specs.Answers.{IsAnswered}
 use Rattle.qo_realize.specs.Parts.{Parts}

@@ -1,5 +1,5 @@
 -- Users' objects that are in use: a memory backend can't be deleted while a DIMM stands on it (QEMU's QAPI, `object-del`; docs/PROFILE.md, DIMMs).
-use Rattle.std.specs.Prelude.{ℕ, Bool, false, ◌&&◌, if◌then◌else◌, List, codes, Option, Some, option_and_then}
+use Rattle.std.specs.Prelude.{ℕ, Bool, false, ◌&&◌, if◌then◌else◌, List, codes, Some, option_and_then}
 use Rattle.std.specs.List.{list_any}
 use Rattle.std.specs.Option.{option_map_or}
 use Rattle.qo_values.specs.declared.births.TheConstants.{OBJECTS_BIRTH}

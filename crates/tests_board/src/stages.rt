@@ -47,26 +47,23 @@ fn refused(why: NotAdded, at: u8, by: Code) -> Result<Board, AddRefusal> {
     }
 }
 
+/// What a stage made, or what refused it, without the board.
+fn passed<T>(stage: Result<T, NotAdded>) -> Result<T, AddRefusal> {
+    match stage {
+        Ok(made) => Ok(made),
+        Err(why) => Err(why.refusal),
+    }
+}
+
 /// On the opening board a bridge is begun and abandoned, and begun again, placed and finished.
 fn added<L: Ledger>(alloc: Global, steps: &mut Steps<L>) -> Result<Added, AddRefusal> {
     let props = slot(3, alloc)?;
     let board = Board::start(alloc, steps)?;
-    let board = match begun(board, "x", None, &props, alloc, steps) {
-        Ok(draft) => draft.abandon(steps),
-        Err(why) => return Err(why.refusal),
-    };
-    let draft = match begun(board, "x", None, &props, alloc, steps) {
-        Ok(draft) => draft,
-        Err(why) => return Err(why.refusal),
-    };
-    let plugged = match draft.place(alloc, steps) {
-        Ok(plugged) => plugged,
-        Err(why) => return Err(why.refusal),
-    };
-    match plugged.finish(steps) {
-        Ok((_board, added)) => Ok(added),
-        Err(why) => Err(why.refusal),
-    }
+    let board = passed(begun(board, "x", None, &props, alloc, steps))?.abandon(steps);
+    let draft = passed(begun(board, "x", None, &props, alloc, steps))?;
+    let plugged = passed(draft.place(alloc, steps))?;
+    let (_board, added) = passed(plugged.finish(steps))?;
+    Ok(added)
 }
 
 /// On the opening board one is refused as its id is none, and one as its slot is none.
@@ -77,10 +74,7 @@ fn refused_early<L: Ledger>(alloc: Global, steps: &mut Steps<L>) -> Result<Board
         Ok(draft) => draft.abandon(steps),
         Err(why) => refused(why, 2, Code::E23)?,
     };
-    let draft = match begun(board, "x", None, &props, alloc, steps) {
-        Ok(draft) => draft,
-        Err(why) => return Err(why.refusal),
-    };
+    let draft = passed(begun(board, "x", None, &props, alloc, steps))?;
     match draft.place(alloc, steps) {
         Ok(plugged) => match plugged.finish(steps) {
             Ok(_) => Err(AddRefusal::Memory),
@@ -116,14 +110,8 @@ fn refused_late<L: Ledger>(
 ) -> Result<Board, AddRefusal> {
     fill(&mut board, alloc, steps)?;
     let props = slot(0, alloc)?;
-    let draft = match begun(board, "x", Some("h/bus.0"), &props, alloc, steps) {
-        Ok(draft) => draft,
-        Err(why) => return Err(why.refusal),
-    };
-    let plugged = match draft.place(alloc, steps) {
-        Ok(plugged) => plugged,
-        Err(why) => return Err(why.refusal),
-    };
+    let draft = passed(begun(board, "x", Some("h/bus.0"), &props, alloc, steps))?;
+    let plugged = passed(draft.place(alloc, steps))?;
     match plugged.finish(steps) {
         Ok((board, _added)) => Ok(board),
         Err(why) => refused(why, 8, Code::E44),

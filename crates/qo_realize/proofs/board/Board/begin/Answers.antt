@@ -1,12 +1,10 @@
 -- The device is begun on the board that stood, or what refuses it is told.
-use Rattle.std.proofs.Common.{sym, subst, Err}
+use Rattle.std.proofs.Common.{Err}
 use Rattle.std.specs.Prelude.{option_map}
 use Rattle.qo_plug.specs.Added.{wanted}
-use Rattle.qo_realize.specs.Parts.{Parts}
-use Rattle.qo_realize.specs.Stands.{Stands}
-use Rattle.qo_realize.proofs.PlugLemmas.{is_shown, plugs-good}
+use Rattle.qo_realize.proofs.PlugLemmas.{plugs-good}
 use Rattle.qo_realize.proofs.SoundLemmas.{good-of}
-use Rattle.qo_realize.proofs.StageLemmas.{begin-barred, drafted-is, since-begun}
+use Rattle.qo_realize.proofs.StageLemmas.{begun-barred, begun-drafted}
 use Rattle.qo_realize.proofs.board.Board.begin.Goals as goal
 
 pub invariant_of-result : goal.invariant_of-result
@@ -14,13 +12,9 @@ invariant_of-result g c =
     let (b, s, good) = c.parts-heap.ensures.good in
     let a = wanted c.args.driver.now (option_map (λ t. t.now) c.args.id) (option_map (λ t. t.now) c.args.bus) c.args.props.now in
     let x = c.parts-heap.result.1 in
-    let heap = c.parts-heap.result.0 in
-    let seen = subst (λ (p : Parts). Stands b p) (sym c.parts-heap.ensures.whole) s in
-    let shown = is_shown b x.rings x.anonymous x.running x.resets x.hotplug heap seen good in
     let drafted =
-    drafted-is b a x.rings x.anonymous c.in-Some.next x.running x.resets x.hotplug heap c.begin.new.heap c.in-Ok.begun seen good c.in-Some.ensures
-    c.in-Ok.ensures.book
-    (c.in-Ok.ensures.begun b shown) in
+    begun-drafted b a x.rings x.anonymous c.in-Some.next x.running x.resets x.hotplug c.parts-heap.result.0 c.begin.new.heap c.args.self
+    c.parts-heap.ensures.whole s good c.in-Some.ensures c.in-Ok.ensures.book c.in-Ok.begun (c.in-Ok.ensures.begun b) in
     (c.in-Ok.ensures.held, (b, a, drafted))
 
 pub board_of-requires-in-Err : goal.board_of-requires-in-Err
@@ -28,13 +22,10 @@ board_of-requires-in-Err g c =
     let (b, s, good) = c.parts-heap.ensures.good in
     let a = wanted c.args.driver.now (option_map (λ t. t.now) c.args.id) (option_map (λ t. t.now) c.args.bus) c.args.props.now in
     let x = c.parts-heap.result.1 in
-    let heap = c.parts-heap.result.0 in
-    let seen = subst (λ (p : Parts). Stands b p) (sym c.parts-heap.ensures.whole) s in
-    let shown = is_shown b x.rings x.anonymous x.running x.resets x.hotplug heap seen good in
-    let since = since-begun b a x.rings x.anonymous c.in-Some.next x.running x.resets x.hotplug heap heap seen good c.in-Some.ensures (λ out h. h) in
     let barred =
-    begin-barred b a x.rings x.anonymous c.in-Some.next x.running x.resets x.hotplug heap since c.begin.new.heap c.in-Err.ensures.book c.in-Err.refusal
-    (c.in-Err.ensures.refused b shown) (λ m. c.in-Err.ensures.memory b shown (cc m)) in
+    begun-barred b a x.rings x.anonymous c.in-Some.next x.running x.resets x.hotplug c.parts-heap.result.0 c.begin.new.heap c.args.self
+    c.parts-heap.ensures.whole s good c.in-Some.ensures c.in-Err.ensures.book c.in-Err.refusal (c.in-Err.ensures.refused b)
+    (λ shown m. c.in-Err.ensures.memory b shown (cc m)) in
     plugs-good b a (Err c.in-Err.refusal) _ good barred.1
 
 pub returns-in-Ok : goal.returns-in-Ok
@@ -42,23 +33,16 @@ returns-in-Ok g c = λ b s.
     let good = good-of c.args.self c.parts-heap.ensures.good b s in
     let a = wanted c.args.driver.now (option_map (λ t. t.now) c.args.id) (option_map (λ t. t.now) c.args.bus) c.args.props.now in
     let x = c.parts-heap.result.1 in
-    let heap = c.parts-heap.result.0 in
-    let seen = subst (λ (p : Parts). Stands b p) (sym c.parts-heap.ensures.whole) s in
-    let shown = is_shown b x.rings x.anonymous x.running x.resets x.hotplug heap seen good in
-    drafted-is b a x.rings x.anonymous c.in-Some.next x.running x.resets x.hotplug heap c.begin.new.heap c.in-Ok.begun seen good c.in-Some.ensures
-    c.in-Ok.ensures.book
-    (c.in-Ok.ensures.begun b shown)
+    begun-drafted b a x.rings x.anonymous c.in-Some.next x.running x.resets x.hotplug c.parts-heap.result.0 c.begin.new.heap c.args.self
+    c.parts-heap.ensures.whole s good c.in-Some.ensures c.in-Ok.ensures.book c.in-Ok.begun (c.in-Ok.ensures.begun b)
 
 pub returns-in-Err : goal.returns-in-Err
 returns-in-Err g c = λ b s.
     let good = good-of c.args.self c.parts-heap.ensures.good b s in
     let a = wanted c.args.driver.now (option_map (λ t. t.now) c.args.id) (option_map (λ t. t.now) c.args.bus) c.args.props.now in
     let x = c.parts-heap.result.1 in
-    let heap = c.parts-heap.result.0 in
-    let seen = subst (λ (p : Parts). Stands b p) (sym c.parts-heap.ensures.whole) s in
-    let shown = is_shown b x.rings x.anonymous x.running x.resets x.hotplug heap seen good in
-    let since = since-begun b a x.rings x.anonymous c.in-Some.next x.running x.resets x.hotplug heap heap seen good c.in-Some.ensures (λ out h. h) in
     let barred =
-    begin-barred b a x.rings x.anonymous c.in-Some.next x.running x.resets x.hotplug heap since c.begin.new.heap c.in-Err.ensures.book c.in-Err.refusal
-    (c.in-Err.ensures.refused b shown) (λ m. c.in-Err.ensures.memory b shown (cc m)) in
+    begun-barred b a x.rings x.anonymous c.in-Some.next x.running x.resets x.hotplug c.parts-heap.result.0 c.begin.new.heap c.args.self
+    c.parts-heap.ensures.whole s good c.in-Some.ensures c.in-Err.ensures.book c.in-Err.refusal (c.in-Err.ensures.refused b)
+    (λ shown m. c.in-Err.ensures.memory b shown (cc m)) in
     rw c.board_of-in-Err.ensures barred

@@ -3,7 +3,8 @@ use Rattle.std.proofs.Common.{ap, sym, subst, ◌∙◌}
 use Rattle.qo_model.specs.Depth.{among}
 use Rattle.qo_realize.specs.Parts.{Parts, parts_of}
 use Rattle.qo_realize.specs.Stands.{Stands}
-use Rattle.qo_realize.proofs.CompleteLemmas.{completed-sound, completed-stands, is_beside, pinned-once, timely-heap}
+use Rattle.qo_unplug.proofs.DetachLemmas.{once-pinned}
+use Rattle.qo_realize.proofs.CompleteLemmas.{completed-sound, completed-stands, is_beside, timely-heap}
 use Rattle.qo_realize.proofs.SoundLemmas.{good-of}
 use Rattle.qo_realize.proofs.board.Board.complete.Goals as goal
 
@@ -13,7 +14,7 @@ detach-requires-clause-timely g c =
     c.self.invariant.1
 
 pub detach-requires-clause-pins : goal.detach-requires-clause-pins
-detach-requires-clause-pins g c = pinned-once c.self.inside.heap c.self.invariant.0
+detach-requires-clause-pins g c = once-pinned c.self.inside.heap c.self.invariant.0
 
 pub invariant_of-self : goal.invariant_of-self
 invariant_of-self g c =
