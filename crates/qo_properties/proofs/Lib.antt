@@ -13,5 +13,6 @@ pub mod PinLemmas
 pub mod PlanningLemmas
 pub mod ReadLemmas
 pub mod SeverLemmas
+pub mod SlotsLemmas
 pub mod StartLemmas
 pub mod WriteLemmas
