@@ -8,9 +8,11 @@ use qo_values::{TypeId, Val};
 use std::sync::ledger::Ledger;
 
 impl Heap {
-    ghost use Rattle.std.specs.Prelude.{◌≡◌, ◌≢◌, true, false, Err, Some, None, IfSome, OnOk, OnErr, is_some};
-    ghost use Rattle.qo_object.specs.Content.{with_slot};
-    ghost use Rattle.qo_object.specs.Slots.{has_name, target_of};
+    ghost use Rattle.std.specs.Prelude.{◌≡◌, ◌≢◌, ◌≤◌, ◌^◌, true, false, Err, Some, None, IfSome, OnOk, OnErr, filter_map, is_some, length};
+    ghost use Rattle.std.specs.List.{AllByRecursion, IsDistinct};
+    ghost use Rattle.std.specs.Str.{bytes_eq};
+    ghost use Rattle.qo_object.specs.Content.{furnished, with_slot};
+    ghost use Rattle.qo_object.specs.Slots.{has_name, names_of, target_of};
     ghost use Rattle.qo_object.specs.declared.slots.Slot.TheVariants.{Plain, Child, Link, Alias};
     ghost use Rattle.qo_table.specs.Rows.{IsLive};
     ghost use Rattle.qo_heap.specs.Objects.{parent_of, slots_of, with_edit};
@@ -127,5 +129,22 @@ impl Heap {
         ensures err { OnErr result (self.new ≡ self.old) }
     {
         self.add(o, name, Slot::Alias(target, of), steps)
+    }
+
+    /// Gives an object these slots, whose names differ, in the place of its own. What they name must
+    /// be there. It takes no memory.
+    pub fn furnish<L: Ledger>(
+        &mut self,
+        o: Oid,
+        slots: Vec<(SlotName, Slot)>,
+        steps: &mut Steps<L>,
+    )
+        requires live { IsLive self.old.rows o }
+        requires targets { AllByRecursion (IsLive self.old.rows) (filter_map (λ s. target_of s.1) slots.items) }
+        requires differ { IsDistinct bytes_eq (names_of slots.items) }
+        requires few { length slots.items ≤ 2 ^ 32 }
+        ensures { self.new ≡ with_edit o.birth (furnished slots.items) self.old }
+    {
+        self.table.change(o, steps).furnish(slots);
     }
 }

@@ -44,6 +44,10 @@ HasNoClaim c = IsBare c.body × (c.device_id ≡ None)
 abbrev pub with_slot : List ℕ → Slot → Content → Content
 with_slot name slot c = record c { slots = c.slots ++ (name, slot) ∷ [] }
 
+-- an object with these slots in the place of its own
+abbrev pub furnished : List (List ℕ × Slot) → Content → Content
+furnished slots c = record c { slots = slots }
+
 -- the object that the slot at a place names; none past the end
 abbrev pub named_at : Content → ℕ → Option Key
 named_at c i = named_in c.slots i

@@ -55,6 +55,14 @@ impl SlotMap {
         }
     }
 
+    /// The slots of a vector, whose names differ. It takes no memory.
+    pub fn from_vec(slots: Vec<(SlotName, Slot)>) -> SlotMap
+        requires { IsDistinct bytes_eq (names_of slots.items) }
+        ensures { result ≡ slots.items }
+    {
+        SlotMap { slots, index: None }
+    }
+
     /// How many there are.
     pub fn len(&self) -> usize
         ensures { result ≡ length self.now }

@@ -76,12 +76,13 @@ impl Drop for Object {
 
 impl Object {
     ghost use Rattle.std.specs.Prelude.{◌≡◌, ◌<◌, ◌≤◌, ◌^◌, ◌==◌, true, false, None, IfSome, OnOk, OnErr, length, position, slice_get, option_map};
+    ghost use Rattle.std.specs.List.{IsDistinct};
     ghost use Rattle.std.specs.Str.{bytes_eq};
     ghost use Rattle.std.specs.Borrow.{sem};
     ghost use Rattle.qo_kinds.specs.Bodies.{MayAct, kept_of};
     ghost use Rattle.qo_object.specs.Lends.{lends_body};
-    ghost use Rattle.qo_object.specs.Slots.{has_name, names_child};
-    ghost use Rattle.qo_object.specs.Content.{IsObject, acted_at, fresh, with_id, with_path, with_slot, named_at, dropped_at, empty_link_at, pointed_at, set_at, cut_at, with_pin, without_pin, forgotten, holding, is_holder, is_parent, held_count};
+    ghost use Rattle.qo_object.specs.Slots.{has_name, names_child, names_of};
+    ghost use Rattle.qo_object.specs.Content.{IsObject, acted_at, fresh, with_id, with_path, with_slot, furnished, named_at, dropped_at, empty_link_at, pointed_at, set_at, cut_at, with_pin, without_pin, forgotten, holding, is_holder, is_parent, held_count};
     ghost use Rattle.qo_object.specs.declared.errors.AddError.TheVariants.{Duplicate, Memory};
 
     /// An object of a type, without slots, pinned once. It takes no memory.
@@ -220,6 +221,15 @@ impl Object {
         } else {
             Err(AddError::Duplicate)
         }
+    }
+
+    /// Gives it these slots, whose names differ, in the place of its own. It takes no memory.
+    pub fn furnish(&mut self, slots: Vec<(SlotName, Slot)>)
+        requires differ { IsDistinct bytes_eq (names_of slots.items) }
+        requires few { length slots.items ≤ 2 ^ 32 }
+        ensures { self.new ≡ furnished slots.items self.old }
+    {
+        self.slots = SlotMap::from_vec(slots);
     }
 
     /// Lets the slot at a place go, and answers the object that it named: a child slot is removed, a

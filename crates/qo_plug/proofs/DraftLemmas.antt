@@ -30,12 +30,11 @@ use Rattle.qo_object.specs.Shown.{shown_slot}
 use Rattle.qo_object.specs.Slots.{Named}
 use Rattle.qo_heap.specs.Board.{Shows, pins_in, record_of}
 use Rattle.qo_heap.specs.Objects.{IsHeap, Objects, content_of, slots_of, with_edit}
-use Rattle.qo_heap.proofs.HeapLemmas.{edit-same}
 use Rattle.qo_heap.proofs.ShowsLive.{content-edited, live-content}
 use Rattle.qo_heap.proofs.ShowsChanges.{shows-added, shows-made}
 use Rattle.qo_properties.specs.Adding.{IsChild, given_up, with_newest}
 use Rattle.qo_properties.specs.Fresh.{begun, first_slots, new_slots, slot_begun, with_slots}
-use Rattle.qo_properties.proofs.AddLemmas.{all-first, child-settled, newest-beside, newest-content, newest-live, shows-tried}
+use Rattle.qo_properties.proofs.AddLemmas.{all-first, child-unpinned, newest-beside, newest-content, newest-live, shows-tried}
 use Rattle.qo_properties.proofs.FreshLemmas.{RowAt, new-shown, past, row-at, with-none}
 use Rattle.qo_plug.specs.Drafts.{Fell, Grows, IsDraft, Makes, bare, created, held_draft, stopped, unjoined, is_own, own_slots, own_slots_of}
 use Rattle.qo_plug.proofs.GrowsLemmas.{fresh-quiet, grows-edit, grows-newest, grows-none, grows-then, live-low, row-before}
@@ -141,9 +140,9 @@ shows-new c v s o t birth =
     pins-last [] = refl
     pins-last (row ∷ rows) = ap (λ (l : List ℕ). replicate row.1.pins row.0.birth ++ l) (pins-last rows)
 
-module _ {v w : Objects} {o parent : Key} {name : List ℕ} {t : TypeId} (good : IsHeap v) (live : IsLive v.rows parent) (made : IsChild v w o parent name t) (x : Objects) (unpinned : x ≡ with_edit o.birth without_pin w) where
+module _ {v w : Objects} {o parent : Key} {name : List ℕ} {t : TypeId} (good : IsHeap v) (live : IsLive v.rows parent) (made : IsChild v w o parent name t (new_slots t)) (x : Objects) (unpinned : x ≡ with_edit o.birth without_pin w) where
   kid-is : x ≡ with_newest o (as_made t (new_slots t) 0) (with_edit parent.birth (with_slot name (Child o)) v)
-  kid-is = child-settled good made w x [] (sym (edit-same o.birth w)) unpinned
+  kid-is = child-unpinned good made x unpinned
 
   pub kid-shown : (c : Board) → Shows c v → Shows (with_kid parent.birth name t c) x
   kid-shown c s =

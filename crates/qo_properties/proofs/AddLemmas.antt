@@ -23,17 +23,16 @@ use Rattle.qo_model.specs.RowNames.{property_name}
 use Rattle.qo_model.specs.declared.properties.Property.{Property}
 use Rattle.qo_model.specs.declared.properties.RowKind.{RowKind}
 use Rattle.qo_model.specs.declared.properties.RowKind.TheVariants as row
-use Rattle.qo_properties.specs.Fresh.{first_slots, new_slots, slot_begun, with_slots}
+use Rattle.qo_properties.specs.Fresh.{first_slots, new_slots, slot_begun}
 use Rattle.qo_model.specs.Objects.{Given, given_slots, with_attempt, with_object}
 use Rattle.qo_notes.proofs.Logs.{all_lem}
-use Rattle.qo_object.specs.Content.{Content, fresh, held_count, holding, with_slot, without_pin, as_made}
+use Rattle.qo_object.specs.Content.{Content, fresh, furnished, held_count, holding, with_slot, without_pin, as_made}
 use Rattle.qo_object.specs.Slots.{Named, forgotten_in, held, holds, is_born, target_of}
 use Rattle.qo_object.specs.declared.slots.Slot.{Slot}
 use Rattle.qo_object.specs.declared.slots.Slot.TheVariants.{Plain, Child, Link, Alias}
 use Rattle.qo_object.specs.Shown.{shown_slots}
 use Rattle.std.proofs.lemmas.List.{map-append}
 use Rattle.qo_heap.specs.Board.{Shows, pins_in, record_of}
-use Rattle.qo_heap.specs.Objects as heap
 use Rattle.qo_heap.proofs.HeapLemmas.{live-edit}
 use Rattle.qo_heap.proofs.ShowsChanges.{shows-added}
 use Rattle.qo_heap.specs.Objects.{IsHeap, Objects, content_of, ended, final_notes, forgets, pins_of, refs_of, targets, with_edit}
@@ -42,9 +41,6 @@ use Rattle.std.proofs.lemmas.Option.{same_Some}
 use Rattle.qo_notes.specs.Log.{IsLogOf, empty_log, noted_all}
 use Rattle.qo_life.specs.Life.{init_notes, with_log}
 use Rattle.qo_life.proofs.TreeLemmas.{tree, tree-shows}
-use Rattle.qo_properties.specs.declared.adding.filling.Fill.{Fill}
-use Rattle.qo_properties.specs.Filling.{filled, with_filled}
-use Rattle.qo_properties.proofs.FillingLemmas.{edit-twice}
 use Rattle.qo_properties.specs.Adding.{IsChild, IsTried, given_up, with_child, with_newest}
 
 -- a pin taken from an object that nothing else holds
@@ -186,7 +182,7 @@ module _ (o : Key) (c : Content) where
   row-newest [] all = rw own refl
   row-newest (row ∷ rows) all = rw all.0 (row-newest rows all.1)
 
-  edit-newest : (f : Content → Content) (rows : List (Key × Content)) → Others o.birth rows → edit o.birth f (rows ++ (o, c) ∷ []) ≡ rows ++ (o, f c) ∷ []
+  pub edit-newest : (f : Content → Content) (rows : List (Key × Content)) → Others o.birth rows → edit o.birth f (rows ++ (o, c) ∷ []) ≡ rows ++ (o, f c) ∷ []
   edit-newest f [] all = rw own refl
   edit-newest f (row ∷ rows) all = rw all.0 (ap (λ (l : List (Key × Content)). row ∷ l) (edit-newest f rows all.1))
 
@@ -269,14 +265,7 @@ row-more (r ∷ rows) row key live = go (eqb r.0.birth key.birth) refl (row-more
 pub newest-keeps : (v w : Objects) (o : Key) (c : Content) → w ≡ with_newest o c v → (key : Key) → IsLive v.rows key → IsLive w.rows key
 newest-keeps v w o c is key live = subst (λ (x : Objects). IsLive x.rows key) (sym is) (row-more v.rows (o, c) key live)
 
--- the newest object changed, and another changed
-
-pub newest-edited : (v w u : Objects) (o : Key) (c : Content) (f : Content → Content) → IsHeap v → o.birth ≡ v.born + 1 → w ≡ with_newest o c v → u ≡ with_edit o.birth f w → (f c).kind ≡ c.kind → u ≡ with_newest o (f c) v
-newest-edited v w u o c f good birth is change same =
-    let rows = edit-newest o c f v.rows (others o.birth v.rows (apart-from v o.birth (omega (arith, birth)) good)) in
-    change
-    ∙ ap (λ (x : Objects). with_edit o.birth f x) is
-    ∙ (λ j. record v { rows = rows j; born = v.born + 1; log = noted_all (init_notes o.birth (sym same j)) v.log })
+-- another than the newest changed
 
 edit-more : (m : ℕ) (f : Content → Content) (rows : List (Key × Content)) (row : Key × Content) → eqb row.0.birth m ≡ false → edit m f (rows ++ row ∷ []) ≡ edit m f rows ++ row ∷ []
 edit-more m f [] row other = rw other refl
@@ -320,21 +309,31 @@ all-first t = ap (filter_map (slot_begun t)) (go (slots_of t))
     go [] = refl
     go (p ∷ ps) = ap (λ (l : List Property). p ∷ l) (go ps)
 
--- what is made of a new object
+-- a new object that became a child is given its slots
 
-pub failed-furnish : (v w u : Objects) (o : Key) (t : TypeId) → IsHeap v → o.birth ≡ v.born + 1 → w ≡ with_newest o (fresh t) v → (k : ℕ) → u ≡ with_edit o.birth (with_slots (first_slots k t)) w → u ≡ with_newest o (with_slots (first_slots k t) (fresh t)) v
-failed-furnish v w u o t good birth is k change = newest-edited v w u o (fresh t) (with_slots (first_slots k t)) good birth is change refl
+pub furnished-child : (v w u x : Objects) (o parent : Key) (name : List ℕ) (t : TypeId) (slots : List Named) → IsHeap v → o.birth ≡ v.born + 1
+    → IsLive v.rows parent → w ≡ with_newest o (fresh t) v → u ≡ with_edit parent.birth (with_slot name (Child o)) w
+    → x ≡ with_edit o.birth (furnished slots) u → x ≡ with_child parent.birth name o t slots v
+furnished-child v w u x o parent name t slots good birth live is child furnish =
+    let beside : Objects = with_edit parent.birth (with_slot name (Child o)) v in
+    let mid : u ≡ with_newest o (fresh t) beside = newest-beside v w u o parent (fresh t) (with_slot name (Child o)) good birth live is child in
+    let alone : Others o.birth beside.rows =
+    others-edited o.birth parent.birth (with_slot name (Child o)) v.rows (others o.birth v.rows (apart-from v o.birth (omega (arith, birth)) good)) in
+    let rows = edit-newest o (fresh t) (furnished slots) beside.rows alone in
+    furnish
+    ∙ ap (λ (y : Objects). with_edit o.birth (furnished slots) y) mid
+    ∙ (λ j. record v { rows = rows j; born = v.born + 1; log = noted_all (init_notes o.birth t) v.log })
 
-pub done-furnish : (v w u : Objects) (o parent : Key) (name : List ℕ) (t : TypeId) → IsHeap v → o.birth ≡ v.born + 1 → IsLive v.rows parent → w ≡ with_newest o (fresh t) v → u ≡ with_edit parent.birth (with_slot name (Child o)) (with_edit o.birth (with_slots (new_slots t)) w) → u ≡ with_child parent.birth name o t (new_slots t) v
-done-furnish v w u o parent name t good birth live is change =
-    let slots = newest-edited v w (with_edit o.birth (with_slots (new_slots t)) w) o (fresh t) (with_slots (new_slots t)) good birth is refl refl in
-    newest-beside v (with_edit o.birth (with_slots (new_slots t)) w) u o parent (with_slots (new_slots t) (fresh t)) (with_slot name (Child o)) good birth live slots change
+pub beside-live : (v w u : Objects) (o : Key) (c : Content) (n : ℕ) (f : Content → Content) → w ≡ with_newest o c v → u ≡ with_edit n f w → (key : Key)
+    → IsLive v.rows key → IsLive u.rows key
+beside-live v w u o c n f is change key live =
+    subst (λ (x : Objects). IsLive x.rows key) (sym change) (live-edit n f w.rows key (newest-keeps v w o c is key live))
 
 -- the newest object as a child
 
-module _ {v w : Objects} {o parent : Key} {name : List ℕ} {t : TypeId} (good : IsHeap v) (made : IsChild v w o parent name t) where
+module _ {v w : Objects} {o parent : Key} {name : List ℕ} {t : TypeId} {slots : List Named} (good : IsHeap v) (made : IsChild v w o parent name t slots) where
   abbrev begun : Content
-  begun = as_made t (new_slots t) 1
+  begun = as_made t slots 1
 
   abbrev beside : Objects
   beside = with_edit parent.birth (with_slot name (Child o)) v
@@ -351,27 +350,15 @@ module _ {v w : Objects} {o parent : Key} {name : List ℕ} {t : TypeId} (good :
   pub child-live : IsLive w.rows o
   child-live = subst (λ (x : Option (Key × Content)). IsSomeAnd x (λ r. r.0.index ≡ o.index)) (sym child-row) refl
 
-  pub child-slots : heap.slots_of w o.birth ≡ new_slots t
-  child-slots = ap (λ (x : Option Content). option_map_or (λ (d : Content). d.slots) x []) child-content
+  pub child-pinned : pins_of w o.birth ≡ 1
+  child-pinned = ap (λ (x : Option Content). option_map_or (λ (d : Content). d.pins) x 0) child-content
 
-  pub child-keeps : (key : Key) → IsLive v.rows key → IsLive w.rows key
-  child-keeps key live = subst (λ (x : Objects). IsLive x.rows key) (sym made.is) (row-more beside.rows (o, begun) key (live-edit parent.birth (with_slot name (Child o)) v.rows key live))
-
-  pub child-pins : (u : Objects) (f : Content → Content) → (f begun).pins ≡ 1 → u ≡ with_edit o.birth f w → pins_of u o.birth ≡ 1
-  child-pins u f one change =
-      ap (λ (x : Objects). pins_of x o.birth) change
-      ∙ ap (λ (x : Option Content). option_map_or (λ (d : Content). d.pins) x 0) (content-edited w o.birth f ∙ ap (option_map f) child-content)
-      ∙ one
-
-  -- it is filled, and its pin is taken away
-  pub child-settled : (u x : Objects) (plan : List Fill) → u ≡ with_edit o.birth (with_filled 0 plan) w → x ≡ with_edit o.birth without_pin u → x ≡ with_newest o (as_made t (filled plan (new_slots t)) 0) beside
-  child-settled u x plan fill unpin =
-      let f : Content → Content = λ c. without_pin (with_filled 0 plan c) in
-      let rows = edit-newest o begun f beside.rows child-others in
+  -- its pin is taken away
+  pub child-unpinned : (x : Objects) → x ≡ with_edit o.birth without_pin w → x ≡ with_newest o (as_made t slots 0) beside
+  child-unpinned x unpin =
+      let rows = edit-newest o begun without_pin beside.rows child-others in
       unpin
-      ∙ ap (λ (y : Objects). with_edit o.birth without_pin y) fill
-      ∙ edit-twice o.birth without_pin (with_filled 0 plan) f (λ c. refl) w
-      ∙ ap (λ (y : Objects). with_edit o.birth f y) made.is
+      ∙ ap (λ (y : Objects). with_edit o.birth without_pin y) made.is
       ∙ (λ j. record v { rows = rows j; born = v.born + 1; log = noted_all (init_notes o.birth t) v.log })
 
 -- an object that nothing pins adds no pin

@@ -1,5 +1,5 @@
 -- The slots of a new object, row by row.
-use Rattle.std.proofs.Common.{◌≡◌, refl, ap, sym, ◌∙◌, ℕ, ◌+◌, ◌<◌, ◌≤◌, Bool, true, false, eqb, List, [], ◌∷◌, ◌++◌, length, take, filter_map, slice_get, get_or, ◌⊎◌, inl, inr, Option, Some, None, option_map, option_to_list, append_assoc, append-nil, arith}
+use Rattle.std.proofs.Common.{◌≡◌, refl, ap, sym, ◌∙◌, ℕ, ◌+◌, ◌<◌, ◌≤◌, Bool, true, false, eqb, List, [], ◌∷◌, ◌++◌, length, take, filter_map, slice_get, get_or, ◌⊎◌, inl, inr, Option, Some, None, option_map, option_to_list, append-nil, arith}
 use Rattle.std.specs.List.{cons_option}
 use Rattle.std.proofs.lemmas.List.{map-append, take_more}
 use Rattle.std.proofs.lemmas.Option.{get_or_from_slice_get, slice_get_cases}
@@ -35,19 +35,8 @@ module _ (n : ℕ) where
       go true is rest = rw is (λ j. (row.0, record row.1 { slots = append-nil row.1.slots j }) ∷ rest j)
       go false is rest = rw is (ap (λ (l : List (Key × Content)). row ∷ l) rest)
 
-  edit-more : (xs ys : List Named) (rows : List (Key × Content)) → edit n (with_slots ys) (edit n (with_slots xs) rows) ≡ edit n (with_slots (xs ++ ys)) rows
-  edit-more xs ys [] = refl
-  edit-more xs ys (row ∷ rows) = go (eqb row.0.birth n) refl (edit-more xs ys rows)
-    where
-      go : (b : Bool) → eqb row.0.birth n ≡ b → edit n (with_slots ys) (edit n (with_slots xs) rows) ≡ edit n (with_slots (xs ++ ys)) rows → edit n (with_slots ys) (edit n (with_slots xs) (row ∷ rows)) ≡ edit n (with_slots (xs ++ ys)) (row ∷ rows)
-      go true is rest = rw (is, is) (λ j. (row.0, record row.1 { slots = append_assoc row.1.slots xs ys j }) ∷ rest j)
-      go false is rest = rw (is, is) (ap (λ (l : List (Key × Content)). row ∷ l) rest)
-
   pub with-none : (v : Objects) → v ≡ with_edit n (with_slots []) v
   with-none v = ap (λ (rows : List (Key × Content)). record v { rows = rows }) (sym (edit-none v.rows))
-
-  pub with-more : (xs ys : List Named) (v : Objects) → with_edit n (with_slots ys) (with_edit n (with_slots xs) v) ≡ with_edit n (with_slots (xs ++ ys)) v
-  with-more xs ys v = ap (λ (rows : List (Key × Content)). record v { rows = rows }) (edit-more xs ys v.rows)
 
 -- the slots of the first properties, one by one
 

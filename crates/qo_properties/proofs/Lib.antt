@@ -14,5 +14,6 @@ pub mod PlannedLemmas
 pub mod PlanningLemmas
 pub mod ReadLemmas
 pub mod SeverLemmas
+pub mod SlotsLemmas
 pub mod StartLemmas
 pub mod WriteLemmas

@@ -101,11 +101,6 @@ module _ {X Y : Type 0} (R : X → Y → Type 0) where
   zip-same x is (y ∷ ys) = (is y, zip-same x is ys)
 
 module _ {X : Type 0} (P : X → Type 0) where
-  pub all-set : (xs : List X) (i : ℕ) (x : X) → P x → AllByRecursion P xs → AllByRecursion P (set xs i x)
-  all-set [] i x is all = tt
-  all-set (w ∷ xs) zero x is all = (is, all.1)
-  all-set (w ∷ xs) (suc i) x is all = (all.0, all-set xs i x is all.1)
-
   pub all-same : {Y : Type 0} (x : X) → P x → (ys : List Y) → AllByRecursion P (map (λ (y : Y). x) ys)
   all-same x is [] = tt
   all-same x is (y ∷ ys) = (is, all-same x is ys)
@@ -206,7 +201,7 @@ none-before given i p rise below at =
 
 -- a row more
 
-fewer : {X Y : Type 0} (f : X → Option Y) (xs : List X) → length (filter_map f xs) ≤ length xs
+pub fewer : {X Y : Type 0} (f : X → Option Y) (xs : List X) → length (filter_map f xs) ≤ length xs
 fewer f [] = omega arith
 fewer {Y = Y} f (x ∷ xs) = by (f x) (fewer f xs)
   where

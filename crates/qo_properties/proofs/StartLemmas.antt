@@ -17,7 +17,7 @@ use Rattle.qo_model.specs.Types.{types}
 use Rattle.qo_notes.proofs.Logs.{none_lem}
 use Rattle.qo_object.specs.declared.slots.Slot.TheVariants.{Child}
 use Rattle.qo_object.specs.Slots.{Named}
-use Rattle.qo_object.specs.Content.{Content, fresh, with_slot, as_made}
+use Rattle.qo_object.specs.Content.{Content, fresh, furnished, with_slot, as_made}
 use Rattle.qo_object.specs.Content as content
 use Rattle.qo_heap.specs.Board.{Shows}
 use Rattle.qo_heap.specs.Objects.{IsHeap, Objects, content_of, pins_of, slots_of, with_edit, no_objects_made}
@@ -27,6 +27,7 @@ use Rattle.qo_heap.proofs.ShowsChanges.{shows-made, shows-added}
 use Rattle.qo_heap.proofs.ShowsEdits.{shows-without_pin}
 use Rattle.qo_heap.proofs.ShowsLive.{content-edited, content-other}
 use Rattle.qo_properties.specs.Fresh.{new_slots, with_slots}
+use Rattle.qo_properties.proofs.AddLemmas.{apart-from, edit-newest, others}
 use Rattle.qo_properties.proofs.ClaimLemmas.{more-keeps}
 use Rattle.qo_properties.specs.Start.{IsMade, no_objects, with_new, with_new_child, with_all}
 
@@ -107,6 +108,14 @@ module _ (v : Objects) (good : IsHeap v) (key : Key) (kind : TypeId) (birth : ke
         names = λ k live. live-edit key.birth (with_slots (new_slots kind)) (made_in v key kind).rows k (live-more v.rows ((key, fresh kind) ∷ []) k live);
         book = λ out h. book-edit out (made_in v key kind) key.birth (with_slots (new_slots kind)) (λ c. refl) (more-keeps v key (fresh kind) (v.born + 1) v.log (fresh-bare kind) refl out h);
       }
+
+  -- it is given its slots
+  pub begun-in : (w u : Objects) → w ≡ made_in v key kind → u ≡ with_edit key.birth (furnished (new_slots kind)) w
+      → u ≡ with_edit key.birth (with_slots (new_slots kind)) (made_in v key kind)
+  begun-in w u is change =
+      let alone = others key.birth v.rows (apart-from v key.birth (omega (arith, birth)) good) in
+      let same = edit-newest key (fresh kind) (furnished (new_slots kind)) v.rows alone ∙ sym (edit-newest key (fresh kind) (with_slots (new_slots kind)) v.rows alone) in
+      change ∙ ap (λ (x : Objects). with_edit key.birth (furnished (new_slots kind)) x) is ∙ (λ j. record (made_in v key kind) { rows = same j })
 
   pub shows-new : (b : board.Board) → Shows b v → (w : Objects) → (Shows (make kind b) (made_in v key kind) → Shows (with_fresh_slots key.birth kind (make kind b)) w) → Shows (with_new kind b) w
   shows-new b s w then =

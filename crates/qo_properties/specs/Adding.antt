@@ -13,7 +13,6 @@ use Rattle.qo_properties.specs.declared.refusals.Refusal.{Refusal}
 use Rattle.qo_properties.specs.declared.refusals.Refusal.TheVariants.{Refused, Memory}
 use Rattle.qo_heap.specs.Objects.{Objects, final_notes, with_edit}
 use Rattle.qo_life.specs.Life.{init_notes}
-use Rattle.qo_properties.specs.Fresh.{new_slots}
 
 -- a heap with an object more, the newest
 abbrev pub with_newest : Key → Content → Objects → Objects
@@ -23,10 +22,10 @@ with_newest o c v = record v { rows = v.rows ++ (o, c) ∷ []; born = v.born + 1
 abbrev pub with_child : ℕ → List ℕ → Key → TypeId → List Named → Objects → Objects
 with_child n name o kind slots v = with_newest o (as_made kind slots 1) (with_edit n (with_slot name (Child o)) v)
 
--- an object of a type was made as a child of another, with its first slots
-pub record IsChild (v w : Objects) (o parent : Key) (name : List ℕ) (kind : TypeId) : Type 0 where
+-- an object of a type was made as a child of another, with these slots
+pub record IsChild (v w : Objects) (o parent : Key) (name : List ℕ) (kind : TypeId) (slots : List Named) : Type 0 where
   pub birth : o.birth ≡ v.born + 1
-  pub is : w ≡ with_child parent.birth name o kind (new_slots kind) v
+  pub is : w ≡ with_child parent.birth name o kind slots v
 
 -- the heap behind an attempt that was given up: the object was made and ended
 abbrev pub given_up : TypeId → Objects → Objects

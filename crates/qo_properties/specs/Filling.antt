@@ -1,5 +1,5 @@
 -- What the slots of a new object are filled with.
-use Rattle.std.specs.Prelude.{◌≡◌, ℕ, zero, suc, Bool, true, List, [], ◌∷◌, Option, Some, None}
+use Rattle.std.specs.Prelude.{◌≡◌, ℕ, Bool, true, List, [], ◌∷◌, Option, Some, None}
 use Rattle.qo_values.specs.declared.properties.Val.{Val}
 use Rattle.qo_slots.specs.declared.keys.Key.{Key}
 use Rattle.qo_model.specs.Board.{Board}
@@ -21,20 +21,11 @@ filled_with (fill.Target key) s = pointed key s
 abbrev pub filled_at : Fill → ℕ → Content → Content
 filled_at f i c = record c { slots = changed_at (filled_with f) i c.slots }
 
--- slots that are filled in order, and from a place on
+-- slots that are filled in order, as far as something is planned
 abbrev pub filled : List Fill → List Named → List Named
 filled [] slots = slots
 filled (f ∷ fs) [] = []
 filled (f ∷ fs) (s ∷ slots) = (s.0, filled_with f s.1) ∷ filled fs slots
-
-abbrev pub filled_from : ℕ → List Fill → List Named → List Named
-filled_from zero fs slots = filled fs slots
-filled_from (suc k) fs [] = []
-filled_from (suc k) fs (s ∷ slots) = s ∷ filled_from k fs slots
-
--- an object whose slots are filled from a place on
-abbrev pub with_filled : ℕ → List Fill → Content → Content
-with_filled k fs c = record c { slots = filled_from k fs c.slots }
 
 -- what is to be the target of a link
 abbrev pub target_in : Fill → Option Key

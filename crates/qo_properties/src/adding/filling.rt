@@ -1,7 +1,7 @@
 //! Filling the slots of a new object with what was given. What is to stand in each slot is settled
 //! before the object is made, so that it takes no memory behind that.
 
-ghost use Rattle.std.specs.Prelude.{◌≡◌, Bool, true, Some, None, ◌++◌, find, is_some, option_map, option_to_list, IfOk, IfSome, OnOk, List};
+ghost use Rattle.std.specs.Prelude.{◌≡◌, Bool, true, None, ◌++◌, find, is_some, option_map, option_to_list, IfOk, IfSome, OnOk, List};
 ghost use Rattle.std.specs.List.{AllByRecursion, AllZip};
 ghost use Rattle.std.specs.Str.{bytes_eq};
 ghost use Rattle.qo_values.specs.declared.kinds.TypeId.{TypeId};
@@ -11,9 +11,8 @@ ghost use Rattle.qo_object.specs.declared.slots.Slot.TheVariants.{Link};
 ghost use Rattle.qo_object.specs.Slots.{Named};
 ghost use Rattle.qo_table.specs.Rows.{IsLive};
 ghost use Rattle.qo_heap.specs.Board.{Shows};
-ghost use Rattle.qo_heap.specs.Objects.{content_of, slots_of, with_edit};
 ghost use Rattle.qo_properties.specs.Fresh.{begun, new_slots, slot_begun};
-ghost use Rattle.qo_properties.specs.Filling.{Fits, HasValue, IsGiven, filled_at, fits, fits_at, target_in, with_filled};
+ghost use Rattle.qo_properties.specs.Filling.{Fits, HasValue, IsGiven, fits, target_in};
 
 use crate::adding::given::{given_val, linked_to};
 use crate::reading::values::copy_of;
@@ -144,30 +143,4 @@ pub fn plan_of<L: Ledger>(
         place += 1;
     }
     Ok(plan)
-}
-
-/// Fills the slot of an object at a place.
-fn fill_at<L: Ledger>(heap: &mut Heap, o: Oid, at: usize, fill: Fill, steps: &mut Steps<L>)
-    requires live { IsLive heap.old.rows o }
-    requires target { IfSome (target_in fill) (IsLive heap.old.rows) }
-    requires fits { option_map (λ c. fits_at fill c at) (content_of heap.old o.birth) ≡ Some true }
-    ensures { heap.new ≡ with_edit o.birth (filled_at fill at) heap.old }
-{
-    match fill {
-        Fill::Nothing => {}
-        Fill::Value(val) => heap.set(o, at, val, steps),
-        Fill::Target(target) => heap.point(o, at, target, steps),
-    }
-}
-
-/// Fills the slots of an object as they are planned. It takes no memory.
-pub fn settle<L: Ledger>(heap: &mut Heap, o: Oid, mut plan: Vec<Fill>, steps: &mut Steps<L>)
-    requires live { IsLive heap.old.rows o }
-    requires targets { AllByRecursion (λ f. IfSome (target_in f) (IsLive heap.old.rows)) plan.items }
-    requires fits { AllZip Fits plan.items (slots_of heap.old o.birth) }
-    ensures { heap.new ≡ with_edit o.birth (with_filled 0 plan.items) heap.old }
-{
-    while let Some(fill) = plan.pop() {
-        fill_at(heap, o, plan.len(), fill, steps);
-    }
 }

@@ -1,27 +1,27 @@
 //! Making users' objects.
 
-ghost use Rattle.std.specs.Prelude.{◌≡◌, ℕ, ◌+◌, Some, option_map, IfOk, IfSome, OnOk, OnErr, List};
-ghost use Rattle.std.specs.List.{AllByRecursion, AllZip};
+ghost use Rattle.std.specs.Prelude.{◌≡◌, ◌≤◌, ◌^◌, Some, filter_map, length, option_map, IfOk, IfSome, OnOk, OnErr, List};
+ghost use Rattle.std.specs.List.{AllByRecursion, AllZip, IsDistinct};
+ghost use Rattle.std.specs.Str.{bytes_eq};
 ghost use Rattle.qo_values.specs.declared.births.TheConstants.{OBJECTS_BIRTH};
 ghost use Rattle.qo_table.specs.Rows.{IsLive};
 ghost use Rattle.qo_model.specs.Board.{Board};
 ghost use Rattle.qo_model.specs.Objects.{Given, with_object};
-ghost use Rattle.qo_object.specs.Content.{held_count, with_slot, without_pin};
-ghost use Rattle.qo_object.specs.Slots.{Named};
-ghost use Rattle.qo_object.specs.declared.slots.Slot.TheVariants.{Child};
+ghost use Rattle.qo_object.specs.Content.{held_count, without_pin};
+ghost use Rattle.qo_object.specs.Slots.{names_of, target_of};
 ghost use Rattle.qo_heap.specs.Board.{Shows, pins_in};
 ghost use Rattle.qo_heap.specs.Objects.{content_of, ended, pins_of, refs_of, with_edit};
 ghost use Rattle.qo_properties.specs.Adding.{Adds, IsChild, IsTried, given_up};
 ghost use Rattle.qo_properties.specs.Claims.{KeepsBook};
 ghost use Rattle.qo_properties.specs.Filling.{Fits, IsGiven, target_in};
-ghost use Rattle.qo_properties.specs.Fresh.{first_slots, new_slots, with_slots};
+ghost use Rattle.qo_properties.specs.Fresh.{new_slots};
 
 use crate::adding::barring::{Admitted, admit};
-use crate::adding::filling::{Fill, settle};
-use crate::adding::fresh::add_fresh_slots;
+use crate::adding::filling::Fill;
+use crate::adding::fresh::planned_slots;
 use crate::adding::planning::plan;
 use crate::refusals::Refusal;
-use qo_heap::{Heap, Oid, SlotName, Steps};
+use qo_heap::{Heap, Oid, Slot, SlotName, Steps};
 use qo_life::create;
 use qo_values::{PropList, TypeId};
 use std::alloc::{AllocError, Global};
@@ -55,25 +55,37 @@ pub fn attempt<L: Ledger>(
     Ok(())
 }
 
-/// Gives a new object its first slots, and makes it the child of another. An error leaves the
-/// object with the slots of its first properties alone.
-fn furnish<L: Ledger>(
+/// Makes an object of a type with these slots, whose names differ, as a child of another. It gets them
+/// once it is a child, which takes no memory, so that where memory wants, it holds nothing: the heap is
+/// as it was, or the object was made and ended.
+fn make_with<L: Ledger>(
     heap: &mut Heap,
     parent: Oid,
     name: SlotName,
-    o: Oid,
     kind: TypeId,
+    slots: Vec<(SlotName, Slot)>,
     alloc: Global,
     steps: &mut Steps<L>,
-) -> Result<(), AllocError>
+) -> Result<Oid, AllocError>
     requires parent { IsLive heap.old.rows parent }
-    requires live { IsLive heap.old.rows o }
-    ensures ok { OnOk result (heap.new ≡ with_edit parent.birth (with_slot name (Child o)) (with_edit o.birth (with_slots (new_slots kind)) heap.old)) }
-    ensures err { OnErr result ((k : ℕ) × (heap.new ≡ with_edit o.birth (with_slots (first_slots k kind)) heap.old)) }
+    requires targets { AllByRecursion (IsLive heap.old.rows) (filter_map (λ s. target_of s.1) slots.items) }
+    requires differ { IsDistinct bytes_eq (names_of slots.items) }
+    requires few { length slots.items ≤ 2 ^ 32 }
+    ensures made { IfOk result (λ o. IsChild heap.old heap.new o parent name kind slots.items) }
+    ensures err { OnErr result (IsTried kind heap.old heap.new) }
 {
-    add_fresh_slots(heap, o, kind, alloc, steps)?;
-    heap.add_child(parent, name, o, steps)?;
-    Ok(())
+    heap.facts();
+    let o = create(heap, alloc, kind, steps)?;
+    match heap.add_child(parent, name, o, steps) {
+        Ok(()) => {
+            heap.furnish(o, slots, steps);
+            Ok(o)
+        }
+        Err(_) => {
+            give_up(heap, o, steps);
+            Err(AllocError)
+        }
+    }
 }
 
 /// Makes an object of a type with its first slots, as a child of another. Where memory wants, the
@@ -87,18 +99,11 @@ pub fn make_child<L: Ledger>(
     steps: &mut Steps<L>,
 ) -> Result<Oid, AllocError>
     requires { IsLive heap.old.rows parent }
-    ensures made { IfOk result (λ o. IsChild heap.old heap.new o parent name kind) }
+    ensures made { IfOk result (λ o. IsChild heap.old heap.new o parent name kind (new_slots kind)) }
     ensures err { OnErr result (IsTried kind heap.old heap.new) }
 {
-    heap.facts();
-    let o = create(heap, alloc, kind, steps)?;
-    match furnish(heap, parent, name, o, kind, alloc, steps) {
-        Ok(()) => Ok(o),
-        Err(error) => {
-            give_up(heap, o, steps);
-            Err(error)
-        }
-    }
+    let slots = planned_slots(kind, Vec::new(alloc), alloc)?;
+    make_with(heap, parent, name, kind, slots, alloc, steps)
 }
 
 /// Makes an admitted object with its slots as they are planned, as a child of `/objects`, which alone
@@ -125,9 +130,9 @@ fn add_planned<L: Ledger>(
         kind,
     } = admitted;
     heap.facts();
+    let slots = planned_slots(kind, plan, alloc)?;
     let name = SlotName::own(name);
-    let made = make_child(heap, objects, name, kind, alloc, steps)?;
-    settle(heap, made, plan, steps);
+    let made = make_with(heap, objects, name, kind, slots, alloc, steps)?;
     heap.unpin(made, steps);
     Ok(())
 }

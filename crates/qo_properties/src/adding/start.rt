@@ -14,7 +14,7 @@ ghost use Rattle.qo_properties.specs.Claims.{KeepsBook};
 ghost use Rattle.qo_properties.specs.Fresh.{new_slots};
 ghost use Rattle.qo_properties.specs.Start.{IsMade, KeepsNames, with_new, with_new_child, with_clock, with_containers, with_buses, with_machine, with_all};
 
-use crate::adding::fresh::{add_fresh_slots, name_of};
+use crate::adding::fresh::{furnish_new, name_of};
 use crate::reading::lookup::place_named;
 use qo_heap::{Heap, Oid, SlotName, Steps};
 use qo_values::{SYSTEM_PERIOD, TypeId, Val};
@@ -33,7 +33,7 @@ fn make_new<L: Ledger>(
 {
     heap.facts();
     let o = heap.make(alloc, kind, steps)?;
-    add_fresh_slots(heap, o, kind, alloc, steps)?;
+    furnish_new(heap, o, kind, alloc, steps)?;
     Ok(o)
 }
 

@@ -1,9 +1,8 @@
 -- The further object that was made is the child of the device, and its pin goes.
-use Rattle.std.proofs.Common.{◌≡◌, refl, sym, subst, List, ℕ, arith}
-use Rattle.qo_heap.proofs.HeapLemmas.{edit-same}
+use Rattle.std.proofs.Common.{◌≡◌, subst, List, ℕ, arith}
 use Rattle.qo_heap.specs.Objects.{pins_of}
 use Rattle.qo_model.specs.Plug.{with_kid}
-use Rattle.qo_properties.proofs.AddLemmas.{child-live, child-pins}
+use Rattle.qo_properties.proofs.AddLemmas.{child-live, child-pinned}
 use Rattle.qo_plug.specs.Drafts.{Makes}
 use Rattle.qo_plug.proofs.DraftLemmas.{kid-grows, kid-own, kid-shown}
 use Rattle.qo_plug.proofs.drafting.make_kid.Goals as goal
@@ -13,7 +12,7 @@ unpin-requires-clause-live g c = child-live c.facts.ensures c.in_ok-kid.ensures.
 
 pub unpin-requires-clause-pinned : goal.unpin-requires-clause-pinned
 unpin-requires-clause-pinned g c =
-    let one : pins_of c.make_child.new.heap c.in_ok-kid.kid.birth ≡ 1 = child-pins c.facts.ensures c.in_ok-kid.ensures.made c.make_child.new.heap (λ d. d) refl (sym (edit-same c.in_ok-kid.kid.birth c.make_child.new.heap)) in
+    let one : pins_of c.make_child.new.heap c.in_ok-kid.kid.birth ≡ 1 = child-pinned c.facts.ensures c.in_ok-kid.ensures.made in
     omega (arith, one)
 
 pub returns-clause-ok : goal.returns-clause-ok

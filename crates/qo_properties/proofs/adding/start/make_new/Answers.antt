@@ -1,14 +1,27 @@
-use Rattle.qo_properties.proofs.StartLemmas.{live-made, is-made, shows-new}
+-- The object that was made is given its slots.
+use Rattle.std.proofs.Common.{subst, sym}
+use Rattle.qo_heap.specs.Board.{Shows}
+use Rattle.qo_heap.specs.Objects.{Objects}
+use Rattle.qo_model.specs.Changes.{make, with_fresh_slots}
+use Rattle.qo_properties.specs.Start.{IsMade}
+use Rattle.qo_properties.proofs.FreshLemmas.{shows-fresh}
+use Rattle.qo_properties.proofs.StartLemmas.{begun-in, is-made, live-made, made_in, shows-new}
 use Rattle.qo_properties.proofs.adding.start.make_new.Goals as goal
 
-pub add_fresh_slots-requires : goal.add_fresh_slots-requires
-add_fresh_slots-requires g c =
-    record { live = rw c.in_ok-o.ensures.made.1 (live-made c.args.heap.now c.facts.ensures c.in_ok-o.o c.args.kind c.in_ok-o.ensures.made.0) }
+pub furnish_new-requires : goal.furnish_new-requires
+furnish_new-requires g c = rw c.in_ok-o.ensures.made.1 (live-made c.args.heap.now c.facts.ensures c.in_ok-o.o c.args.kind c.in_ok-o.ensures.made.0)
 
 pub returns-clause-made : goal.returns-clause-made
 returns-clause-made g c =
-    rw (c.in_ok-add_fresh_slots.ensures.ok, c.in_ok-o.ensures.made.1) (is-made c.args.heap.now c.facts.ensures c.in_ok-o.o c.args.kind c.in_ok-o.ensures.made.0)
+    let is = begun-in c.args.heap.now c.facts.ensures c.in_ok-o.o c.args.kind c.in_ok-o.ensures.made.0 c.make.new.self c.furnish_new.new.heap
+    c.in_ok-o.ensures.made.1 c.in_ok-furnish_new.ensures.ok in
+    subst (λ (x : Objects). IsMade c.args.heap.now x c.args.kind 1 c.in_ok-o.o) (sym is)
+    (is-made c.args.heap.now c.facts.ensures c.in_ok-o.o c.args.kind c.in_ok-o.ensures.made.0)
 
 pub returns-clause-shown : goal.returns-clause-shown
-returns-clause-shown g c =
-    λ b s. shows-new c.args.heap.now c.facts.ensures c.in_ok-o.o c.args.kind c.in_ok-o.ensures.made.0 b s c.add_fresh_slots.new.heap (λ t. c.in_ok-add_fresh_slots.ensures.shown _ (rw c.in_ok-o.ensures.made.1 t))
+returns-clause-shown g c = λ b s.
+    let is = begun-in c.args.heap.now c.facts.ensures c.in_ok-o.o c.args.kind c.in_ok-o.ensures.made.0 c.make.new.self c.furnish_new.new.heap
+    c.in_ok-o.ensures.made.1 c.in_ok-furnish_new.ensures.ok in
+    shows-new c.args.heap.now c.facts.ensures c.in_ok-o.o c.args.kind c.in_ok-o.ensures.made.0 b s c.furnish_new.new.heap
+    (λ t. subst (λ (x : Objects). Shows (with_fresh_slots c.in_ok-o.o.birth c.args.kind (make c.args.kind b)) x) (sym is)
+    (shows-fresh (make c.args.kind b) (made_in c.args.heap.now c.in_ok-o.o c.args.kind) t c.in_ok-o.o.birth c.args.kind))
