@@ -1,5 +1,5 @@
 -- The slots of a new object, filled with what was given.
-use Rattle.std.proofs.Common.{◌≡◌, refl, ap, sym, ℕ, zero, suc, Bool, true, false, eqb, List, [], ◌∷◌, ◌++◌, map, Option, Some, None, IfSome, is_some, option_map, option_to_list}
+use Rattle.std.proofs.Common.{◌≡◌, refl, ap, sym, ℕ, zero, suc, Bool, true, false, eqb, List, [], ◌∷◌, map, IfSome}
 use Rattle.std.specs.List.{AllByRecursion, AllZip}
 use Rattle.qo_slots.specs.declared.keys.Key.{Key}
 use Rattle.qo_table.specs.Rows.{edit}
@@ -55,19 +55,6 @@ filled-given b props [] [] all = refl
 filled-given b props [] (s ∷ slots) all = absurd all
 filled-given b props (f ∷ fs) [] all = absurd all
 filled-given b props (f ∷ fs) (s ∷ slots) all = let here = all.0 in let rest = filled-given b props fs slots all.1 in λ j. (s.0, here j) ∷ rest j
-
--- lists that go together, one behind the other
-
-module _ {X Y : Type 0} (R : X → Y → Type 0) where
-  pub zip-append : (xs : List X) (ys : List Y) (more : List X) (most : List Y) → AllZip R xs ys → AllZip R more most → AllZip R (xs ++ more) (ys ++ most)
-  zip-append [] [] more most all rest = rest
-  zip-append [] (y ∷ ys) more most all rest = absurd all
-  zip-append (x ∷ xs) [] more most all rest = absurd all
-  zip-append (x ∷ xs) (y ∷ ys) more most all rest = (all.0, zip-append xs ys more most all.1 rest)
-
-  pub zip-one : {Z : Type 0} (f : Z → Y) (x : X) (o : Option Z) → true ≡ is_some o → IfSome (option_map f o) (R x) → AllZip R (x ∷ []) (option_to_list (option_map f o))
-  zip-one f x None is fit = cc
-  zip-one f x (Some z) is fit = (fit, tt)
 
 -- targets stay where they are
 pub all-live : (P Q : Key → Type 0) → ((key : Key) → P key → Q key) → (fs : List Fill) → AllByRecursion (λ (f : Fill). IfSome (target_in f) P) fs → AllByRecursion (λ (f : Fill). IfSome (target_in f) Q) fs

@@ -11,9 +11,6 @@ use Rattle.qo_model.specs.Properties.{row_of_property}
 module _ (b : Board) where
   -- the first that is refused
 
-  pub refused-first : (t : TypeId) (p : Given) (props : List Given) (code : Code) → Some code ≡ refusal_by b (row_of_property t p.0) p.1 → refusal_of b t (p ∷ props) ≡ Some code
-  refused-first t p props code e = ap (λ (o : Option Code). elim o [ Some c ↦ Some c | None ↦ refusal_of b t props ]) (sym e)
-
   pub passed-first : (t : TypeId) (p : Given) (props : List Given) → None ≡ refusal_by b (row_of_property t p.0) p.1 → refusal_of b t (p ∷ props) ≡ refusal_of b t props
   passed-first t p props e = ap (λ (o : Option Code). elim o [ Some c ↦ Some c | None ↦ refusal_of b t props ]) (sym e)
 

@@ -1,5 +1,5 @@
 -- The properties given to a new object.
-use Rattle.std.specs.Prelude.{ℕ, if◌then◌else◌, Option, Some, None}
+use Rattle.std.specs.Prelude.{if◌then◌else◌, Option, Some, None}
 use Rattle.qo_values.specs.Properties.{admits}
 use Rattle.qo_values.specs.declared.codes.Code.{Code}
 use Rattle.qo_values.specs.declared.codes.Code.TheVariants.{E19}
@@ -8,7 +8,7 @@ use Rattle.qo_values.specs.declared.properties.PropType.{PropType}
 use Rattle.qo_values.specs.declared.properties.Val.{Val}
 use Rattle.qo_values.specs.declared.properties.Val.TheVariants as val
 use Rattle.qo_model.specs.Board.{Board}
-use Rattle.qo_model.specs.Objects.{code_of, target_given}
+use Rattle.qo_model.specs.Objects.{code_of}
 use Rattle.qo_model.specs.Properties.{link_target}
 
 -- why a value is refused for a plain property, and for a link
@@ -18,8 +18,3 @@ plain_misfit type v = if admits type v then None else Some E19
 abbrev pub link_misfit : Board → TypeId → Val → Option Code
 link_misfit b t (val.Text path) = code_of (link_target b t path)
 link_misfit b t v = Some E19
-
--- the target that a value gives to a link to objects of a type
-abbrev pub linked_to : Board → TypeId → Val → Option ℕ
-linked_to b t (val.Text path) = target_given (link_target b t path)
-linked_to b t v = None

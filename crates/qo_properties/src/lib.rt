@@ -10,9 +10,8 @@ mod writing;
 
 pub use adding::attempts::attempt_whole;
 pub use adding::barring::{Admitted, admit};
-pub use adding::filling::{Fill, plan_of};
+pub use adding::filling::Fill;
 pub use adding::fresh::{add_row, furnish_new, name_of};
-pub use adding::given::{check_given, given_val, linked_to};
 pub use adding::objects::{add_object, attempt, make_child};
 pub use adding::planned::planned_for;
 pub use adding::planning::plan;

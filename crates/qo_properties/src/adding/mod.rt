@@ -4,7 +4,6 @@ pub mod attempts;
 pub mod barring;
 pub mod filling;
 pub mod fresh;
-pub mod given;
 pub mod objects;
 pub mod planned;
 pub mod planning;
