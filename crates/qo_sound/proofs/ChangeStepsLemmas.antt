@@ -8,7 +8,7 @@ use Rattle.qo_model.specs.FinalNotesRuns.{behind_write}
 use Rattle.qo_model.specs.Objects.{object_del, sever, severed_from}
 use Rattle.qo_model.specs.Properties.{pointed_at, relinked, write}
 use Rattle.qo_model.specs.Release.{drop_slot, pin, with_dropped}
-use Rattle.qo_model.proofs.LetGoLemmas.{deletion-comes, sever-comes, severed-comes}
+use Rattle.qo_model.proofs.ComesToLemmas.{deletion-comes, sever-comes, severed-comes}
 use Rattle.qo_model.proofs.WrittenLemmas.{write-comes}
 use Rattle.qo_sound.proofs.MakeStepsLemmas.{KeepsEdits}
 use Rattle.qo_sound.proofs.DetachStepsLemmas.{KeepsEnds, KeepsPins, step-let_go, step-pin, step-unpin}

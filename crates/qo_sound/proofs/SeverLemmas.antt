@@ -7,7 +7,7 @@ use Rattle.qo_model.specs.Board.{Board, is_live, slots_at}
 use Rattle.qo_model.specs.Objects.{sever, severed_from}
 use Rattle.qo_model.specs.References.{refs}
 use Rattle.qo_model.specs.Release.{pin, put_in_order, unpin, without_first, without_pin}
-use Rattle.qo_model.proofs.LetGoLemmas.{sever-comes, severed-comes}
+use Rattle.qo_model.proofs.ComesToLemmas.{sever-comes, severed-comes}
 use Rattle.qo_model.proofs.PinLemmas.{put-among, put-back, severed-pins, unpin-pins}
 use Rattle.qo_sound.proofs.CountLemmas.{one_at, times}
 use Rattle.qo_sound.proofs.FirmLemmas.{firm-beside}

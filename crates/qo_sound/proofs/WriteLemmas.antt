@@ -9,7 +9,7 @@ use Rattle.qo_model.specs.FinalNotesRuns.{behind_write}
 use Rattle.qo_model.specs.Objects.{object_del}
 use Rattle.qo_model.specs.Properties.{pointed_at, relinked, write}
 use Rattle.qo_model.specs.Release.{drop_slot}
-use Rattle.qo_model.proofs.LetGoLemmas.{deletion-comes}
+use Rattle.qo_model.proofs.ComesToLemmas.{deletion-comes}
 use Rattle.qo_model.proofs.ReleaseLeavesLemmas.{let_go-leaves}
 use Rattle.qo_model.proofs.PinLemmas.{release-pins}
 use Rattle.qo_sound.proofs.FirmLemmas.{FitsKind}

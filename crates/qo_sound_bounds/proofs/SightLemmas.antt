@@ -17,13 +17,12 @@ use Rattle.qo_model.specs.Changes.{changed_at, cut, point, pointed, set, with_ad
 use Rattle.qo_model.specs.Depth.{among}
 use Rattle.qo_model.specs.Devices.{bus_of, buses_of, kids_of}
 use Rattle.qo_model.specs.FinalNotesRuns.{Change, added, behind_write, changed, deleted, severed, wrote}
-use Rattle.qo_model.specs.Objects.{Given, added_as, added_by, barred, given_slots, is_object_named, object_add, object_del, place_from, refusal_of, sever, severed_from, with_object}
+use Rattle.qo_model.specs.Objects.{Given, added_as, given_slots, is_object_named, object_add, object_del, place_from, sever, severed_from, with_object}
 use Rattle.qo_model.specs.Properties.{pointed_at, relinked, write}
 use Rattle.qo_model.specs.Release.{after, drop_slot, edit, edited, emptied, finalise, finish, forgotten, forgotten_in, let_go, pin, unpin, with_dropped, without_hold, without_pin}
 use Rattle.qo_model.specs.ReleaseKeeps.{KeepsRelease}
-use Rattle.qo_model.specs.Types.{TypeRow, row_named}
 use Rattle.qo_model.specs.Unplug.{apart_within, drained, first_of, is_bus_slot, is_child_slot, is_named, left_bus, left_parent, let_go_where, lost_bus, lost_buses, names_kid, take_slot, take_where, taken_by}
-use Rattle.qo_model.proofs.LetGoLemmas.{deletion-comes, sever-comes, severed-comes}
+use Rattle.qo_model.proofs.ComesToLemmas.{addition-comes, deletion-comes, sever-comes, severed-comes}
 use Rattle.qo_model.proofs.FirstLemmas.{slots_in, Found, found-at}
 use Rattle.qo_model.proofs.ReleaseKeepsLemmas.{after_keeps}
 use Rattle.qo_model.proofs.StepLemmas.{drop-record, finish-gone, finish-record, found_at, found-edited, is_some-map, found-birth, drop-live}
@@ -494,19 +493,11 @@ with_object-seen b t id props k s i j e =
     go (Some r) q = at_record r q (r.birth == OBJECTS_BIRTH) refl
 
 object_add-seen : (b : Board) (driver id : List ℕ) (props : List Given) → StillSeen b (object_add b driver id props).board
-object_add-seen b driver id props = go (row_named driver) refl
+object_add-seen b driver id props = addition-comes (StillSeen b) b driver id props (λ k s i j e. e) (λ row e o is. of row.id o)
   where
     of : (t : TypeId) (o : Option Code) → StillSeen b (added_as b t id props o).board
     of t (Some code) = λ k s i j e. e
     of t None = with_object-seen b t id props
-
-    by : (row : TypeRow) (o : Option Code) → StillSeen b (added_by b row id props o).board
-    by row (Some code) = λ k s i j e. e
-    by row None = of row.id (refusal_of b row.id props)
-
-    go : (row : Option TypeRow) → row_named driver ≡ row → StillSeen b (object_add b driver id props).board
-    go None p = rw (object_add, p) (λ k s i j e. e)
-    go (Some row) p = rw (object_add, p) (by row (barred b row id))
 
 pub changed-seen : (b : Board) (change : Change) → StillSeen b (changed b change)
 changed-seen b (added driver id props) = object_add-seen b driver id props

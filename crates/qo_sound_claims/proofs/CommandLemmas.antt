@@ -12,13 +12,13 @@ use Rattle.qo_model.specs.Board.{Board, Record, Slot, plain, child, strong, weak
 use Rattle.qo_model.specs.Changes.{point, pointed, set, with_added, with_changed, with_val}
 use Rattle.qo_model.specs.Devices.{is_realized}
 use Rattle.qo_model.specs.FinalNotesRuns.{Change, added, deleted, wrote, severed, behind_write, changed}
-use Rattle.qo_model.specs.Objects.{Given, added_as, added_by, barred, is_object_named, object_add, object_del, refusal_of, sever, severed_from, slot_given, with_object}
+use Rattle.qo_model.specs.Objects.{Given, added_as, is_object_named, object_add, object_del, sever, severed_from, slot_given, with_object}
 use Rattle.qo_model.specs.Opening.{fresh_slots}
 use Rattle.qo_model.specs.Paths.{attached, is_of}
 use Rattle.qo_model.specs.Properties.{pointed_at, relinked, write}
 use Rattle.qo_model.specs.Release.{drop_slot, edited, emptied, pin}
-use Rattle.qo_model.specs.Types.{TypeRow, is_a, row_named, types}
-use Rattle.qo_model.proofs.LetGoLemmas.{deletion-comes, sever-comes, severed-comes}
+use Rattle.qo_model.specs.Types.{is_a, types}
+use Rattle.qo_model.proofs.ComesToLemmas.{addition-comes, deletion-comes, sever-comes, severed-comes}
 use Rattle.qo_model.proofs.FirstLemmas.{Found, found-at}
 use Rattle.qo_model.proofs.StepLemmas.{found-edited, found_at}
 use Rattle.qo_sound.proofs.AddLemmas.{creatable, made}
@@ -225,15 +225,8 @@ added-fewer b t id props dark (Some code) = fewer-none false b
 added-fewer b t id props dark None = with_object-fewer b t id props dark
 
 object_add-fewer : (b : Board) (driver id : List ℕ) (props : List Given) → Fewer false b (object_add b driver id props).board
-object_add-fewer b driver id props = go (row_named driver) refl
-  where
-    by : (row : TypeRow) (o : Option Code) → barred b row id ≡ o → Fewer false b (added_by b row id props o).board
-    by row (Some code) e = fewer-none false b
-    by row None e = added-fewer b row.id id props (created-dark row.id (creatable b row id e)) (refusal_of b row.id props)
-
-    go : (row : Option TypeRow) → row_named driver ≡ row → Fewer false b (object_add b driver id props).board
-    go None p = rw (object_add, p) (fewer-none false b)
-    go (Some row) p = rw (object_add, p) (by row (barred b row id) refl)
+object_add-fewer b driver id props =
+    addition-comes (Fewer false b) b driver id props (fewer-none false b) (λ row e o is. added-fewer b row.id id props (created-dark row.id (creatable b row id e)) o)
 
 pub changed-fewer : (b : Board) → SoundDevices b → (change : Change) → Fewer false b (changed b change)
 changed-fewer b h (added driver id props) = object_add-fewer b driver id props

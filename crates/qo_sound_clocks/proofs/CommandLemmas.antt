@@ -12,13 +12,13 @@ use Rattle.qo_values.specs.declared.properties.Val.{Val}
 use Rattle.qo_model.specs.Board.{Board, Record, Slot, plain, child, record_of, slot_at, slots_at, held}
 use Rattle.qo_model.specs.Changes.{point, pointed, set, with_added, with_changed, with_val}
 use Rattle.qo_model.specs.FinalNotesRuns.{Change, added, deleted, wrote, severed, behind_write, changed}
-use Rattle.qo_model.specs.Objects.{Given, added_as, added_by, barred, object_add, object_del, refusal_of, sever, severed_from, with_object}
+use Rattle.qo_model.specs.Objects.{Given, added_as, object_add, object_del, sever, severed_from, with_object}
 use Rattle.qo_model.specs.Opening.{fresh_slots}
 use Rattle.qo_model.specs.Properties.{may_set, pointed_at, relinked, row_of_property, write}
 use Rattle.qo_model.specs.Release.{drop_slot, edited, emptied, pin}
-use Rattle.qo_model.specs.Types.{TypeRow, is_a, row_named, types}
+use Rattle.qo_model.specs.Types.{is_a, types}
 use Rattle.qo_model.specs.declared.properties.Property.{Property}
-use Rattle.qo_model.proofs.LetGoLemmas.{deletion-comes, sever-comes, severed-comes}
+use Rattle.qo_model.proofs.ComesToLemmas.{addition-comes, deletion-comes, sever-comes, severed-comes}
 use Rattle.qo_model.proofs.FirstLemmas.{slots_in}
 use Rattle.qo_model.proofs.StepLemmas.{found-edited, found_at}
 use Rattle.qo_sound.specs.Kept.{SoundTree}
@@ -185,15 +185,8 @@ added-fewer b t id props quiet (Some code) = fewer-none b
 added-fewer b t id props quiet None = with_object-fewer b t id props quiet
 
 object_add-fewer : (b : Board) (driver id : List ℕ) (props : List Given) → Fewer b (object_add b driver id props).board
-object_add-fewer b driver id props = go (row_named driver) refl
-  where
-    by : (row : TypeRow) (o : Option Code) → barred b row id ≡ o → Fewer b (added_by b row id props o).board
-    by row (Some code) e = fewer-none b
-    by row None e = added-fewer b row.id id props (created-quiet row.id (creatable b row id e)) (refusal_of b row.id props)
-
-    go : (row : Option TypeRow) → row_named driver ≡ row → Fewer b (object_add b driver id props).board
-    go None p = rw (object_add, p) (fewer-none b)
-    go (Some row) p = rw (object_add, p) (by row (barred b row id) refl)
+object_add-fewer b driver id props =
+    addition-comes (Fewer b) b driver id props (fewer-none b) (λ row e o is. added-fewer b row.id id props (created-quiet row.id (creatable b row id e)) o)
 
 changed-fewer : (b : Board) (change : Change) → Fewer b (changed b change)
 changed-fewer b (added driver id props) = object_add-fewer b driver id props

@@ -22,7 +22,7 @@ use Rattle.qo_model.specs.Depth.{among}
 use Rattle.qo_model.specs.Devices.{buses_of, kids_of}
 use Rattle.qo_model.specs.FinalNotesRuns.{Change, added, deleted, wrote, severed, changed}
 use Rattle.qo_model.specs.Hotplug.{all_completed, asked, asked_of, completed, device_at, reset_whole}
-use Rattle.qo_model.specs.Objects.{Given, added_as, added_by, barred, object_add, refusal_of}
+use Rattle.qo_model.specs.Objects.{Given, added_as, object_add}
 use Rattle.qo_model.specs.Opening.{opening_board}
 use Rattle.qo_model.specs.Paths.{attached, canonical}
 use Rattle.qo_model.specs.Plug.{Spot, Wanted, acted_all, barred_early, barred_late, bus_births, bus_for, counted, drafted, notice_barred, plug, plug_as, plug_by, plug_late, spot_of, type_barred, with_body_of, with_device, with_path, with_plugged}
@@ -31,6 +31,7 @@ use Rattle.qo_model.specs.ReleaseKeeps.{KeepsRelease}
 use Rattle.qo_model.specs.Reset.{held, is_out, phased, plugged, post, pulse, released}
 use Rattle.qo_model.specs.Types.{TypeRow, row_named, slots_of, types}
 use Rattle.qo_model.specs.Unplug.{detach, first_of}
+use Rattle.qo_model.proofs.ComesToLemmas.{addition-comes}
 use Rattle.qo_model.proofs.ReleaseKeepsLemmas.{after_keeps}
 use Rattle.qo_sound.proofs.FoundLemmas.{all-found}
 use Rattle.qo_sound.proofs.RecordLemmas.{all-append, all-filter, all-imply, all-map}
@@ -248,15 +249,7 @@ added-times b t id props None h =
     (fresh-timely b.now t, tt)
 
 object_add-times : (b : Board) (driver id : List ℕ) (props : List Given) → SoundTimes b → SoundTimes (object_add b driver id props).board
-object_add-times b driver id props h = go (row_named driver) refl
-  where
-    by : (row : TypeRow) (o : Option Code) → SoundTimes (added_by b row id props o).board
-    by row (Some code) = h
-    by row None = added-times b row.id id props (refusal_of b row.id props) h
-
-    go : (row : Option TypeRow) → row_named driver ≡ row → SoundTimes (object_add b driver id props).board
-    go None p = rw (object_add, p) h
-    go (Some row) p = rw (object_add, p) (by row (barred b row id))
+object_add-times b driver id props h = addition-comes SoundTimes b driver id props h (λ row e o is. added-times b row.id id props o h)
 
 changed-times : (b : Board) (change : Change) → SoundTimes b → SoundTimes (changed b change)
 changed-times b (added driver id props) h = object_add-times b driver id props h

@@ -13,7 +13,7 @@ use Rattle.qo_model.specs.Objects.{is_object_named, object_del, sever, severed_f
 use Rattle.qo_model.specs.Paths.{attached, child_of, is_of}
 use Rattle.qo_model.specs.Release.{after, drop_slot, finalise, let_go, pin, put_in_order, unpin, without_first, without_pin}
 use Rattle.qo_model.specs.SoundGraph.{SoundGraph}
-use Rattle.qo_model.proofs.LetGoLemmas.{deletion-comes, sever-comes, severed-comes}
+use Rattle.qo_model.proofs.ComesToLemmas.{deletion-comes, sever-comes, severed-comes}
 use Rattle.qo_model.proofs.EditLemmas.{StandsAt, stands-at}
 use Rattle.qo_sound.proofs.ChangeLemmas.{near-deleted, near-unlinked}
 use Rattle.qo_sound.proofs.FirmLemmas.{Firm, firm-beside}

@@ -15,15 +15,15 @@ use Rattle.qo_model.specs.Board.{Board, Record, child, is_live, kind_of, record_
 use Rattle.qo_model.specs.Changes.{with_added}
 use Rattle.qo_model.specs.Clocks.{acted}
 use Rattle.qo_model.specs.FinalNotesRuns.{behind_write, Change, added, changed, deleted, severed, wrote}
-use Rattle.qo_model.specs.Objects.{Given, added_as, added_by, barred, given_slots, object_add, object_del, sever, severed_from, refusal_of, with_attempt, with_object}
+use Rattle.qo_model.specs.Objects.{Given, added_as, given_slots, object_del, sever, severed_from, with_attempt, with_object}
 use Rattle.qo_model.specs.Opening.{opening_board}
 use Rattle.qo_model.specs.Paths.{is_of}
 use Rattle.qo_model.specs.Plug.{Wanted, plug, plug_attempt, spot_of, with_plugged}
 use Rattle.qo_model.specs.Properties.{write}
 use Rattle.qo_model.specs.Release.{edited, let_go, pin, unpin}
-use Rattle.qo_model.specs.Types.{TypeRow, is_a, row_named, types}
+use Rattle.qo_model.specs.Types.{is_a, types}
 use Rattle.qo_model.specs.Unplug.{detach, set_named, unrealize}
-use Rattle.qo_model.proofs.LetGoLemmas.{deletion-comes, sever-comes, severed-comes}
+use Rattle.qo_model.proofs.ComesToLemmas.{addition-comes, deletion-comes, sever-comes, severed-comes}
 use Rattle.qo_model.proofs.StepLemmas.{found_at, found-edited, found-birth}
 use Rattle.qo_sound.proofs.AddLemmas.{creatable}
 use Rattle.qo_sound.proofs.FirmLemmas.{edited-kind, Firm}
@@ -274,18 +274,9 @@ creatable-changed b (wrote n name v) devices h =
     (firm-devices (behind_write b (write b n name v)) (devices_kept_lem.change b (wrote n name v) devices)) h
 creatable-changed b (severed n) devices h =
     creatable-severed b n (firm-devices (sever b n).board (devices_kept_lem.change b (severed n) devices)) h
-creatable-changed b (added driver id props) devices h = go (row_named driver) refl
-  where
-    live : is_live b OBJECTS_BIRTH ≡ true
-    live = child-live b (firm-devices b devices) 1 OBJECTS_BIRTH devices.places.1.objects
-
-    by : (row : TypeRow) (o : Option Code) → barred b row id ≡ o → Creatable (added_by b row id props o).board
-    by row (Some code) e = h
-    by row None e = creatable-added b row.id id props (refusal_of b row.id props) (firm-devices b devices) live (creatable b row id e) h
-
-    go : (row : Option TypeRow) → row_named driver ≡ row → Creatable (object_add b driver id props).board
-    go None e = rw (object_add, e) h
-    go (Some row) e = rw (object_add, e) (by row (barred b row id) refl)
+creatable-changed b (added driver id props) devices h = addition-comes Creatable b driver id props h (λ row e o is.
+    let live : is_live b OBJECTS_BIRTH ≡ true = child-live b (firm-devices b devices) 1 OBJECTS_BIRTH devices.places.1.objects in
+    creatable-added b row.id id props o (firm-devices b devices) live (creatable b row id e) h)
 
 -- adding a device
 pub creatable-plug : (b : Board) (a : Wanted) → SoundDevices b → Creatable b → Creatable (plug b a).board

@@ -11,12 +11,12 @@ use Rattle.qo_values.specs.declared.kinds.TypeId.{TypeId}
 use Rattle.qo_model.specs.Board.{Board, Record, child, record_of, kind_of, is_live, slots_at}
 use Rattle.qo_model.specs.Changes.{with_added}
 use Rattle.qo_model.specs.FinalNotesRuns.{Change, added, changed, deleted, severed, wrote}
-use Rattle.qo_model.specs.Objects.{Given, added_as, added_by, barred, given_slots, object_add, object_del, refusal_of, sever, severed_from, with_attempt, with_object}
+use Rattle.qo_model.specs.Objects.{Given, added_as, given_slots, object_del, sever, severed_from, with_attempt, with_object}
 use Rattle.qo_model.specs.Paths.{attached, is_of}
 use Rattle.qo_model.specs.Release.{after, edit, edited, finalise, let_go, pin, put_in_order, unpin, without_first, without_pin}
 use Rattle.qo_model.specs.References.{refs}
-use Rattle.qo_model.specs.Types.{TypeRow, is_a, row_named}
-use Rattle.qo_model.proofs.LetGoLemmas.{deletion-comes, sever-comes, severed-comes}
+use Rattle.qo_model.specs.Types.{is_a}
+use Rattle.qo_model.proofs.ComesToLemmas.{addition-comes, deletion-comes, sever-comes, severed-comes}
 use Rattle.qo_model.proofs.ReleaseLeavesLemmas.{release_leaves}
 use Rattle.qo_model.proofs.StaysLemmas.{changed-stays}
 use Rattle.qo_model.proofs.StepLemmas.{found_at, found-edited, is_some-map, map-edited}
@@ -142,15 +142,8 @@ fixed-changed : (b : Board) → SoundDevices b → (change : Change) → Fixed (
 fixed-changed b d (deleted id) = fixed-deleted b (placed b d) id
 fixed-changed b d (wrote n name v) = fixed-write (IsKeeper b) b (placed b d).firm n name v
 fixed-changed b d (severed n) = fixed-severed b d n
-fixed-changed b d (added driver id props) = go (row_named driver) refl
-  where
-    by : (row : TypeRow) (refusal : Option Code) → Fixed (IsKeeper b) b (added_by b row id props refusal).board
-    by row None = fixed-added b (placed b d) row.id id props (refusal_of b row.id props)
-    by row (Some code) = fixed-none (IsKeeper b) b
-
-    go : (row : Option TypeRow) → row_named driver ≡ row → Fixed (IsKeeper b) b (object_add b driver id props).board
-    go None e = rw (object_add, e) (fixed-none (IsKeeper b) b)
-    go (Some row) e = rw (object_add, e) (by row (barred b row id))
+fixed-changed b d (added driver id props) =
+    addition-comes (Fixed (IsKeeper b) b) b driver id props (fixed-none (IsKeeper b) b) (λ row e o is. fixed-added b (placed b d) row.id id props o)
 
 -- types and births
 Kin : Board → Board → Type 0
@@ -227,15 +220,8 @@ kin-changed : (b : Board) (change : Change) → KinAt b (changed b change)
 kin-changed b (deleted id) = kin-at b _ (step-object_del (Kin b) (kin-edits b) (kin-pins b) (kin-ends b) b id (kin-none b))
 kin-changed b (wrote n name v) = kin-at b _ (step-write (Kin b) (kin-edits b) (kin-pins b) (kin-ends b) b n name v (kin-none b))
 kin-changed b (severed n) = kin-at b _ (step-sever (Kin b) (kin-edits b) (kin-pins b) (kin-ends b) b n (kin-none b))
-kin-changed b (added driver id props) = go (row_named driver) refl
-  where
-    by : (row : TypeRow) (refusal : Option Code) → KinAt b (added_by b row id props refusal).board
-    by row None = kin-added b row.id id props (refusal_of b row.id props)
-    by row (Some code) = kin-at b b (kin-none b)
-
-    go : (row : Option TypeRow) → row_named driver ≡ row → KinAt b (object_add b driver id props).board
-    go None e = rw (object_add, e) (kin-at b b (kin-none b))
-    go (Some row) e = rw (object_add, e) (by row (barred b row id))
+kin-changed b (added driver id props) =
+    addition-comes (KinAt b) b driver id props (kin-at b b (kin-none b)) (λ row e o is. kin-added b row.id id props o)
 
 -- so a reset reaches the same
 module _ (b : Board) (change : Change) (d : SoundDevices b) where

@@ -16,16 +16,16 @@ use Rattle.qo_model.specs.Board.{Board, Record, Slot, plain, child, strong, weak
 use Rattle.qo_model.specs.Changes.{changed_at, point, pointed, set, with_added, with_changed, with_val}
 use Rattle.qo_model.specs.Depth.{among}
 use Rattle.qo_model.specs.FinalNotesRuns.{Change, added, behind_write, changed, deleted, severed, wrote}
-use Rattle.qo_model.specs.Objects.{Given, added_as, added_by, barred, object_add, object_del, refusal_of, sever, severed_from, with_object}
+use Rattle.qo_model.specs.Objects.{Given, added_as, object_add, object_del, refusal_of, sever, severed_from, with_object}
 use Rattle.qo_model.specs.Opening.{opening_board}
 use Rattle.qo_model.specs.Paths.{attached, child_of, is_of}
 use Rattle.qo_model.specs.Properties.{pointed_at, relinked, row_of_property, write}
 use Rattle.qo_model.specs.Release.{drop_slot, edit, forgotten, forgotten_in, let_go, pin, with_dropped, without_hold}
-use Rattle.qo_model.specs.Types.{TypeRow, is_a, row_named, slots_of, types}
+use Rattle.qo_model.specs.Types.{TypeRow, is_a, slots_of, types}
 use Rattle.qo_model.specs.declared.properties.Property.{Property}
 use Rattle.qo_model.specs.declared.properties.RowKind.{RowKind}
 use Rattle.qo_model.specs.declared.properties.RowKind.TheVariants as row
-use Rattle.qo_model.proofs.LetGoLemmas.{deletion-comes, sever-comes, severed-comes}
+use Rattle.qo_model.proofs.ComesToLemmas.{addition-comes, deletion-comes, sever-comes, severed-comes}
 use Rattle.qo_model.proofs.StepLemmas.{found-birth}
 use Rattle.qo_model.proofs.WrittenLemmas.{link-childless}
 use Rattle.qo_model.proofs.WrittenLemmas.{write-comes}
@@ -321,20 +321,13 @@ module _ (base : Board) (aside : stands base OBJECTS_BIRTH ≡ false) where
 
   added-all : (b : Board) (driver id : List ℕ) (props : List Given) → stands base (b.born + 1) ≡ false → 8 ≤ b.born → AllOf (Full base) b
       → AllOf (Full base) (object_add b driver id props).board
-  added-all b driver id props apart begun h = go (row_named driver) refl
+  added-all b driver id props apart begun h =
+      addition-comes (AllOf (Full base)) b driver id props h (λ row e o is. taken row (creatable b row id e) o is)
     where
       taken : (row : TypeRow) → is_a row.id (codes "user-creatable") ≡ true → (o : Option Code) → refusal_of b row.id props ≡ o
           → AllOf (Full base) (added_as b row.id id props o).board
       taken row creatable (Some code) e = h
       taken row creatable None e = object-all b row.id id props apart begun creatable e h
-
-      by : (row : TypeRow) (o : Option Code) → barred b row id ≡ o → AllOf (Full base) (added_by b row id props o).board
-      by row (Some code) e = h
-      by row None e = taken row (creatable b row id e) (refusal_of b row.id props) refl
-
-      go : (row : Option TypeRow) → row_named driver ≡ row → AllOf (Full base) (object_add b driver id props).board
-      go None p = rw (object_add, p) h
-      go (Some row) p = rw (object_add, p) (by row (barred b row id) refl)
 
   -- `qom-set`
 
