@@ -8,11 +8,10 @@ use Rattle.qo_model.specs.Board.{Board, Slot, slot_at, slots_at, held}
 use Rattle.qo_model.specs.Changes.{point, set, with_changed, with_val, pointed}
 use Rattle.qo_model.specs.FinalNotes.{NotesInOrder}
 use Rattle.qo_model.specs.FinalNotesRuns.{Change, added, deleted, wrote, severed, behind_write, changed}
-use Rattle.qo_model.specs.Objects.{Given, added_as, added_by, barred, object_add, object_del, refusal_of, sever, severed_from}
+use Rattle.qo_model.specs.Objects.{Given, added_as, object_add, object_del, sever, severed_from}
 use Rattle.qo_model.specs.Properties.{pointed_at, relinked, write}
 use Rattle.qo_model.specs.Release.{drop_slot, pin, put_in_order, with_dropped}
-use Rattle.qo_model.specs.Types.{TypeRow, row_named}
-use Rattle.qo_model.proofs.LetGoLemmas.{deletion-comes, sever-comes, severed-comes}
+use Rattle.qo_model.proofs.ComesToLemmas.{addition-comes, deletion-comes, sever-comes, severed-comes}
 use Rattle.qo_model.proofs.WrittenLemmas.{write-comes}
 use Rattle.qo_model.proofs.FinalNotesLemmas.{after-keeps, edit-keeps, let_go-keeps, pins-keep, unpin-keeps}
 use Rattle.qo_model.proofs.FinalNotesGrowthLemmas.{attempt-grows, grown-keeps, object-grows}
@@ -23,17 +22,8 @@ added_as-keeps : (b : Board) (t : TypeId) (id : List ℕ) (props : List Given) (
 added_as-keeps b t id props None o = grown-keeps b _ t false (object-grows b t id props o) o
 added_as-keeps b t id props (Some code) o = grown-keeps b _ t true (attempt-grows b t o) o
 
-added_by-keeps : (b : Board) (row : TypeRow) (id : List ℕ) (props : List Given) (refusal : Option Code) → NotesInOrder b
-    → NotesInOrder (added_by b row id props refusal).board
-added_by-keeps b row id props None o = added_as-keeps b row.id id props (refusal_of b row.id props) o
-added_by-keeps b row id props (Some code) o = o
-
 pub object_add-keeps : (b : Board) (driver id : List ℕ) (props : List Given) → NotesInOrder b → NotesInOrder (object_add b driver id props).board
-object_add-keeps b driver id props o = go (row_named driver) refl
-  where
-    go : (row : Option TypeRow) → row_named driver ≡ row → NotesInOrder (object_add b driver id props).board
-    go None p = rw (object_add, p) o
-    go (Some row) p = rw (object_add, p) (added_by-keeps b row id props (barred b row id) o)
+object_add-keeps b driver id props o = addition-comes NotesInOrder b driver id props o (λ row e refusal is. added_as-keeps b row.id id props refusal o)
 
 -- `object-del`
 pub object_del-keeps : (b : Board) (id : List ℕ) → NotesInOrder b → NotesInOrder (object_del b id).board

@@ -3,6 +3,7 @@ pub mod ClockFitLemmas
 pub mod ClockPropertyLemmas
 mod ClockPropertyRows
 pub mod ClockStaysLemmas
+pub mod ComesToLemmas
 pub mod CycleLemmas
 pub mod DepthLemmas
 mod DeviceRows
@@ -16,7 +17,6 @@ pub mod FinalNotesRunsLemmas
 pub mod FirstLemmas
 pub mod GraphLemmas
 mod HotplugRows
-pub mod LetGoLemmas
 pub mod OpeningLemmas
 pub mod PassedLemmas
 pub mod PeriodLemmas

@@ -7,7 +7,7 @@ use Rattle.qo_model.specs.Board.{Board}
 use Rattle.qo_model.specs.Objects.{severed_from}
 use Rattle.qo_model.specs.References.{refs}
 use Rattle.qo_model.specs.Release.{after, finalise, put_in_order, unpin, without_first, without_pin}
-use Rattle.qo_model.proofs.LetGoLemmas.{severed-comes}
+use Rattle.qo_model.proofs.ComesToLemmas.{severed-comes}
 use Rattle.qo_model.proofs.ReleaseLeavesLemmas.{let_go-leaves, release_leaves}
 
 -- numbers that never fall

@@ -7,13 +7,13 @@ use Rattle.qo_values.specs.declared.properties.Val.{Val}
 use Rattle.qo_model.specs.Board.{Board, Slot, slot_at, slots_at, held}
 use Rattle.qo_model.specs.Changes.{point, set}
 use Rattle.qo_model.specs.FinalNotesRuns.{Change, added, deleted, wrote, severed, behind, behind_write, changed}
-use Rattle.qo_model.specs.Objects.{Given, added_as, added_by, attempted_as, barred, barred_by, object_add, object_del, refusal_of, sever, severed_from, with_attempt}
+use Rattle.qo_model.specs.Objects.{Given, added_as, attempted_as, barred_by, object_add, object_del, sever, severed_from, with_attempt}
 use Rattle.qo_model.specs.Properties.{pointed_at, relinked, write}
 use Rattle.qo_model.specs.References.{refs}
 use Rattle.qo_model.specs.Release.{after, drop_slot, finalise, let_go, pin, unpin}
 use Rattle.qo_model.specs.ReleaseKeeps.{Leaves}
 use Rattle.qo_model.specs.Types.{TypeRow, row_named}
-use Rattle.qo_model.proofs.LetGoLemmas.{deletion-comes, sever-comes, severed-comes}
+use Rattle.qo_model.proofs.ComesToLemmas.{addition-comes, deletion-comes, sever-comes, severed-comes}
 use Rattle.qo_model.proofs.WrittenLemmas.{write-comes}
 use Rattle.qo_model.proofs.ReleaseLeavesLemmas.{let_go-leaves, release_leaves, unpin-leaves}
 use Rattle.qo_model.specs.Stays.{Stays, StaysLaw}
@@ -61,16 +61,9 @@ added_as-stays : (b : Board) (t : TypeId) (id : List ℕ) (props : List Given) (
 added_as-stays b t id props None = record { anonymous = refl; now = refl; running = refl; holds = refl; pending = refl; notices = refl; rings = refl }
 added_as-stays b t id props (Some code) = attempt-stays b t
 
-added_by-stays : (b : Board) (row : TypeRow) (id : List ℕ) (props : List Given) (refusal : Option Code) → Stays b (added_by b row id props refusal).board
-added_by-stays b row id props None = added_as-stays b row.id id props (refusal_of b row.id props)
-added_by-stays b row id props (Some code) = stays-none b
-
 object_add-stays : (b : Board) (driver id : List ℕ) (props : List Given) → Stays b (object_add b driver id props).board
-object_add-stays b driver id props = go (row_named driver) refl
-  where
-    go : (row : Option TypeRow) → row_named driver ≡ row → Stays b (object_add b driver id props).board
-    go None p = rw (object_add, p) (stays-none b)
-    go (Some row) p = rw (object_add, p) (added_by-stays b row id props (barred b row id))
+object_add-stays b driver id props =
+    addition-comes (Stays b) b driver id props (stays-none b) (λ row e refusal is. added_as-stays b row.id id props refusal)
 
 -- `object-del`
 object_del-stays : (b : Board) (id : List ℕ) → Stays b (object_del b id).board

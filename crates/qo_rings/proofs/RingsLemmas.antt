@@ -1,5 +1,6 @@
 -- The rings of a board: the first of an id is the only one.
 use Rattle.std.proofs.Common.{◌≡◌, ◌∙◌, ℕ, zero, suc, ◌+◌, ◌<◌, Bool, true, false, not, cond, ◌||◌, if◌then◌else◌, List, [], ◌∷◌, ◌++◌, length, get_or, position, slice_set, set, find, Some, None, option_map, Result, Ok, Err, IfOk, OnOk, OnErr, nat_lt, refl, ap, sym, arith, ◌≤◌}
+use Rattle.std.proofs.lemmas.Bool.{or_parts}
 use Rattle.std.proofs.lemmas.Bool.Decides.{nat_tests}
 use Rattle.std.proofs.lemmas.List.Folds.{find_at}
 use Rattle.std.proofs.lemmas.Option.{none-some, same_Some, slice_get-get_or, slice_get_past}
@@ -11,10 +12,6 @@ use Rattle.qo_values.specs.declared.forms.Form.{Form}
 use Rattle.qo_chardev.specs.Texts.{told}
 use Rattle.qo_model.specs.Board.{Ring}
 use Rattle.qo_rings.specs.Rings.{IdsDiffer, bytes_in, is_ring, new_ring, ring_changed, ring_text, with_bytes, without_ring}
-
-or-false : (a b : Bool) → (a || b) ≡ false → (a ≡ false) × (b ≡ false)
-or-false false b none = (refl, none)
-or-false true b none = cc
 
 -- texts are compared either way round
 bytes_eq-sym : (a b : List ℕ) → bytes_eq a b ≡ bytes_eq b a
@@ -32,7 +29,7 @@ bytes_eq-sym a b =
 unchanged : (f : RingBytes → RingBytes) (id : List ℕ) (rings : List Ring) → list_any (is_ring id) rings ≡ false → ring_changed f id rings ≡ rings
 unchanged f id [] none = refl
 unchanged f id (r ∷ rs) none =
-    let apart = or-false (is_ring id r) (list_any (is_ring id) rs) none in
+    let apart = or_parts (is_ring id r) (list_any (is_ring id) rs) none in
     rw (apart.0) (ap (λ rest. r ∷ rest) (unchanged f id rs apart.1))
 
 -- the ids stay
@@ -57,7 +54,7 @@ differ-changed f id (r ∷ rs) differ = by (is_ring id r) (differ-changed f id r
 any-without : (id other : List ℕ) (rings : List Ring) → list_any (is_ring other) rings ≡ false → list_any (is_ring other) (without_ring id rings) ≡ false
 any-without id other [] none = none
 any-without id other (r ∷ rs) none =
-    let apart = or-false (is_ring other r) (list_any (is_ring other) rs) none in
+    let apart = or_parts (is_ring other r) (list_any (is_ring other) rs) none in
     by (is_ring id r) apart.0 (any-without id other rs apart.1)
   where
     by : (b : Bool) → is_ring other r ≡ false → list_any (is_ring other) (without_ring id rs) ≡ false
@@ -77,14 +74,14 @@ any-added : (id other : List ℕ) (size : ℕ) (rings : List Ring) → list_any 
     → list_any (is_ring other) (rings ++ new_ring id size ∷ []) ≡ false
 any-added id other size [] none apart = rw apart refl
 any-added id other size (r ∷ rs) none apart =
-    let both = or-false (is_ring other r) (list_any (is_ring other) rs) none in
+    let both = or_parts (is_ring other r) (list_any (is_ring other) rs) none in
     rw (both.0) (any-added id other size rs both.1 apart)
 
 pub differ-added : (id : List ℕ) (size : ℕ) (rings : List Ring) → IdsDiffer rings → list_any (is_ring id) rings ≡ false
     → IdsDiffer (rings ++ new_ring id size ∷ [])
 differ-added id size [] differ free = (refl, tt)
 differ-added id size (r ∷ rs) differ free =
-    let apart = or-false (is_ring id r) (list_any (is_ring id) rs) free in
+    let apart = or_parts (is_ring id r) (list_any (is_ring id) rs) free in
     (any-added id r.id size rs differ.0 (bytes_eq-sym id r.id ∙ apart.0), differ-added id size rs differ.1 apart.1)
 
 -- where an id was found, others of it are none

@@ -13,13 +13,14 @@ use Rattle.qo_values.specs.declared.births.TheConstants.{OBJECTS_BIRTH}
 use Rattle.qo_values.specs.declared.codes.Code.{Code}
 use Rattle.qo_values.specs.declared.codes.Code.TheVariants.{E15, E21, E22, E23, E24, E43}
 use Rattle.qo_values.specs.declared.kinds.TypeId.{TypeId}
+use Rattle.qo_model.proofs.ComesToLemmas.{addition-comes}
 use Rattle.qo_model.specs.declared.notes.Note.{Note}
 use Rattle.qo_model.specs.Board.{Board, Record, Slot, plain, child, strong, weak, alias, record_of, kind_of, is_live}
 use Rattle.qo_model.specs.Changes.{with_added}
-use Rattle.qo_model.specs.Objects.{Given, added_as, added_by, barred, given_slots, has_slot, init_notes, object_add, refusal_of, with_attempt, with_object}
+use Rattle.qo_model.specs.Objects.{Given, added_as, barred, given_slots, has_slot, init_notes, object_add, with_attempt, with_object}
 use Rattle.qo_model.specs.Paths.{children_in, children_of, is_child}
 use Rattle.qo_model.specs.Release.{edit, edited}
-use Rattle.qo_model.specs.Types.{TypeRow, is_a, row_named}
+use Rattle.qo_model.specs.Types.{TypeRow, is_a}
 use Rattle.qo_sound.proofs.SlotLemmas.{names_in, one_child}
 use Rattle.qo_sound.proofs.FirmLemmas.{Linked, AllLinked, parents_in, Firm, firm-born}
 use Rattle.qo_sound.proofs.WorkLemmas.{Nearly}
@@ -176,14 +177,6 @@ added_as-rest : (b : Board) (t : TypeId) (id : List ℕ) (props : List Given) (r
 added_as-rest b t id props None free h = object-rest b t id props free.there free.free h
 added_as-rest b t id props (Some code) free h = attempt-rest b t h
 
-added_by-rest : (b : Board) (row : TypeRow) (id : List ℕ) (props : List Given) (refusal : Option Code) → barred b row id ≡ refusal → AtRest b
-    → AtRest (added_by b row id props refusal).board
-added_by-rest b row id props None e h = added_as-rest b row.id id props (refusal_of b row.id props) (free-from_barred b row id e) h
-added_by-rest b row id props (Some code) e h = h
-
 pub object_add-rest : (b : Board) (driver id : List ℕ) (props : List Given) → AtRest b → AtRest (object_add b driver id props).board
-object_add-rest b driver id props h = go (row_named driver) refl
-  where
-    go : (row : Option TypeRow) → row_named driver ≡ row → AtRest (object_add b driver id props).board
-    go None p = rw (object_add, p) h
-    go (Some row) p = rw (object_add, p) (added_by-rest b row id props (barred b row id) refl h)
+object_add-rest b driver id props h =
+    addition-comes AtRest b driver id props h (λ row e refusal is. added_as-rest b row.id id props refusal (free-from_barred b row id e) h)

@@ -1,14 +1,14 @@
 -- What each small step of the commands on objects keeps, the commands keep.
-use Rattle.std.proofs.Common.{◌≡◌, refl, ℕ, zero, suc, Bool, true, false, List, length, Option, Some, None}
+use Rattle.std.proofs.Common.{◌≡◌, refl, ℕ, List, length, Option, Some, None}
 use Rattle.qo_values.specs.declared.births.TheConstants.{OBJECTS_BIRTH}
 use Rattle.qo_values.specs.declared.properties.Val.{Val}
-use Rattle.qo_model.specs.Board.{Board, Slot, plain, child, strong, weak, alias, is_live, slot_at, slots_at, held}
+use Rattle.qo_model.specs.Board.{Board, Slot, slot_at, slots_at, held}
 use Rattle.qo_model.specs.Changes.{point, pointed, set, with_changed, with_val}
 use Rattle.qo_model.specs.FinalNotesRuns.{behind_write}
-use Rattle.qo_model.specs.Objects.{is_object_named, object_del, place_from, sever, severed_from}
-use Rattle.qo_model.specs.Paths.{attached}
+use Rattle.qo_model.specs.Objects.{object_del, sever, severed_from}
 use Rattle.qo_model.specs.Properties.{pointed_at, relinked, write}
-use Rattle.qo_model.specs.Release.{drop_slot, let_go, pin, with_dropped}
+use Rattle.qo_model.specs.Release.{drop_slot, pin, with_dropped}
+use Rattle.qo_model.proofs.ComesToLemmas.{deletion-comes, sever-comes, severed-comes}
 use Rattle.qo_model.proofs.WrittenLemmas.{write-comes}
 use Rattle.qo_sound.proofs.MakeStepsLemmas.{KeepsEdits}
 use Rattle.qo_sound.proofs.DetachStepsLemmas.{KeepsEnds, KeepsPins, step-let_go, step-pin, step-unpin}
@@ -16,11 +16,7 @@ use Rattle.qo_sound.proofs.DetachStepsLemmas.{KeepsEnds, KeepsPins, step-let_go,
 module _ (P : Board → Type 0) (edits : KeepsEdits P) (pins : KeepsPins P) (ends : KeepsEnds P) where
   -- `object-del`
   pub step-object_del : (b : Board) (id : List ℕ) → P b → P (object_del b id).board
-  step-object_del b id h = go (place_from (is_object_named id) 0 (slots_at b OBJECTS_BIRTH)) refl
-    where
-      go : (place : Option ℕ) → place_from (is_object_named id) 0 (slots_at b OBJECTS_BIRTH) ≡ place → P (object_del b id).board
-      go None p = rw (object_del, p) h
-      go (Some i) p = rw (object_del, p) (step-let_go P edits pins ends OBJECTS_BIRTH i b h)
+  step-object_del b id h = deletion-comes P b id h (λ i e. step-let_go P edits pins ends OBJECTS_BIRTH i b h)
 
   -- `qom-set`
   step-val : (b : Board) (n i : ℕ) (v : Val) → P b → P (set n i v b)
@@ -51,23 +47,10 @@ module _ (P : Board → Type 0) (edits : KeepsEdits P) (pins : KeepsPins P) (end
 
   -- `x-sever`
   step-severed : (places i n : ℕ) (b : Board) → P b → P (severed_from places i n b)
-  step-severed zero i n b h = h
-  step-severed (suc places) i n b h = go (slot_at b n i) refl (step-severed places (suc i) n)
-    where
-      go : (s : Option Slot) → slot_at b n i ≡ s → ((c : Board) → P c → P (severed_from places (suc i) n c)) → P (severed_from (suc places) i n b)
-      go None p rest = rw (severed_from, p) (rest b h)
-      go (Some (plain v)) p rest = rw (severed_from, p) (rest b h)
-      go (Some (child m)) p rest = rw (severed_from, p) (rest b h)
-      go (Some (strong t target)) p rest = rw (severed_from, p) (rest (let_go b n i) (step-let_go P edits pins ends n i b h))
-      go (Some (weak t target)) p rest = rw (severed_from, p) (rest b h)
-      go (Some (alias m property)) p rest = rw (severed_from, p) (rest b h)
+  step-severed places i n b h = severed-comes P n (λ c j t target e k. step-let_go P edits pins ends n j c k) places i b h
 
   pub step-sever : (b : Board) (n : ℕ) → P b → P (sever b n).board
-  step-sever b n h = go (is_live b n) refl (attached b n) refl
-    where
-      go : (there : Bool) → is_live b n ≡ there → (at_home : Bool) → attached b n ≡ at_home → P (sever b n).board
-      go false p at_home q = rw (sever, p) h
-      go true p true q = rw (sever, p, q) h
-      go true p false q =
-          rw (sever, p, q) (step-unpin P edits pins ends n (severed_from (length (slots_at b n)) 0 n (pin b n))
-          (step-severed (length (slots_at b n)) 0 n (pin b n) (step-pin P edits pins ends n b h)))
+  step-sever b n h =
+      sever-comes P b n h (λ there away.
+      step-unpin P edits pins ends n (severed_from (length (slots_at b n)) 0 n (pin b n))
+      (step-severed (length (slots_at b n)) 0 n (pin b n) (step-pin P edits pins ends n b h)))

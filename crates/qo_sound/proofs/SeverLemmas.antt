@@ -1,13 +1,13 @@
 -- An object that is held from outside while its strong links are let go, and then no longer.
-use Rattle.std.proofs.Common.{nat_eq, ◌≡◌, refl, ap, sym, ◌∙◌, ℕ, zero, suc, ◌≤◌, leb, Bool, true, false, ◌==◌, List, [], ◌∷◌, length, Option, Some, None, arith}
+use Rattle.std.proofs.Common.{nat_eq, ◌≡◌, refl, ap, sym, ◌∙◌, ℕ, ◌≤◌, leb, Bool, true, false, ◌==◌, List, [], ◌∷◌, length, Some, None, arith}
 use Rattle.std.specs.List.{list_any}
 use Rattle.std.proofs.lemmas.Bool.{eqb-true}
 use Rattle.std.proofs.lemmas.List.Sums.{sum_by-cons}
-use Rattle.qo_model.specs.Board.{Board, Slot, plain, child, strong, weak, alias, is_live, slot_at, slots_at}
+use Rattle.qo_model.specs.Board.{Board, is_live, slots_at}
 use Rattle.qo_model.specs.Objects.{sever, severed_from}
-use Rattle.qo_model.specs.Paths.{attached}
 use Rattle.qo_model.specs.References.{refs}
-use Rattle.qo_model.specs.Release.{let_go, pin, put_in_order, unpin, without_first, without_pin}
+use Rattle.qo_model.specs.Release.{pin, put_in_order, unpin, without_first, without_pin}
+use Rattle.qo_model.proofs.ComesToLemmas.{sever-comes, severed-comes}
 use Rattle.qo_model.proofs.PinLemmas.{put-among, put-back, severed-pins, unpin-pins}
 use Rattle.qo_sound.proofs.CountLemmas.{one_at, times}
 use Rattle.qo_sound.proofs.FirmLemmas.{firm-beside}
@@ -70,17 +70,7 @@ near-unpin b n e h = rw (unpin, e) (after-firm (without_pin b n) (Some n) free)
         }
 
 near-severed : (places i n : ℕ) (b : Board) → Nearly None b → Nearly None (severed_from places i n b)
-near-severed zero i n b h = h
-near-severed (suc places) i n b h = go (slot_at b n i) refl (near-severed places (suc i) n)
-  where
-    go : (s : Option Slot) → slot_at b n i ≡ s → ((c : Board) → Nearly None c → Nearly None (severed_from places (suc i) n c))
-        → Nearly None (severed_from (suc places) i n b)
-    go None p rest = rw (severed_from, p) (rest b h)
-    go (Some (plain v)) p rest = rw (severed_from, p) (rest b h)
-    go (Some (child m)) p rest = rw (severed_from, p) (rest b h)
-    go (Some (strong t target)) p rest = rw (severed_from, p) (rest (let_go b n i) (near-unlinked b n i t target p h))
-    go (Some (weak t target)) p rest = rw (severed_from, p) (rest b h)
-    go (Some (alias m property)) p rest = rw (severed_from, p) (rest b h)
+near-severed places i n b h = severed-comes (Nearly None) n (λ c j t target e k. near-unlinked c n j t target e k) places i b h
 
 -- the strong links of n are let go while it is pinned
 severed-rest : (b : Board) (n places : ℕ) → AtRest b → AtRest (unpin (severed_from places 0 n (pin b n)) n)
@@ -97,9 +87,4 @@ severed-rest b n places h =
     pinned = pin-pins b n ∙ ap (put_in_order n) h.pinned
 
 pub sever-rest : (b : Board) (n : ℕ) → AtRest b → AtRest (sever b n).board
-sever-rest b n h = go (is_live b n) refl (attached b n) refl
-  where
-    go : (there : Bool) → is_live b n ≡ there → (at_home : Bool) → attached b n ≡ at_home → AtRest (sever b n).board
-    go false p at_home q = rw (sever, p) h
-    go true p true q = rw (sever, p, q) h
-    go true p false q = rw (sever, p, q) (severed-rest b n (length (slots_at b n)) h)
+sever-rest b n h = sever-comes AtRest b n h (λ there away. severed-rest b n (length (slots_at b n)) h)

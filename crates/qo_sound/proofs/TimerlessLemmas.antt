@@ -18,7 +18,7 @@ use Rattle.qo_model.specs.Depth.{among}
 use Rattle.qo_model.specs.Devices.{buses_of, kids_of}
 use Rattle.qo_model.specs.FinalNotesRuns.{Change, added, deleted, wrote, severed, behind, changed}
 use Rattle.qo_model.specs.Hotplug.{all_completed, asked, asked_of, completed, device_at, reset_whole}
-use Rattle.qo_model.specs.Objects.{Given, added_as, added_by, barred, object_add, refusal_of}
+use Rattle.qo_model.specs.Objects.{Given, added_as, object_add}
 use Rattle.qo_model.specs.Opening.{opening_board}
 use Rattle.qo_model.specs.Paths.{attached, canonical}
 use Rattle.qo_model.specs.Plug.{Spot, Wanted, acted_all, barred_early, barred_late, bus_births, bus_for, counted, drafted, notice_barred, plug, plug_as, plug_by, plug_late, spot_of, type_barred, with_body_of, with_device, with_path, with_plugged}
@@ -27,6 +27,7 @@ use Rattle.qo_model.specs.ReleaseKeeps.{KeepsRelease}
 use Rattle.qo_model.specs.Reset.{held, is_out, phased, plugged, post, pulse, released}
 use Rattle.qo_model.specs.Types.{TypeRow, is_a, row_named, slots_of, types}
 use Rattle.qo_model.specs.Unplug.{detach, first_of}
+use Rattle.qo_model.proofs.ComesToLemmas.{addition-comes}
 use Rattle.qo_model.proofs.ReleaseKeepsLemmas.{after_keeps}
 use Rattle.qo_model.proofs.StepLemmas.{found_at}
 use Rattle.qo_sound.specs.Timerless.{is_timer, makes_timer, Timerless, TimerlessKeptLaw}
@@ -184,15 +185,8 @@ added-timerless b t id props made None h =
     all-append NoTimer _ _ (all-map NoTimer NoTimer _ (edited-no_timer OBJECTS_BIRTH _ (λ r k. k)) b.records h) (made, tt)
 
 object_add-timerless : (b : Board) (driver id : List ℕ) (props : List Given) → Timerless b → Timerless (object_add b driver id props).board
-object_add-timerless b driver id props h = go (row_named driver) refl
-  where
-    by : (row : TypeRow) (o : Option Code) → barred b row id ≡ o → Timerless (added_by b row id props o).board
-    by row (Some code) e = h
-    by row None e = added-timerless b row.id id props (created-no_timer row.id (creatable b row id e)) (refusal_of b row.id props) h
-
-    go : (row : Option TypeRow) → row_named driver ≡ row → Timerless (object_add b driver id props).board
-    go None p = rw (object_add, p) h
-    go (Some row) p = rw (object_add, p) (by row (barred b row id) refl)
+object_add-timerless b driver id props h =
+    addition-comes Timerless b driver id props h (λ row e o is. added-timerless b row.id id props (created-no_timer row.id (creatable b row id e)) o h)
 
 changed-timerless : (b : Board) (change : Change) → Timerless b → Timerless (changed b change)
 changed-timerless b (added driver id props) h = object_add-timerless b driver id props h

@@ -3,12 +3,13 @@ use Rattle.std.proofs.Common.{◌≡◌, refl, ap, ◌∙◌, ℕ, List, Option,
 use Rattle.qo_values.specs.declared.births.TheConstants.{OBJECTS_BIRTH}
 use Rattle.qo_values.specs.declared.kinds.TypeId.{TypeId}
 use Rattle.qo_values.specs.declared.properties.Val.{Val}
-use Rattle.qo_model.specs.Board.{Board, Slot, kind_of, slot_at, slots_at, held}
+use Rattle.qo_model.specs.Board.{Board, Slot, kind_of, slot_at, held}
 use Rattle.qo_model.specs.Changes.{point, set}
 use Rattle.qo_model.specs.FinalNotesRuns.{behind_write}
-use Rattle.qo_model.specs.Objects.{is_object_named, object_del, place_from}
+use Rattle.qo_model.specs.Objects.{object_del}
 use Rattle.qo_model.specs.Properties.{pointed_at, relinked, write}
 use Rattle.qo_model.specs.Release.{drop_slot}
+use Rattle.qo_model.proofs.ComesToLemmas.{deletion-comes}
 use Rattle.qo_model.proofs.ReleaseLeavesLemmas.{let_go-leaves}
 use Rattle.qo_model.proofs.PinLemmas.{release-pins}
 use Rattle.qo_sound.proofs.FirmLemmas.{FitsKind}
@@ -20,11 +21,8 @@ use Rattle.qo_model.proofs.WrittenLemmas.{write-comes}
 
 -- `object-del`
 pub object_del-rest : (b : Board) (id : List ℕ) → AtRest b → AtRest (object_del b id).board
-object_del-rest b id h = go (place_from (is_object_named id) 0 (slots_at b OBJECTS_BIRTH)) refl
-  where
-    go : (place : Option ℕ) → place_from (is_object_named id) 0 (slots_at b OBJECTS_BIRTH) ≡ place → AtRest (object_del b id).board
-    go None p = rw (object_del, p) h
-    go (Some i) p = rw (object_del, p) (record { used = near-deleted b i h.used; pinned = (let_go-leaves b OBJECTS_BIRTH i).pins ∙ h.pinned })
+object_del-rest b id h =
+    deletion-comes AtRest b id h (λ i e. record { used = near-deleted b i h.used; pinned = (let_go-leaves b OBJECTS_BIRTH i).pins ∙ h.pinned })
 
 -- `qom-set`
 pointed-pins : (b : Board) (n i : ℕ) (target : Option ℕ) → (pointed_at target n i (drop_slot b n i)).pins ≡ b.pins

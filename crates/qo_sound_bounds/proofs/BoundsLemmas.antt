@@ -21,7 +21,7 @@ use Rattle.qo_model.specs.Depth.{among}
 use Rattle.qo_model.specs.Devices.{buses_of, kids_of}
 use Rattle.qo_model.specs.FinalNotesRuns.{Change, added, deleted, wrote, severed, changed}
 use Rattle.qo_model.specs.Hotplug.{all_completed, asked, asked_of, completed, device_at, reset_whole}
-use Rattle.qo_model.specs.Objects.{Given, added_as, added_by, barred, has_slot, object_add, refusal_of, with_object}
+use Rattle.qo_model.specs.Objects.{Given, added_as, barred, has_slot, object_add, with_object}
 use Rattle.qo_model.specs.Opening.{fresh_record, opening_board}
 use Rattle.qo_model.specs.Paths.{attached, canonical}
 use Rattle.qo_model.specs.Plug.{Spot, Wanted, acted_all, aliased, at_stage, bus_barred, bus_births, bus_for, counted, drafted, first_of, further_in, id_barred, notice_barred, objects_in, owned, plug, room_barred, row_made, rows_made, spot_of, with_body_of, with_device, with_kid, with_new, with_path, with_plugged}
@@ -29,12 +29,13 @@ use Rattle.qo_model.specs.Release.{drop_slot, edit, edited, finish, forgotten, p
 use Rattle.qo_model.specs.ReleaseKeeps.{KeepsRelease}
 use Rattle.qo_model.specs.Reset.{held, is_out, phased, plugged, post, pulse, released}
 use Rattle.qo_model.specs.RowNames.{property_name}
-use Rattle.qo_model.specs.Types.{TypeRow, is_a, row_named, slots_of, types}
+use Rattle.qo_model.specs.Types.{TypeRow, is_a, slots_of, types}
 use Rattle.qo_model.specs.Unplug.{detach}
 use Rattle.qo_model.specs.Unplug as unplug
 use Rattle.qo_model.specs.declared.properties.Property.{Property}
 use Rattle.qo_model.specs.declared.properties.RowKind.{RowKind}
 use Rattle.qo_model.specs.declared.properties.RowKind.TheVariants as row
+use Rattle.qo_model.proofs.ComesToLemmas.{addition-comes}
 use Rattle.qo_model.proofs.ReleaseKeepsLemmas.{after_keeps}
 use Rattle.qo_sound.proofs.AddLemmas.{unbarred}
 use Rattle.qo_sound.proofs.MakeStepsLemmas.{all-any, KeepsActs, KeepsEdits, step-acted_all, step-plugged, step-set, step-stood}
@@ -132,15 +133,8 @@ added-bounds b t id props None few h =
     joins = edited OBJECTS_BIRTH (with_added id (child (b.born + 1)))
 
 object_add-bounds : (b : Board) (driver id : List ℕ) (props : List Given) → SoundBounds b → SoundBounds (object_add b driver id props).board
-object_add-bounds b driver id props h = go (row_named driver) refl
-  where
-    by : (row : TypeRow) (o : Option Code) → barred b row id ≡ o → SoundBounds (added_by b row id props o).board
-    by row (Some code) e = h
-    by row None e = added-bounds b row.id id props (refusal_of b row.id props) (room-from_barred b row id e) h
-
-    go : (row : Option TypeRow) → row_named driver ≡ row → SoundBounds (object_add b driver id props).board
-    go None p = rw (object_add, p) h
-    go (Some row) p = rw (object_add, p) (by row (barred b row id) refl)
+object_add-bounds b driver id props h =
+    addition-comes SoundBounds b driver id props h (λ row e o is. added-bounds b row.id id props o (room-from_barred b row id e) h)
 
 changed-bounds : (b : Board) (change : Change) → SoundBounds b → SoundBounds (changed b change)
 changed-bounds b (added driver id props) h = object_add-bounds b driver id props h

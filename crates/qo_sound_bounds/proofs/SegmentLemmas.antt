@@ -1,18 +1,17 @@
 -- What acts and a guest's writes do to the segments of a timer that is not ahead of the time.
-use Rattle.std.proofs.Common.{◌≡◌, ◌≢◌, refl, ap, sym, subst, ◌∙◌, ℕ, ◌+◌, ◌-◌, ◌*◌, ◌≤◌, ◌%◌, ◌||◌, Bool, true, false, cond, eqb, Option, Some, None, is_some, option_map, arith}
+use Rattle.std.proofs.Common.{◌≡◌, ◌≢◌, refl, ap, sym, subst, ◌∙◌, ℕ, ◌+◌, ◌-◌, ◌*◌, ◌≤◌, ◌%◌, ◌||◌, Bool, true, false, cond, eqb, Option, Some, None, is_some, arith}
 use Rattle.std.specs.Bool.{⊤}
 use Rattle.std.proofs.Math.Nat.{div-le_self}
 use Rattle.std.proofs.lemmas.Option.{same_Some}
-use Rattle.qo_values.specs.Bodies.{Effect, body_act, body_write, bridge_write, effect_of, nothing}
-use Rattle.qo_values.specs.Dimm.{dimm_read}
-use Rattle.qo_values.specs.Registers.{BridgeRegisters, Registers, TimerRegisters, UartRegisters, bare, bridge, dimm, fresh_registers, timer, uart}
+use Rattle.qo_values.specs.Bodies.{Effect, body_act, body_write}
+use Rattle.qo_values.specs.Registers.{Registers, TimerRegisters, bare, bridge, dimm, fresh_registers, timer, uart}
 use Rattle.qo_values.specs.Timer.{after_begin, after_end, control_write, reload_write, span_ticks, timer_enter, timer_halt, timer_hold, timer_update, timer_write}
-use Rattle.qo_values.specs.Uart.{uart_write}
 use Rattle.qo_values.specs.declared.kinds.Act.{Act}
 use Rattle.qo_values.specs.declared.kinds.Act.TheVariants.{Init, Realize, Unrealize, Enter, Hold, Exit, Pre, Update}
 use Rattle.qo_values.specs.declared.kinds.TypeId.{TypeId}
 use Rattle.qo_values.specs.declared.kinds.TypeId.TheVariants.{Object, Container, Machine, Device, SlotDevice, SlotUart, SlotTimer, SlotBridge, MemDimm, Bus, SlotBus, MemBus, Clock, MemoryBackend, MemoryBackendRam, Tag}
 use Rattle.qo_sound_clocks.specs.SoundTimes.{IsTimely}
+use Rattle.qo_sound_clocks.proofs.BecomesLemmas.{Becomes, written-becomes, uart_to, timer_to, dimm_stays, bridge_to}
 use Rattle.qo_sound_bounds.specs.SoundSegments.{IsSegmented, SegmentsFit}
 
 -- registers whose last moment is no later than one, and whose segments are sound
@@ -171,38 +170,15 @@ timer-fits t s reg value now period e h = go (eqb reg 0) refl (eqb reg 1) refl (
     go false p false q false k = absurd (let clash : None ≡ Some s = rw (timer_write, p, q, k) at e in cc)
 
 -- no other body becomes a timer
-
-mapped-segments : {A : Type 0} (f : A → Registers × Effect) → ((x : A) → IsSegmented (f x).0) → (o : Option A) (s : Registers) (effect : Effect)
-    → option_map f o ≡ Some (s, effect) → IsSegmented s
-mapped-segments f sound None s effect e = cc
-mapped-segments f sound (Some x) s effect e = subst IsSegmented (ap (λ (p : Registers × Effect). p.0) (same_Some (f x) (s, effect) e)) (sound x)
-
-bridge-segments : (g : BridgeRegisters) (reg value : ℕ) (s : Registers) (effect : Effect) → bridge_write g reg value ≡ Some (s, effect) → IsSegmented s
-bridge-segments g reg value s effect e = go (eqb reg 0) refl (eqb reg 1) refl
-  where
-    is : (x : BridgeRegisters) (f : Effect) → ◌≡◌ {A = Option (Registers × Effect)} (Some (bridge x, f)) (Some (s, effect)) → IsSegmented s
-    is x f q = subst IsSegmented (ap (λ (p : Registers × Effect). p.0) (same_Some (bridge x, f) (s, effect) q)) tt
-
-    go : (u : Bool) → eqb reg 0 ≡ u → (v : Bool) → eqb reg 1 ≡ v → IsSegmented s
-    go true p v q = is _ _ (rw (bridge_write, p) at e)
-    go false p true q = is _ _ (rw (bridge_write, p, q) at e)
-    go false p false q = absurd (let clash : None ≡ Some (s, effect) = rw (bridge_write, p, q) at e in cc)
-
 pub write-segments : (r s : Registers) (effect : Effect) (reg value : ℕ) (ring : Bool) (now period : ℕ)
     → body_write r reg value ring now period ≡ Some (s, effect) → IsTimely now r → IsSegmented r → IsSegmented s
-write-segments (uart u) s effect reg value ring now period e le h =
-    mapped-segments (λ (p : UartRegisters × Option ℕ). (uart p.0, effect_of p.1)) (λ p. tt) (uart_write u reg value ring) s effect e
-write-segments (timer t) s effect reg value ring now period e le h = go (timer_write t reg value now period) refl
+write-segments r s effect reg value ring now period e le h = by r s (written-becomes r s effect reg value ring now period e) le h
   where
-    go : (o : Option TimerRegisters) → timer_write t reg value now period ≡ o → IsSegmented s
-    go None p = absurd (let clash : None ≡ Some (s, effect) = rw p at e in cc)
-    go (Some x) p =
-        let is : timer x ≡ s = ap (λ (q : Registers × Effect). q.0) (same_Some (timer x, nothing) (s, effect) (rw p at e)) in
-        subst IsSegmented is (timer-fits t x reg value now period p (le, h)).1
-write-segments (dimm d) s effect reg value ring now period e le h =
-    mapped-segments (λ (n : ℕ). (dimm d, nothing)) (λ n. tt) (dimm_read d reg) s effect e
-write-segments (bridge g) s effect reg value ring now period e le h = bridge-segments g reg value s effect e
-write-segments bare s effect reg value ring now period e le h = cc
+    by : (x y : Registers) → Becomes reg value now period x y → IsTimely now x → IsSegmented x → IsSegmented y
+    by x y (uart_to u v) low k = tt
+    by x y (timer_to t v q) low k = (timer-fits t v reg value now period q (low, k)).1
+    by x y (dimm_stays d) low k = tt
+    by x y (bridge_to g v) low k = tt
 
 -- what is made
 

@@ -14,7 +14,7 @@ use Rattle.qo_model.specs.Clocks.{acted, period, with_act_on}
 use Rattle.qo_model.specs.Depth.{among}
 use Rattle.qo_model.specs.FinalNotesRuns.{Change, added, deleted, wrote, severed, changed}
 use Rattle.qo_model.specs.Hotplug.{all_completed, asked, asked_of, completed, device_at, reset_whole}
-use Rattle.qo_model.specs.Objects.{Given, added_as, added_by, barred, object_add, refusal_of}
+use Rattle.qo_model.specs.Objects.{Given, added_as, object_add}
 use Rattle.qo_model.specs.Opening.{opening_board}
 use Rattle.qo_model.specs.Paths.{attached, canonical}
 use Rattle.qo_model.specs.Plug.{Spot, Wanted, acted_all, barred_early, barred_late, bus_births, bus_for, counted, drafted, notice_barred, plug, plug_as, plug_by, plug_late, spot_of, type_barred, with_body_of, with_device, with_path, with_plugged}
@@ -23,6 +23,7 @@ use Rattle.qo_model.specs.ReleaseKeeps.{KeepsRelease}
 use Rattle.qo_model.specs.Reset.{held, is_out, phased, plugged, post, pulse, released}
 use Rattle.qo_model.specs.Types.{TypeRow, row_named, slots_of, types}
 use Rattle.qo_model.specs.Unplug.{detach, first_of}
+use Rattle.qo_model.proofs.ComesToLemmas.{addition-comes}
 use Rattle.qo_model.proofs.ReleaseKeepsLemmas.{after_keeps}
 use Rattle.qo_sound.proofs.FoundLemmas.{all-found}
 use Rattle.qo_sound.proofs.RecordLemmas.{all-append, all-both, all-filter, all-imply, all-map}
@@ -135,15 +136,7 @@ added-segments b t id props None h =
     (fresh-timed b.now t, tt)
 
 object_add-segments : (b : Board) (driver id : List ℕ) (props : List Given) → Sound b → Sound (object_add b driver id props).board
-object_add-segments b driver id props h = go (row_named driver) refl
-  where
-    by : (row : TypeRow) (o : Option Code) → Sound (added_by b row id props o).board
-    by row (Some code) = h
-    by row None = added-segments b row.id id props (refusal_of b row.id props) h
-
-    go : (row : Option TypeRow) → row_named driver ≡ row → Sound (object_add b driver id props).board
-    go None p = rw (object_add, p) h
-    go (Some row) p = rw (object_add, p) (by row (barred b row id))
+object_add-segments b driver id props h = addition-comes Sound b driver id props h (λ row e o is. added-segments b row.id id props o h)
 
 changed-segments : (b : Board) (change : Change) → Sound b → Sound (changed b change)
 changed-segments b (added driver id props) h = object_add-segments b driver id props h

@@ -17,13 +17,12 @@ use Rattle.qo_model.specs.Changes.{changed_at, cut, point, pointed, set, with_ad
 use Rattle.qo_model.specs.Depth.{among}
 use Rattle.qo_model.specs.Devices.{bus_of, buses_of, kids_of}
 use Rattle.qo_model.specs.FinalNotesRuns.{Change, added, behind_write, changed, deleted, severed, wrote}
-use Rattle.qo_model.specs.Objects.{Given, added_as, added_by, barred, given_slots, is_object_named, object_add, object_del, place_from, refusal_of, sever, severed_from, with_object}
-use Rattle.qo_model.specs.Paths.{attached}
+use Rattle.qo_model.specs.Objects.{Given, added_as, given_slots, is_object_named, object_add, object_del, place_from, sever, severed_from, with_object}
 use Rattle.qo_model.specs.Properties.{pointed_at, relinked, write}
 use Rattle.qo_model.specs.Release.{after, drop_slot, edit, edited, emptied, finalise, finish, forgotten, forgotten_in, let_go, pin, unpin, with_dropped, without_hold, without_pin}
 use Rattle.qo_model.specs.ReleaseKeeps.{KeepsRelease}
-use Rattle.qo_model.specs.Types.{TypeRow, row_named}
 use Rattle.qo_model.specs.Unplug.{apart_within, drained, first_of, is_bus_slot, is_child_slot, is_named, left_bus, left_parent, let_go_where, lost_bus, lost_buses, names_kid, take_slot, take_where, taken_by}
+use Rattle.qo_model.proofs.ComesToLemmas.{addition-comes, deletion-comes, sever-comes, severed-comes}
 use Rattle.qo_model.proofs.FirstLemmas.{slots_in, Found, found-at}
 use Rattle.qo_model.proofs.ReleaseKeepsLemmas.{after_keeps}
 use Rattle.qo_model.proofs.StepLemmas.{drop-record, finish-gone, finish-record, found_at, found-edited, is_some-map, found-birth, drop-live}
@@ -443,51 +442,29 @@ object-fine id (own, weak t target) e = clash-back e
 object-fine id (own, alias m property) e = refl
 
 object_del-sight : (b : Board) (id : List ℕ) → Sight b (object_del b id).board
-object_del-sight b id = go (place_from (is_object_named id) 0 (slots_at b OBJECTS_BIRTH)) refl
-  where
-    go : (place : Option ℕ) → place_from (is_object_named id) 0 (slots_at b OBJECTS_BIRTH) ≡ place → Sight b (object_del b id).board
-    go None p = rw (object_del, p) (sight-none b)
-    go (Some i) p =
-        let f : Found (is_object_named id) (slots_at b OBJECTS_BIRTH) i = found-at (is_object_named id) i (slots_at b OBJECTS_BIRTH) p in
-        rw (object_del, p)
-        (sight-let_go b OBJECTS_BIRTH i b
-        (λ x q. object-fine id x (ap (is_object_named id) (same_Some x f.entry (sym q ∙ f.at)) ∙ f.passes)) (sight-none b))
+object_del-sight b id = deletion-comes (Sight b) b id (sight-none b) (λ i p.
+    let f : Found (is_object_named id) (slots_at b OBJECTS_BIRTH) i = found-at (is_object_named id) i (slots_at b OBJECTS_BIRTH) p in
+    sight-let_go b OBJECTS_BIRTH i b
+    (λ x q. object-fine id x (ap (is_object_named id) (same_Some x f.entry (sym q ∙ f.at)) ∙ f.passes)) (sight-none b))
 
 -- `x-sever`
-severed-sight : (b : Board) (places i n : ℕ) (c : Board) → Sight b c → Sight b (severed_from places i n c)
-severed-sight b zero i n c h = h
-severed-sight b (suc places) i n c h = go (slot_at c n i) refl (severed-sight b places (suc i) n)
-  where
-    strong-fine : (t : TypeId) (target : Option ℕ) → slot_at c n i ≡ Some (strong t target) → (x : List ℕ × Slot) → slice_get (slots_at c n) i ≡ Some x
-        → harmless x ≡ true
-    strong-fine t target p x q = by x (same_Some x.1 (strong t target) (sym (ap (option_map (λ (y : List ℕ × Slot). y.1)) q) ∙ p))
-      where
-        by : (y : List ℕ × Slot) → y.1 ≡ strong t target → harmless y ≡ true
-        by (own, plain v) e = refl
-        by (own, child m) e = refl
-        by (own, strong to at) e = refl
-        by (own, weak to at) e = cc
-        by (own, alias m property) e = refl
+strong-fine : (x : List ℕ × Slot) (t : TypeId) (target : Option ℕ) → x.1 ≡ strong t target → harmless x ≡ true
+strong-fine (own, plain v) t target e = refl
+strong-fine (own, child m) t target e = refl
+strong-fine (own, strong to at) t target e = refl
+strong-fine (own, weak to at) t target e = cc
+strong-fine (own, alias m property) t target e = refl
 
-    go : (s : Option Slot) → slot_at c n i ≡ s → ((d : Board) → Sight b d → Sight b (severed_from places (suc i) n d))
-        → Sight b (severed_from (suc places) i n c)
-    go None p rest = rw (severed_from, p) (rest c h)
-    go (Some (plain v)) p rest = rw (severed_from, p) (rest c h)
-    go (Some (child m)) p rest = rw (severed_from, p) (rest c h)
-    go (Some (strong t target)) p rest = rw (severed_from, p) (rest (let_go c n i) (sight-let_go b n i c (strong-fine t target p) h))
-    go (Some (weak t target)) p rest = rw (severed_from, p) (rest c h)
-    go (Some (alias m property)) p rest = rw (severed_from, p) (rest c h)
+severed-sight : (b : Board) (places i n : ℕ) (c : Board) → Sight b c → Sight b (severed_from places i n c)
+severed-sight b places i n c h = severed-comes (Sight b) n (λ d j t target e k.
+    sight-let_go b n j d
+    (λ x q. strong-fine x t target (same_Some x.1 (strong t target) (sym (ap (option_map (λ (y : List ℕ × Slot). y.1)) q) ∙ e))) k) places i c h
 
 sever-sight : (b : Board) (n : ℕ) → Sight b (sever b n).board
-sever-sight b n = go (is_live b n) refl (attached b n) refl
-  where
-    go : (there : Bool) → is_live b n ≡ there → (at_home : Bool) → attached b n ≡ at_home → Sight b (sever b n).board
-    go false p at_home q = rw (sever, p) (sight-none b)
-    go true p true q = rw (sever, p, q) (sight-none b)
-    go true p false q =
-        rw (sever, p, q)
-        (sight-unpin b n (severed_from (length (slots_at b n)) 0 n (pin b n))
-        (severed-sight b (length (slots_at b n)) 0 n (pin b n) (sight-pin b n b (sight-none b))))
+sever-sight b n =
+    sever-comes (Sight b) b n (sight-none b) (λ there away.
+    sight-unpin b n (severed_from (length (slots_at b n)) 0 n (pin b n))
+    (severed-sight b (length (slots_at b n)) 0 n (pin b n) (sight-pin b n b (sight-none b))))
 
 -- what was seen is seen where both are there
 abbrev pub StillSeen : Board → Board → Type 0
@@ -516,19 +493,11 @@ with_object-seen b t id props k s i j e =
     go (Some r) q = at_record r q (r.birth == OBJECTS_BIRTH) refl
 
 object_add-seen : (b : Board) (driver id : List ℕ) (props : List Given) → StillSeen b (object_add b driver id props).board
-object_add-seen b driver id props = go (row_named driver) refl
+object_add-seen b driver id props = addition-comes (StillSeen b) b driver id props (λ k s i j e. e) (λ row e o is. of row.id o)
   where
     of : (t : TypeId) (o : Option Code) → StillSeen b (added_as b t id props o).board
     of t (Some code) = λ k s i j e. e
     of t None = with_object-seen b t id props
-
-    by : (row : TypeRow) (o : Option Code) → StillSeen b (added_by b row id props o).board
-    by row (Some code) = λ k s i j e. e
-    by row None = of row.id (refusal_of b row.id props)
-
-    go : (row : Option TypeRow) → row_named driver ≡ row → StillSeen b (object_add b driver id props).board
-    go None p = rw (object_add, p) (λ k s i j e. e)
-    go (Some row) p = rw (object_add, p) (by row (barred b row id))
 
 pub changed-seen : (b : Board) (change : Change) → StillSeen b (changed b change)
 changed-seen b (added driver id props) = object_add-seen b driver id props

@@ -1,5 +1,5 @@
 -- The commands on objects: what they add is not realized, what they write is not claimed, and what they let go no realized device holds.
-use Rattle.std.proofs.Common.{◌≡◌, inl, inr, refl, ap, sym, ◌∙◌, rules, ℕ, zero, suc, ◌+◌, Bool, true, false, ◌==◌, List, [], ◌∷◌, map, length, slice_get, Option, Some, None, option_map, codes}
+use Rattle.std.proofs.Common.{◌≡◌, inl, inr, refl, ap, sym, ◌∙◌, rules, ℕ, ◌+◌, Bool, true, false, ◌==◌, List, [], ◌∷◌, map, length, slice_get, Option, Some, None, option_map, codes}
 use Rattle.std.specs.List.{AllByRecursion}
 use Rattle.std.specs.Option.{option_or}
 use Rattle.std.specs.Str.{bytes_eq}
@@ -8,16 +8,17 @@ use Rattle.qo_values.specs.declared.codes.Code.{Code}
 use Rattle.qo_values.specs.declared.kinds.TypeId.{TypeId}
 use Rattle.qo_values.specs.declared.kinds.TypeId.TheVariants.{Object, Container, Machine, Device, SlotDevice, SlotUart, SlotTimer, SlotBridge, MemDimm, Bus, SlotBus, MemBus, Clock, MemoryBackend, MemoryBackendRam, Tag}
 use Rattle.qo_values.specs.declared.properties.Val.{Val}
-use Rattle.qo_model.specs.Board.{Board, Record, Slot, plain, child, strong, weak, alias, is_live, record_of, slot_at, slots_at, held}
+use Rattle.qo_model.specs.Board.{Board, Record, Slot, plain, child, strong, weak, alias, record_of, slot_at, slots_at, held}
 use Rattle.qo_model.specs.Changes.{point, pointed, set, with_added, with_changed, with_val}
 use Rattle.qo_model.specs.Devices.{is_realized}
 use Rattle.qo_model.specs.FinalNotesRuns.{Change, added, deleted, wrote, severed, behind_write, changed}
-use Rattle.qo_model.specs.Objects.{Given, added_as, added_by, barred, is_object_named, object_add, object_del, place_from, refusal_of, sever, severed_from, slot_given, with_object}
+use Rattle.qo_model.specs.Objects.{Given, added_as, is_object_named, object_add, object_del, sever, severed_from, slot_given, with_object}
 use Rattle.qo_model.specs.Opening.{fresh_slots}
 use Rattle.qo_model.specs.Paths.{attached, is_of}
 use Rattle.qo_model.specs.Properties.{pointed_at, relinked, write}
-use Rattle.qo_model.specs.Release.{drop_slot, edited, emptied, let_go, pin}
-use Rattle.qo_model.specs.Types.{TypeRow, is_a, row_named, types}
+use Rattle.qo_model.specs.Release.{drop_slot, edited, emptied, pin}
+use Rattle.qo_model.specs.Types.{is_a, types}
+use Rattle.qo_model.proofs.ComesToLemmas.{addition-comes, deletion-comes, sever-comes, severed-comes}
 use Rattle.qo_model.proofs.FirstLemmas.{Found, found-at}
 use Rattle.qo_model.proofs.StepLemmas.{found-edited, found_at}
 use Rattle.qo_sound.proofs.AddLemmas.{creatable, made}
@@ -130,14 +131,9 @@ object-harmless id (name, weak t target) e = inl refl
 object-harmless id (name, alias m property) e = inl refl
 
 object_del-fewer : (b : Board) (id : List ℕ) → Fewer false b (object_del b id).board
-object_del-fewer b id = go (place_from (is_object_named id) 0 (slots_at b OBJECTS_BIRTH)) refl
-  where
-    go : (place : Option ℕ) → place_from (is_object_named id) 0 (slots_at b OBJECTS_BIRTH) ≡ place → Fewer false b (object_del b id).board
-    go None p = rw (object_del, p) (fewer-none false b)
-    go (Some i) p =
-        let f : Found (is_object_named id) (slots_at b OBJECTS_BIRTH) i = found-at (is_object_named id) i (slots_at b OBJECTS_BIRTH) p in
-        rw (object_del, p)
-        (fewer-let_go false b OBJECTS_BIRTH i b (spares-harmless b OBJECTS_BIRTH i f.entry f.at (object-harmless id f.entry f.passes)) (fewer-none false b))
+object_del-fewer b id = deletion-comes (Fewer false b) b id (fewer-none false b) (λ i p.
+    let f : Found (is_object_named id) (slots_at b OBJECTS_BIRTH) i = found-at (is_object_named id) i (slots_at b OBJECTS_BIRTH) p in
+    fewer-let_go false b OBJECTS_BIRTH i b (spares-harmless b OBJECTS_BIRTH i f.entry f.at (object-harmless id f.entry f.passes)) (fewer-none false b))
 
 -- one that lets go of its links, which is not realized
 
@@ -162,28 +158,14 @@ module _ (b : Board) (h : SoundDevices b) where
           absurd (let clash : true ≡ false = sym (one.slots.lit lit) ∙ sym (realized-at b h.tree n r p) ∙ dark in cc)
 
   severed-fewer : (places i n : ℕ) → is_realized b n ≡ false → (c : Board) → Fewer false b c → Fewer false b (severed_from places i n c)
-  severed-fewer zero i n dark c k = k
-  severed-fewer (suc places) i n dark c k = go (slot_at c n i) refl (severed-fewer places (suc i) n dark)
-    where
-      go : (s : Option Slot) → slot_at c n i ≡ s → ((d : Board) → Fewer false b d → Fewer false b (severed_from places (suc i) n d))
-          → Fewer false b (severed_from (suc places) i n c)
-      go None p rest = rw (severed_from, p) (rest c k)
-      go (Some (plain v)) p rest = rw (severed_from, p) (rest c k)
-      go (Some (child m)) p rest = rw (severed_from, p) (rest c k)
-      go (Some (strong t target)) p rest = rw (severed_from, p) (rest (let_go c n i) (fewer-let_go false b n i c (spares-dark n i dark c k) k))
-      go (Some (weak t target)) p rest = rw (severed_from, p) (rest c k)
-      go (Some (alias m property)) p rest = rw (severed_from, p) (rest c k)
+  severed-fewer places i n dark c k =
+      severed-comes (Fewer false b) n (λ d j t target e less. fewer-let_go false b n j d (spares-dark n j dark d less) less) places i c k
 
   sever-fewer : (n : ℕ) → Fewer false b (sever b n).board
-  sever-fewer n = go (is_live b n) refl (attached b n) refl
-    where
-      go : (there : Bool) → is_live b n ≡ there → (at_home : Bool) → attached b n ≡ at_home → Fewer false b (sever b n).board
-      go false p at_home q = rw (sever, p) (fewer-none false b)
-      go true p true q = rw (sever, p, q) (fewer-none false b)
-      go true p false q =
-          rw (sever, p, q)
-          (fewer-unpin false b n (severed_from (length (slots_at b n)) 0 n (pin b n))
-          (severed-fewer (length (slots_at b n)) 0 n (dark-apart n q) (pin b n) (fewer-pin false b n b (fewer-none false b))))
+  sever-fewer n =
+      sever-comes (Fewer false b) b n (fewer-none false b) (λ there away.
+      fewer-unpin false b n (severed_from (length (slots_at b n)) 0 n (pin b n))
+      (severed-fewer (length (slots_at b n)) 0 n (dark-apart n away) (pin b n) (fewer-pin false b n b (fewer-none false b))))
 
 -- an object that is added is no device
 
@@ -243,15 +225,8 @@ added-fewer b t id props dark (Some code) = fewer-none false b
 added-fewer b t id props dark None = with_object-fewer b t id props dark
 
 object_add-fewer : (b : Board) (driver id : List ℕ) (props : List Given) → Fewer false b (object_add b driver id props).board
-object_add-fewer b driver id props = go (row_named driver) refl
-  where
-    by : (row : TypeRow) (o : Option Code) → barred b row id ≡ o → Fewer false b (added_by b row id props o).board
-    by row (Some code) e = fewer-none false b
-    by row None e = added-fewer b row.id id props (created-dark row.id (creatable b row id e)) (refusal_of b row.id props)
-
-    go : (row : Option TypeRow) → row_named driver ≡ row → Fewer false b (object_add b driver id props).board
-    go None p = rw (object_add, p) (fewer-none false b)
-    go (Some row) p = rw (object_add, p) (by row (barred b row id) refl)
+object_add-fewer b driver id props =
+    addition-comes (Fewer false b) b driver id props (fewer-none false b) (λ row e o is. added-fewer b row.id id props (created-dark row.id (creatable b row id e)) o)
 
 pub changed-fewer : (b : Board) → SoundDevices b → (change : Change) → Fewer false b (changed b change)
 changed-fewer b h (added driver id props) = object_add-fewer b driver id props

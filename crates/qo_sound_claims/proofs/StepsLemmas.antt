@@ -1,18 +1,14 @@
 -- Acts, holds, clocks that are written, registers that a guest writes, devices that go, and the reset of the whole board keep the backends sound.
-use Rattle.std.proofs.Common.{◌≡◌, inl, refl, ap, sym, subst, ◌∙◌, ℕ, zero, suc, Bool, true, false, eqb, List, [], ◌∷◌, filter, length, codes, Option, Some, None, is_some, option_map, Ok, Err}
+use Rattle.std.proofs.Common.{◌≡◌, inl, refl, ap, sym, subst, ◌∙◌, ℕ, zero, suc, Bool, true, false, eqb, List, [], ◌∷◌, filter, length, codes, Option, Some, None, is_some, Ok, Err}
 use Rattle.std.specs.List.{AllByRecursion}
 use Rattle.std.proofs.lemmas.Option.{same_Some}
-use Rattle.qo_values.specs.Bodies.{Effect, body_write, bridge_write, effect_of, nothing}
-use Rattle.qo_values.specs.Dimm.{dimm_read}
-use Rattle.qo_values.specs.Registers.{BridgeRegisters, Registers, TimerRegisters, UartRegisters, bare, bridge, dimm, timer, uart}
-use Rattle.qo_values.specs.Timer.{timer_write}
-use Rattle.qo_values.specs.Uart.{uart_write}
+use Rattle.qo_values.specs.Bodies.{Effect, body_write}
+use Rattle.qo_values.specs.Registers.{Registers}
 use Rattle.qo_values.specs.declared.births.TheConstants.{MACHINE_BIRTH}
 use Rattle.qo_values.specs.declared.codes.Code.TheVariants.{E45, E46}
 use Rattle.qo_values.specs.declared.kinds.Act.{Act}
 use Rattle.qo_values.specs.declared.kinds.Act.TheVariants.{Enter, Hold, Exit}
 use Rattle.qo_values.specs.declared.properties.Val.TheVariants as val
-use Rattle.qo_values.specs.declared.ranges.Range.{Range}
 use Rattle.qo_model.specs.Board.{Board, Record, record_of, slots_at}
 use Rattle.qo_model.specs.Changes.{set}
 use Rattle.qo_model.specs.ClockChanges.{clock_scaled, clock_set}
@@ -33,6 +29,7 @@ use Rattle.qo_sound_devices.specs.SoundDevices.{SoundDevices}
 use Rattle.qo_sound_devices.specs.SoundLists.{IsOn}
 use Rattle.qo_sound_devices.specs.SoundPlaces.{stands}
 use Rattle.qo_sound_devices.proofs.DevicesLawLemmas.{devices_kept_lem}
+use Rattle.qo_sound_clocks.proofs.BecomesLemmas.{Becomes, written-becomes, uart_to, timer_to, dimm_stays, bridge_to}
 use Rattle.qo_sound_clocks.specs.RegistersKept.{registers_set, with_registers}
 use Rattle.qo_sound_clocks.proofs.KeepLemmas.{writes_keep_lem}
 use Rattle.qo_sound_clocks.proofs.RegisterLemmas.{registers_kept_lem}
@@ -175,32 +172,15 @@ scaled-backends b d c mul div e devices h =
 
 -- registers that a guest writes
 
-mapped-range : {A : Type 0} (f : A → Registers × Effect) (gs : List Range) → ((x : A) → range_in (f x).0 ≡ gs) → (o : Option A) (s : Registers)
-    (effect : Effect) → option_map f o ≡ Some (s, effect) → range_in s ≡ gs
-mapped-range f gs same None s effect e = cc
-mapped-range f gs same (Some x) s effect e = ap range_in (sym (ap (λ (p : Registers × Effect). p.0) (same_Some (f x) (s, effect) e))) ∙ same x
-
-bridge-range : (g : BridgeRegisters) (reg value : ℕ) (s : Registers) (effect : Effect) → bridge_write g reg value ≡ Some (s, effect) → range_in s ≡ []
-bridge-range g reg value s effect e = go (eqb reg 0) refl (eqb reg 1) refl
-  where
-    is : (x : BridgeRegisters) (f : Effect) → ◌≡◌ {A = Option (Registers × Effect)} (Some (bridge x, f)) (Some (s, effect)) → range_in s ≡ []
-    is x f q = ap range_in (sym (ap (λ (p : Registers × Effect). p.0) (same_Some (bridge x, f) (s, effect) q)))
-
-    go : (u : Bool) → eqb reg 0 ≡ u → (v : Bool) → eqb reg 1 ≡ v → range_in s ≡ []
-    go true p v q = is _ _ (rw (bridge_write, p) at e)
-    go false p true q = is _ _ (rw (bridge_write, p, q) at e)
-    go false p false q = absurd (let clash : None ≡ Some (s, effect) = rw (bridge_write, p, q) at e in cc)
-
 write-range : (r s : Registers) (effect : Effect) (reg value : ℕ) (ring : Bool) (now period : ℕ) → body_write r reg value ring now period ≡ Some (s, effect)
     → range_in s ≡ range_in r
-write-range (uart u) s effect reg value ring now period e =
-    mapped-range (λ (p : UartRegisters × Option ℕ). (uart p.0, effect_of p.1)) [] (λ p. refl) (uart_write u reg value ring) s effect e
-write-range (timer t) s effect reg value ring now period e =
-    mapped-range (λ (x : TimerRegisters). (timer x, nothing)) [] (λ x. refl) (timer_write t reg value now period) s effect e
-write-range (dimm d) s effect reg value ring now period e =
-    mapped-range (λ (n : ℕ). (dimm d, nothing)) (range_in (dimm d)) (λ n. refl) (dimm_read d reg) s effect e
-write-range (bridge g) s effect reg value ring now period e = bridge-range g reg value s effect e
-write-range bare s effect reg value ring now period e = cc
+write-range r s effect reg value ring now period e = by r s (written-becomes r s effect reg value ring now period e)
+  where
+    by : (x y : Registers) → Becomes reg value now period x y → range_in y ≡ range_in x
+    by x y (uart_to u v) = refl
+    by x y (timer_to t v q) = refl
+    by x y (dimm_stays d) = refl
+    by x y (bridge_to g v) = refl
 
 pub wrote-backends : (b : Board) (n : ℕ) (r : Record) (s : Registers) (effect : Effect) (reg value : ℕ) (ring : Bool) (now period : ℕ) → record_of b n ≡ Some r
     → body_write r.registers reg value ring now period ≡ Some (s, effect) → SoundDevices b → SoundBackends b → SoundBackends (registers_set b n s)

@@ -1,5 +1,5 @@
 -- The commands on objects change no clock: what they add is none, what they write is not a clock's, and what they let go may be one.
-use Rattle.std.proofs.Common.{◌≡◌, refl, ap, sym, ◌∙◌, rules, ℕ, zero, suc, ◌+◌, Bool, true, false, ◌==◌, List, [], ◌∷◌, map, length, slice_get, Option, Some, None, option_map, codes}
+use Rattle.std.proofs.Common.{◌≡◌, refl, ap, sym, ◌∙◌, rules, ℕ, ◌+◌, Bool, true, false, ◌==◌, List, [], ◌∷◌, map, length, slice_get, Option, Some, None, option_map, codes}
 use Rattle.std.specs.List.{AllByRecursion}
 use Rattle.std.specs.Option.{option_map_or, option_or}
 use Rattle.std.specs.Str.{bytes_eq}
@@ -9,16 +9,16 @@ use Rattle.qo_values.specs.declared.codes.Code.{Code}
 use Rattle.qo_values.specs.declared.kinds.TypeId.{TypeId}
 use Rattle.qo_values.specs.declared.kinds.TypeId.TheVariants.{Object, Container, Machine, Device, SlotDevice, SlotUart, SlotTimer, SlotBridge, MemDimm, Bus, SlotBus, MemBus, Clock, MemoryBackend, MemoryBackendRam, Tag}
 use Rattle.qo_values.specs.declared.properties.Val.{Val}
-use Rattle.qo_model.specs.Board.{Board, Record, Slot, plain, child, strong, weak, alias, is_live, record_of, slot_at, slots_at, held}
+use Rattle.qo_model.specs.Board.{Board, Record, Slot, plain, child, record_of, slot_at, slots_at, held}
 use Rattle.qo_model.specs.Changes.{point, pointed, set, with_added, with_changed, with_val}
 use Rattle.qo_model.specs.FinalNotesRuns.{Change, added, deleted, wrote, severed, behind_write, changed}
-use Rattle.qo_model.specs.Objects.{Given, added_as, added_by, barred, is_object_named, object_add, object_del, place_from, refusal_of, sever, severed_from, with_object}
+use Rattle.qo_model.specs.Objects.{Given, added_as, object_add, object_del, sever, severed_from, with_object}
 use Rattle.qo_model.specs.Opening.{fresh_slots}
-use Rattle.qo_model.specs.Paths.{attached}
 use Rattle.qo_model.specs.Properties.{may_set, pointed_at, relinked, row_of_property, write}
-use Rattle.qo_model.specs.Release.{drop_slot, edited, emptied, let_go, pin}
-use Rattle.qo_model.specs.Types.{TypeRow, is_a, row_named, types}
+use Rattle.qo_model.specs.Release.{drop_slot, edited, emptied, pin}
+use Rattle.qo_model.specs.Types.{is_a, types}
 use Rattle.qo_model.specs.declared.properties.Property.{Property}
+use Rattle.qo_model.proofs.ComesToLemmas.{addition-comes, deletion-comes, sever-comes, severed-comes}
 use Rattle.qo_model.proofs.FirstLemmas.{slots_in}
 use Rattle.qo_model.proofs.StepLemmas.{found-edited, found_at}
 use Rattle.qo_sound.specs.Kept.{SoundTree}
@@ -126,35 +126,16 @@ write-fewer b n name v = write-comes (Fewer b) b (fewer-none b) n name v (λ i t
 -- an object that goes, and one that lets go of its links
 
 object_del-fewer : (b : Board) (id : List ℕ) → Fewer b (object_del b id).board
-object_del-fewer b id = go (place_from (is_object_named id) 0 (slots_at b OBJECTS_BIRTH)) refl
-  where
-    go : (place : Option ℕ) → place_from (is_object_named id) 0 (slots_at b OBJECTS_BIRTH) ≡ place → Fewer b (object_del b id).board
-    go None p = rw (object_del, p) (fewer-none b)
-    go (Some i) p = rw (object_del, p) (fewer-let_go b OBJECTS_BIRTH i b (fewer-none b))
+object_del-fewer b id = deletion-comes (Fewer b) b id (fewer-none b) (λ i e. fewer-let_go b OBJECTS_BIRTH i b (fewer-none b))
 
 severed-fewer : (b : Board) (places i n : ℕ) (c : Board) → Fewer b c → Fewer b (severed_from places i n c)
-severed-fewer b zero i n c h = h
-severed-fewer b (suc places) i n c h = go (slot_at c n i) refl (severed-fewer b places (suc i) n)
-  where
-    go : (s : Option Slot) → slot_at c n i ≡ s → ((d : Board) → Fewer b d → Fewer b (severed_from places (suc i) n d))
-        → Fewer b (severed_from (suc places) i n c)
-    go None p rest = rw (severed_from, p) (rest c h)
-    go (Some (plain v)) p rest = rw (severed_from, p) (rest c h)
-    go (Some (child m)) p rest = rw (severed_from, p) (rest c h)
-    go (Some (strong t target)) p rest = rw (severed_from, p) (rest (let_go c n i) (fewer-let_go b n i c h))
-    go (Some (weak t target)) p rest = rw (severed_from, p) (rest c h)
-    go (Some (alias m property)) p rest = rw (severed_from, p) (rest c h)
+severed-fewer b places i n c h = severed-comes (Fewer b) n (λ d j t target e k. fewer-let_go b n j d k) places i c h
 
 sever-fewer : (b : Board) (n : ℕ) → Fewer b (sever b n).board
-sever-fewer b n = go (is_live b n) refl (attached b n) refl
-  where
-    go : (there : Bool) → is_live b n ≡ there → (at_home : Bool) → attached b n ≡ at_home → Fewer b (sever b n).board
-    go false p at_home q = rw (sever, p) (fewer-none b)
-    go true p true q = rw (sever, p, q) (fewer-none b)
-    go true p false q =
-        rw (sever, p, q)
-        (fewer-unpin b n (severed_from (length (slots_at b n)) 0 n (pin b n))
-        (severed-fewer b (length (slots_at b n)) 0 n (pin b n) (fewer-pin b n b (fewer-none b))))
+sever-fewer b n =
+    sever-comes (Fewer b) b n (fewer-none b) (λ there away.
+    fewer-unpin b n (severed_from (length (slots_at b n)) 0 n (pin b n))
+    (severed-fewer b (length (slots_at b n)) 0 n (pin b n) (fewer-pin b n b (fewer-none b))))
 
 -- an object that is added is no clock
 
@@ -204,15 +185,8 @@ added-fewer b t id props quiet (Some code) = fewer-none b
 added-fewer b t id props quiet None = with_object-fewer b t id props quiet
 
 object_add-fewer : (b : Board) (driver id : List ℕ) (props : List Given) → Fewer b (object_add b driver id props).board
-object_add-fewer b driver id props = go (row_named driver) refl
-  where
-    by : (row : TypeRow) (o : Option Code) → barred b row id ≡ o → Fewer b (added_by b row id props o).board
-    by row (Some code) e = fewer-none b
-    by row None e = added-fewer b row.id id props (created-quiet row.id (creatable b row id e)) (refusal_of b row.id props)
-
-    go : (row : Option TypeRow) → row_named driver ≡ row → Fewer b (object_add b driver id props).board
-    go None p = rw (object_add, p) (fewer-none b)
-    go (Some row) p = rw (object_add, p) (by row (barred b row id) refl)
+object_add-fewer b driver id props =
+    addition-comes (Fewer b) b driver id props (fewer-none b) (λ row e o is. added-fewer b row.id id props (created-quiet row.id (creatable b row id e)) o)
 
 changed-fewer : (b : Board) (change : Change) → Fewer b (changed b change)
 changed-fewer b (added driver id props) = object_add-fewer b driver id props

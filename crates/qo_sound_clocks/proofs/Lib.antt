@@ -1,3 +1,4 @@
+pub mod BecomesLemmas
 pub mod CommandLemmas
 pub mod FewerLemmas
 pub mod GrownLemmas

@@ -1,13 +1,11 @@
 -- The law: no timer gets ahead of the virtual time.
-use Rattle.std.proofs.Common.{◌≡◌, refl, ap, sym, subst, ◌∙◌, rules, ℕ, zero, suc, ◌+◌, ◌≤◌, ◌%◌, ◌||◌, Bool, true, false, cond, not, ◌==◌, eqb, List, [], ◌∷◌, filter, length, Option, Some, None, is_some, option_map, arith}
+use Rattle.std.proofs.Common.{◌≡◌, refl, sym, subst, ◌∙◌, rules, ℕ, zero, suc, ◌+◌, ◌≤◌, ◌%◌, ◌||◌, Bool, true, false, cond, not, ◌==◌, eqb, List, [], ◌∷◌, filter, length, Option, Some, None, is_some, arith}
 use Rattle.std.specs.Bool.{⊤}
 use Rattle.std.specs.List.{AllByRecursion}
 use Rattle.std.proofs.lemmas.Option.{same_Some}
-use Rattle.qo_values.specs.Bodies.{Effect, body_act, body_write, bridge_write, effect_of, nothing}
-use Rattle.qo_values.specs.Dimm.{dimm_read}
-use Rattle.qo_values.specs.Registers.{BridgeRegisters, Registers, TimerRegisters, UartRegisters, bare, bridge, dimm, fresh_registers, timer, uart}
+use Rattle.qo_values.specs.Bodies.{Effect, body_act, body_write}
+use Rattle.qo_values.specs.Registers.{Registers, TimerRegisters, bare, bridge, dimm, fresh_registers, timer, uart}
 use Rattle.qo_values.specs.Timer.{after_end, control_write, reload_write, timer_halt, timer_update, timer_write}
-use Rattle.qo_values.specs.Uart.{uart_write}
 use Rattle.qo_values.specs.declared.births.TheConstants.{MACHINE_BIRTH, OBJECTS_BIRTH}
 use Rattle.qo_values.specs.declared.codes.Code.{Code}
 use Rattle.qo_values.specs.declared.kinds.Act.{Act}
@@ -22,7 +20,7 @@ use Rattle.qo_model.specs.Depth.{among}
 use Rattle.qo_model.specs.Devices.{buses_of, kids_of}
 use Rattle.qo_model.specs.FinalNotesRuns.{Change, added, deleted, wrote, severed, changed}
 use Rattle.qo_model.specs.Hotplug.{all_completed, asked, asked_of, completed, device_at, reset_whole}
-use Rattle.qo_model.specs.Objects.{Given, added_as, added_by, barred, object_add, refusal_of}
+use Rattle.qo_model.specs.Objects.{Given, added_as, object_add}
 use Rattle.qo_model.specs.Opening.{opening_board}
 use Rattle.qo_model.specs.Paths.{attached, canonical}
 use Rattle.qo_model.specs.Plug.{Spot, Wanted, acted_all, barred_early, barred_late, bus_births, bus_for, counted, drafted, notice_barred, plug, plug_as, plug_by, plug_late, spot_of, type_barred, with_body_of, with_device, with_path, with_plugged}
@@ -31,6 +29,7 @@ use Rattle.qo_model.specs.ReleaseKeeps.{KeepsRelease}
 use Rattle.qo_model.specs.Reset.{held, is_out, phased, plugged, post, pulse, released}
 use Rattle.qo_model.specs.Types.{TypeRow, row_named, slots_of, types}
 use Rattle.qo_model.specs.Unplug.{detach, first_of}
+use Rattle.qo_model.proofs.ComesToLemmas.{addition-comes}
 use Rattle.qo_model.proofs.ReleaseKeepsLemmas.{after_keeps}
 use Rattle.qo_sound.proofs.FoundLemmas.{all-found}
 use Rattle.qo_sound.proofs.RecordLemmas.{all-append, all-filter, all-imply, all-map}
@@ -39,6 +38,7 @@ use Rattle.qo_sound.proofs.DetachStepsLemmas.{KeepsEnds, KeepsLists, KeepsPins, 
 use Rattle.qo_sound.proofs.ChangeStepsLemmas.{step-object_del, step-sever, step-write}
 use Rattle.qo_sound_clocks.specs.SoundTimes.{IsTimely, SoundTimes}
 use Rattle.qo_sound_clocks.specs.TimesKept.{TimesKeptLaw}
+use Rattle.qo_sound_clocks.proofs.BecomesLemmas.{Becomes, written-becomes, uart_to, timer_to, dimm_stays, bridge_to}
 use Rattle.qo_sound_clocks.proofs.StepsLemmas.{kept-scaled, kept-set, KeepsNumbers, calls-kept}
 
 -- an object that is timely at a moment
@@ -135,39 +135,15 @@ timer-timely t s reg value now period e le = go (eqb reg 0) refl (eqb reg 1) ref
     go false p false q false k = absurd (let clash : None ≡ Some s = rw (timer_write, p, q, k) at e in cc)
 
 -- no other body becomes a timer
-
-mapped-timely : {A : Type 0} (now : ℕ) (f : A → Registers × Effect) → ((x : A) → IsTimely now (f x).0) → (o : Option A) (s : Registers) (effect : Effect)
-    → option_map f o ≡ Some (s, effect) → IsTimely now s
-mapped-timely now f timely None s effect e = cc
-mapped-timely now f timely (Some x) s effect e =
-    subst (IsTimely now) (ap (λ (p : Registers × Effect). p.0) (same_Some (f x) (s, effect) e)) (timely x)
-
-bridge-timely : (g : BridgeRegisters) (reg value now : ℕ) (s : Registers) (effect : Effect) → bridge_write g reg value ≡ Some (s, effect) → IsTimely now s
-bridge-timely g reg value now s effect e = go (eqb reg 0) refl (eqb reg 1) refl
-  where
-    is : (x : BridgeRegisters) (f : Effect) → ◌≡◌ {A = Option (Registers × Effect)} (Some (bridge x, f)) (Some (s, effect)) → IsTimely now s
-    is x f q = subst (IsTimely now) (ap (λ (p : Registers × Effect). p.0) (same_Some (bridge x, f) (s, effect) q)) tt
-
-    go : (u : Bool) → eqb reg 0 ≡ u → (v : Bool) → eqb reg 1 ≡ v → IsTimely now s
-    go true p v q = is _ _ (rw (bridge_write, p) at e)
-    go false p true q = is _ _ (rw (bridge_write, p, q) at e)
-    go false p false q = absurd (let clash : None ≡ Some (s, effect) = rw (bridge_write, p, q) at e in cc)
-
 write-timely : (r s : Registers) (effect : Effect) (reg value : ℕ) (ring : Bool) (now period : ℕ)
     → body_write r reg value ring now period ≡ Some (s, effect) → IsTimely now r → IsTimely now s
-write-timely (uart u) s effect reg value ring now period e h =
-    mapped-timely now (λ (p : UartRegisters × Option ℕ). (uart p.0, effect_of p.1)) (λ p. tt) (uart_write u reg value ring) s effect e
-write-timely (timer t) s effect reg value ring now period e h = go (timer_write t reg value now period) refl
+write-timely r s effect reg value ring now period e h = by r s (written-becomes r s effect reg value ring now period e) h
   where
-    go : (o : Option TimerRegisters) → timer_write t reg value now period ≡ o → IsTimely now s
-    go None p = absurd (let clash : None ≡ Some (s, effect) = rw p at e in cc)
-    go (Some x) p =
-        let is : timer x ≡ s = ap (λ (q : Registers × Effect). q.0) (same_Some (timer x, nothing) (s, effect) (rw p at e)) in
-        subst (IsTimely now) is (timer-timely t x reg value now period p h)
-write-timely (dimm d) s effect reg value ring now period e h =
-    mapped-timely now (λ (n : ℕ). (dimm d, nothing)) (λ n. tt) (dimm_read d reg) s effect e
-write-timely (bridge g) s effect reg value ring now period e h = bridge-timely g reg value now s effect e
-write-timely bare s effect reg value ring now period e h = cc
+    by : (x y : Registers) → Becomes reg value now period x y → IsTimely now x → IsTimely now y
+    by x y (uart_to u v) k = tt
+    by x y (timer_to t v q) k = timer-timely t v reg value now period q k
+    by x y (dimm_stays d) k = tt
+    by x y (bridge_to g v) k = tt
 
 -- what is made is timely
 
@@ -248,15 +224,7 @@ added-times b t id props None h =
     (fresh-timely b.now t, tt)
 
 object_add-times : (b : Board) (driver id : List ℕ) (props : List Given) → SoundTimes b → SoundTimes (object_add b driver id props).board
-object_add-times b driver id props h = go (row_named driver) refl
-  where
-    by : (row : TypeRow) (o : Option Code) → SoundTimes (added_by b row id props o).board
-    by row (Some code) = h
-    by row None = added-times b row.id id props (refusal_of b row.id props) h
-
-    go : (row : Option TypeRow) → row_named driver ≡ row → SoundTimes (object_add b driver id props).board
-    go None p = rw (object_add, p) h
-    go (Some row) p = rw (object_add, p) (by row (barred b row id))
+object_add-times b driver id props h = addition-comes SoundTimes b driver id props h (λ row e o is. added-times b row.id id props o h)
 
 changed-times : (b : Board) (change : Change) → SoundTimes b → SoundTimes (changed b change)
 changed-times b (added driver id props) h = object_add-times b driver id props h

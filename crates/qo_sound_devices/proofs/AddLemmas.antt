@@ -16,10 +16,11 @@ use Rattle.qo_model.specs.Board.{Board, Record, Slot, plain, child, strong, weak
 use Rattle.qo_model.specs.Changes.{with_added}
 use Rattle.qo_model.specs.Devices.{bus_of, is_realized, is_true, place_on, plain_in, strong_in, number_in}
 use Rattle.qo_model.specs.Opening.{fresh_slots}
-use Rattle.qo_model.specs.Objects.{Given, given_to, slot_given, added_as, added_by, barred, given_slots, object_add, refusal_of, with_attempt, with_object}
+use Rattle.qo_model.specs.Objects.{Given, given_to, slot_given, added_as, given_slots, object_add, with_attempt, with_object}
 use Rattle.qo_model.specs.Paths.{is_of}
 use Rattle.qo_model.specs.Release.{edited}
-use Rattle.qo_model.specs.Types.{TypeRow, is_a, row_named, types}
+use Rattle.qo_model.specs.Types.{is_a, types}
+use Rattle.qo_model.proofs.ComesToLemmas.{addition-comes}
 use Rattle.qo_model.proofs.StepLemmas.{found_at, found-edited, found-birth}
 use Rattle.qo_sound.proofs.AddLemmas.{attempt-rest, creatable}
 use Rattle.qo_sound.proofs.FirmLemmas.{Firm}
@@ -413,15 +414,7 @@ added_as-places depth b t id props None may rest h =
     }
 added_as-places depth b t id props (Some code) may rest h = record { places = attempt-places depth b t rest h; stood = λ d. refl }
 
-added_by-places : (depth : ℕ → ℕ) (b : Board) (row : TypeRow) (id : List ℕ) (props : List Given) (refusal : Option Code) → barred b row id ≡ refusal
-    → AtRest b → PlacesBut depth None (λ x. false) b → Keeps depth b (added_by b row id props refusal).board
-added_by-places depth b row id props None e rest h = added_as-places depth b row.id id props (refusal_of b row.id props) (creatable b row id e) rest h
-added_by-places depth b row id props (Some code) e rest h = keeps-none depth b h
-
 pub object_add-places : (depth : ℕ → ℕ) (b : Board) (driver id : List ℕ) (props : List Given) → AtRest b → PlacesBut depth None (λ x. false) b
     → Keeps depth b (object_add b driver id props).board
-object_add-places depth b driver id props rest h = go (row_named driver) refl
-  where
-    go : (row : Option TypeRow) → row_named driver ≡ row → Keeps depth b (object_add b driver id props).board
-    go None p = rw (object_add, p) (keeps-none depth b h)
-    go (Some row) p = rw (object_add, p) (added_by-places depth b row id props (barred b row id) refl rest h)
+object_add-places depth b driver id props rest h =
+    addition-comes (Keeps depth b) b driver id props (keeps-none depth b h) (λ row e o is. added_as-places depth b row.id id props o (creatable b row id e) rest h)

@@ -1,5 +1,5 @@
 -- `object-del` and `x-sever` keep places.
-use Rattle.std.proofs.Common.{◌⊎◌, nat_eq, ◌≡◌, refl, ap, sym, subst, ◌∙◌, ℕ, zero, suc, leb, eqb, Bool, true, false, List, [], ◌∷◌, slice_get, length, Option, Some, None, is_some, option_map, codes}
+use Rattle.std.proofs.Common.{◌⊎◌, nat_eq, ◌≡◌, refl, ap, sym, subst, ◌∙◌, ℕ, leb, eqb, Bool, true, false, List, [], ◌∷◌, slice_get, length, Option, Some, None, is_some, option_map, codes}
 use Rattle.std.specs.List.{list_any}
 use Rattle.std.specs.Option.{option_map_or}
 use Rattle.std.specs.Str.{bytes_eq}
@@ -7,12 +7,13 @@ use Rattle.std.proofs.lemmas.Option.{same_Some}
 use Rattle.std.proofs.Math.Bool.{or-true}
 use Rattle.qo_values.specs.declared.births.TheConstants.{MACHINE_BIRTH, OBJECTS_BIRTH}
 use Rattle.qo_values.specs.declared.kinds.TypeId.{TypeId}
-use Rattle.qo_model.specs.Board.{Board, Record, Slot, plain, child, strong, weak, alias, is_live, slots_at, slot_at, held}
+use Rattle.qo_model.specs.Board.{Board, Record, Slot, plain, child, strong, weak, alias, slots_at, slot_at, held}
 use Rattle.qo_model.specs.Depth.{among}
-use Rattle.qo_model.specs.Objects.{is_object_named, object_del, place_from, sever, severed_from}
+use Rattle.qo_model.specs.Objects.{is_object_named, object_del, sever, severed_from}
 use Rattle.qo_model.specs.Paths.{attached, child_of, is_of}
 use Rattle.qo_model.specs.Release.{after, drop_slot, finalise, let_go, pin, put_in_order, unpin, without_first, without_pin}
 use Rattle.qo_model.specs.SoundGraph.{SoundGraph}
+use Rattle.qo_model.proofs.ComesToLemmas.{deletion-comes, sever-comes, severed-comes}
 use Rattle.qo_model.proofs.EditLemmas.{StandsAt, stands-at}
 use Rattle.qo_sound.proofs.ChangeLemmas.{near-deleted, near-unlinked}
 use Rattle.qo_sound.proofs.FirmLemmas.{Firm, firm-beside}
@@ -108,21 +109,15 @@ is-child id (name, weak t target) e = refl
 is-child id (name, alias m property) e = refl
 
 pub object_del-places : (depth : ℕ → ℕ) (b : Board) (id : List ℕ) → AtRest b → PlacesBut depth None (λ d. false) b → Keeps depth b (object_del b id).board
-object_del-places depth b id rest h = go (place_from (is_object_named id) 0 (slots_at b OBJECTS_BIRTH)) refl
-  where
-    apart : stands b OBJECTS_BIRTH ≡ false
-    apart = all-aside b depth None (λ d. false) h
-
-    go : (o : Option ℕ) → place_from (is_object_named id) 0 (slots_at b OBJECTS_BIRTH) ≡ o → Keeps depth b (object_del b id).board
-    go None e = rw (object_del, e) (keeps-none depth b h)
-    go (Some i) e =
-        let f : Found (is_object_named id) (slots_at b OBJECTS_BIRTH) i = found-at (is_object_named id) i (slots_at b OBJECTS_BIRTH) e in
-        rw (object_del, e) (keeps-goes depth b (let_go b OBJECTS_BIRTH i) (goes-let_go depth None (λ d. false) b OBJECTS_BIRTH i rest.used.firm
-        (near-deleted b i rest.used).firm (ap (λ (ps : List ℕ). among ps 1) rest.pinned)
-        (λ s k q. absurd (let clash : false ≡ true = sym apart ∙ q in cc))
-        (λ s k q. absurd (let clash : false ≡ true = sym apart ∙ q in cc))
-        (λ s k q o. subst (λ (x : List ℕ × Slot). kid_entry x ≡ None) (same_Some f.entry s (sym f.at ∙ k)) (is-child id f.entry f.passes))
-        h))
+object_del-places depth b id rest h = deletion-comes (Keeps depth b) b id (keeps-none depth b h) (λ i e.
+    let apart : stands b OBJECTS_BIRTH ≡ false = all-aside b depth None (λ d. false) h in
+    let f : Found (is_object_named id) (slots_at b OBJECTS_BIRTH) i = found-at (is_object_named id) i (slots_at b OBJECTS_BIRTH) e in
+    keeps-goes depth b (let_go b OBJECTS_BIRTH i) (goes-let_go depth None (λ d. false) b OBJECTS_BIRTH i rest.used.firm
+    (near-deleted b i rest.used).firm (ap (λ (ps : List ℕ). among ps 1) rest.pinned)
+    (λ s k q. absurd (let clash : false ≡ true = sym apart ∙ q in cc))
+    (λ s k q. absurd (let clash : false ≡ true = sym apart ∙ q in cc))
+    (λ s k q o. subst (λ (x : List ℕ × Slot). kid_entry x ≡ None) (same_Some f.entry s (sym f.at ∙ k)) (is-child id f.entry f.passes))
+    h))
 
 -- `x-sever`
 record Severing (depth : ℕ → ℕ) (n : ℕ) (b c : Board) : Type 0 where
@@ -153,17 +148,8 @@ severed-let_go depth n i t target b c e h =
     }
 
 severed-all : (depth : ℕ → ℕ) (places i n : ℕ) (b c : Board) → Severing depth n b c → Severing depth n b (severed_from places i n c)
-severed-all depth zero i n b c h = h
-severed-all depth (suc places) i n b c h = go (slot_at c n i) refl (severed-all depth places (suc i) n b)
-  where
-    go : (s : Option Slot) → slot_at c n i ≡ s → ((d : Board) → Severing depth n b d → Severing depth n b (severed_from places (suc i) n d))
-        → Severing depth n b (severed_from (suc places) i n c)
-    go None p rest = rw (severed_from, p) (rest c h)
-    go (Some (plain v)) p rest = rw (severed_from, p) (rest c h)
-    go (Some (child m)) p rest = rw (severed_from, p) (rest c h)
-    go (Some (strong t target)) p rest = rw (severed_from, p) (rest (let_go c n i) (severed-let_go depth n i t target b c p h))
-    go (Some (weak t target)) p rest = rw (severed_from, p) (rest c h)
-    go (Some (alias m property)) p rest = rw (severed_from, p) (rest c h)
+severed-all depth places i n b c h =
+    severed-comes (Severing depth n b) n (λ d j t target e k. severed-let_go depth n j t target b d e k) places i c h
 
 pub put-one : (n : ℕ) → among (put_in_order n (1 ∷ [])) 1 ≡ true
 put-one n = go (leb 1 n) refl
@@ -237,9 +223,5 @@ severed-places depth b n places rest h apart = ends
         rw (unpin, has) (record { places = last.places; stood = λ d. last.stood d ∙ less.stood d ∙ there.stood d })
 
 pub sever-places : (depth : ℕ → ℕ) (b : Board) (n : ℕ) → AtRest b → PlacesBut depth None (λ d. false) b → Keeps depth b (sever b n).board
-sever-places depth b n rest h = go (is_live b n) refl (attached b n) refl
-  where
-    go : (there : Bool) → is_live b n ≡ there → (at_home : Bool) → attached b n ≡ at_home → Keeps depth b (sever b n).board
-    go false p at_home q = rw (sever, p) (keeps-none depth b h)
-    go true p true q = rw (sever, p, q) (keeps-none depth b h)
-    go true p false q = rw (sever, p, q) (severed-places depth b n (length (slots_at b n)) rest h q)
+sever-places depth b n rest h =
+    sever-comes (Keeps depth b) b n (keeps-none depth b h) (λ there away. severed-places depth b n (length (slots_at b n)) rest h away)

@@ -1,5 +1,5 @@
 -- The link of a device that is added holds its bus.
-use Rattle.std.proofs.Common.{◌≡◌, refl, ap, sym, ◌∙◌, ℕ, ◌+◌, Bool, true, false, List, [], ◌∷◌, ◌++◌, find, map, slice_get, Option, Some, None, option_map, option_and_then, codes, arith}
+use Rattle.std.proofs.Common.{◌≡◌, refl, ap, sym, ◌∙◌, ℕ, ◌+◌, Bool, true, false, List, [], ◌∷◌, ◌++◌, find, map, Option, Some, None, option_map, option_and_then, codes, arith}
 use Rattle.std.specs.Option.{option_map_or}
 use Rattle.std.specs.Str.{bytes_eq}
 use Rattle.std.proofs.lemmas.Slice.Eq.{bytes_eq-Decides}
@@ -10,7 +10,7 @@ use Rattle.qo_values.specs.declared.kinds.TypeId.TheVariants.{Object, Container,
 use Rattle.qo_values.specs.declared.properties.Val.{Val}
 use Rattle.qo_values.specs.declared.properties.Val.TheVariants as val
 use Rattle.qo_model.specs.Board.{Board, Record, Slot, child, strong, record_of, slots_at}
-use Rattle.qo_model.specs.Changes.{set, with_changed, with_val}
+use Rattle.qo_model.specs.Changes.{with_changed}
 use Rattle.qo_model.specs.Devices.{bus_of, kid_name, strong_in}
 use Rattle.qo_model.specs.Objects.{Given, place_from, refusal_by, refusal_of, slot_given}
 use Rattle.qo_model.specs.Paths.{is_of}
@@ -19,12 +19,11 @@ use Rattle.qo_model.specs.Properties.{row_of_property}
 use Rattle.qo_model.specs.Release.{edit}
 use Rattle.qo_model.specs.Types.{is_a, types}
 use Rattle.qo_model.specs.Unplug.{is_named, set_named}
-use Rattle.qo_model.proofs.FirstLemmas.{named_in, Found, found-at, first-changed, none-found, named-other, other-name}
+use Rattle.qo_model.proofs.FirstLemmas.{named_in, first-changed, none-found}
 use Rattle.qo_sound.proofs.FirmLemmas.{Firm}
 use Rattle.qo_sound_devices.proofs.DropLemmas.{edited-slots}
 use Rattle.qo_sound_devices.proofs.PlainLemmas.{stay-add, stay-given}
-use Rattle.qo_sound_devices.proofs.RealizedLemmas.{rows-stay}
-use Rattle.qo_sound_devices.proofs.UnrealizeLemmas.{reads}
+use Rattle.qo_sound_devices.proofs.RealizedLemmas.{rows-stay, slot-set}
 
 -- a slot under a name
 abbrev pub SlotIs : List ℕ → Slot → List (List ℕ × Slot) → Type 0
@@ -91,21 +90,6 @@ none-given b t device (p ∷ props) e = go (bytes_eq p.0 (codes "parent_bus")) r
     go true q None r rest =
         let own : p.0 ≡ codes "parent_bus" = (bytes_eq-Decides p.0 (codes "parent_bus")).0 q in
         absurd (let clash : None ≡ Some E18 = sym r ∙ ap (λ (name : List ℕ). refusal_by b (row_of_property t name) p.1) own ∙ parent-row t p.1 b device in cc)
-
--- another name is set
-slot-set : (n : ℕ) (name own : List ℕ) (v : Val) → bytes_eq own name ≡ false → (c : Board)
-    → named_in name (slots_at (set_named n own v c) n) ≡ named_in name (slots_at c n)
-unfolding set
-slot-set n name own v apart c = go (place_from (is_named own) 0 (slots_at c n)) refl
-  where
-    go : (o : Option ℕ) → place_from (is_named own) 0 (slots_at c n) ≡ o → named_in name (slots_at (set_named n own v c) n) ≡ named_in name (slots_at c n)
-    go None e = rw (set_named, e) refl
-    go (Some i) e =
-        let f : Found (is_named own) (slots_at c n) i = found-at (is_named own) i (slots_at c n) e in
-        rw (set_named, e)
-        (reads (with_val v) n i c (named_in name)
-        (λ slots q. named-other (with_val v) name i slots f.entry (ap (λ (x : List (List ℕ × Slot)). slice_get x i) (sym q) ∙ f.at)
-        (other-name own name apart f.entry f.passes)) n)
 
 -- its own link is filled
 slot-linked : (n : ℕ) (name : List ℕ) (m : ℕ) (s : Slot) (c : Board) → SlotIs name s (slots_at c n)

@@ -105,20 +105,23 @@ set-read n name v c e = go (place_from (is_named name) 0 (slots_at c n)) refl
     go (Some i) k = rw (set_named, k) (there i k (record_of c n) refl)
 
 -- a value stays where another name is set, and where a link is filled
-set-other : (n : ℕ) (name own : List ℕ) (v : Val) → bytes_eq own name ≡ false → (c : Board)
-    → option_and_then plain_in (named_in name (slots_at (set_named n own v c) n)) ≡ option_and_then plain_in (named_in name (slots_at c n))
+pub slot-set : (n : ℕ) (name own : List ℕ) (v : Val) → bytes_eq own name ≡ false → (c : Board)
+    → named_in name (slots_at (set_named n own v c) n) ≡ named_in name (slots_at c n)
 unfolding set
-set-other n name own v apart c = go (place_from (is_named own) 0 (slots_at c n)) refl
+slot-set n name own v apart c = go (place_from (is_named own) 0 (slots_at c n)) refl
   where
-    go : (o : Option ℕ) → place_from (is_named own) 0 (slots_at c n) ≡ o
-        → option_and_then plain_in (named_in name (slots_at (set_named n own v c) n)) ≡ option_and_then plain_in (named_in name (slots_at c n))
+    go : (o : Option ℕ) → place_from (is_named own) 0 (slots_at c n) ≡ o → named_in name (slots_at (set_named n own v c) n) ≡ named_in name (slots_at c n)
     go None e = rw (set_named, e) refl
     go (Some i) e =
         let f : Found (is_named own) (slots_at c n) i = found-at (is_named own) i (slots_at c n) e in
         rw (set_named, e)
-        (reads (with_val v) n i c (λ slots. option_and_then plain_in (named_in name slots))
-        (λ slots q. ap (option_and_then plain_in) (named-other (with_val v) name i slots f.entry
-        (ap (λ (x : List (List ℕ × Slot)). slice_get x i) (sym q) ∙ f.at) (other-name own name apart f.entry f.passes))) n)
+        (reads (with_val v) n i c (named_in name)
+        (λ slots q. named-other (with_val v) name i slots f.entry (ap (λ (x : List (List ℕ × Slot)). slice_get x i) (sym q) ∙ f.at)
+        (other-name own name apart f.entry f.passes)) n)
+
+set-other : (n : ℕ) (name own : List ℕ) (v : Val) → bytes_eq own name ≡ false → (c : Board)
+    → option_and_then plain_in (named_in name (slots_at (set_named n own v c) n)) ≡ option_and_then plain_in (named_in name (slots_at c n))
+set-other n name own v apart c = ap (option_and_then plain_in) (slot-set n name own v apart c)
 
 fitted-same : (b : Board) (m : ℕ) (s : Slot) → plain_in (fitted b m s) ≡ plain_in s
 fitted-same b m (plain w) = refl

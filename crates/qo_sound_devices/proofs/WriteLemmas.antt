@@ -25,7 +25,7 @@ use Rattle.qo_model.proofs.EditLemmas.{StandsAt, stands-at}
 use Rattle.qo_model.proofs.FirstLemmas.{named-changed, named-other}
 use Rattle.qo_model.proofs.StepLemmas.{drop-live, found-edited}
 use Rattle.qo_sound.proofs.ChangeLemmas.{emptied-at, near-relinked, near-set}
-use Rattle.qo_model.proofs.WrittenLemmas.{IsLink, holding, seeing}
+use Rattle.qo_model.proofs.WrittenLemmas.{IsLink, holding, seeing, link-childless}
 use Rattle.qo_sound.proofs.TargetLemmas.{target-fit}
 use Rattle.qo_sound.proofs.FirmLemmas.{edited-kinds, FitsKind, Firm, firm-changed, firm-drop, Linked}
 use Rattle.qo_sound.proofs.ReadLemmas.{plain-pointed}
@@ -65,11 +65,11 @@ all-fit MemoryBackend = search rules
 all-fit MemoryBackendRam = search rules
 all-fit Tag = search rules
 
-record Fits (b : Board) (n : ℕ) (name : List ℕ) : Type 0 where
-  no_bus : is_of b (codes "bus") n ≡ false
-  unlinked : bytes_eq name (codes "parent_bus") ≡ false
-  unmarked : bytes_eq name (codes "realized") ≡ false
-  unplaced : bytes_eq name (codes "slot") ≡ false
+pub record Fits (b : Board) (n : ℕ) (name : List ℕ) : Type 0 where
+  pub no_bus : is_of b (codes "bus") n ≡ false
+  pub unlinked : bytes_eq name (codes "parent_bus") ≡ false
+  pub unmarked : bytes_eq name (codes "realized") ≡ false
+  pub unplaced : bytes_eq name (codes "slot") ≡ false
 
 found-fits : (t : TypeId) (name : List ℕ) (ps : List Property) → AllByRecursion (λ (p : Property). fits_places t p ≡ true) ps → (row : Property)
     → find (λ (p : Property). bytes_eq (property_name p.name) name) ps ≡ Some row
@@ -84,7 +84,7 @@ found-fits t name (p ∷ ps) h row e = go (bytes_eq (property_name p.name) name)
     go true q rest = subst (λ (x : Property). (fits_places t x ≡ true) × (bytes_eq (property_name x.name) name ≡ true)) (same_Some p row (rw q at e)) (h.0, q)
     go false q rest = rest (rw q at e)
 
-row-fits : (b : Board) (n : ℕ) (name : List ℕ) (row : Property) → option_and_then (λ t. row_of_property t name) (kind_of b n) ≡ Some row
+pub row-fits : (b : Board) (n : ℕ) (name : List ℕ) (row : Property) → option_and_then (λ t. row_of_property t name) (kind_of b n) ≡ Some row
     → may_set row.mark ≡ true → Fits b n name
 row-fits b n name row e may = go (kind_of b n) refl e
   where
@@ -218,13 +218,6 @@ name-kept zero (x ∷ slots) s left e q =
 name-kept (suc i) (x ∷ slots) s left e q = name-kept i slots s left e q
 
 -- a link is written
-no-child-link : (t : TypeId) (s : Slot) → IsLink t s → child_of s ≡ None
-no-child-link t (strong u target) (holding to) = refl
-no-child-link t (weak u target) (seeing to) = refl
-no-child-link t (plain v) l = elim l [ ]
-no-child-link t (child m) l = elim l [ ]
-no-child-link t (alias m property) l = elim l [ ]
-
 left-link : (t : TypeId) (s : Slot) → IsLink t s
     → (left : Slot) × ((emptied s ≡ Some left) × ((kinds : ℕ → Option TypeId) (m : ℕ) → FitsKind kinds t (Some m) → Linked kinds (pointed m left)))
 left-link t (strong u target) (holding to) = (strong t None, (refl, λ kinds m f. f))
@@ -265,7 +258,7 @@ relinked-places depth b n i name t s fits f link e target fits_target rest h = r
         inr
         (subst (λ (x : List ℕ × Slot). bytes_eq x.0 (codes "parent_bus") ≡ false) same_entry
         (subst (λ (x : List ℕ). bytes_eq x (codes "parent_bus") ≡ false) (sym ((bytes_eq-Decides f.entry.0 name).0 f.passes)) fits.unlinked)))
-        (λ k. ap child_of at.is ∙ no-child-link t s link)
+        (λ k. ap child_of at.is ∙ link-childless t s link)
         (λ k o. absurd (let clash : true ≡ false = sym k ∙ fits.no_bus in cc))
 
     first : Goes depth None (λ x. false) b c

@@ -1,5 +1,5 @@
 -- What an object is by its type alone: who has a kept path, and which births are those of a container and of the machine.
-use Rattle.std.proofs.Common.{◌≡◌, refl, ap, sym, subst, ◌∙◌, rules, ℕ, ◌+◌, ◌&&◌, ◌||◌, ◌==◌, Bool, true, false, not, List, codes, Option, Some, None, is_some, option_map}
+use Rattle.std.proofs.Common.{◌≡◌, ap, sym, subst, ◌∙◌, rules, ℕ, ◌+◌, ◌&&◌, ◌||◌, ◌==◌, Bool, true, false, not, List, codes, Option, Some, None, is_some, option_map}
 use Rattle.std.specs.Bool.{⊤}
 use Rattle.std.specs.List.{AllByRecursion}
 use Rattle.std.proofs.lemmas.Bool.{and_parts, eqb-true}
@@ -12,11 +12,12 @@ use Rattle.qo_values.specs.declared.kinds.TypeId.TheVariants.{Object, Container,
 use Rattle.qo_model.specs.Board.{Board, Record, record_of}
 use Rattle.qo_model.specs.Depth.{among}
 use Rattle.qo_model.specs.FinalNotesRuns.{Change, added, changed, deleted, severed, wrote}
-use Rattle.qo_model.specs.Objects.{Given, added_as, added_by, barred, object_add, refusal_of}
+use Rattle.qo_model.specs.Objects.{Given, added_as}
 use Rattle.qo_model.specs.Opening.{opening_board}
 use Rattle.qo_model.specs.Plug.{Wanted, drafted, plug, spot_of, with_path, with_plugged}
 use Rattle.qo_model.specs.ReleaseKeeps.{without_slots}
-use Rattle.qo_model.specs.Types.{TypeRow, is_a, row_named, slots_of, types}
+use Rattle.qo_model.specs.Types.{is_a, slots_of, types}
+use Rattle.qo_model.proofs.ComesToLemmas.{addition-comes}
 use Rattle.qo_model.proofs.StepLemmas.{found-birth}
 use Rattle.qo_sound.proofs.AddLemmas.{creatable}
 use Rattle.qo_sound.proofs.FoundLemmas.{all-found}
@@ -163,15 +164,8 @@ pub apt-changed : (b : Board) (change : Change) → AllOf Apt b → AllOf Apt (c
 apt-changed b (deleted id) h = fact-deleted Apt apt-slots apt-body b id h
 apt-changed b (wrote n name v) h = fact-wrote Apt apt-slots apt-body b n name v h
 apt-changed b (severed n) h = fact-severed Apt apt-slots apt-body b n h
-apt-changed b (added driver id props) h = go (row_named driver) refl
-  where
-    by : (row : TypeRow) (o : Option Code) → barred b row id ≡ o → AllOf Apt (added_by b row id props o).board
-    by row (Some code) e = h
-    by row None e = apt-object b row.id id props (refusal_of b row.id props) (plain-creatable row.id (creatable b row id e)) h
-
-    go : (row : Option TypeRow) → row_named driver ≡ row → AllOf Apt (object_add b driver id props).board
-    go None e = rw (object_add, e) h
-    go (Some row) e = rw (object_add, e) (by row (barred b row id) refl)
+apt-changed b (added driver id props) h =
+    addition-comes (AllOf Apt) b driver id props h (λ row e o is. apt-object b row.id id props o (plain-creatable row.id (creatable b row id e)) h)
 
 -- a device that is added
 record Placed (n : ℕ) (r : Record) : Type 0 where

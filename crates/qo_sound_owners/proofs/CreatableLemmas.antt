@@ -1,5 +1,5 @@
 -- What stands in `/objects` is of a type of objects that a user creates: what keeps it so.
-use Rattle.std.proofs.Common.{◌≡◌, refl, ap, sym, subst, ◌∙◌, rules, ℕ, zero, suc, ◌+◌, ◌==◌, Bool, true, false, List, [], ◌∷◌, ◌++◌, filter_map, map, length, codes, arith, Option, Some, None, is_some, option_map}
+use Rattle.std.proofs.Common.{◌≡◌, refl, ap, sym, subst, ◌∙◌, rules, ℕ, ◌+◌, ◌==◌, true, false, List, [], ◌∷◌, ◌++◌, filter_map, map, length, codes, arith, Option, Some, None, is_some, option_map}
 use Rattle.std.specs.Bool.{⊤}
 use Rattle.std.specs.List.{AllByRecursion}
 use Rattle.std.specs.Option.{option_map_or, option_or}
@@ -11,18 +11,19 @@ use Rattle.qo_values.specs.declared.codes.Code.{Code}
 use Rattle.qo_values.specs.declared.kinds.Act.{Act}
 use Rattle.qo_values.specs.declared.kinds.TypeId.{TypeId}
 use Rattle.qo_values.specs.declared.properties.Val.{Val}
-use Rattle.qo_model.specs.Board.{Board, Record, Slot, plain, child, strong, weak, alias, is_live, kind_of, record_of, slot_at, slots_at}
+use Rattle.qo_model.specs.Board.{Board, Record, child, is_live, kind_of, record_of, slots_at}
 use Rattle.qo_model.specs.Changes.{with_added}
 use Rattle.qo_model.specs.Clocks.{acted}
 use Rattle.qo_model.specs.FinalNotesRuns.{behind_write, Change, added, changed, deleted, severed, wrote}
-use Rattle.qo_model.specs.Objects.{Given, added_as, added_by, barred, given_slots, is_object_named, object_add, object_del, place_from, sever, severed_from, refusal_of, with_attempt, with_object}
+use Rattle.qo_model.specs.Objects.{Given, added_as, given_slots, object_del, sever, severed_from, with_attempt, with_object}
 use Rattle.qo_model.specs.Opening.{opening_board}
-use Rattle.qo_model.specs.Paths.{attached, is_of}
+use Rattle.qo_model.specs.Paths.{is_of}
 use Rattle.qo_model.specs.Plug.{Wanted, plug, plug_attempt, spot_of, with_plugged}
 use Rattle.qo_model.specs.Properties.{write}
 use Rattle.qo_model.specs.Release.{edited, let_go, pin, unpin}
-use Rattle.qo_model.specs.Types.{TypeRow, is_a, row_named, types}
+use Rattle.qo_model.specs.Types.{is_a, types}
 use Rattle.qo_model.specs.Unplug.{detach, set_named, unrealize}
+use Rattle.qo_model.proofs.ComesToLemmas.{addition-comes, deletion-comes, sever-comes, severed-comes}
 use Rattle.qo_model.proofs.StepLemmas.{found_at, found-edited, found-birth}
 use Rattle.qo_sound.proofs.AddLemmas.{creatable}
 use Rattle.qo_sound.proofs.FirmLemmas.{edited-kind, Firm}
@@ -122,39 +123,19 @@ thin-walked Stays b c h = record { kind = λ x e. (h.kin x e).1; children = h.ch
 
 -- `object-del`
 thin-deleted : (b : Board) (id : List ℕ) → Thin b (object_del b id).board
-thin-deleted b id = go (place_from (is_object_named id) 0 (slots_at b OBJECTS_BIRTH)) refl
-  where
-    go : (place : Option ℕ) → place_from (is_object_named id) 0 (slots_at b OBJECTS_BIRTH) ≡ place → Thin b (object_del b id).board
-    go None p = rw (object_del, p) (thin-none b)
-    go (Some i) p =
-        rw (object_del, p)
-        (thin-walked Nobody b (let_go b OBJECTS_BIRTH i) (walked-let_go b Nobody OBJECTS_BIRTH i (none-stays OBJECTS_BIRTH) b (walked-none b Nobody)))
+thin-deleted b id = deletion-comes (Thin b) b id (thin-none b) (λ i e.
+    thin-walked Nobody b (let_go b OBJECTS_BIRTH i) (walked-let_go b Nobody OBJECTS_BIRTH i (none-stays OBJECTS_BIRTH) b (walked-none b Nobody)))
 
 -- `x-sever`
 walked-severed : (b : Board) (places i n : ℕ) (c : Board) → Walked b Nobody c → Walked b Nobody (severed_from places i n c)
-walked-severed b zero i n c h = h
-walked-severed b (suc places) i n c h = go (slot_at c n i) refl (walked-severed b places (suc i) n)
-  where
-    go : (s : Option Slot) → slot_at c n i ≡ s → ((d : Board) → Walked b Nobody d → Walked b Nobody (severed_from places (suc i) n d))
-        → Walked b Nobody (severed_from (suc places) i n c)
-    go None p rest = rw (severed_from, p) (rest c h)
-    go (Some (plain v)) p rest = rw (severed_from, p) (rest c h)
-    go (Some (child m)) p rest = rw (severed_from, p) (rest c h)
-    go (Some (weak t target)) p rest = rw (severed_from, p) (rest c h)
-    go (Some (alias m property)) p rest = rw (severed_from, p) (rest c h)
-    go (Some (strong t target)) p rest = rw (severed_from, p) (rest (let_go c n i) (walked-let_go b Nobody n i (none-stays n) c h))
+walked-severed b places i n c h = severed-comes (Walked b Nobody) n (λ d j t target e k. walked-let_go b Nobody n j (none-stays n) d k) places i c h
 
 thin-severed : (b : Board) (n : ℕ) → Thin b (sever b n).board
-thin-severed b n = go (is_live b n) refl (attached b n) refl
-  where
-    go : (there : Bool) → is_live b n ≡ there → (home : Bool) → attached b n ≡ home → Thin b (sever b n).board
-    go false p home q = rw (sever, p) (thin-none b)
-    go true p true q = rw (sever, p, q) (thin-none b)
-    go true p false q =
-        rw (sever, p, q)
-        (thin-walked Nobody b (unpin (severed_from (length (slots_at b n)) 0 n (pin b n)) n)
-        (walked-unpin b Nobody n (severed_from (length (slots_at b n)) 0 n (pin b n))
-        (walked-severed b (length (slots_at b n)) 0 n (pin b n) (walked-pin b Nobody n b (walked-none b Nobody)))))
+thin-severed b n =
+    sever-comes (Thin b) b n (thin-none b) (λ there away.
+    thin-walked Nobody b (unpin (severed_from (length (slots_at b n)) 0 n (pin b n)) n)
+    (walked-unpin b Nobody n (severed_from (length (slots_at b n)) 0 n (pin b n))
+    (walked-severed b (length (slots_at b n)) 0 n (pin b n) (walked-pin b Nobody n b (walked-none b Nobody)))))
 
 -- `qom-set`
 thin-wrote : (b : Board) → Firm b → (n : ℕ) (name : List ℕ) (v : Val) → Thin b (behind_write b (write b n name v))
@@ -293,18 +274,9 @@ creatable-changed b (wrote n name v) devices h =
     (firm-devices (behind_write b (write b n name v)) (devices_kept_lem.change b (wrote n name v) devices)) h
 creatable-changed b (severed n) devices h =
     creatable-severed b n (firm-devices (sever b n).board (devices_kept_lem.change b (severed n) devices)) h
-creatable-changed b (added driver id props) devices h = go (row_named driver) refl
-  where
-    live : is_live b OBJECTS_BIRTH ≡ true
-    live = child-live b (firm-devices b devices) 1 OBJECTS_BIRTH devices.places.1.objects
-
-    by : (row : TypeRow) (o : Option Code) → barred b row id ≡ o → Creatable (added_by b row id props o).board
-    by row (Some code) e = h
-    by row None e = creatable-added b row.id id props (refusal_of b row.id props) (firm-devices b devices) live (creatable b row id e) h
-
-    go : (row : Option TypeRow) → row_named driver ≡ row → Creatable (object_add b driver id props).board
-    go None e = rw (object_add, e) h
-    go (Some row) e = rw (object_add, e) (by row (barred b row id) refl)
+creatable-changed b (added driver id props) devices h = addition-comes Creatable b driver id props h (λ row e o is.
+    let live : is_live b OBJECTS_BIRTH ≡ true = child-live b (firm-devices b devices) 1 OBJECTS_BIRTH devices.places.1.objects in
+    creatable-added b row.id id props o (firm-devices b devices) live (creatable b row id e) h)
 
 -- adding a device
 pub creatable-plug : (b : Board) (a : Wanted) → SoundDevices b → Creatable b → Creatable (plug b a).board

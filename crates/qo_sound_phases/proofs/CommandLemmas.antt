@@ -1,5 +1,5 @@
 -- Commands on objects keep phases sound: they leave the devices and the buses that a reset reaches.
-use Rattle.std.proofs.Common.{◌≡◌, refl, ap, sym, subst, ◌∙◌, ℕ, zero, suc, ◌+◌, ◌≤◌, Bool, true, false, ◌==◌, List, [], ◌∷◌, length, map, nat_eq, Option, Some, None, is_some, option_map, arith, codes}
+use Rattle.std.proofs.Common.{◌≡◌, refl, ap, sym, subst, ◌∙◌, ℕ, ◌+◌, ◌≤◌, Bool, true, false, ◌==◌, List, [], ◌∷◌, length, map, nat_eq, Option, Some, None, is_some, option_map, arith, codes}
 use Rattle.std.specs.List.{list_any}
 use Rattle.std.specs.Option.{option_map_or, option_or}
 use Rattle.std.proofs.lemmas.Bool.{eq-eqb, eqb-true}
@@ -8,14 +8,15 @@ use Rattle.qo_values.specs.Registers.{fresh_registers}
 use Rattle.qo_values.specs.declared.births.TheConstants.{MACHINE_BIRTH, OBJECTS_BIRTH}
 use Rattle.qo_values.specs.declared.codes.Code.{Code}
 use Rattle.qo_values.specs.declared.kinds.TypeId.{TypeId}
-use Rattle.qo_model.specs.Board.{Board, Record, Slot, plain, child, strong, weak, alias, record_of, kind_of, is_live, slots_at, slot_at}
+use Rattle.qo_model.specs.Board.{Board, Record, child, record_of, kind_of, is_live, slots_at}
 use Rattle.qo_model.specs.Changes.{with_added}
 use Rattle.qo_model.specs.FinalNotesRuns.{Change, added, changed, deleted, severed, wrote}
-use Rattle.qo_model.specs.Objects.{Given, added_as, added_by, barred, given_slots, is_object_named, object_add, object_del, place_from, refusal_of, sever, severed_from, with_attempt, with_object}
+use Rattle.qo_model.specs.Objects.{Given, added_as, given_slots, object_del, sever, severed_from, with_attempt, with_object}
 use Rattle.qo_model.specs.Paths.{attached, is_of}
 use Rattle.qo_model.specs.Release.{after, edit, edited, finalise, let_go, pin, put_in_order, unpin, without_first, without_pin}
 use Rattle.qo_model.specs.References.{refs}
-use Rattle.qo_model.specs.Types.{TypeRow, is_a, row_named}
+use Rattle.qo_model.specs.Types.{is_a}
+use Rattle.qo_model.proofs.ComesToLemmas.{addition-comes, deletion-comes, sever-comes, severed-comes}
 use Rattle.qo_model.proofs.ReleaseLeavesLemmas.{release_leaves}
 use Rattle.qo_model.proofs.StaysLemmas.{changed-stays}
 use Rattle.qo_model.proofs.StepLemmas.{found_at, found-edited, is_some-map, map-edited}
@@ -52,29 +53,16 @@ no-objects b k (at_machine e) = clash-back (eq-eqb OBJECTS_BIRTH MACHINE_BIRTH e
 no-objects b k (in_place s) = clash (sym s ∙ k.places.aside.1.1.1.1.1.1.0)
 
 fixed-deleted : (b : Board) → Placed b → (id : List ℕ) → Fixed (IsKeeper b) b (object_del b id).board
-fixed-deleted b k id = go (place_from (is_object_named id) 0 (slots_at b OBJECTS_BIRTH)) refl
-  where
-    go : (o : Option ℕ) → place_from (is_object_named id) 0 (slots_at b OBJECTS_BIRTH) ≡ o → Fixed (IsKeeper b) b (object_del b id).board
-    go None e = rw (object_del, e) (fixed-none (IsKeeper b) b)
-    go (Some i) e = rw (object_del, e) (fixed-let_go (IsKeeper b) OBJECTS_BIRTH i b (no-objects b k))
+fixed-deleted b k id =
+    deletion-comes (Fixed (IsKeeper b) b) b id (fixed-none (IsKeeper b) b) (λ i e. fixed-let_go (IsKeeper b) OBJECTS_BIRTH i b (no-objects b k))
 
 -- `x-sever`
 fixed-pins : (On : ℕ → Type 0) (b : Board) (ps : List ℕ) → Fixed On b (record b { pins = ps })
 fixed-pins On b ps x on e = same-record b (record b { pins = ps }) x refl e
 
 severed-fixed : (On : ℕ → Type 0) (n : ℕ) → (On n → ⊥) → (places i : ℕ) (c : Board) → Fixed On c (severed_from places i n c)
-severed-fixed On n apart zero i c = fixed-none On c
-severed-fixed On n apart (suc places) i c = go (slot_at c n i) refl (severed-fixed On n apart places (suc i))
-  where
-    go : (s : Option Slot) → slot_at c n i ≡ s → ((d : Board) → Fixed On d (severed_from places (suc i) n d)) → Fixed On c (severed_from (suc places) i n c)
-    go None p rest = rw (severed_from, p) (rest c)
-    go (Some (plain v)) p rest = rw (severed_from, p) (rest c)
-    go (Some (child m)) p rest = rw (severed_from, p) (rest c)
-    go (Some (strong t target)) p rest =
-        rw (severed_from, p)
-        (fixed-then On c (let_go c n i) (severed_from places (suc i) n (let_go c n i)) (fixed-let_go On n i c apart) (rest (let_go c n i)))
-    go (Some (weak t target)) p rest = rw (severed_from, p) (rest c)
-    go (Some (alias m property)) p rest = rw (severed_from, p) (rest c)
+severed-fixed On n apart places i c =
+    severed-comes (Fixed On c) n (λ d j t target e k. fixed-then On c d (let_go d n j) k (fixed-let_go On n j d apart)) places i c (fixed-none On c)
 
 fixed-unpin : (On : ℕ → Type 0) (n : ℕ) (c : Board) → Fixed On c (unpin c n)
 unfolding unpin
@@ -92,7 +80,12 @@ unfolding pin
 fixed-pin On n c = fixed-pins On c (put_in_order n c.pins)
 
 fixed-severed : (b : Board) → SoundDevices b → (n : ℕ) → Fixed (IsKeeper b) b (sever b n).board
-fixed-severed b d n = go (is_live b n) refl (attached b n) refl
+fixed-severed b d n = sever-comes (Fixed (IsKeeper b) b) b n (fixed-none (IsKeeper b) b) (λ there away.
+    let c : Board = severed_from (length (slots_at b n)) 0 n (pin b n) in
+    fixed-then (IsKeeper b) b c (unpin c n)
+    (fixed-then (IsKeeper b) b (pin b n) c (fixed-pin (IsKeeper b) n b)
+    (severed-fixed (IsKeeper b) n (λ i. clash (sym (home i) ∙ away)) (length (slots_at b n)) 0 (pin b n)))
+    (fixed-unpin (IsKeeper b) n c))
   where
     k : Placed b
     k = placed b d
@@ -102,17 +95,6 @@ fixed-severed b d n = go (is_live b n) refl (attached b n) refl
     home (at_machine e) =
         subst (λ (x : ℕ). attached b x ≡ true) (sym e)
         (child-attached b d.tree.0 k.firm 1 MACHINE_BIRTH k.places.machine (paths_lem.attached_by_parent b d.tree.0 1))
-
-    go : (there : Bool) → is_live b n ≡ there → (at_home : Bool) → attached b n ≡ at_home → Fixed (IsKeeper b) b (sever b n).board
-    go false p at_home q = rw (sever, p) (fixed-none (IsKeeper b) b)
-    go true p true q = rw (sever, p, q) (fixed-none (IsKeeper b) b)
-    go true p false q =
-        let c : Board = severed_from (length (slots_at b n)) 0 n (pin b n) in
-        rw (sever, p, q)
-        (fixed-then (IsKeeper b) b c (unpin c n)
-        (fixed-then (IsKeeper b) b (pin b n) c (fixed-pin (IsKeeper b) n b)
-        (severed-fixed (IsKeeper b) n (λ i. clash (sym (home i) ∙ q)) (length (slots_at b n)) 0 (pin b n)))
-        (fixed-unpin (IsKeeper b) n c))
 
 -- `object-add`
 behind-add : (b : Board) (t : TypeId) (id : List ℕ) (props : List Given) (x : ℕ) → is_live b x ≡ true
@@ -160,15 +142,8 @@ fixed-changed : (b : Board) → SoundDevices b → (change : Change) → Fixed (
 fixed-changed b d (deleted id) = fixed-deleted b (placed b d) id
 fixed-changed b d (wrote n name v) = fixed-write (IsKeeper b) b (placed b d).firm n name v
 fixed-changed b d (severed n) = fixed-severed b d n
-fixed-changed b d (added driver id props) = go (row_named driver) refl
-  where
-    by : (row : TypeRow) (refusal : Option Code) → Fixed (IsKeeper b) b (added_by b row id props refusal).board
-    by row None = fixed-added b (placed b d) row.id id props (refusal_of b row.id props)
-    by row (Some code) = fixed-none (IsKeeper b) b
-
-    go : (row : Option TypeRow) → row_named driver ≡ row → Fixed (IsKeeper b) b (object_add b driver id props).board
-    go None e = rw (object_add, e) (fixed-none (IsKeeper b) b)
-    go (Some row) e = rw (object_add, e) (by row (barred b row id))
+fixed-changed b d (added driver id props) =
+    addition-comes (Fixed (IsKeeper b) b) b driver id props (fixed-none (IsKeeper b) b) (λ row e o is. fixed-added b (placed b d) row.id id props o)
 
 -- types and births
 Kin : Board → Board → Type 0
@@ -245,15 +220,8 @@ kin-changed : (b : Board) (change : Change) → KinAt b (changed b change)
 kin-changed b (deleted id) = kin-at b _ (step-object_del (Kin b) (kin-edits b) (kin-pins b) (kin-ends b) b id (kin-none b))
 kin-changed b (wrote n name v) = kin-at b _ (step-write (Kin b) (kin-edits b) (kin-pins b) (kin-ends b) b n name v (kin-none b))
 kin-changed b (severed n) = kin-at b _ (step-sever (Kin b) (kin-edits b) (kin-pins b) (kin-ends b) b n (kin-none b))
-kin-changed b (added driver id props) = go (row_named driver) refl
-  where
-    by : (row : TypeRow) (refusal : Option Code) → KinAt b (added_by b row id props refusal).board
-    by row None = kin-added b row.id id props (refusal_of b row.id props)
-    by row (Some code) = kin-at b b (kin-none b)
-
-    go : (row : Option TypeRow) → row_named driver ≡ row → KinAt b (object_add b driver id props).board
-    go None e = rw (object_add, e) (kin-at b b (kin-none b))
-    go (Some row) e = rw (object_add, e) (by row (barred b row id))
+kin-changed b (added driver id props) =
+    addition-comes (KinAt b) b driver id props (kin-at b b (kin-none b)) (λ row e o is. kin-added b row.id id props o)
 
 -- so a reset reaches the same
 module _ (b : Board) (change : Change) (d : SoundDevices b) where

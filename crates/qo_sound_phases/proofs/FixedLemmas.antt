@@ -4,26 +4,22 @@ use Rattle.std.specs.Option.{option_map_or}
 use Rattle.std.specs.Str.{bytes_eq}
 use Rattle.std.proofs.lemmas.Bool.{eqb-true}
 use Rattle.std.proofs.lemmas.Option.{same_Some}
-use Rattle.std.proofs.lemmas.Slice.Eq.{bytes_eq-Decides}
-use Rattle.qo_values.specs.declared.kinds.TypeId.{TypeId}
-use Rattle.qo_values.specs.declared.kinds.TypeId.TheVariants.{Object, Container, Machine, Device, SlotDevice, SlotUart, SlotTimer, SlotBridge, MemDimm, Bus, SlotBus, MemBus, Clock, MemoryBackend, MemoryBackendRam, Tag}
 use Rattle.qo_values.specs.declared.properties.Val.{Val}
 use Rattle.qo_model.specs.Board.{Board, Record, Slot, plain, child, strong, weak, alias, record_of, kind_of, is_live, slots_at, slot_at, held}
 use Rattle.qo_model.specs.Changes.{changed_at, point, pointed, set, with_changed, with_val}
 use Rattle.qo_model.specs.Devices.{bus_of, strong_in}
 use Rattle.qo_model.specs.FinalNotesRuns.{behind_write}
 use Rattle.qo_model.specs.Paths.{child_of}
-use Rattle.qo_model.specs.Properties.{may_set, pointed_at, relinked, row_of_property, write}
+use Rattle.qo_model.specs.Properties.{pointed_at, relinked, row_of_property, write}
 use Rattle.qo_model.specs.Release.{after, drop_slot, edit, edited, finalise, let_go, with_dropped, without_hold}
-use Rattle.qo_model.specs.Types.{types}
-use Rattle.qo_model.specs.declared.properties.Property.{Property}
 use Rattle.qo_model.proofs.EditLemmas.{StandsAt, stands-at}
 use Rattle.qo_model.proofs.FirstLemmas.{named_in, named-other}
 use Rattle.qo_model.proofs.StepLemmas.{found-edited, is_some-map, map-edited}
 use Rattle.qo_model.proofs.WrittenLemmas.{link-childless}
 use Rattle.qo_model.proofs.WrittenLemmas.{write-comes}
+use Rattle.qo_sound_devices.proofs.WriteLemmas.{row-fits}
 use Rattle.qo_sound.proofs.FirmLemmas.{Firm}
-use Rattle.qo_sound.proofs.TestLemmas.{decide, clash, clash-back}
+use Rattle.qo_sound.proofs.TestLemmas.{decide, clash-back}
 use Rattle.qo_sound_devices.specs.SoundPlaces.{child_entries, child_entry}
 use Rattle.qo_sound_devices.proofs.AlikeLemmas.{after-alike, other-record}
 use Rattle.qo_sound_devices.proofs.DropLemmas.{children-kept, edited-slots, names-at, strong-dropped}
@@ -143,37 +139,6 @@ fixed-let_go On n i b apart = go (slot_at b n i) refl
         (fixed-then On b (drop_slot b n i) (after finalise (drop_slot b n i) (held s)) (fixed-apart On n (with_dropped i) (λ r. refl) (λ r. refl) b apart)
         (fixed-after On (drop_slot b n i) (held s)))
 
--- `qom-set`: it writes no link to a bus
-link-unset : (t : TypeId) → option_map_or (λ (row : Property). may_set row.mark) (row_of_property t (codes "parent_bus")) false ≡ false
-unfolding types
-link-unset Object = refl
-link-unset Container = refl
-link-unset Machine = refl
-link-unset Device = refl
-link-unset SlotDevice = refl
-link-unset SlotUart = refl
-link-unset SlotTimer = refl
-link-unset SlotBridge = refl
-link-unset MemDimm = refl
-link-unset Bus = refl
-link-unset SlotBus = refl
-link-unset MemBus = refl
-link-unset Clock = refl
-link-unset MemoryBackend = refl
-link-unset MemoryBackendRam = refl
-link-unset Tag = refl
-
-unlinked : (b : Board) (n : ℕ) (name : List ℕ) (row : Property) → option_and_then (λ t. row_of_property t name) (kind_of b n) ≡ Some row
-    → may_set row.mark ≡ true → bytes_eq name (codes "parent_bus") ≡ false
-unlinked b n name row e may = decide (bytes_eq name (codes "parent_bus")) (λ q. go (kind_of b n) e ((bytes_eq-Decides name (codes "parent_bus")).0 q)) (λ q. q)
-  where
-    go : (o : Option TypeId) → option_and_then (λ t. row_of_property t name) o ≡ Some row → name ≡ codes "parent_bus"
-        → bytes_eq name (codes "parent_bus") ≡ false
-    go None k q = absurd (let bad : None ≡ Some row = k in cc)
-    go (Some t) k q =
-        let its : row_of_property t (codes "parent_bus") ≡ Some row = ap (row_of_property t) (sym q) ∙ k in
-        clash (sym (ap (λ (o : Option Property). option_map_or (λ (r : Property). may_set r.mark) o false) its ∙ may) ∙ link-unset t)
-
 -- a slot of another name is changed
 pub child-val : (v : Val) (s : List ℕ × Slot) → child_entry (s.0, with_val v s.1) ≡ child_entry s
 child-val v (name, plain w) = refl
@@ -287,7 +252,8 @@ module _ (On : ℕ → Type 0) (b : Board) (firm : Firm b) (n i : ℕ) (other : 
 
 pub fixed-write : (On : ℕ → Type 0) (b : Board) → Firm b → (n : ℕ) (name : List ℕ) (v : Val) → Fixed On b (behind_write b (write b n name v))
 fixed-write On b firm n name v = write-comes (Fixed On b) b (fixed-none On b) n name v (λ i t p kind e may.
-    let apart : bytes_eq name (codes "parent_bus") ≡ false = unlinked b n name p (ap (option_and_then (λ k. row_of_property k name)) kind ∙ e) may in
+    let apart : bytes_eq name (codes "parent_bus") ≡ false =
+    (row-fits b n name p (ap (option_and_then (λ k. row_of_property k name)) kind ∙ e) may).unlinked in
     let other : (s : Slot) → slice_get (slots_at b n) i ≡ Some (name, s) → Other b n i = λ s at. record {
       named = λ r x found its.
           let was : slots_at b n ≡ r.slots = ap (λ (o : Option Record). option_map_or (λ (y : Record). y.slots) o []) found in

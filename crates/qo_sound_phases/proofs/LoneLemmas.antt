@@ -13,10 +13,11 @@ use Rattle.qo_values.specs.declared.kinds.TypeId.TheVariants.{Object, Container,
 use Rattle.qo_model.specs.Board.{Board, Record, child, is_live, kind_of, record_of}
 use Rattle.qo_model.specs.Changes.{with_added}
 use Rattle.qo_model.specs.FinalNotesRuns.{Change, added, changed, deleted, severed, wrote}
-use Rattle.qo_model.specs.Objects.{Given, added_as, added_by, barred, given_slots, object_add, refusal_of, with_object}
+use Rattle.qo_model.specs.Objects.{Given, added_as, given_slots, with_object}
 use Rattle.qo_model.specs.Plug.{Spot, Wanted, drafted, with_plugged}
 use Rattle.qo_model.specs.Release.{after, edited, finalise}
-use Rattle.qo_model.specs.Types.{TypeRow, is_a, row_named, slots_of, types}
+use Rattle.qo_model.specs.Types.{is_a, slots_of, types}
+use Rattle.qo_model.proofs.ComesToLemmas.{addition-comes}
 use Rattle.qo_model.proofs.StepLemmas.{found_at, found-edited, is_some-map}
 use Rattle.qo_sound.proofs.AddLemmas.{creatable}
 use Rattle.qo_sound.proofs.ChangeStepsLemmas.{step-object_del, step-sever, step-write}
@@ -170,17 +171,9 @@ lone-added : (b : Board) (t : TypeId) (id : List ℕ) (props : List Given) (refu
 lone-added b t id props None other h = lone-object b t id props other h
 lone-added b t id props (Some code) other h = h
 
-lone-by : (b : Board) (row : TypeRow) (id : List ℕ) (props : List Given) (refusal : Option Code) → barred b row id ≡ refusal → LoneMachine b
-    → LoneMachine (added_by b row id props refusal).board
-lone-by b row id props None e h = lone-added b row.id id props (refusal_of b row.id props) (user-other row.id (creatable b row id e)) h
-lone-by b row id props (Some code) e h = h
-
 pub lone-changed : (b : Board) (change : Change) → LoneMachine b → LoneMachine (changed b change)
 lone-changed b (deleted id) h = step-object_del LoneMachine edits pins ends b id h
 lone-changed b (wrote n name v) h = step-write LoneMachine edits pins ends b n name v h
 lone-changed b (severed n) h = step-sever LoneMachine edits pins ends b n h
-lone-changed b (added driver id props) h = go (row_named driver) refl
-  where
-    go : (row : Option TypeRow) → row_named driver ≡ row → LoneMachine (object_add b driver id props).board
-    go None e = rw (object_add, e) h
-    go (Some row) e = rw (object_add, e) (lone-by b row id props (barred b row id) refl h)
+lone-changed b (added driver id props) h =
+    addition-comes LoneMachine b driver id props h (λ row e o is. lone-added b row.id id props o (user-other row.id (creatable b row id e)) h)

@@ -15,13 +15,14 @@ use Rattle.qo_model.specs.declared.notes.Note.{Note}
 use Rattle.qo_model.specs.Board.{Board, Record, is_live, record_of}
 use Rattle.qo_model.specs.Clocks.{acted}
 use Rattle.qo_model.specs.FinalNotesRuns.{Change, added, changed, deleted, severed, wrote}
-use Rattle.qo_model.specs.Objects.{Given, added_as, added_by, barred, init_notes, object_add, refusal_of, with_attempt}
+use Rattle.qo_model.specs.Objects.{Given, added_as, init_notes, object_add, with_attempt}
 use Rattle.qo_model.specs.Plug.{Spot, Wanted, acted_all, counted, drafted, with_device, with_new}
 use Rattle.qo_model.specs.Release.{after, final_notes, finalise}
 use Rattle.qo_model.specs.ReleaseNotes.{finals_of, NotesEnds, notes_on}
 use Rattle.qo_model.specs.References.{refs}
-use Rattle.qo_model.specs.Types.{TypeRow, finals, inits, row_named, slots_of}
+use Rattle.qo_model.specs.Types.{finals, inits, slots_of}
 use Rattle.qo_values.specs.declared.codes.Code.{Code}
+use Rattle.qo_model.proofs.ComesToLemmas.{addition-comes}
 use Rattle.qo_model.proofs.ReleaseNotesLemmas.{final_notes_lem}
 use Rattle.qo_sound.proofs.ChangeStepsLemmas.{step-object_del, step-sever, step-write}
 use Rattle.qo_sound.proofs.DetachStepsLemmas.{KeepsEnds, KeepsPins}
@@ -127,15 +128,7 @@ quiet-added b t id props None n = noted-none n b.notes (init_notes (b.born + 1) 
 quiet-added b t id props (Some code) n = quiet-attempt b t n
 
 quiet-add : (b : Board) (driver id : List ℕ) (props : List Given) → Quiet b (object_add b driver id props).board
-quiet-add b driver id props = go (row_named driver) refl
-  where
-    by : (row : TypeRow) (refusal : Option Code) → Quiet b (added_by b row id props refusal).board
-    by row None = quiet-added b row.id id props (refusal_of b row.id props)
-    by row (Some code) = λ n. refl
-
-    go : (row : Option TypeRow) → row_named driver ≡ row → Quiet b (object_add b driver id props).board
-    go None e = rw (object_add, e) (λ n. refl)
-    go (Some row) e = rw (object_add, e) (by row (barred b row id))
+quiet-add b driver id props = addition-comes (Quiet b) b driver id props (λ n. refl) (λ row e o is. quiet-added b row.id id props o)
 
 pub quiet-changed : (b : Board) (change : Change) → Quiet b (changed b change)
 quiet-changed b (added driver id props) = quiet-add b driver id props

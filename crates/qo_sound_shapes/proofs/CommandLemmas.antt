@@ -16,15 +16,16 @@ use Rattle.qo_model.specs.Board.{Board, Record, Slot, plain, child, strong, weak
 use Rattle.qo_model.specs.Changes.{changed_at, point, pointed, set, with_added, with_changed, with_val}
 use Rattle.qo_model.specs.Depth.{among}
 use Rattle.qo_model.specs.FinalNotesRuns.{Change, added, behind_write, changed, deleted, severed, wrote}
-use Rattle.qo_model.specs.Objects.{Given, added_as, added_by, barred, is_object_named, object_add, object_del, place_from, refusal_of, sever, severed_from, with_object}
+use Rattle.qo_model.specs.Objects.{Given, added_as, object_add, object_del, refusal_of, sever, severed_from, with_object}
 use Rattle.qo_model.specs.Opening.{opening_board}
 use Rattle.qo_model.specs.Paths.{attached, child_of, is_of}
 use Rattle.qo_model.specs.Properties.{pointed_at, relinked, row_of_property, write}
 use Rattle.qo_model.specs.Release.{drop_slot, edit, forgotten, forgotten_in, let_go, pin, with_dropped, without_hold}
-use Rattle.qo_model.specs.Types.{TypeRow, is_a, row_named, slots_of, types}
+use Rattle.qo_model.specs.Types.{TypeRow, is_a, slots_of, types}
 use Rattle.qo_model.specs.declared.properties.Property.{Property}
 use Rattle.qo_model.specs.declared.properties.RowKind.{RowKind}
 use Rattle.qo_model.specs.declared.properties.RowKind.TheVariants as row
+use Rattle.qo_model.proofs.ComesToLemmas.{addition-comes, deletion-comes, sever-comes, severed-comes}
 use Rattle.qo_model.proofs.StepLemmas.{found-birth}
 use Rattle.qo_model.proofs.WrittenLemmas.{link-childless}
 use Rattle.qo_model.proofs.WrittenLemmas.{write-comes}
@@ -221,14 +222,8 @@ weak-slots ((name, alias m property) ∷ xs) h e = (tt, weak-slots xs h.1 e)
 module _ (base : Board) (aside : stands base OBJECTS_BIRTH ≡ false) where
   -- `object-del`
   deleted-all : (b : Board) (id : List ℕ) → AllOf (Full base) b → AllOf (Full base) (object_del b id).board
-  deleted-all b id h = go (place_from (is_object_named id) 0 (slots_at b OBJECTS_BIRTH)) refl
-    where
-      go : (place : Option ℕ) → place_from (is_object_named id) 0 (slots_at b OBJECTS_BIRTH) ≡ place → AllOf (Full base) (object_del b id).board
-      go None p = rw (object_del, p) h
-      go (Some i) p =
-          rw (object_del, p)
-          (all-let_go (Full base) (full-forgotten base) OBJECTS_BIRTH i b
-          (λ r e own k. full-emptied base aside i r own k) h)
+  deleted-all b id h = deletion-comes (AllOf (Full base)) b id h (λ i e.
+      all-let_go (Full base) (full-forgotten base) OBJECTS_BIRTH i b (λ r q own k. full-emptied base aside i r own k) h)
 
   -- `x-sever`: of a bus, which has no kids where it is detached, and of what is no bus
   severed-bus : (places i n : ℕ) (b : Board) → AllByRecursion IsWeak (slots_at b n) → severed_from places i n b ≡ b
@@ -249,26 +244,17 @@ module _ (base : Board) (aside : stands base OBJECTS_BIRTH ≡ false) where
     apart : r.birth ≡ n → NoKidLinks r.kind
 
   severed-all : (places i n : ℕ) (b : Board) → AllOf (Severing n) b → AllOf (Severing n) (severed_from places i n b)
-  severed-all zero i n b h = h
-  severed-all (suc places) i n b h = go (slot_at b n i) refl (severed-all places (suc i) n)
+  severed-all places i n b h = severed-comes (AllOf (Severing n)) n cuts places i b h
     where
-      go : (s : Option Slot) → slot_at b n i ≡ s → ((c : Board) → AllOf (Severing n) c → AllOf (Severing n) (severed_from places (suc i) n c))
-          → AllOf (Severing n) (severed_from (suc places) i n b)
-      go None p rest = rw (severed_from, p) (rest b h)
-      go (Some (plain v)) p rest = rw (severed_from, p) (rest b h)
-      go (Some (child m)) p rest = rw (severed_from, p) (rest b h)
-      go (Some (weak t target)) p rest = rw (severed_from, p) (rest b h)
-      go (Some (alias m property)) p rest = rw (severed_from, p) (rest b h)
-      go (Some (strong t target)) p rest =
-          rw (severed_from, p)
-          (rest (let_go b n i)
-          (all-let_go (Severing n) (λ m r k. record { full = full-forgotten base m r k.full; apart = k.apart }) n i b
-          (λ r e own k. record { full = full-dropped base i r (no_child r e) (k.apart own) k.full; apart = k.apart }) h))
+      cuts : (c : Board) (j : ℕ) (t : TypeId) (target : Option ℕ) → slot_at c n j ≡ Some (strong t target) → AllOf (Severing n) c → AllOf (Severing n) (let_go c n j)
+      cuts c j t target p all =
+          all-let_go (Severing n) (λ m r k. record { full = full-forgotten base m r k.full; apart = k.apart }) n j c
+          (λ r e own k. record { full = full-dropped base j r (no_child r e) (k.apart own) k.full; apart = k.apart }) all
         where
-          no_child : (r : Record) → record_of b n ≡ Some r → (s : List ℕ × Slot) → slice_get r.slots i ≡ Some s → child_of s.1 ≡ None
+          no_child : (r : Record) → record_of c n ≡ Some r → (s : List ℕ × Slot) → slice_get r.slots j ≡ Some s → child_of s.1 ≡ None
           no_child r e s at =
-              let here : slot_at b n i ≡ Some s.1 =
-              ap (λ (o : Option Record). option_map (λ (x : List ℕ × Slot). x.1) (slice_get (option_map_or (λ (y : Record). y.slots) o []) i)) e
+              let here : slot_at c n j ≡ Some s.1 =
+              ap (λ (o : Option Record). option_map (λ (x : List ℕ × Slot). x.1) (slice_get (option_map_or (λ (y : Record). y.slots) o []) j)) e
               ∙ ap (option_map (λ (x : List ℕ × Slot). x.1)) at in
               sym (ap child_of (same_Some (strong t target) s.1 (sym p ∙ here)))
 
@@ -305,15 +291,9 @@ module _ (base : Board) (aside : stands base OBJECTS_BIRTH ≡ false) where
 
   sever-all : (b : Board) (n : ℕ) → (attached b n ≡ false → is_of b (codes "bus") n ≡ true → kid_entries b n ≡ []) → AllOf (Full base) b
       → AllOf (Full base) (sever b n).board
-  sever-all b n bare h = go (is_live b n) refl (attached b n) refl
-    where
-      go : (there : Bool) → is_live b n ≡ there → (home : Bool) → attached b n ≡ home → AllOf (Full base) (sever b n).board
-      go false p home q = rw (sever, p) h
-      go true p true q = rw (sever, p, q) h
-      go true p false q =
-          rw (sever, p, q)
-          (all-unpin (Full base) (full-forgotten base) n (severed_from (length (slots_at b n)) 0 n (pin b n))
-          (sever-links b n (length (slots_at b n)) (bare q) h))
+  sever-all b n bare h = sever-comes (AllOf (Full base)) b n h (λ there away.
+      all-unpin (Full base) (full-forgotten base) n (severed_from (length (slots_at b n)) 0 n (pin b n))
+      (sever-links b n (length (slots_at b n)) (bare away) h))
 
   -- `object-add`
 
@@ -341,20 +321,13 @@ module _ (base : Board) (aside : stands base OBJECTS_BIRTH ≡ false) where
 
   added-all : (b : Board) (driver id : List ℕ) (props : List Given) → stands base (b.born + 1) ≡ false → 8 ≤ b.born → AllOf (Full base) b
       → AllOf (Full base) (object_add b driver id props).board
-  added-all b driver id props apart begun h = go (row_named driver) refl
+  added-all b driver id props apart begun h =
+      addition-comes (AllOf (Full base)) b driver id props h (λ row e o is. taken row (creatable b row id e) o is)
     where
       taken : (row : TypeRow) → is_a row.id (codes "user-creatable") ≡ true → (o : Option Code) → refusal_of b row.id props ≡ o
           → AllOf (Full base) (added_as b row.id id props o).board
       taken row creatable (Some code) e = h
       taken row creatable None e = object-all b row.id id props apart begun creatable e h
-
-      by : (row : TypeRow) (o : Option Code) → barred b row id ≡ o → AllOf (Full base) (added_by b row id props o).board
-      by row (Some code) e = h
-      by row None e = taken row (creatable b row id e) (refusal_of b row.id props) refl
-
-      go : (row : Option TypeRow) → row_named driver ≡ row → AllOf (Full base) (object_add b driver id props).board
-      go None p = rw (object_add, p) h
-      go (Some row) p = rw (object_add, p) (by row (barred b row id) refl)
 
   -- `qom-set`
 

@@ -8,12 +8,9 @@ use Rattle.std.proofs.lemmas.Bool.Decides.{nat_tests}
 use Rattle.std.proofs.Math.Nat.{mod-one}
 use Rattle.std.proofs.lemmas.Option.{same_Some}
 use Rattle.std.proofs.lemmas.Slice.Eq.{bytes_eq-Decides}
-use Rattle.qo_values.specs.Bodies.{Effect, body_act, body_write, bridge_write, effect_of, nothing}
-use Rattle.qo_values.specs.Dimm.{dimm_read}
+use Rattle.qo_values.specs.Bodies.{Effect, body_act, body_write}
 use Rattle.qo_values.specs.Properties.{admits, is_multiple}
-use Rattle.qo_values.specs.Registers.{BridgeRegisters, Registers, TimerRegisters, UartRegisters, bare, bridge, dimm, fresh_registers, timer, uart}
-use Rattle.qo_values.specs.Timer.{timer_write}
-use Rattle.qo_values.specs.Uart.{uart_write}
+use Rattle.qo_values.specs.Registers.{Registers, bare, bridge, dimm, fresh_registers, timer, uart}
 use Rattle.qo_values.specs.declared.codes.Code.TheVariants.{E45, E46}
 use Rattle.qo_values.specs.declared.kinds.Act.{Act}
 use Rattle.qo_values.specs.declared.kinds.Act.TheVariants.{Init, Realize, Unrealize, Enter, Hold, Exit, Pre, Update}
@@ -49,6 +46,7 @@ use Rattle.qo_sound.proofs.SlotLemmas.{names-changed, names_in}
 use Rattle.qo_sound_clocks.specs.RegistersKept.{registers_set, with_registers}
 use Rattle.qo_sound_clocks.proofs.StepsLemmas.{kept-written, calls-kept}
 use Rattle.qo_sound_phases.proofs.FixedLemmas.{child-val}
+use Rattle.qo_sound_clocks.proofs.BecomesLemmas.{Becomes, written-becomes, uart_to, timer_to, dimm_stays, bridge_to}
 use Rattle.qo_sound_shapes.specs.SoundShape.{is_like, IsAsRow, IsOfRow, SoundShape}
 use Rattle.qo_sound_shapes.proofs.BoardLemmas.{all-edit, all-same, good-all, OpeningLive, shape-all, shape-live}
 use Rattle.qo_sound_shapes.proofs.GoodLemmas.{Good, good-changed, mild-val}
@@ -226,34 +224,15 @@ registers-shape b n registers like h =
     }) h
 
 -- a guest's write gives registers of the same kind
-mapped-like : {A : Type 0} (r : Registers) (f : A → Registers × Effect) → ((x : A) → is_like (f x).0 r ≡ true)
-    → (o : Option A) (s : Registers) (effect : Effect)
-    → option_map f o ≡ Some (s, effect) → is_like s r ≡ true
-mapped-like r f like None s effect e = cc
-mapped-like r f like (Some x) s effect e =
-    subst (λ (y : Registers). is_like y r ≡ true) (ap (λ (p : Registers × Effect). p.0) (same_Some (f x) (s, effect) e)) (like x)
-
-bridge-like : (g : BridgeRegisters) (reg value : ℕ) (s : Registers) (effect : Effect) → bridge_write g reg value ≡ Some (s, effect)
-    → is_like s (bridge g) ≡ true
-bridge-like g reg value s effect e = go (eqb reg 0) refl (eqb reg 1) refl
-  where
-    is : (x : BridgeRegisters) (f : Effect) → ◌≡◌ {A = Option (Registers × Effect)} (Some (bridge x, f)) (Some (s, effect)) → is_like s (bridge g) ≡ true
-    is x f q = subst (λ (y : Registers). is_like y (bridge g) ≡ true) (ap (λ (p : Registers × Effect). p.0) (same_Some (bridge x, f) (s, effect) q)) refl
-
-    go : (u : Bool) → eqb reg 0 ≡ u → (v : Bool) → eqb reg 1 ≡ v → is_like s (bridge g) ≡ true
-    go true p v q = is _ _ (rw (bridge_write, p) at e)
-    go false p true q = is _ _ (rw (bridge_write, p, q) at e)
-    go false p false q = absurd (let clash : None ≡ Some (s, effect) = rw (bridge_write, p, q) at e in cc)
-
 pub write-like : (r s : Registers) (effect : Effect) (reg value : ℕ) (ring : Bool) (now period : ℕ) → body_write r reg value ring now period ≡ Some (s, effect)
     → is_like s r ≡ true
-write-like (uart u) s effect reg value ring now period e =
-    mapped-like (uart u) (λ (p : UartRegisters × Option ℕ). (uart p.0, effect_of p.1)) (λ p. refl) (uart_write u reg value ring) s effect e
-write-like (timer t) s effect reg value ring now period e =
-    mapped-like (timer t) (λ (x : TimerRegisters). (timer x, nothing)) (λ x. refl) (timer_write t reg value now period) s effect e
-write-like (dimm d) s effect reg value ring now period e = mapped-like (dimm d) (λ (n : ℕ). (dimm d, nothing)) (λ n. refl) (dimm_read d reg) s effect e
-write-like (bridge g) s effect reg value ring now period e = bridge-like g reg value s effect e
-write-like bare s effect reg value ring now period e = cc
+write-like r s effect reg value ring now period e = by r s (written-becomes r s effect reg value ring now period e)
+  where
+    by : (x y : Registers) → Becomes reg value now period x y → is_like y x ≡ true
+    by x y (uart_to u v) = refl
+    by x y (timer_to t v q) = refl
+    by x y (dimm_stays d) = refl
+    by x y (bridge_to g v) = refl
 
 -- a value that is set by name: the row of this name, if it is a plain one, admits it
 
